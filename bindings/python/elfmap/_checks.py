@@ -76,11 +76,13 @@ def batches(whole: Batch, most: int) -> Iterator[Batch]:
     needs = _Needs(whole)
     limit = max(most, *(it.size for it in whole.shown))
     shown: list[Table] = []
+    size = 0
     for it in whole.shown:
-        if shown and sum(own.size for own in shown) + it.size > limit:
+        if shown and size + it.size > limit:
             yield needs.batch(shown)
-            shown = []
+            shown, size = [], 0
         shown.append(it)
+        size += it.size
     yield needs.batch(shown)
 
 
@@ -137,6 +139,19 @@ class Checks:
         fault = self._object_fault(size)
         is_known = fault and any((it.rule, it.at) == (fault.rule, fault.at) for it in found)
         return found if not fault or is_known else [*found, fault]
+
+    def parts(self, source: Source) -> tuple[list[_library.Part], Optional[Fault]]:
+        """What each byte of the file belongs to; or the rule of images that it breaks."""
+        size = min(len(source), LONGEST)
+        self._load(source, size)
+        count, fault, wanted = ctypes.c_uint64(), _library.Fault(), _LEAST_EXTENTS
+        while True:
+            room = (_library.Part * wanted)()
+            if self._library.elfmap_parts(self._room.address, size, room, wanted, count, fault):
+                return room[: count.value], None
+            if fault.rule != _library.SHORT_ROOM:
+                return [], Fault(fault.rule, fault.at)
+            wanted = fault.at
 
     # ---- What is read
 

@@ -9,6 +9,7 @@ from __future__ import annotations
 import struct
 from collections import Counter
 from collections.abc import Callable, Hashable, Iterable, Iterator, Sequence
+from itertools import zip_longest
 from typing import NamedTuple, Optional, TypeVar
 
 from elfmap import Bytes, File, Relocation, Section, Symbol
@@ -128,7 +129,8 @@ class Canonical:
         return _PLACES.get(place, hex(place)) if isinstance(place, int) else self.section_words(it.section)
 
     def relocation_words(self, it: Relocation, target: int) -> str:
-        name = label_words(self.symbol_labels[it.symbol]) if it.symbol else "no symbol"
+        # A symbol of a section has that one's name, after the word "of".
+        name = label_words(self.symbol_labels[it.symbol]).removeprefix("of ") if it.symbol else "no symbol"
         place = f"{it.r_offset:#x} of {self.section_words(target)}"
         kind = relocation_types(self.machine).get(it.relocation_type) or f"type {it.relocation_type}"
         return f"{kind} at {place} to {name} {it.r_addend:+#x}"
@@ -206,18 +208,17 @@ class Comparison:
             return
         one = self._relocation_words(self._one, index)
         other = self._relocation_words(self._other, other_index)
-        for position, (ours, theirs) in enumerate(zip(one, other)):
-            if ours != theirs:
+        for position, (ours, theirs) in enumerate(zip_longest(one, other)):
+            if ours is None or theirs is None:
+                yield f"relocation {position} is only in {self._sides.second if ours is None else self._sides.first}: {ours or theirs}"
+            elif ours != theirs:
                 yield self._sides.both(f"relocation {position}", ours, theirs)
+            if ours != theirs:
                 return
-        longer, side = (one, self._sides.first) if len(one) > len(other) else (other, self._sides.second)
-        if len(one) != len(other):
-            position = min(len(one), len(other))
-            yield f"relocation {position} is only in {side}: {longer[position]}"
 
-    def _relocation_words(self, file: Canonical, index: int) -> list[str]:
+    def _relocation_words(self, file: Canonical, index: int) -> Iterator[str]:
         target = file.sections[index].sh_info
-        return [file.relocation_words(it, target) for it in file.relocations(index)]
+        return (file.relocation_words(it, target) for it in file.relocations(index))
 
     def _symbols(self) -> Iterator[str]:
         one = {label: k for k, label in enumerate(self._one.symbol_labels)}

@@ -26,7 +26,7 @@ def _encoded(text: str) -> bytes:
     return text.encode("utf-8", "backslashreplace")
 
 
-def _counted(count: int, what: str) -> str:
+def counted(count: int, what: str) -> str:
     return f"{count} {what}" if count == 1 else f"{count} {what}s"
 
 
@@ -37,7 +37,7 @@ def summary_words(report: Report) -> str:
         f"{it['class_32']} of class 32" if it["class_32"] else "",
         f"{it['not_regular']} not regular" if it["not_regular"] else "",
     ]
-    words = f"{_counted(it['findings'], 'finding')} in {it['files_with_findings']} of {_counted(it['checked'], 'ELF file')}"
+    words = f"{counted(it['findings'], 'finding')} in {it['files_with_findings']} of {counted(it['checked'], 'ELF file')}"
     words += f", {it['suppressed']} suppressed" if it["suppressed"] else ""
     words += f"; skipped: {', '.join(filter(None, skipped))}" if any(skipped) else ""
     return words + (f"; {it['unreadable']} unreadable" if it["unreadable"] else "")

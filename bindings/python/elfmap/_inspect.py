@@ -79,13 +79,16 @@ class Inspector:
         elif head[4:] == bytes([_CLASS_32]) and not self._depth.fails_class_32:
             self._report.class_32 += 1
         else:
-            faults = self._checks.faults(it.source)
+            self._elf(it)
             self._report.checked += 1
-            if self._depth.keeps_names:
-                self._report.names.append(it.path)
-            words = Words(it.source) if faults else None
-            if words:
-                self._report.findings += [_finding(it, words, fault) for fault in faults]
+
+    def _elf(self, it: Content) -> None:
+        faults = self._checks.faults(it.source)
+        if self._depth.keeps_names:
+            self._report.names.append(it.path)
+        words = Words(it.source) if faults else None
+        if words:
+            self._report.findings += [_finding(it, words, fault) for fault in faults]
 
 
 def _finding(content: Content, words: Words, fault: Fault) -> Finding:

@@ -6,9 +6,12 @@ there is empty. The bytes are asked for by slices, so a file need not be in memo
 
 from __future__ import annotations
 
+import bisect
 import ctypes
+import itertools
 import struct
 from collections.abc import Iterable, Iterator
+from functools import cached_property
 from typing import NamedTuple, Optional, Protocol
 
 from elfmap import _library
@@ -67,6 +70,8 @@ PARTS = {
     "content": {31, 41, 47, 48, 51, 52, 54, 56, 58, 59, 60, 61, 62, 64, 66, 67, 68, 69, 75, 77},
 }
 SHARED_BYTE = 33
+# So many parts that share a byte are named.
+MOST_OWNERS = 16
 _HEADERS_AT_ONCE = 1024
 # Notes have no index: more than these are not counted.
 _MOST_NOTES = 100_000
@@ -120,11 +125,23 @@ class Words:
     def holding(self, at: int, near: Iterable[int] = ()) -> list[int]:
         """The sections whose content has an offset; those nearby are looked at first."""
         found = [it for it in dict.fromkeys(near) if self.content(it)[0] <= at < self.content(it)[1]]
-        return found or [
-            index
-            for index, _, kind, _, _, start, size, *_ in self.headers()
-            if index and start <= at < start + size and kind not in (NULL, NOBITS)
-        ]
+        position = 0 if found else bisect.bisect_left(self._contents, (at + 1,))
+        while position and self._ends[position - 1] > at:
+            position -= 1
+            _, end, index = self._contents[position]
+            found += [index] if end > at else []
+        return sorted(found)
+
+    @cached_property
+    def _contents(self) -> list[tuple[int, ...]]:
+        """Where the contents of sections begin and end, and their indexes, in ascending order."""
+        all_ = ((start, start + size, index, kind) for index, _, kind, _, _, start, size, *_ in self.headers())
+        return sorted(it[:3] for it in all_ if it[2] and it[0] < it[1] and it[3] not in (NULL, NOBITS))
+
+    @cached_property
+    def _ends(self) -> list[int]:
+        """The highest end of a content and all before it: where they overlap it may be that of an earlier one."""
+        return list(itertools.accumulate((end for _, end, _ in self._contents), max))
 
     def index_table(self, symbols: int) -> int:
         """The first index table of a symbol table, 0 where there is none."""
@@ -347,6 +364,7 @@ def _shared_byte(file: Words, at: int) -> Told:
         lead = "" if not section else "of " if names else "the content of "
         parts.append(f"{lead}{words} [{start:#x}, {end:#x})")
         names += [words] if section else []
-    *before, last = parts or ["no part"]
+    more = parts[MOST_OWNERS:]
+    *before, last = [*parts[:MOST_OWNERS], f"of {len(more)} more"] if more else parts or ["no part"]
     owners = f"{', '.join(before)} and {last}" if before else last
-    return Told(f"{owners} share byte {at:#x}; {RULES[SHARED_BYTE][2]}", names)
+    return Told(f"{owners} share byte {at:#x}; {RULES[SHARED_BYTE][2]}", names[:MOST_OWNERS])

@@ -29,18 +29,18 @@ import stat
 import sys
 import textwrap
 from collections.abc import Iterator, Sequence
-from contextlib import ExitStack
+from contextlib import ExitStack, suppress
 from typing import BinaryIO, NamedTuple, Optional
 
 from elfmap import __version__
-from elfmap._archives import Content, Contents, is_archive, members, printed
+from elfmap._archives import Content, Contents, Member, is_archive, members, printed
 from elfmap._checks import Checks
 from elfmap._commands import USAGE, UNREADABLE, complain, run_script
 from elfmap._hints import hints, link_hints
 from elfmap._link_words import Linked, link_words
 from elfmap._rules import LINK_RULES, RULES
 from elfmap._sources import Source, Unreadable, opened, reason_of, whole
-from elfmap._words import Words, found_at, printable
+from elfmap._words import MOST_OWNERS, Words, found_at, printable
 
 PROGRAM = "elfmap-explain"
 WIDTH = 130
@@ -68,7 +68,8 @@ class Files:
 
     def __init__(self) -> None:
         self._open: dict[bytes, tuple[ExitStack, Words, bytes]] = {}
-        self._members: tuple[bytes, dict[bytes, int]] = b"", {}
+        # The last archive, its members by their paths, and those that are in another archive.
+        self._members: tuple[bytes, dict[bytes, Member], list[Member]] = b"", {}, []
 
     def __enter__(self) -> Files:
         return self
@@ -105,15 +106,30 @@ class Files:
     def _member(self, path: bytes, archive: bytes, stack: ExitStack) -> Content:
         """The first member of this path: an archive may have several."""
         source = stack.enter_context(opened(archive))
+        if self._members[0] != archive:
+            self._members = archive, *_members_of(source, archive)
+        _, named, others = self._members
+        # Of a member in another archive the path goes on.
+        mine = [named[path]] if path in named else [it for it in others if path.startswith(printed(archive, it)[:-1] + b"(")]
         contents = Contents()
-        for it in members(source, archive) if is_archive(source) else ():
-            own = printed(archive, it)
-            # Of a member in another archive the path goes on.
-            if own == path or (it.origin is not None and path.startswith(own[:-1] + b"(")):
-                content = stack.enter_context(contents.opened(archive, source, it))
-                if content.path == path:
-                    return content
+        for it in mine:
+            content = stack.enter_context(contents.opened(archive, source, it))
+            if content.path == path:
+                return content
         raise Unreadable("the archive has no such member")
+
+
+def _members_of(source: Source, path: bytes) -> tuple[dict[bytes, Member], list[Member]]:
+    """The members of an archive by their paths, of several of one path the first; and those in other archives."""
+    named: dict[bytes, Member] = {}
+    others = []
+    with suppress(Unreadable):
+        for it in members(source, path) if is_archive(source) else ():
+            if it.origin is None:
+                named.setdefault(printed(path, it), it)
+            else:
+                others.append(it)
+    return named, others
 
 
 def _archive_of(path: bytes) -> Optional[bytes]:
@@ -199,7 +215,9 @@ class Explainer:
         yield f"{name}: {sentence}"
         if table is not None:
             yield f"the table in {words.typed_words(table)}"
-        yield from (f"{path}, offset {at} ({at:#x}): {it.words}" for it in found_at(words, rule, at, table))
+        places = [it.words for it in found_at(words, rule, at, table)]
+        more = [f"{len(places) - MOST_OWNERS} more sections"] if len(places) > MOST_OWNERS else []
+        yield from (f"{path}, offset {at} ({at:#x}): {it}" for it in places[:MOST_OWNERS] + more)
         yield from (f"likely cause: {it}" for it in hints(words, os.fsdecode(file), rule, at))
         yield from (f"what to do: {advice}", f"docs/RULES.md#{kind}-{rule}")
 

@@ -19,7 +19,7 @@ from elfmap import _hints, _names, _rules, _words, build, explain
 from elfmap._link_words import Linked
 
 from tests.made import BROKEN_SYMBOLS, ENVIRONMENT, GNU, GOOD, LONG, SHARING, FolderCase
-from tests.made import Made, relocations, setUpModule, symbols, text, thin  # noqa: F401
+from tests.made import Made, archive_member, relocations, setUpModule, symbols, text, thin  # noqa: F401
 
 sys.path.insert(0, str(build.REPOSITORY / "tools" / "lib"))
 from elfmap_tools.cases import cases_of, put_needs  # noqa: E402
@@ -197,6 +197,15 @@ class FindingTest(Case):
         for number in range(count):
             self.put(**{f"{number}__o": SHARING})
         lines = b"".join(FINDING.replace(b"bad.o", b"%d.o" % it) + b"\n" for it in range(count))
+        start = time.monotonic()
+        status, out, _ = self.explain(stdin=lines)
+        self.assertEqual((status, out.count("section 2 .data")), (0, count))
+        self.assertLess(time.monotonic() - start, count / 100)
+
+    def test_many_members(self):
+        count = 5000
+        self.put(many__a=b"!<arch>\n" + b"".join(archive_member(b"%d.o" % it, SHARING) for it in range(count)))
+        lines = b"".join(FINDING.replace(b"bad.o", b"many.a(%d.o)" % it) + b"\n" for it in range(count))
         start = time.monotonic()
         status, out, _ = self.explain(stdin=lines)
         self.assertEqual((status, out.count("section 2 .data")), (0, count))

@@ -72,6 +72,16 @@ class WordsTest(Case):
         self.put(bad__o=SHARING)
         self.assertSaid(["bad.o"], 1, [b"bad.o: " + SHARED, b"1 finding in 1 of 1 ELF file"])
 
+    def test_a_byte_of_many_sections(self):
+        data = [(b".data", 1, b"\1", {}) for _ in range(100)]
+        made = Made(*data)
+        content = bytearray(made.data)
+        for index in range(1, 101):
+            content[made.table + 64 * index + 24 : made.table + 64 * index + 32] = (64).to_bytes(8, "little")
+        self.put(bad__o=bytes(content))
+        line = self.told("bad.o")[0]
+        self.assertEqual((line.count(".data [0x40, 0x41)"), "and of 84 more share byte 0x40; " in line), (16, True), line)
+
     def test_a_byte_of_the_header(self):
         self.put(bad__o=Made(text()).with_field(1, "offset", 0x3F))
         owners = "the ELF header [0x0, 0x40) and the content of .text [0x3f, 0x72) share byte 0x3f"

@@ -36,6 +36,7 @@ zpty -w -n shell $'elfmap li\tsome --ent\t'
 zpty -r -m shell out '* --entry*'
 print -r -- $out
 """
+ANSWER = "cc -c -O1 /usr/share/doc/elfmap/examples/answer.c"
 # What is tried in the root, in this order: a title, a script, and a pattern of the lines that it prints. @V@ is the version.
 SECTIONS = "$(elfmap show /bin/true | grep -c '^section ')"
 STEPS = [
@@ -45,6 +46,14 @@ STEPS = [
     ("man page", "man -w elfmap elfmap-lint; man --warnings elfmap | head -n 1", r"(.*/elfmap(-lint)?.1.gz\n){2}ELFMAP\(1\) .*\n"),
     ("manual", "ls /usr/share/doc/elfmap/README.md /usr/share/doc/elfmap/docs/RULES.md | wc -l", r"2\n"),
     ("lint", "elfmap-lint --tables /usr/bin && mkdir /tmp/tree && " + BROKEN + "; elfmap-lint /tmp/tree; echo $?", r"(.*\n)*/tmp/tree/broken: .*\n.*\n1\n"),
+    ("lint of /usr", "elfmap-lint /usr | tail -n 1", r"\d+ findings? in \d+ of \d{3,} ELF files; skipped: .*\n"),
+    ("build tree", f"mkdir /tmp/b && cd /tmp/b && {ANSWER} && cp answer.o bad.o && printf '\\162' | dd of=bad.o bs=1 seek=1016 conv=notrunc"
+     " status=none && elfmap-lint --tables .; elfmap-lint . | elfmap-explain | grep -c 'what to do'", r"./bad.o: .*\n1 finding in 1 of 2 .*\n1\n"),
+    ("lint of an archive", f"cd /tmp/b && ar rc libanswer.a answer.o bad.o && elfmap-lint libanswer.a; {ANSWER} -o bad.o && ar r libanswer.a bad.o"
+     " && elfmap-lint libanswer.a", r"libanswer.a\(bad.o\): .*\n1 finding in 1 of 2 .*\n0 findings in 0 of 2 .*\n"),
+    ("JUnit", "cd /tmp/b && elfmap-lint --fail-on-empty --format junit -o it.xml libanswer.a && grep -c '<testcase' it.xml", r"2\n"),
+    ("two builds", f"cd /tmp/b && mkdir old new && cp answer.o old && {ANSWER} -g -o new/answer.o; elfmap-same old new; echo $?",
+     r"answer.o: .*\n(.*\n)*different\n1\n"),
     ("shared library", f"cd /tmp && cc -std=c99 /usr/share/doc/libelfmap-dev/examples/sections.c $(pkg-config --cflags --libs elfmap) -o s"
      f' && ldd s | grep -c libelfmap.so.0 && test "$(./s /bin/true | wc -l)" = {SECTIONS} && pkg-config --modversion elfmap', r"1\n@V@\n"),
     ("static library", "cd /tmp && cc -std=c99 /usr/share/doc/libelfmap-dev/examples/sections.c -l:libelfmap.a -o t && ldd t | grep libelfmap;"
@@ -56,8 +65,8 @@ STEPS = [
     ("remove", "dpkg -P elfmap elfmap-doc libelfmap-dev python3-elfmap libelfmap0 > /tmp/log 2>&1 || cat /tmp/log;"
      " find / -xdev -path /packages -prune -o -path /tmp -prune -o -path /var/cache -prune -o -name '*elfmap*' -print", r""),
     ("wheel", "python3 -m venv /tmp/v && /tmp/v/bin/pip install -q --no-index /packages/*.whl && export PATH=/tmp/v/bin &&"
-     ' python3 -c \'import elfmap; print(elfmap.__version__, elfmap.check(open("/bin/true", "rb").read()).len)\' && elfmap-lint --version',
-     r"@V@ \d+\nelfmap-lint @V@\n"),
+     ' python3 -c \'import elfmap; print(elfmap.__version__, elfmap.check(open("/bin/true", "rb").read()).len)\' && elfmap-lint --version &&'
+     " elfmap-gaps --most 20 /usr/lib 2> /dev/null", r"@V@ \d+\nelfmap-lint @V@\n(\d+ /usr/lib/.*\n){20}\d+ gaps of .*\n"),
     ("crate", "cd /tmp && tar xf /packages/elfmap-@V@.crate && cd elfmap-@V@ && cargo build -q --frozen --example symbols &&"
      " ./target/debug/examples/symbols /tmp/s | grep -c main", r"[1-9]\d*\n"),
     ("archive", "cd /tmp && tar xf /packages/elfmap-@V@-x86_64-linux.tar.gz && cd elfmap-@V@-x86_64-linux && bin/elfmap --version &&"

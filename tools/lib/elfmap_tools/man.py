@@ -16,7 +16,12 @@ MARK = re.compile(r"\[((?:`[^`]*`|[^\]`])*)\]\(([^)]*)\)|`([^`]*)`|\*\*([^*]*)\*
 WIDTH = 68
 SEE_ALSO = r""".BR readelf (1),
 .BR ld (1),
-.BR elf (5)
+.BR elf (5),
+.BR elfmap\-lint (1),
+.BR elfmap\-explain (1),
+.BR elfmap\-same (1),
+.BR elfmap\-gaps (1),
+.BR elfmap\-picture (1)
 .PP
 In the directory of the release:
 .B \%docs/MANUAL.md

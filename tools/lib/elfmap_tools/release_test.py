@@ -9,6 +9,7 @@
 - bindings/c/sections.c and symbols.c, compiled as include/elfmap.h says, say of these files what `elfmap show` and `elfmap check` say;
 - so do bindings/rust/examples/symbols.rs by cargo, which builds outside of the archive, and bindings/python/examples/symbols.py;
 - each command of the Python package runs over the shared library, without a compiler, and bin/elfmap-lint finds the changed copies;
+- what is built is packed in 30 seconds of a processor;
 - `man` and `groff` format the manual page without a warning."""
 
 import glob, os, re, shutil, subprocess, sys, tempfile
@@ -23,6 +24,7 @@ from .tree import TOP, Texts, files_below, read_bytes, read_text, write
 VERSION = "0-test"
 NAME = f"elfmap-{VERSION}-x86_64-linux"
 TRUE = "/bin/true"
+MOST_SECONDS = 30
 COMPILE = "cc -std=c99 program.c $(pkg-config --cflags --libs elfmap)"
 FILES = [
     "elfmap.html", "VERSION", "bin/elfmap", "doc/elfmap-doc.html", "elfmap", "include/elfmap.h",
@@ -49,7 +51,11 @@ class Release:
         self.folder, self.room = f"{room}/empty/{NAME}", f"{room}/elsewhere"
         for it in ("first", "second", "empty", "elsewhere"):
             os.mkdir(f"{room}/{it}")
-        first, second = pack(f"{room}/first", VERSION), pack(f"{room}/second", VERSION)
+        # The first one may build the module of the page.
+        first, begun = pack(f"{room}/first", VERSION), sum(os.times()[:4])
+        second = pack(f"{room}/second", VERSION)
+        seconds = sum(os.times()[:4]) - begun
+        self.check(seconds < MOST_SECONDS, f"a release is packed in {seconds:.0f} s of a processor")
         self.check(read_bytes(first) == read_bytes(second), "the archive is another one the second time")
         self.check(ran("tar", "xf", first, folder=f"{room}/empty").returncode == 0, "tar does not unpack the archive")
         names = {it[len(self.folder) + 1 :] for it in files_below(self.folder)}
@@ -174,6 +180,16 @@ class Release:
         found = [it for it in self.broken if f'"{it}"' in lint.stdout]
         # What has another magic number is no ELF file, and is skipped.
         self.check((lint.returncode, found) == (1, self.broken[1:]), f"bin/elfmap-lint: {lint}")
+        broken = self.broken[-1]
+        line = self.elfmap("check", broken).stdout.split()
+        for words, status, wanted in (
+            (("explain", *line, broken), 0, "what to do: "),
+            (("picture", TRUE), 0, "<svg "),
+            (("same", TRUE, TRUE), 0, "the same\n"),
+            (("gaps", TRUE), 0, f" {TRUE}: ["),
+        ):
+            own = ran(f"bin/elfmap-{words[0]}", *words[1:], folder=self.folder, env=env)
+            self.check(own.returncode == status and wanted in own.stdout, f"bin/elfmap-{words}: {own}")
 
     def manual(self) -> None:
         page = "share/man/man1/elfmap.1"

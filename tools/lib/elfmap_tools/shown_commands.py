@@ -2,9 +2,8 @@
 
 A command is a line of a code block that begins with `$ `, or with `>>> ` for Python; below it are the lines that it prints, on standard
 output and standard error. There a line `..` means lines left out, and ` ..` at the end of a line the rest of it. A page's commands run in
-its order in a folder of their own. That is a release of the version VERSION, unpacked, whose bin/ is on the PATH, with its archive, the
-file answer.c of examples/, and the folders that the repository alone has. A `cat` of a file that isn't there writes it, with the lines
-below. Commands within prose are not looked at.
+its order in a folder of their own. That is a release of the version VERSION, unpacked, whose bin/ is on the PATH, with its archive and the
+folders that the repository alone has. Commands within prose are not looked at.
 
 Skipped are the commands of SKIPPED, by their text, those of tools of other versions than README.md names, those on files of the machine of
 other lengths, what is not built, and what needs a file that such a command makes. A code line that begins as a command does has to have its
@@ -26,6 +25,7 @@ ARCHIVE = "elfmap-VERSION-x86_64-linux"
 LONGEST = 60
 # Commands that are not run here, and why.
 LONG, MEASURED = "it proves, for minutes or seconds, with the Rattle kit", "it measures, for minutes"
+WHEEL = "tools/test packages installs the wheel"
 SKIPPED = {
     "rt ci": LONG,
     "tools/dev prove elf_image_rules": LONG,
@@ -33,9 +33,12 @@ SKIPPED = {
     "tools/dev check elf_extent members_by_start  # a function, and what it calls; here sorted by the index in place of the start": LONG,
     "tools/dev check tests_base --test finds_the_next_place": LONG,
     f"man -l {ARCHIVE}/share/man/man1/elfmap.1": "it shows a page; tools/test release has it formatted",
+    "python3 -m venv venv && venv/bin/pip install elfmap-*.whl": WHEEL,
+    "venv/bin/elfmap-gaps --most 20 /usr/lib": WHEEL,
     "bench/run": MEASURED,
     "bench/growth crates/elfmap/out/elfmap": MEASURED,
     "bench/library": MEASURED,
+    "bench/lint": MEASURED,
 }
 # Tools whose output depends on their version, and the packages by which README.md names that.
 PACKAGES = {"gcc": "gcc", "readelf": "binutils", "objcopy": "binutils", "ld": "binutils", "eu-elflint": "elfutils"}
@@ -194,9 +197,6 @@ class Page:
             self.skip(command, why)
             self.lacking |= dict.fromkeys(made_by(command), why) if command not in SKIPPED else {}
             return
-        only = command.split()
-        if only[0] == "cat" and len(only) == 2 and not os.path.exists(f"{self.folder}/{only[1]}"):
-            write(f"{self.folder}/{only[1]}", shown + "\n")
         said = self.run(command)
         self.tally.check(is_as_shown(said, shown), f"{self.name} shows below '{command}':\n{shown}\nand it says:\n{said}")
 
@@ -207,11 +207,9 @@ class Page:
         if lacks:
             return self.skip(">>> ..", lacks)
         write(f"{self.folder}/shown.txt", re.sub(r" \.\.$", " ...", text, flags=re.M) + "\n")
-        env = {**self.environment, "PYTHONPATH": f"{self.folder}/bindings/python", "PYTHONDONTWRITEBYTECODE": "1"}
-        ran = run(sys.executable, "-m", "doctest", "-o", "ELLIPSIS", "shown.txt", folder=self.folder, env=env)
-        self.tally.check(
-            ran.returncode == 0, f"{self.name} shows other lines of Python than there are:\n{(ran.stdout + ran.stderr).decode()}"
-        )
+        env = f'PYTHONDONTWRITEBYTECODE=1 PYTHONPATH="{self.folder}/bindings/python"'
+        said = self.run(f'{env} "{sys.executable}" -m doctest -o ELLIPSIS "{self.folder}/shown.txt"')
+        self.tally.check(not said, f"{self.name} shows other lines of Python than there are:\n{said}")
 
     def try_all(self) -> None:
         for lines in blocks(self.text):
@@ -238,8 +236,7 @@ def furnish(folder: str, archive: str) -> None:
     subprocess.run(["tar", "xf", archive, "--strip-components=1"], cwd=folder, check=True)
     for it in FOLDERS:
         os.symlink(f"{TOP}/{it}", f"{folder}/{it}")
-    for path in (archive, f"{TOP}/examples/answer.c"):
-        shutil.copy(path, folder)
+    shutil.copy(archive, folder)
 
 
 def shown_commands(tally: Tally, options: Namespace) -> None:

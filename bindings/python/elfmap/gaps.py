@@ -1,0 +1,136 @@
+"""elfmap-gaps: the longest gaps of ELF-64 files, directories and archives.
+
+    elfmap-gaps [OPTIONS] PATH...
+
+A gap is a run of bytes that is in no header, no table and no section. Each line has its
+length, its file and place, the parts before and after it, and whether it has bytes that are
+not zero. The longest gap comes first. The status is 0, 2 for a usage error, and 3 if a file
+can't be read or is rejected. The other files are read all the same.
+"""
+
+from __future__ import annotations
+
+import argparse
+import heapq
+import os
+from collections.abc import Iterator, Sequence
+from typing import NamedTuple, Optional
+
+from elfmap import __version__, _library
+from elfmap._archives import Content
+from elfmap._commands import DONE, UNREADABLE, USAGE, complain, run_script
+from elfmap._findings import Globs, Report
+from elfmap._formats import counted, one_line
+from elfmap._inspect import Depth, Inspector
+from elfmap._rules import RULES
+from elfmap._sources import Source, Unreadable
+from elfmap._walk import Walk
+from elfmap._words import Words
+
+PROGRAM = "elfmap-gaps"
+_MOST = 20
+_OWNERS = ("the header", "the section headers", "the program headers")
+_GAP = 2**64 - 1
+_STEP = 1 << 20
+
+
+class Gap(NamedTuple):
+    """A gap, in the order in which gaps are printed: the longest first."""
+
+    less: int
+    path: bytes
+    start: int
+    before: str
+    after: str
+    is_zeros: bool
+
+    def line(self) -> bytes:
+        end = self.start - self.less
+        words = f"between {self.before} and {self.after}" if self.after else f"after {self.before}"
+        words = f": [{self.start:#x}, {end:#x}) {words}, {'zeros' if self.is_zeros else 'not only zeros'}\n"
+        return b"%d " % -self.less + one_line(self.path) + words.encode("utf-8", "backslashreplace")
+
+
+class Finder(Inspector):
+    """Finds the gaps of one file after another, and keeps the longest of them."""
+
+    def __init__(self, most: int) -> None:
+        super().__init__(Depth())
+        self._most = most
+        self.longest: list[Gap] = []
+        self.count = self.bytes = 0
+
+    def _elf(self, it: Content) -> None:
+        parts, fault = self._checks.parts(it.source)
+        if fault:
+            raise Unreadable(f"offset {fault.at:#x}: {RULES[fault.rule][0]} ({fault.rule}); elfmap-lint says more")
+        words = Words(it.source)
+        own = [_gap(it, words, parts, position) for position, part in enumerate(parts) if part.owner == _GAP]
+        self.count += len(own)
+        self.bytes -= sum(gap.less for gap in own)
+        self.longest = heapq.nsmallest(self._most, [*self.longest, *own])
+
+
+def _gap(it: Content, words: Words, parts: Sequence[_library.Part], position: int) -> Gap:
+    part = parts[position]
+    after = _owner(words, parts[position + 1]) if position + 1 < len(parts) else ""
+    is_zeros = not any(block.strip(b"\0") for block in _blocks(it.source, part.start, part.len))
+    return Gap(-part.len, it.path, part.start, _owner(words, parts[position - 1]), after, is_zeros)
+
+
+def _owner(words: Words, part: _library.Part) -> str:
+    index = part.owner - len(_OWNERS)
+    return _OWNERS[part.owner] if index < 0 else words.section_name(index) or f"section {index}"
+
+
+def _blocks(source: Source, start: int, length: int) -> Iterator[bytes]:
+    for at in range(start, start + length, _STEP):
+        yield source[at : min(at + _STEP, start + length)]
+
+
+def _parser() -> argparse.ArgumentParser:
+    parser = argparse.ArgumentParser(
+        prog=PROGRAM,
+        description="Lists the longest gaps of ELF-64 files: bytes that are in no header, no table and no section.",
+        epilog="Status: 0 done, 2 usage, 3 something can't be read or is rejected.",
+    )
+    add = parser.add_argument
+    add("--version", action="version", version=f"%(prog)s {__version__}")
+    add("paths", metavar="PATH", nargs="+", help="a file, a directory, or an archive")
+    add("--exclude", metavar="GLOB", action="append", default=[], help="skip files and directories of such names")
+    add("--most", metavar="N", type=int, default=_MOST, help=f"print N gaps (default: {_MOST})")
+    return parser
+
+
+def _summary(finder: Finder, report: Report) -> str:
+    gaps, files = counted(finder.count, "gap"), counted(report.checked, "ELF file")
+    words = f"{gaps} of {counted(finder.bytes, 'byte')} in {files}"
+    skipped = [f"{count} {what}" for count, what in ((report.no_elf, "not ELF"), (report.class_32, "of class 32")) if count]
+    return words + (f"; skipped: {', '.join(skipped)}" if skipped else "")
+
+
+def main(words: Optional[Sequence[str]] = None) -> int:
+    """Runs the program, and returns its status."""
+    options = _parser().parse_args(words)
+    if options.most < 0:
+        complain(PROGRAM, b"--most needs a number from 0 on")
+        return USAGE
+    finder, report = Finder(options.most), Report()
+    for found in Walk([os.fsencode(it) for it in options.paths], Globs(options.exclude), report):
+        report.add(finder.files([found.path]))
+    report.sort()
+    for lost in report.unreadable:
+        complain(PROGRAM, one_line(lost.path) + b": " + lost.reason.encode())
+    with open(1, "wb", closefd=False) as out:
+        out.writelines(it.line() for it in finder.longest)
+        out.write(f"{_summary(finder, report)}\n".encode())
+    return UNREADABLE if report.unreadable else DONE
+
+
+def script() -> None:
+    """The console script."""
+    run_script(PROGRAM, main)
+
+
+if __name__ == "__main__":
+    script()
