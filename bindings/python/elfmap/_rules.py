@@ -490,8 +490,9 @@ LINK_RULES = {
     ),
     10: (
         "NO_ENTRY",
-        "the link is refused because the name of the entry point is bound to nothing "
-        "or to zero, in a section that is not live, or has a value of 2^64 or more",
+        "the link is refused because the name of the entry point is bound to nothing, "
+        "to zero, or to a definition in a section that is not live, or its value is "
+        "2^64 or more",
         "name a symbol that is defined in the program",
     ),
     11: (

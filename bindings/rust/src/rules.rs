@@ -303,8 +303,9 @@ pub mod link {
     /// section, and its name has no definition and no common.
     pub const UNDEFINED_NAME: u16 = 9;
 
-    /// Rule 10: the link is refused because the name of the entry point is bound to nothing
-    /// or to zero, in a section that is not live, or has a value of 2^64 or more.
+    /// Rule 10: the link is refused because the name of the entry point is bound to nothing,
+    /// to zero, or to a definition in a section that is not live, or its value is 2^64 or
+    /// more.
     pub const NO_ENTRY: u16 = 10;
 
     /// Rule 11: the link is refused because the address after the last byte of a section or
@@ -817,8 +818,9 @@ pub(crate) const LINK_TABLE: [(u16, &str, &str); 16] = [
     (
         10,
         "NO_ENTRY",
-        "the link is refused because the name of the entry point is bound to nothing \
-         or to zero, in a section that is not live, or has a value of 2^64 or more",
+        "the link is refused because the name of the entry point is bound to nothing, \
+         to zero, or to a definition in a section that is not live, or its value is \
+         2^64 or more",
     ),
     (
         11,
