@@ -346,7 +346,6 @@ def make_cases(tally: Tally, options: Namespace) -> None:
             tally.check(is_same, f"cases/{name} is not what `tools/test make-cases --in cases` makes")
 
 
-IN = {"dest": "folder", "metavar": "FOLDER"}
 COUNTED = number("count", COUNT, "cases of each kind")
 SEEDED: Option = ("--seed", {"default": SEED, "help": "the same seed makes the same cases"})
 FROM: Option = ("--in", {"dest": "folder", "metavar": "FOLDER", "default": f"{TOP}/cases", "help": "another folder of cases"})

@@ -1,7 +1,9 @@
 """The folders of the repository, its crates, and what every tool does: read and write files, run commands, show that it still runs."""
 
 import contextlib, functools, os, re, subprocess, sys, threading, time
-from collections.abc import Iterable, Iterator, Mapping
+from collections.abc import Callable, Iterable, Iterator, Mapping
+from concurrent.futures import ProcessPoolExecutor, ThreadPoolExecutor
+from typing import TypeVar
 
 TOP = os.path.dirname(os.path.dirname(os.path.dirname(os.path.dirname(os.path.realpath(__file__)))))
 PROCESSORS = len(os.sched_getaffinity(0))
@@ -10,6 +12,8 @@ RULES = f"{TOP}/rules/x86-64.rules"
 PACKAGE = f"{TOP}/bindings/python"
 Ended = subprocess.CompletedProcess[bytes]
 Texts = subprocess.CompletedProcess[str]
+T = TypeVar("T")
+R = TypeVar("R")
 
 
 def read_bytes(path: str) -> bytes:
@@ -47,6 +51,21 @@ def said(*words: str, folder: str | None = None, env: Mapping[str, str] | None =
     return subprocess.run(
         words, cwd=folder or TOP, env=env, stdin=subprocess.DEVNULL, stdout=subprocess.PIPE, stderr=subprocess.STDOUT, errors="replace"
     )
+
+
+def wanted(*words: str, folder: str | None = None) -> str:
+    """Runs a command that has to end well: what it says."""
+    ended = said(*words, folder=folder)
+    if ended.returncode:
+        raise SystemExit(f"{os.path.basename(words[0])} ended with status {ended.returncode}: {ended.stdout[-2000:]}")
+    return ended.stdout
+
+
+def side_by_side(function: Callable[[T], R], items: Iterable[T], by_processes: bool = False) -> list[R]:
+    """What a function returns for each item, with as many calls at a time as there are processors."""
+    items = list(items)
+    with (ProcessPoolExecutor if by_processes else ThreadPoolExecutor)(PROCESSORS) as pool:
+        return list(pool.map(function, items, chunksize=max(1, min(10, len(items) // PROCESSORS))))
 
 
 def files_below(folder: str) -> Iterator[str]:
