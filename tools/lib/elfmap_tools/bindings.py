@@ -2,19 +2,20 @@
 `tools/release library`; what both declare of the library is what include/elfmap.h declares. Nothing is fetched, and nothing is written but
 in a temporary folder. `tools/test explain` runs the package's tests of elfmap-explain alone."""
 
-import ctypes, re, sys, tempfile
+import ctypes, re, sys
 from argparse import Namespace
 from collections.abc import Mapping
 from typing import Any
 
-from .library import ENGINES, FOLDER, VERDICTS, packed
+from .library import BOTH, FOLDER, PACKERS, packed
 from .packages import JSONSCHEMA, JUNITPARSER
-from .suite import Tally, Test, crates_of, environment
+from .suite import Tally, Test, environment
 from .tree import PACKAGE, TOP, Texts, read_text, said
 
 sys.path.insert(0, PACKAGE)
 from elfmap import _library  # noqa: E402
 
+TOOLS = f"{PACKERS} cargo git pre-commit {JSONSCHEMA} {JUNITPARSER}"
 Structs = dict[str, list[tuple[str, str]]]
 Calls = dict[str, list[str]]
 # The structs of C as Rust and Python name them, and Rust's numbers as C has them.
@@ -96,9 +97,10 @@ def count_run(tally: Tally, ran: Texts, passed: int, failed: int) -> None:
     tally.count(passed + failed, [ran.stdout] * bool(failed) + ["the same"] * (failed - 1))
 
 
-def unittests(tally: Tally, room: str, *modules: str) -> None:
+def unittests(tally: Tally, *modules: str) -> None:
     """Runs tests of the package: all, or those of some modules."""
-    own = environment(ELFMAP_LIB_DIR=FOLDER, XDG_CACHE_HOME=f"{room}/cache", PYTHONDONTWRITEBYTECODE="1")
+    packed()
+    own = environment(ELFMAP_LIB_DIR=FOLDER, XDG_CACHE_HOME=f"{tally.room}/cache", PYTHONDONTWRITEBYTECODE="1")
     ran = said(sys.executable, "-m", "unittest", *modules, folder=PACKAGE, env=own)
     count = sum(int(it) for it in re.findall(r"^Ran (\d+) tests?", ran.stdout, re.M))
     # A test of many files fails for each of them.
@@ -106,27 +108,17 @@ def unittests(tally: Tally, room: str, *modules: str) -> None:
     count_run(tally, ran, count - failed, failed)
 
 
+@Test("explain", "a file that breaks each rule, and what elfmap-explain says of it", commands=PACKERS, crates=BOTH)
 def explain(tally: Tally, options: Namespace) -> None:
-    packed()
-    with tempfile.TemporaryDirectory(prefix="explain-") as room:
-        unittests(tally, room, "tests.test_explain")
+    unittests(tally, "tests.test_explain")
 
 
+@Test("bindings", "the bindings for Rust and Python, and what they declare", commands=TOOLS, crates=BOTH)
 def bindings(tally: Tally, options: Namespace) -> None:
     declarations(tally)
-    packed()
-    with tempfile.TemporaryDirectory(prefix="bindings-") as room:
-        cargo = {"CARGO_HOME": f"{room}/cargo", "CARGO_TARGET_DIR": f"{room}/target", "CARGO_INCREMENTAL": "0"}
-        unittests(tally, room)
-        ran = said(
-            "cargo", "test", "--frozen", "--no-fail-fast", folder=f"{TOP}/bindings/rust", env=environment(ELFMAP_LIB_DIR=FOLDER, **cargo)
-        )
-        found = re.findall(r"^test result: .* (\d+) passed; (\d+) failed;", ran.stdout, re.M)
-        count_run(tally, ran, sum(int(it) for it, _ in found), sum(int(it) for _, it in found))
-
-
-CRATES, COMMANDS = crates_of(VERDICTS, ENGINES), ("cc", "ar", "objcopy", "cargo", "git", "pre-commit", JSONSCHEMA, JUNITPARSER)
-TESTS = [
-    Test("bindings", "the bindings for Rust and Python, and what they declare", bindings, COMMANDS, CRATES),
-    Test("explain", "a file that breaks each rule, and what elfmap-explain says of it", explain, COMMANDS[:3], CRATES),
-]
+    unittests(tally)
+    folders = {"CARGO_HOME": f"{tally.room}/cargo", "CARGO_TARGET_DIR": f"{tally.room}/target"}
+    env = environment(ELFMAP_LIB_DIR=FOLDER, CARGO_INCREMENTAL="0", **folders)
+    ran = said("cargo", "test", "--frozen", "--no-fail-fast", folder=f"{TOP}/bindings/rust", env=env)
+    found = re.findall(r"^test result: .* (\d+) passed; (\d+) failed;", ran.stdout, re.M)
+    count_run(tally, ran, sum(int(it) for it, _ in found), sum(int(it) for _, it in found))

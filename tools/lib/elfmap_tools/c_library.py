@@ -12,16 +12,15 @@ They are compiled by cc, and by clang with its checks of addresses and of undefi
 import os, re, tempfile
 from argparse import Namespace
 from collections.abc import Iterable, Iterator
-from concurrent.futures import ThreadPoolExecutor
 
 from .building import built
 from .cases import Case, all_cases, case_files, put_needs
-from .library import ENGINES, FUNCTIONS, RENAMED, VERDICTS, packed
+from .library import BOTH, ENGINES, FUNCTIONS, PACKERS, RENAMED, VERDICTS, packed
 from .packages import SANITIZERS
 from .reference import shown
-from .suite import Tally, Test, crates_of, number
+from .suite import Tally, Test, number
 from .told import c_lines
-from .tree import PROCESSORS, TOP, libraries, read_bytes, read_text, run, said, texts_of, write
+from .tree import PROCESSORS, TOP, libraries, read_bytes, read_text, run, said, side_by_side, texts_of, wanted, write
 
 HEADER_TEXT = read_text("include/elfmap.h")
 C = f"{TOP}/bindings/c"
@@ -212,27 +211,30 @@ def try_engines(tally: Tally, program: str) -> None:
         try_call(tally, program, ["show", path], (DONE, (0, 0, 0, 0), shown(read_bytes(path)).encode()), f"elfmap show {path}")
 
 
+TOOLS = f"cc c++ clang nm objcopy {SANITIZERS}"
+
+
+@Test("c-library", "the libraries for C, and the header, by cc and by clang with its checks", commands=TOOLS, crates=BOTH)
 def c_library(tally: Tally, options: Namespace) -> None:
-    verdicts = built(VERDICTS)
-    with tempfile.TemporaryDirectory(prefix="c-library-") as room:
-        compare_header(tally, room)
-        compare_names(tally, verdicts, VERDICTS, set(), set())
-        paths = [write(f"{room}/{name}", content) for content, name in case_files().items()]
-        files = {path: c_lines(read_bytes(path)) for path in [*paths, *filter(os.path.isfile, MACHINE_FILES)]}
-        engines = f"{room}/lib{ENGINES}.a"
-        ran = said("objcopy", *RENAMED, built(ENGINES), engines)
-        tally.check(ran.returncode == 0, f"objcopy: {ran.stdout}")
-        compare_names(tally, engines, ENGINES, {f"elfmap_{it}" for it in FUNCTIONS}, ON_BYTES)
-        for compiler in COMPILERS:
-            program = f"{room}/test-{compiler}"
-            if compiled(tally, compiler, program, f"{C}/test.c", verdicts):
-                compare_files(tally, program, files)
-            if compiled(tally, compiler, f"{program}-engines", f"{C}/engines.c", engines, verdicts):
-                try_engines(tally, f"{program}-engines")
-        if compiled(tally, "cc", f"{room}/over-malloc", f"{C}/engines.c", "-DOVER_MALLOC", f"{C}/memory.c", engines, verdicts):
-            try_engines(tally, f"{room}/over-malloc")
-        ran = said("c++", "-Wall", "-Wextra", "-Werror", "-fsyntax-only", "-x", "c++", f"{TOP}/include/elfmap.h")
-        tally.check(ran.returncode == 0, f"the header in C++:\n{ran.stdout}")
+    room, verdicts = tally.room, built(VERDICTS)
+    compare_header(tally, room)
+    compare_names(tally, verdicts, VERDICTS, set(), set())
+    paths = [write(f"{room}/{name}", content) for content, name in case_files().items()]
+    files = {path: c_lines(read_bytes(path)) for path in [*paths, *filter(os.path.isfile, MACHINE_FILES)]}
+    engines = f"{room}/lib{ENGINES}.a"
+    ran = said("objcopy", *RENAMED, built(ENGINES), engines)
+    tally.check(ran.returncode == 0, f"objcopy: {ran.stdout}")
+    compare_names(tally, engines, ENGINES, {f"elfmap_{it}" for it in FUNCTIONS}, ON_BYTES)
+    for compiler in COMPILERS:
+        program = f"{room}/test-{compiler}"
+        if compiled(tally, compiler, program, f"{C}/test.c", verdicts):
+            compare_files(tally, program, files)
+        if compiled(tally, compiler, f"{program}-engines", f"{C}/engines.c", engines, verdicts):
+            try_engines(tally, f"{program}-engines")
+    if compiled(tally, "cc", f"{room}/over-malloc", f"{C}/engines.c", "-DOVER_MALLOC", f"{C}/memory.c", engines, verdicts):
+        try_engines(tally, f"{room}/over-malloc")
+    ran = said("c++", "-Wall", "-Wextra", "-Werror", "-fsyntax-only", "-x", "c++", f"{TOP}/include/elfmap.h")
+    tally.check(ran.returncode == 0, f"the header in C++:\n{ran.stdout}")
 
 
 # ---- laws: what the library says of changed files agrees with itself
@@ -246,37 +248,26 @@ MADE += ["-shared -nostdlib -fPIC -Wl,--hash-style=sysv -Wl,-soname,answer.so"]
 def files_for_laws(room: str) -> Iterator[str]:
     """What cc makes of a few lines of C, and the files of the cases that are accepted."""
     for k, words in enumerate(MADE):
-        made = said("cc", *words.split(), f"{TOP}/cases/sources/answer_twice.c", "-o", f"{room}/made-{k}")
-        if made.returncode:
-            raise SystemExit(f"cc {words}: {made.stdout}")
+        wanted("cc", *words.split(), f"{TOP}/cases/sources/answer_twice.c", "-o", f"{room}/made-{k}")
         yield f"{room}/made-{k}"
     sound = (it for it in case_files() if 64 <= len(it) <= LONGEST and c_lines(it)[0] == "verdict kept")
     for k, content in enumerate(sorted(sound, key=lambda it: (-len(set(it)), it))):
         yield write(f"{room}/case-{k}", content)
 
 
-def laws(tally: Tally, options: Namespace) -> None:
-    with tempfile.TemporaryDirectory(prefix="laws-") as room:
-        made = said("cc", "-O2", *WARNINGS, f"{C}/laws.c", packed(), "-o", f"{room}/laws")
-        if made.returncode:
-            return tally.fail(f"laws.c is not compiled:\n{made.stdout}")
-        files = list(files_for_laws(room))[:MOST]
-        counts = [options.count // PROCESSORS + (k < options.count % PROCESSORS) for k in range(PROCESSORS)]
-        words = [[f"{room}/laws", str(it), str(options.seed * PROCESSORS + k), *files] for k, it in enumerate(counts)]
-        with ThreadPoolExecutor(PROCESSORS) as pool:
-            for ran in pool.map(lambda it: said(*it, folder=os.getcwd()), words):
-                found = re.search(r"^(\d+) of them are accepted\n(\d+) passed, (\d+) failed$", ran.stdout, re.M)
-                if tally.check(found and ran.returncode in (0, 1), f"a run ended with {ran.returncode}:\n{ran.stdout}") and found:
-                    lines = [it.removeprefix("laws: ") for it in ran.stdout.splitlines() if it.startswith("laws: ")]
-                    failed = int(found[3])
-                    tally.count(int(found[2]) + failed, lines[:failed] + ["more of them"] * (failed - len(lines)))
-
-
-BOTH = crates_of(VERDICTS, ENGINES)
-TOOLS = ("cc", "c++", "clang", "nm", "objcopy", SANITIZERS)
 COPIES = (number("count", 20000, "so many copies"), number("seed", 1, "the same seed makes the same copies"))
 ABOUT = "bytes of files changed; what the library for C says of each copy agrees with itself (bindings/c/laws.c)"
-TESTS = [
-    Test("c-library", "the libraries for C, and the header, by cc and by clang with its checks", c_library, TOOLS, BOTH),
-    Test("laws", ABOUT, laws, ("cc", "ar", "objcopy"), BOTH, True, options=COPIES),
-]
+
+
+@Test("laws", ABOUT, commands=PACKERS, crates=BOTH, alone=True, options=COPIES)
+def laws(tally: Tally, options: Namespace) -> None:
+    wanted("cc", "-O2", *WARNINGS, f"{C}/laws.c", packed(), "-o", f"{tally.room}/laws")
+    files = list(files_for_laws(tally.room))[:MOST]
+    counts = [options.count // PROCESSORS + (k < options.count % PROCESSORS) for k in range(PROCESSORS)]
+    words = [[f"{tally.room}/laws", str(it), str(options.seed * PROCESSORS + k), *files] for k, it in enumerate(counts)]
+    for ran in side_by_side(lambda it: said(*it, folder=os.getcwd()), words):
+        found = re.search(r"^(\d+) of them are accepted\n(\d+) passed, (\d+) failed$", ran.stdout, re.M)
+        if tally.check(found and ran.returncode in (0, 1), f"a run ended with {ran.returncode}:\n{ran.stdout}") and found:
+            lines = [it.removeprefix("laws: ") for it in ran.stdout.splitlines() if it.startswith("laws: ")]
+            failed = int(found[3])
+            tally.count(int(found[2]) + failed, lines[:failed] + ["more of them"] * (failed - len(lines)))

@@ -7,10 +7,10 @@ from collections.abc import Callable, Iterator
 from dataclasses import dataclass, field
 
 from .building import output_of
-from .making import SPOKEN_OF, Chance, a_file, an_object, an_object_file, mutant, one_thing_wrong
+from .making import SPOKEN_OF, Chance, a_file, an_object, an_object_file, fuzzed, one_thing_wrong
 from .reference import File, check, entries_of, laid, link_refusal, linked, mapped, object_verdict, rewritten, shown, table_verdict, verdict
-from .suite import Option, Tally, Test, crates_of, number
-from .tree import PROGRAM, TOP, run, write
+from .suite import Option, Tally, Test, number
+from .tree import PROGRAM, TOP, libraries, run, write
 
 Needs = list[tuple[str, str]]
 Named = tuple[str, bytes]
@@ -106,17 +106,19 @@ def answer_of(program: str, case: Case, files: dict[str, bytearray]) -> tuple[in
     return ran.returncode, ran.stdout, ran.stderr if case.err or case.status < 2 else b""
 
 
+FROM: Option = ("--in", {"dest": "folder", "metavar": "FOLDER", "default": f"{TOP}/cases", "help": "another folder of cases"})
+
+
+@Test("cases", "the program answers the cases of cases/*.txt", crates="elfmap elfmap_check", options=(FROM,))
 def try_cases(tally: Tally, options: Namespace) -> None:
     # Beside the program that has all commands, the one that has `check` alone.
-    for program in [PROGRAM, *map(output_of, crates_of("elfmap_check"))]:
+    for program in [PROGRAM, *(output_of(it) for it in ("elfmap_check",) if it in libraries())]:
         for path, cases in all_cases(options.folder).items():
             for case in cases.cases:
                 if program != PROGRAM and (case.words[:1] != ["check"] or "--seek" in case.words):
                     continue
-                right, answer = (case.status, case.out, case.err), answer_of(program, case, cases.files)
-                tally.check(
-                    answer == right, f"{path}: elfmap {' '.join(case.words)} with {' '.join(case.needs)}: {answer}, and not {right}"
-                )
+                what = f"{path}: elfmap {' '.join(case.words)} with {' '.join(case.needs)}"
+                tally.same(what, answer_of(program, case, cases.files), (case.status, case.out, case.err))
 
 
 # ---- generated cases
@@ -181,7 +183,7 @@ def changed(chance: Chance, text: Text, sound: bytes) -> Named:
     name = text.file(sound)
     if chance.randrange(3) == 0:
         return name, sound
-    content = mutant(sound, chance)
+    content = fuzzed(sound, chance)
     return text.file(content, sound), content
 
 
@@ -334,24 +336,16 @@ def make(seed: str, count: int, folder: str) -> None:
         text.write(f"{folder}/{name}")
 
 
-def make_cases(tally: Tally, options: Namespace) -> None:
-    """Without a folder: whether cases/ is what these seeds make, byte for byte."""
-    if options.folder:
-        make(options.seed, options.count, options.folder)
-        return tally.count(len(NAMES), [])
-    with tempfile.TemporaryDirectory() as folder:
-        make(options.seed, options.count, folder)
-        for name in NAMES:
-            is_same = filecmp.cmp(f"{folder}/{name}", f"{TOP}/cases/{name}", shallow=False)
-            tally.check(is_same, f"cases/{name} is not what `tools/test make-cases --in cases` makes")
-
-
 COUNTED = number("count", COUNT, "cases of each kind")
 SEEDED: Option = ("--seed", {"default": SEED, "help": "the same seed makes the same cases"})
-FROM: Option = ("--in", {"dest": "folder", "metavar": "FOLDER", "default": f"{TOP}/cases", "help": "another folder of cases"})
 INTO: Option = ("--in", {"dest": "folder", "metavar": "FOLDER", "help": "write them there"})
-PROGRAMS = crates_of("elfmap", "elfmap_check")
-TESTS = [
-    Test("cases", "the program answers the cases of cases/*.txt", try_cases, crates=PROGRAMS, options=(FROM,)),
-    Test("make-cases", "the generated cases are what the generator makes, byte for byte", make_cases, options=(INTO, COUNTED, SEEDED)),
-]
+
+
+@Test("make-cases", "the generated cases are what the generator makes, byte for byte", options=(INTO, COUNTED, SEEDED))
+def make_cases(tally: Tally, options: Namespace) -> None:
+    """Without a folder: whether cases/ is what these seeds make, byte for byte."""
+    folder = options.folder or tally.room
+    make(options.seed, options.count, folder)
+    for name in NAMES:
+        is_same = options.folder or filecmp.cmp(f"{folder}/{name}", f"{TOP}/cases/{name}", shallow=False)
+        tally.check(is_same, f"cases/{name} is not what `tools/test make-cases --in cases` makes")

@@ -302,8 +302,6 @@ def main(options: argparse.Namespace) -> int:
     return 1 if faults else 0
 
 
+@Test("doc", "each public item has a doc comment, and is in the page of `tools/dev doc` once")
 def doc(tally: Tally, options: argparse.Namespace) -> None:
     tally.count(1, made()[1][:1])
-
-
-TESTS = [Test("doc", "each public item has a doc comment, and is in the page of `tools/dev doc` once", doc)]

@@ -137,6 +137,10 @@ def all_faults(examples: list[Example]) -> tuple[dict[Example, list[str]], str]:
     return found, ""
 
 
+CRATE: Option = ("--crate", {"action": "append", "metavar": "CRATE", "help": "the examples of this crate alone"})
+
+
+@Test("doc-examples", "each example in a doc comment compiles", options=(CRATE,))
 def doc_examples(tally: Tally, options: Namespace) -> None:
     crates = [it for it in libraries() if not is_program(it)]
     if not set(options.crate or ()) <= set(crates):
@@ -147,7 +151,3 @@ def doc_examples(tally: Tally, options: Namespace) -> None:
         tally.note(f"the compiler does not judge the examples:\n{broken}")
     tally.count(len(examples), ("\n".join(lines) for lines in faults.values()))
     tally.note(", ".join(f"{crate} {count}" for crate, count in Counter(it.crate for it in examples).items()))
-
-
-CRATE: Option = ("--crate", {"action": "append", "metavar": "CRATE", "help": "the examples of this crate alone"})
-TESTS = [Test("doc-examples", "each example in a doc comment compiles", doc_examples, options=(CRATE,))]

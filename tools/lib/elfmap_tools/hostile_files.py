@@ -18,7 +18,7 @@ from .reference import (
     ALLOC, DYNSYM, HASH, NOTE, PROGBITS, STRTAB, SYMTAB_SHNDX, File, check, edited, group, mapped, object_file, relocations, rewritten,
     section, shown, symbol, text, words,
 )  # fmt: skip
-from .suite import Tally, Test, crates_of, environment
+from .suite import Tally, Test, environment
 from .tree import PROGRAM, read_bytes, read_text, run, write
 
 MOST_SECONDS = 1.0
@@ -206,17 +206,14 @@ def far_tables(tally: Tally, folder: str, library: str) -> None:
             tally.check(output == right and memory <= most, f"{what}: {output!r}, and not {right!r}; {memory} bytes, and not {most}")
 
 
-def hostile_files(tally: Tally, options: Namespace) -> None:
-    with tempfile.TemporaryDirectory(prefix="hostile-") as folder:
-        library = failing_library(folder)
-        for number, it in enumerate(it for rows in (case_rows, many_rows, large_rows) for it in rows()):
-            why = wrong_with(it, library)
-            tally.check(not why, f"row {number}, {' '.join(it.words)} with {' '.join(it.needs)}: {why}")
-        far_tables(tally, folder, library)
+ABOUT = "tables made to do harm, and large files: answers, time and memory"
 
 
-CRATES = crates_of("elfmap")
 # It looks at the time of the processor, which other work on it lengthens.
-TESTS = [
-    Test("hostile-files", "tables made to do harm, and large files: answers, time and memory", hostile_files, ("cc",), CRATES, True, "fuzz")
-]
+@Test("hostile-files", ABOUT, commands="cc", crates="elfmap", alone=True, family="fuzz")
+def hostile_files(tally: Tally, options: Namespace) -> None:
+    library = failing_library(tally.room)
+    for number, it in enumerate(it for rows in (case_rows, many_rows, large_rows) for it in rows()):
+        why = wrong_with(it, library)
+        tally.check(not why, f"row {number}, {' '.join(it.words)} with {' '.join(it.needs)}: {why}")
+    far_tables(tally, tally.room, library)

@@ -6,21 +6,16 @@ exports the calls of include/elfmap.h and nothing else."""
 import argparse, glob, os, re, shutil, tempfile
 
 from .building import built, output_of
-from .tree import TOP, read_text, said, write
+from .tree import TOP, read_text, wanted as wanted, write
 
 VERDICTS, ENGINES = "elf_c", "elf_c_engines"
+# As words: the crates of the library, and the commands that pack it.
+BOTH, PACKERS = f"{VERDICTS} {ENGINES}", "cc ar objcopy"
 FOLDER = f"{TOP}/crates/{VERDICTS}/out"
 LIBRARY = f"{FOLDER}/libelfmap.a"
 SHARED = "libelfmap.so.0"
 FUNCTIONS = ("alloc", "dealloc", "realloc")
 RENAMED = [word for it in FUNCTIONS for word in ("--redefine-sym", f"rattle_{it}=elfmap_{it}")]
-
-
-def wanted(*words: str, folder: str | None = None) -> None:
-    """Runs a command that has to end well."""
-    ended = said(*words, folder=folder)
-    if ended.returncode:
-        raise SystemExit(f"library: {words[0]}: {ended.stdout}")
 
 
 def pack(folder: str) -> str:

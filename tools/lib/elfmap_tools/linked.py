@@ -250,6 +250,7 @@ RUNS: list[tuple[str, list[str], list[str], str]] = [
     ("C++", ["stack_main.cc", "stack_other.cc"], ["-O0", "-O2", "-Os -ffunction-sections"], "start"),
     ("C over klibc", ["library.c"], ["-O0", "-O2"], "_start"),
 ]
+RUNNERS = f"gcc g++ ld ar readelf eu-elflint {KLIBC}"
 # Where each program is placed, and with which page; the kernel maps by pages of 0x1000.
 PLACES = (("0x400000", "0x1000"), ("0x10000000", "0x200000"))
 
@@ -275,13 +276,7 @@ def difference(shop: Workshop, objects: list[str], entry: str, base: str, page: 
     return next((f"{os.path.basename(name)} {ending(it)}" for name, it in ends if it.returncode or it.stderr), "")
 
 
-@Test(
-    "linked-runs",
-    "programs run the same by ld and by elfmap",
-    commands=f"gcc g++ ld ar readelf eu-elflint {KLIBC}",
-    crates="elfmap",
-    family="linked",
-)
+@Test("linked-runs", "programs run the same by ld and by elfmap", commands=RUNNERS, crates="elfmap", family="linked")
 def linked_runs(tally: Tally, options: Namespace) -> None:
     for title, sources, words, entry in ((title, sources, words, entry) for title, sources, ways, entry in RUNS for words in ways):
         with tally.trying(f"{title} {words}"):
@@ -298,14 +293,10 @@ def linked_runs(tally: Tally, options: Namespace) -> None:
 
 # ---- linked-elsewhere
 
+ELSEWHERE = " ".join(["gcc", *(f"{target}-as {target}-ld qemu-{qemu}" for qemu, target in RUN_BY_QEMU.items())])
 
-@Test(
-    "linked-elsewhere",
-    "programs of other machines run the same",
-    commands=" ".join(["gcc", *(f"{target}-as {target}-ld qemu-{qemu}" for qemu, target in RUN_BY_QEMU.items())]),
-    crates="elfmap",
-    family="linked",
-)
+
+@Test("linked-elsewhere", "programs of other machines run the same", commands=ELSEWHERE, crates="elfmap", family="linked")
 def linked_elsewhere(tally: Tally, options: Namespace) -> None:
     for machine, target in RUN_BY_QEMU.items():
         with tally.trying(machine):
@@ -318,6 +309,8 @@ def linked_elsewhere(tally: Tally, options: Namespace) -> None:
 
 
 # ---- linked-kinds
+
+OF_KINDS = " ".join(["as ld", *(f"{target}-as {target}-ld" for target in MACHINES.values())])
 
 
 def named_kinds(machine: str) -> tuple[set[int], dict[int, str]]:
@@ -353,13 +346,7 @@ def kinds_differ(shop: Workshop, machine: str, lines: list[list[str]], names: di
     return Both(shop, ["kinds.o"], 0x10000, 1, f"{TOP}/rules/{machine}.rules", linker_of(machine)).differences()
 
 
-@Test(
-    "linked-kinds",
-    "each kind of rules/ beside the ld of its machine",
-    commands=" ".join(["as ld", *(f"{target}-as {target}-ld" for target in MACHINES.values())]),
-    crates="elfmap",
-    family="linked",
-)
+@Test("linked-kinds", "each kind of rules/ beside the ld of its machine", commands=OF_KINDS, crates="elfmap", family="linked")
 def linked_kinds(tally: Tally, options: Namespace) -> None:
     for machine in sorted(os.path.basename(it)[:-6] for it in glob.glob(f"{TOP}/rules/*.rules")):
         lines = [it.split() for it in read_text(f"rules/{machine}.rules").splitlines()]

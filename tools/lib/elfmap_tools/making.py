@@ -223,7 +223,7 @@ def value(chance: Chance, size: int, length: int, old: int) -> int:
     return int(chance.choice(near) % most)
 
 
-def mutant(file: bytes, chance: Chance, types: tuple[int, ...] = ()) -> bytes:
+def fuzzed(file: bytes, chance: Chance, types: tuple[int, ...] = ()) -> bytes:
     """A file with one to eight changes; in the contents of sections of some types alone, where types are given."""
     order, places = fields(file, types)
     new = bytearray(file)

@@ -347,6 +347,7 @@ def planted(text: str, function: Function, way: tuple[str, str], fault: str, val
     return "\n".join([*lines, behind])
 
 
+@Test("memory-faults", "out of memory and failed writes are made only where an allocation or a write failed")
 def memory_faults(tally: Tally, options: Namespace) -> None:
     found = texts()
     forms, wrong = faults_in(found)
@@ -371,4 +372,3 @@ def memory_faults(tally: Tally, options: Namespace) -> None:
 
 # A file, the function in it, its fault, and the value that is planted.
 Plant = tuple[str, Function, str, str]
-TESTS = [Test("memory-faults", "out of memory and failed writes are made only where an allocation or a write failed", memory_faults)]

@@ -16,7 +16,7 @@ from collections.abc import Iterable
 from concurrent.futures import ThreadPoolExecutor, as_completed
 
 from .kit import FolderOf, built_below, gate_folder, kit, said_by, words
-from .suite import Tally, Test, flag
+from .suite import Option, Tally, Test, flag
 from .tree import PROCESSORS, TOP, below, libraries, read_text, write
 
 
@@ -220,6 +220,12 @@ def has_wrong_body(crate: str) -> bool:
     return bool(must_fail_of(crate)) or any(it.is_for_gate for it in bugs_of(crate))
 
 
+ABOUT = "the check refuses each bug of mutations.txt with 'gate: yes'; of CRATE.., or with --all of every crate, each bug"
+CRATES: Option = ("crates", {"nargs": "*", "metavar": "CRATE", "help": "the crates whose bugs are planted, all of them"})
+FLAGS = flag("all", "plant all bugs"), flag("fit", "plant none: only say whether each edit fits the text that it changes")
+
+
+@Test("mutations", ABOUT, alone=True, options=(*FLAGS, CRATES))
 def mutations(tally: Tally, options: Namespace) -> None:
     crates = options.crates or sorted(libraries())
     unknown = [it for it in crates if it not in libraries()]
@@ -239,18 +245,3 @@ def mutations(tally: Tally, options: Namespace) -> None:
         for crate in below("elfmap"):
             why = "nothing in must-fail/, and no bug with 'gate: yes': the gate tries no wrong body of it"
             tally.check(has_wrong_body(crate), f"{crate}: {why}")
-
-
-TESTS = [
-    Test(
-        "mutations",
-        "the check refuses each bug of mutations.txt with 'gate: yes'; of CRATE.., or with --all of every crate, each bug",
-        mutations,
-        alone=True,
-        options=(
-            flag("all", "plant all bugs"),
-            flag("fit", "plant none: only say whether each edit fits the text that it changes"),
-            ("crates", {"nargs": "*", "metavar": "CRATE", "help": "the crates whose bugs are planted, all of them"}),
-        ),
-    )
-]

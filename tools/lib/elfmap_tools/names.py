@@ -1,6 +1,6 @@
 """Checks of the texts of crates/ that need nothing built: `tools/test names`, `must-not-compile` and `launcher`."""
 
-import collections, glob, os, re, shutil, tempfile
+import collections, glob, os, re, shutil
 from argparse import Namespace
 from collections.abc import Iterator
 
@@ -24,6 +24,7 @@ def names_in(text: str) -> Iterator[tuple[str, int]]:
             yield found[1], found.start()
 
 
+@Test("names", "each name of a definition is in one crate")
 def names(tally: Tally, options: Namespace) -> None:
     places = collections.defaultdict(list)
     for path in sorted(glob.glob("crates/*/specs/**/*.antt", root_dir=TOP, recursive=True)):
@@ -67,22 +68,23 @@ CASES = (
 )
 
 
+@Test("must-not-compile", "what borrows from a file's bytes and outlives them is refused by the borrow checker")
 def must_not_compile(tally: Tally, options: Namespace) -> None:
     """The crate is made in a copy of the repository; the check has to have an error of the borrow checker in each of its files."""
+    copy = tally.room
     direct = sorted(set(re.findall(r"use (elf_\w+)::", " ".join([CASE, *(uses for _, _, uses, _ in CASES)]))))
     needs = list(dict.fromkeys(it for crate in direct for it in [*below(crate), crate]))
-    with tempfile.TemporaryDirectory(prefix="must-not-compile-") as copy:
-        shutil.copy(f"{TOP}/HANDLES", copy)
-        for it in needs:
-            shutil.copytree(f"{TOP}/crates/{it}", f"{copy}/crates/{it}", ignore=shutil.ignore_patterns("out"))
-        lines = [f"{' '.join(head)}: {' '.join(rest)}" for head, rest in crate_lines() if head[0] in needs]
-        write(f"{copy}/crates.txt", "\n".join([*lines, f"outlives: {' '.join(direct)}", ""]))
-        source = f"{copy}/crates/outlives/src"
-        os.makedirs(source)
-        write(f"{source}/lib.rt", CRATE_HEAD + "".join(f"pub mod {name};\n" for name, *_ in CASES))
-        for name, kind, uses, body in CASES:
-            write(f"{source}/{name}.rt", CASE.format(kind=kind, uses=uses, body=body))
-        output = said("rt", "check", folder=f"{copy}/crates/outlives").stdout
+    shutil.copy(f"{TOP}/HANDLES", copy)
+    for it in needs:
+        shutil.copytree(f"{TOP}/crates/{it}", f"{copy}/crates/{it}", ignore=shutil.ignore_patterns("out"))
+    lines = [f"{' '.join(head)}: {' '.join(rest)}" for head, rest in crate_lines() if head[0] in needs]
+    write(f"{copy}/crates.txt", "\n".join([*lines, f"outlives: {' '.join(direct)}", ""]))
+    source = f"{copy}/crates/outlives/src"
+    os.makedirs(source)
+    write(f"{source}/lib.rt", CRATE_HEAD + "".join(f"pub mod {name};\n" for name, *_ in CASES))
+    for name, kind, uses, body in CASES:
+        write(f"{source}/{name}.rt", CASE.format(kind=kind, uses=uses, body=body))
+    output = said("rt", "check", folder=f"{copy}/crates/outlives").stdout
     for name, *_ in CASES:
         tally.check(re.search(rf"{name}\.rt:.*borrow-e0(505|515|597)", output), f"the borrow checker did not refuse {name}")
     if tally.failed:
@@ -121,35 +123,28 @@ CALLS = (
 )
 
 
+@Test("launcher", "what ./elfmap builds and runs for which words")
 def launcher(tally: Tally, options: Namespace) -> None:
-    with tempfile.TemporaryDirectory(prefix="launcher-") as tree:
-        os.makedirs(f"{tree}/tools")
-        os.makedirs(f"{tree}/crates/elf_field/src")
-        shutil.copy(f"{TOP}/elfmap", tree)
-        write(f"{tree}/crates/elf_field/src/lib.rt", "\n")
-        write(f"{tree}/VERSION", "7.8\n")
-        for path, text in ((f"{tree}/tools/dev", DEV), (f"{tree}/replace", REPLACE)):
-            os.chmod(write(path, text), 0o755)
-        os.symlink(f"{tree}/elfmap", f"{tree}/link")
-        for status, built, output, words in CALLS:
-            given = words.split()
-            before = given.pop(0) if given and given[0].isupper() else ""
-            if before == "STEADY":
-                os.remove(f"{tree}/changes")
-            elif before:
-                write(f"{tree}/{before.lower()}", "")
-                run(f"{tree}/replace")
-            write(f"{tree}/built", "")
-            ended = run(f"{tree}/link", *given, folder="/")
-            found = (ended.returncode, read_text(f"{tree}/built").strip() or "-", ended.stdout.decode().strip())
-            tally.check(found == (status, built, output), f"elfmap {words}: {found}, and not {(status, built, output)}")
+    tree = tally.room
+    for it in ("tools", "crates/elf_field/src"):
+        os.makedirs(f"{tree}/{it}")
+    shutil.copy(f"{TOP}/elfmap", tree)
+    texts = {"crates/elf_field/src/lib.rt": "\n", "VERSION": "7.8\n", "tools/dev": DEV, "replace": REPLACE}
+    for path, text in texts.items():
+        os.chmod(write(f"{tree}/{path}", text), 0o755)
+    os.symlink(f"{tree}/elfmap", f"{tree}/link")
+    for status, built, output, words in CALLS:
+        given = words.split()
+        before = given.pop(0) if given and given[0].isupper() else ""
+        if before == "STEADY":
+            os.remove(f"{tree}/changes")
+        elif before:
+            write(f"{tree}/{before.lower()}", "")
+            run(f"{tree}/replace")
+        write(f"{tree}/built", "")
+        ended = run(f"{tree}/link", *given, folder="/")
+        found = (ended.returncode, read_text(f"{tree}/built").strip() or "-", ended.stdout.decode().strip())
+        tally.same(f"elfmap {words}", found, (status, built, output))
     # It looks at the times of these folders alone.
     inner = [it for it in glob.glob(f"{TOP}/crates/elf*/src/*") if os.path.isdir(it)]
     tally.check(not inner, f"./elfmap does not see changes in {inner}")
-
-
-TESTS = [
-    Test("names", "each name of a definition is in one crate", names),
-    Test("must-not-compile", "what borrows from a file's bytes and outlives them is refused by the borrow checker", must_not_compile),
-    Test("launcher", "what ./elfmap builds and runs for which words", launcher),
-]
