@@ -19,7 +19,7 @@ from .library import BOTH, ENGINES, FUNCTIONS, PACKERS, RENAMED, VERDICTS, packe
 from .packages import SANITIZERS
 from .reference import shown
 from .suite import Tally, Test, number
-from .told import c_lines
+from .dump import c_lines
 from .tree import PROCESSORS, TOP, libraries, read_bytes, read_text, run, said, side_by_side, texts_of, wanted, write
 
 HEADER_TEXT = read_text("include/elfmap.h")

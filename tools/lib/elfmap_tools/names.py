@@ -2,39 +2,29 @@
 
 import collections, glob, os, re, shutil
 from argparse import Namespace
-from collections.abc import Iterator
 
+from .sources import Definition, definitions
 from .suite import Tally, Test
 from .tree import TOP, below, crate_lines, read_text, run, said, write
 
 # ---- names: one name of a definition means one thing in the whole repository
 
-# A definition begins a line with its kind, or, as laws do, with its name and its type; a constructor has a line of its own.
-DEFINITIONS = re.compile(r"^(?:pub )?(?:abbrev|unfoldable|record|data) (?:pub )?([^\s(:]+)|^(?:pub )?([^\s(:]+) :", re.M)
-DATA = re.compile(r"^(?:pub )?data .*\n((?:  .*\n)+)", re.M)
-CONSTRUCTORS = re.compile(r"^  ([^\s(:]+) :", re.M)
-
-
-def names_in(text: str) -> Iterator[tuple[str, int]]:
-    """The names that a file of definitions has, each with its offset."""
-    for found in DEFINITIONS.finditer(text):
-        yield found[1] or found[2], found.start()
-    for block in DATA.finditer(text):
-        for found in CONSTRUCTORS.finditer(text, block.start(1), block.end(1)):
-            yield found[1], found.start()
-
 
 @Test("names", "each name of a definition is in one crate")
 def names(tally: Tally, options: Namespace) -> None:
-    places = collections.defaultdict(list)
+    places = collections.defaultdict[str, list[Definition]](list)
     for path in sorted(glob.glob("crates/*/specs/**/*.antt", root_dir=TOP, recursive=True)):
-        text = read_text(path)
-        for name, offset in names_in(text):
-            places[name].append((path, text.count("\n", 0, offset) + 1))
-    several = {name: own for name, own in sorted(places.items()) if len({path.split("/")[1] for path, _ in own}) > 1}
+        for name, it in definitions(path)[0].items():
+            places[name].append(it)
+    several = {name: own for name, own in sorted(places.items()) if len({it.path.split("/")[1] for it in own}) > 1}
     for name, own in several.items():
-        tally.fail(f"{name}: {', '.join(f'{path}:{line}' for path, line in own)}")
+        tally.fail(f"{name}: {', '.join(f'{it.path}:{line_of(it)}' for it in own)}")
     tally.check(places and not several, "a name is defined in more than one crate")
+
+
+def line_of(it: Definition) -> int:
+    before, _, _ = read_text(it.path).partition(it.text)
+    return before.count("\n") + 1
 
 
 # ---- must-not-compile: what borrows from a file's bytes must not outlive them

@@ -3,7 +3,7 @@
 import argparse, os, subprocess, sys
 from collections.abc import Callable
 
-from . import building, definitions, distribution, doc, library, man, minutes, page, peers, release as releasing, rules_tables, told
+from . import building, definitions, distribution, doc, dump, library, man, minutes, page, peers, release as releasing, rules_tables
 from .tree import PACKAGE, TOP, progress
 
 Main = Callable[[argparse.Namespace], int]
@@ -55,7 +55,7 @@ def dev(words: list[str]) -> int:
     program, files = word("program", "elfmap"), word("file", "an object, or an archive of objects", nargs="+")
     it.add("shared-tails", "print how much shorter string tables are whose names share tails", peers.shared_tails, program, files)
     it.add("minutes", "print at its end the processor minutes of a process", minutes.main, word("pid", "its number", type=int))
-    it.add("told", "write the files that the tests of bindings/ try, and what they have to say", told.main, word("folder", "where to"))
+    it.add("told", "write the files that the tests of bindings/ try, and what they have to say", dump.main, word("folder", "where to"))
     return it.run(words)
 
 

@@ -27,6 +27,7 @@ kept: Callable[[Any], list[int]] = objects.kept
 string: Callable[[bytes, int], bytes] = objects.string
 parts: Callable[[Any], Any] = show.parts
 signed: Callable[[int, int], int] = show.signed
+name_of: Callable[[Any, Any], bytes] = show.name_of
 Layout = dict[str, tuple[int, int]]
 HEADER: Layout = records.HEADER
 SECTION_HEADER: Layout = records.SECTION_HEADER
@@ -51,11 +52,6 @@ check: Callable[[bytes], str] = image.check
 shown: Callable[[bytes], str] = show.show
 # What `elfmap rewrite` prints on standard error, and what it writes; None where the reference leaves it open.
 rewritten: Callable[[bytes], tuple[str, bytes] | None] = objects.rewrite
-
-
-def section_of_symbol(file: Any, table: int, index: int) -> Any:
-    """The index of the section of a symbol that the index table has."""
-    return tables.index_words(file, table)[index][1]
 
 
 def rule_name(rule: int) -> Any:
