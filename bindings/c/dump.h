@@ -1,6 +1,6 @@
 /*
- * Dumps what the library says of a file, line by line, for tools/test c-library to compare with the reference: a part of test.c, whose functions
- * and section types it uses.
+ * Dumps what the library says of a file, line by line, for tools/test c-library to compare with the reference: a part of test.c, whose
+ * functions and section types it uses.
  */
 #ifndef DUMP_H
 #define DUMP_H

@@ -7,7 +7,7 @@ from argparse import Namespace
 from collections.abc import Mapping
 from typing import Any
 
-from .library import BOTH, FOLDER, PACKERS, packed
+from .library import BOTH, FOLDER, PACKERS, calls, packed, structs
 from .packages import JSONSCHEMA, JUNITPARSER
 from .suite import Tally, Test, environment
 from .tree import PACKAGE, TOP, Texts, read_text, said
@@ -31,12 +31,8 @@ NUMBERS = {"u8": "uint8_t", "u16": "uint16_t", "u32": "uint32_t", "u64": "uint64
 
 def in_c() -> tuple[Structs, Calls]:
     """The structs of the header, each with the names and types of its fields, and the calls, each with the types of its parameters."""
-    text = re.sub(r"/\*.*?\*/", "", read_text("include/elfmap.h"), flags=re.S)
-    found = re.findall(r"^struct (\w+) \{(.*?)^\};", text, re.M | re.S)
-    fields = {tag: re.findall(r"((?:struct )?\w+) (\w+)(\[\d+\])?;", body) for tag, body in found}
-    structs = {tag: [(name, kind + size) for kind, name, size in own] for tag, own in fields.items()}
-    calls = re.findall(r"^(?:bool|uint32_t) (\w+)\((.*?)\);", text, re.M | re.S)
-    return structs, {name: [re.sub(r"\w+$", "", it.strip()).strip() for it in given.split(",")] for name, given in calls}
+    fields = {tag: [(name, f"{kind}[{count}]" if count else kind) for kind, name, count in own] for tag, own in structs().items()}
+    return fields, calls()
 
 
 def rust_type(kind: str) -> str:
@@ -79,13 +75,13 @@ def is_within(own: Mapping[str, object], declared: Mapping[str, object]) -> bool
 
 
 def declarations(tally: Tally) -> None:
-    structs, calls = in_c()
+    c_structs, c_calls = in_c()
     rust_structs, rust_calls = in_rust()
-    same = is_within(rust_structs, structs) and is_within(rust_calls, calls)
+    same = is_within(rust_structs, c_structs) and is_within(rust_calls, c_calls)
     tally.check(same, "bindings/rust/src/raw.rs declares other than include/elfmap.h")
     own = {tag: getattr(_library, it)._fields_ for it, tag in STRUCTS.items() if hasattr(_library, it)}
-    python_structs = {tag: [(name, python_type(kind)) for name, kind in structs[tag]] for tag in own}
-    python_calls = {name: python_parameters(calls[name]) for name in _library.CALLS}
+    python_structs = {tag: [(name, python_type(kind)) for name, kind in c_structs[tag]] for tag in own}
+    python_calls = {name: python_parameters(c_calls[name]) for name in _library.CALLS}
     same = is_within(own, python_structs) and is_within(_library.CALLS, python_calls)
     tally.check(same, "bindings/python/elfmap/_library.py declares other than include/elfmap.h")
 

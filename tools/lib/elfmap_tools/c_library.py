@@ -15,14 +15,13 @@ from collections.abc import Iterable, Iterator
 
 from .building import built
 from .cases import Case, all_cases, case_files, put_needs
-from .library import BOTH, ENGINES, FUNCTIONS, PACKERS, RENAMED, VERDICTS, packed
+from .library import BOTH, ENGINES, FUNCTIONS, PACKERS, RENAMED, VERDICTS, calls, packed, structs
 from .packages import SANITIZERS
 from .reference import shown
 from .suite import Tally, Test, number
 from .dump import c_lines
 from .tree import PROCESSORS, TOP, libraries, read_bytes, read_text, run, said, side_by_side, texts_of, wanted, write
 
-HEADER_TEXT = read_text("include/elfmap.h")
 C = f"{TOP}/bindings/c"
 WARNINGS = ["-std=c99", "-pedantic", "-Wall", "-Wextra", "-Werror", f"-I{TOP}/include"]
 COMPILERS = {"cc": ["-O2"], "clang": ["-O1", "-g", "-fsanitize=address,undefined", "-fno-sanitize-recover=all"]}
@@ -32,7 +31,7 @@ RESULTS = {VERDICTS: "bool", ENGINES: "uint32_t"}
 # Rattle's types as C has them.
 NUMBER = {"u8": "uint8_t", "u16": "uint16_t", "u32": "uint32_t", "u64": "uint64_t", "i64": "int64_t", "bool": "bool"}
 # The struct of the header that a program fills in itself.
-OF_PROGRAM = "struct elfmap_block"
+OF_PROGRAM = "elfmap_block"
 STRUCT = re.compile(r"`(struct elfmap_\w+)`[^\n]*\n#\[repr\(C\)\]\n#\[derive[^\n]*\npub struct (\w+) \{\n(.*?)^\}", re.M | re.S)
 EXPORT = re.compile(r'#\[unsafe\(no_mangle\)\]\npub extern "C" fn (\w+)\((.*?)\) -> (\w+)', re.S)
 # The tag in C, the name in Rattle, and the fields with their types as C has them.
@@ -91,25 +90,19 @@ def compare_header(tally: Tally, room: str) -> None:
     made, shared = compared(text_of(it for it in libraries() if it == VERDICTS or it.startswith(f"{VERDICTS}_")))
     ran = said("cc", *WARNINGS, "-fsyntax-only", write(f"{room}/compared.c", made))
     tally.check(ran.returncode == 0, f"the header says other than the library's texts:\n{ran.stdout}")
-    structs = re.findall(r"^(struct elfmap_\w+) \{\n(.*?)^\};", HEADER_TEXT, re.M | re.S)
-    fields = {tag: re.findall(r"^    (?:struct )?\w+ (\w+)(?:\[\d+\])?;", body, re.M) for tag, body in structs if tag != OF_PROGRAM}
+    fields = {f"struct {tag}": [name for _, name, _ in own] for tag, own in structs().items() if tag != OF_PROGRAM}
     own = {tag: [field for field, _ in fields] for tag, _, fields in shared}
     tally.check(fields == own, f"the structs of the header have the fields {fields}, and those of the library {own}")
     for crate, result in RESULTS.items():
-        exported, declared = sorted(name for name, *_ in EXPORT.findall(text_of([crate]))), declared_in(result)
+        exported, declared = sorted(name for name, *_ in EXPORT.findall(text_of([crate]))), sorted(calls(result))
         tally.check(declared == exported, f"{crate} exports {exported}, and the header declares {declared}")
-
-
-def declared_in(result: str) -> list[str]:
-    """The calls of the library that the header declares with this result."""
-    return sorted(re.findall(rf"^{result} (elfmap_\w+)\(", HEADER_TEXT, re.M))
 
 
 def compare_names(tally: Tally, library: str, crate: str, needs: set[str], may_need: set[str]) -> None:
     """The library exports what the header declares, and needs these names, and at most some more."""
     names = [it.split() for it in said("nm", "-g", library).stdout.splitlines() if " " in it]
     defined, needed = sorted(it[-1] for it in names if it[-2] != "U"), {it[-1] for it in names if it[-2] == "U"}
-    tally.check(defined == declared_in(RESULTS[crate]), f"{crate} exports {defined}, and the header declares {declared_in(RESULTS[crate])}")
+    tally.same(f"what {crate} exports", defined, sorted(calls(RESULTS[crate])))
     tally.check(needed - may_need == needs, f"{crate} needs {sorted(needed)}")
 
 

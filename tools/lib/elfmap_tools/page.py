@@ -4,14 +4,15 @@ is one file, which needs no network: the library for C as a WebAssembly module, 
 The module is made of the same proved crates as the library for C: the kit's compiler makes it for a memory of 64-bit addresses, which not
 every browser has, and wasm-opt (of binaryen) lowers it to one of 32-bit addresses."""
 
-import argparse, base64, json, os, re, shutil, sys, tempfile
+import argparse, base64, json, os, shutil, sys, tempfile
 from typing import Any
 
+from . import library
 from .browser import Browser
 from .kit import built_below, is_current, kit, words
-from .library import VERDICTS as CRATE, wanted
+from .library import VERDICTS as CRATE
 from .rules_tables import file_rules
-from .tree import PACKAGE, TOP, read_bytes, read_text, write
+from .tree import PACKAGE, TOP, read_bytes, read_text, wanted, write
 
 sys.path.insert(0, PACKAGE)
 from elfmap import _names as names  # noqa: E402
@@ -60,13 +61,12 @@ def field_of(kind: str, name: str, count: str, at: int, structs: Structs) -> tup
 
 def layout() -> Structs:
     """The structs of include/elfmap.h: the size of each, and its fields with their offsets, as C lays them out."""
-    header = re.sub(r"/\*.*?\*/", "", read_text("include/elfmap.h"), flags=re.S)
     structs: Structs = {}
-    for tag, body in re.findall(r"^struct (\w+) \{(.*?)^\};", header, re.M | re.S):
-        if "void *" in body:
+    for tag, own in library.structs().items():
+        if any(kind == "void" for kind, _, _ in own):
             continue  # It belongs to the engines, which the page has not.
         at, widest, fields = 0, 1, list[dict[str, Any]]()
-        for kind, name, count in re.findall(r"((?:struct )?\w+) (\w+)(?:\[(\d+)\])?;", body):
+        for kind, name, count in own:
             field, align = field_of(kind, name, count, at, structs)
             fields.append(field)
             at, widest = field["at"] + field["width"] * field.get("count", 1), max(widest, align)
