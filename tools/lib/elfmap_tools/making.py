@@ -311,7 +311,7 @@ def changed_field(chance: Chance, file: bytes, of_rule: int) -> bytes | None:
 
 
 def one_thing_wrong(
-    chance: Chance, rules: list[int], made: Callable[[Chance], bytes], is_broken_by: Callable[[int, bytes], bool]
+    chance: Chance, rules: list[int], made: Callable[[Chance], bytes], broken_by: Callable[[bytes], set[int]]
 ) -> Iterator[tuple[int, bytes, bytes]]:
     """For each of these rules it, a sound file and what one change made of it, by which it breaks the rule."""
     left = list(rules)
@@ -319,7 +319,7 @@ def one_thing_wrong(
         sound = made(chance)
         for rule in list(left):
             changed = (changed_field(chance, sound, rule) for _ in range(12))
-            found = next((it for it in changed if it is not None and is_broken_by(rule, it)), None)
+            found = next((it for it in changed if it is not None and rule in broken_by(it)), None)
             if found is not None:
                 left.remove(rule)
                 yield rule, sound, found
