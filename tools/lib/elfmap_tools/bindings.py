@@ -96,7 +96,7 @@ def count_run(tally: Tally, ran: Texts, passed: int, failed: int) -> None:
 def unittests(tally: Tally, *modules: str) -> None:
     """Runs tests of the package: all, or those of some modules."""
     packed()
-    own = environment(ELFMAP_LIB_DIR=FOLDER, XDG_CACHE_HOME=f"{tally.room}/cache", PYTHONDONTWRITEBYTECODE="1")
+    own = environment(ELFMAP_LIB_DIR=FOLDER, XDG_CACHE_HOME=f"{tally.folder}/cache", PYTHONDONTWRITEBYTECODE="1")
     ran = said(sys.executable, "-m", "unittest", *modules, folder=PACKAGE, env=own)
     count = sum(int(it) for it in re.findall(r"^Ran (\d+) tests?", ran.stdout, re.M))
     # A test of many files fails for each of them.
@@ -113,7 +113,7 @@ def explain(tally: Tally, options: Namespace) -> None:
 def bindings(tally: Tally, options: Namespace) -> None:
     declarations(tally)
     unittests(tally)
-    folders = {"CARGO_HOME": f"{tally.room}/cargo", "CARGO_TARGET_DIR": f"{tally.room}/target"}
+    folders = {"CARGO_HOME": f"{tally.folder}/cargo", "CARGO_TARGET_DIR": f"{tally.folder}/target"}
     env = environment(ELFMAP_LIB_DIR=FOLDER, CARGO_INCREMENTAL="0", **folders)
     ran = said("cargo", "test", "--frozen", "--no-fail-fast", folder=f"{TOP}/bindings/rust", env=env)
     found = re.findall(r"^test result: .* (\d+) passed; (\d+) failed;", ran.stdout, re.M)

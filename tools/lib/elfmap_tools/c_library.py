@@ -209,7 +209,7 @@ TOOLS = f"cc c++ clang nm objcopy {SANITIZERS}"
 
 @Test("c-library", "the libraries for C, and the header, by cc and by clang with its checks", commands=TOOLS, crates=BOTH)
 def c_library(tally: Tally, options: Namespace) -> None:
-    room, verdicts = tally.room, built(VERDICTS)
+    room, verdicts = tally.folder, built(VERDICTS)
     compare_header(tally, room)
     compare_names(tally, verdicts, VERDICTS, set(), set())
     paths = [write(f"{room}/{name}", content) for content, name in case_files().items()]
@@ -254,10 +254,10 @@ ABOUT = "bytes of files changed; what the library for C says of each copy agrees
 
 @Test("laws", ABOUT, commands=PACKERS, crates=BOTH, alone=True, options=COPIES)
 def laws(tally: Tally, options: Namespace) -> None:
-    wanted("cc", "-O2", *WARNINGS, f"{C}/laws.c", packed(), "-o", f"{tally.room}/laws")
-    files = list(files_for_laws(tally.room))[:MOST]
+    wanted("cc", "-O2", *WARNINGS, f"{C}/laws.c", packed(), "-o", f"{tally.folder}/laws")
+    files = list(files_for_laws(tally.folder))[:MOST]
     counts = [options.count // PROCESSORS + (k < options.count % PROCESSORS) for k in range(PROCESSORS)]
-    words = [[f"{tally.room}/laws", str(it), str(options.seed * PROCESSORS + k), *files] for k, it in enumerate(counts)]
+    words = [[f"{tally.folder}/laws", str(it), str(options.seed * PROCESSORS + k), *files] for k, it in enumerate(counts)]
     for ran in side_by_side(lambda it: said(*it, folder=os.getcwd()), words):
         found = re.search(r"^(\d+) of them are accepted\n(\d+) passed, (\d+) failed$", ran.stdout, re.M)
         if tally.check(found and ran.returncode in (0, 1), f"a run ended with {ran.returncode}:\n{ran.stdout}") and found:

@@ -319,7 +319,7 @@ INTO: Option = ("--in", {"dest": "folder", "metavar": "FOLDER", "help": "write t
 @Test("make-cases", "the generated cases are what the generator makes, byte for byte", options=(INTO, COUNTED, SEEDED))
 def make_cases(tally: Tally, options: Namespace) -> None:
     """Without a folder: whether cases/ is what these seeds make, byte for byte."""
-    folder = options.folder or tally.room
+    folder = options.folder or tally.folder
     make(options.seed, options.count, folder)
     for name in NAMES:
         is_same = options.folder or filecmp.cmp(f"{folder}/{name}", f"{TOP}/cases/{name}", shallow=False)

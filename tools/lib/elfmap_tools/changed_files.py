@@ -72,7 +72,7 @@ def by_the_rules(tally: Tally, file: bytes) -> None:
     rows = [(file[:at] + bytes([byte]) + file[at + 1 :], line) for at, byte, line in CHANGED]
     rows += [(file[:length], next(line for end, line in CUT if length < end).format(length)) for length in range(len(file))]
     for content, line in [*rows, (file, "ok 608 6 0")]:
-        answer = run(PROGRAM, "check", write(f"{tally.room}/f", content)).stdout.decode().strip()
+        answer = run(PROGRAM, "check", write(f"{tally.folder}/f", content)).stdout.decode().strip()
         tally.same(f"check of {len(content)} bytes", answer, line)
 
 
@@ -84,6 +84,6 @@ def changed_files(tally: Tally, options: Namespace) -> None:
     files = [files_by_hand()["call_0"]]
     files += [object_file([text(align=16)], order=order) for order in ("little", "big") if options.all]
     by_the_rules(tally, files[0])
-    paths = [write(f"{tally.room}/{k}", it) for k, it in enumerate(files)]
+    paths = [write(f"{tally.folder}/{k}", it) for k, it in enumerate(files)]
     for count, wrong in side_by_side(tried, [(it, share) for it in paths for share in range(PROCESSORS)], True):
         tally.count(count, wrong)

@@ -9,7 +9,7 @@ from html import escape
 from . import guarantees
 from .sources import PUBLIC_CRATES, WORD, Definition, Item, Uses, definition, items_of, module_file, named_in, source
 from .suite import Tally, Test
-from .tree import matched, read_text
+from .tree import matched, read_text, replaced
 
 # Where a word leads to, and its title.
 Place = tuple[str, str] | None
@@ -108,14 +108,13 @@ def cells(line: str) -> list[str]:
 
 def linked(text: str, place_of: Callable[[str], Place]) -> str:
     """A text of code, each word of it with the anchor and the title that it has, if it has one."""
-    found, at = [], 0
-    for word in WORD.finditer(text):
+
+    def link(word: re.Match[str]) -> str:
         anchor, title = place_of(word[0]) or ("", "")
-        if anchor:
-            said = f' title="{escape(title)}"' if title else ""
-            found += [escape(text[at : word.start()]), f'<a href="#{escape(anchor)}"{said}>{escape(word[0])}</a>']
-            at = word.end()
-    return "".join([*found, escape(text[at:])])
+        said = f' title="{escape(title)}"' if title else ""
+        return f'<a href="#{escape(anchor)}"{said}>{escape(word[0])}</a>' if anchor else escape(word[0])
+
+    return replaced(WORD, text, link, escape)
 
 
 def said_of(found: Definition) -> str:
@@ -149,12 +148,7 @@ class PublicCrate:
 
     def marked(self, text: str, owner: str = "") -> str:
         """A paragraph with its code and its links."""
-        found, at = [], 0
-        for mark in MARK.finditer(text):
-            found.append(escape(text[at : mark.start()]))
-            found.append(f"<code>{escape(mark[1])}</code>" if mark[1] else self.link(mark, owner))
-            at = mark.end()
-        return "".join([*found, escape(text[at:])])
+        return replaced(MARK, text, lambda it: f"<code>{escape(it[1])}</code>" if it[1] else self.link(it, owner), escape)
 
     def link(self, mark: re.Match[str], owner: str) -> str:
         words = f"<code>{escape(mark[3])}</code>" if mark[2] else escape(mark[3])

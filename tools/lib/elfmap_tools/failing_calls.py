@@ -220,6 +220,6 @@ def tries(folder: str) -> Iterator[Result]:
 
 @Test("failing-calls", "every call of the C library failing once", commands="cc", crates="elfmap tests_calls", family="fuzz")
 def failing_calls(tally: Tally, options: Namespace) -> None:
-    make_files(tally.room)
-    for tried_calls, wrong in tries(tally.room):
+    make_files(tally.folder)
+    for tried_calls, wrong in tries(tally.folder):
         tally.count(tried_calls, wrong)

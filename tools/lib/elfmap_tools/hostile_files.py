@@ -212,8 +212,8 @@ ABOUT = "tables made to do harm, and large files: answers, time and memory"
 # It looks at the time of the processor, which other work on it lengthens.
 @Test("hostile-files", ABOUT, commands="cc", crates="elfmap", alone=True, family="fuzz")
 def hostile_files(tally: Tally, options: Namespace) -> None:
-    library = failing_library(tally.room)
+    library = failing_library(tally.folder)
     for number, it in enumerate(it for rows in (case_rows, many_rows, large_rows) for it in rows()):
         why = wrong_with(it, library)
         tally.check(not why, f"row {number}, {' '.join(it.words)} with {' '.join(it.needs)}: {why}")
-    far_tables(tally, tally.room, library)
+    far_tables(tally, tally.folder, library)

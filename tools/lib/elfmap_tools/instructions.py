@@ -103,11 +103,11 @@ STORE = flag("store", "store the new numbers")
 
 @Test("instructions", "the instructions of each command, beside the stored numbers", commands="valgrind", crates="elfmap", options=(STORE,))
 def instructions(tally: Tally, options: Namespace) -> None:
-    shutil.copy(PROGRAM, f"{tally.room}/program")
+    shutil.copy(PROGRAM, f"{tally.folder}/program")
     counts: dict[str, Count] = {}
     for make, length, commands in ROWS:
-        names = written(tally.room, make, length)
-        counts |= {f"{it}: {make.__name__}": counted(tally.room, it, make, names) for it in commands}
+        names = written(tally.folder, make, length)
+        counts |= {f"{it}: {make.__name__}": counted(tally.folder, it, make, names) for it in commands}
     if options.store and not any(why for _, why in counts.values()):
         write(STORED, HEAD + "".join(f"{count:10} {row}\n" for row, (count, _) in counts.items()))
     lines = [line.split(maxsplit=1) for line in read_text(STORED).splitlines() if not line.startswith("#")]

@@ -222,7 +222,7 @@ def linked_like_ld(tally: Tally, options: Namespace) -> None:
     totals, kinds = [0, 0, 0], set[int]()
     for title, words, base, page, fits in LD_CASES:
         with tally.trying(title):
-            shop = Workshop(tally.folder(title))
+            shop = Workshop(tally.new_folder(title))
             both = Both(shop, list(compiled_parts(shop, words)), base, page, RULES, ["ld", "-m", "elf_x86_64"])
             if fits:
                 wrong, made = both.differences(), both.map()
@@ -280,7 +280,7 @@ def difference(shop: Workshop, objects: list[str], entry: str, base: str, page: 
 def linked_runs(tally: Tally, options: Namespace) -> None:
     for title, sources, words, entry in ((title, sources, words, entry) for title, sources, ways, entry in RUNS for words in ways):
         with tally.trying(f"{title} {words}"):
-            shop = Workshop(tally.folder(f"{title} {words}"))
+            shop = Workshop(tally.new_folder(f"{title} {words}"))
             flags, is_klibc = words.split(), entry == "_start"
             of_c, of_cxx = ["gcc", *C_FLAGS, *(KLIBC_FLAGS if is_klibc else [])], ["g++", *CXX_FLAGS]
             made = [(of_cxx if it.endswith("cc") else of_c, it) for it in sources]
@@ -300,7 +300,7 @@ ELSEWHERE = " ".join(["gcc", *(f"{target}-as {target}-ld qemu-{qemu}" for qemu, 
 def linked_elsewhere(tally: Tally, options: Namespace) -> None:
     for machine, target in RUN_BY_QEMU.items():
         with tally.trying(machine):
-            shop = Workshop(tally.folder(machine))
+            shop = Workshop(tally.new_folder(machine))
             objects = [shop.assembled(machine, it) for it in ("elsewhere.S", "elsewhere_data.S")]
             shop.wanted(f"{target}-ld", "-Ttext-segment=0x400000", "-e", "start", *objects, "-o", "by-ld")
             shop.link(objects, "0x400000", "0x10000", "start", f"{TOP}/rules/{machine}.rules")
@@ -357,5 +357,5 @@ def linked_kinds(tally: Tally, options: Namespace) -> None:
             tally.note(f"skipped: {machine}, without {' and '.join(tools)}")
             continue
         with tally.trying(machine):
-            wrong = kinds_differ(Workshop(tally.folder(machine)), machine, lines, names)
+            wrong = kinds_differ(Workshop(tally.new_folder(machine)), machine, lines, names)
             tally.check(not wrong, f"{machine}: {'; '.join(wrong)}")

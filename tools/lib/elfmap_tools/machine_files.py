@@ -213,7 +213,7 @@ ABOUT = "objects of this machine and its compilers through `rewrite`, beside rea
 def real_objects(tally: Tally, options: Namespace) -> None:
     below = [it for it in files_below("/usr/lib") if it.endswith((".o", ".a"))]
     found = {f"{path}({at})": (path, at, size) for it in below for path, at, size in objects_of(it)}
-    objects = [place for path in compiled(tally.room) for place in objects_of(path)] + [found[it] for it in some(found, options)]
-    ends = side_by_side(partial(try_object, tally.room), enumerate(objects))
+    objects = [place for path in compiled(tally.folder) for place in objects_of(path)] + [found[it] for it in some(found, options)]
+    ends = side_by_side(partial(try_object, tally.folder), enumerate(objects))
     count_ends(tally, ends, {"written", *(it for it in ends if re.fullmatch(r"refused by rule \d+", it))})
-    tally.count(len(WAYS), linked(tally.room))
+    tally.count(len(WAYS), linked(tally.folder))

@@ -214,7 +214,7 @@ ABOUT, COMPILERS = "files and links with fields changed, beside the reference im
 
 @Test("mutants", ABOUT, commands=COMPILERS, crates="elfmap", alone=True, family="fuzz", options=OPTIONS)
 def mutants(tally: Tally, options: Namespace) -> None:
-    plan = plan_of(tally.room, options.seed)
+    plan = plan_of(tally.folder, options.seed)
     tally.check(plan.files and len(plan.pair) == 2, "the compilers make no files")
     tally.count(options.count, filter(None, side_by_side(partial(tried, plan), range(options.count), True)))
     tally.note(f"{options.count} fuzzed files of {len(plan.files)} files and a link, seed {options.seed}")

@@ -61,7 +61,7 @@ CASES = (
 @Test("must-not-compile", "what borrows from a file's bytes and outlives them is refused by the borrow checker")
 def must_not_compile(tally: Tally, options: Namespace) -> None:
     """The crate is made in a copy of the repository; the check has to have an error of the borrow checker in each of its files."""
-    copy = tally.room
+    copy = tally.folder
     direct = sorted(set(re.findall(r"use (elf_\w+)::", " ".join([CASE, *(uses for _, _, uses, _ in CASES)]))))
     needs = list(dict.fromkeys(it for crate in direct for it in [*below(crate), crate]))
     shutil.copy(f"{TOP}/HANDLES", copy)
@@ -115,7 +115,7 @@ CALLS = (
 
 @Test("launcher", "what ./elfmap builds and runs for which words")
 def launcher(tally: Tally, options: Namespace) -> None:
-    tree = tally.room
+    tree = tally.folder
     for it in ("tools", "crates/elf_field/src"):
         os.makedirs(f"{tree}/{it}")
     shutil.copy(f"{TOP}/elfmap", tree)

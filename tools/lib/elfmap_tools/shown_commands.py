@@ -250,8 +250,8 @@ def shown_commands(tally: Tally, options: Namespace) -> None:
     every = [command for path in pages for lines in blocks(read_text(path)) for command, _ in commands(lines)]
     for command in SKIPPED:
         tally.check(command in every, f"no page shows the command that is skipped: {command}")
-    archive = pack(tally.room, "VERSION")
+    archive = pack(tally.folder, "VERSION")
     for number, path in enumerate(pages):
-        folder = tally.folder(str(number))
+        folder = tally.new_folder(str(number))
         furnish(folder, archive)
         Page(tally, path, folder).try_all()

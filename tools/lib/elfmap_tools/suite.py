@@ -15,8 +15,8 @@ COUNTS = re.compile(r"^(\d+) passed, (\d+) failed\n\Z", re.M)
 class Tally:
     """What a test counts: how many checks passed, and what failed, which is printed at once; and a folder that is there until it has ended."""
 
-    def __init__(self, name: str, room: str) -> None:
-        self.name, self.room, self.passed, self.failed = name, room, 0, 0
+    def __init__(self, name: str, folder: str) -> None:
+        self.name, self.folder, self.passed, self.failed = name, folder, 0, 0
 
     def check(self, holds: object, why: str) -> bool:
         """One check, and what to print if it does not hold."""
@@ -48,10 +48,10 @@ class Tally:
         except SystemExit as error:
             self.fail(f"{what}: {error}")
 
-    def folder(self, name: str) -> str:
-        """A folder of this name, empty and in the test's own."""
-        os.mkdir(f"{self.room}/{name}")
-        return f"{self.room}/{name}"
+    def new_folder(self, name: str) -> str:
+        """A folder of this name in the test's own."""
+        os.mkdir(f"{self.folder}/{name}")
+        return f"{self.folder}/{name}"
 
     def note(self, text: str) -> None:
         print(f"{self.name}: {text}", flush=True)
@@ -107,8 +107,8 @@ def commands_of(tests: Iterable[Test]) -> list[str]:
 
 def run_one(test: Test, options: argparse.Namespace) -> int:
     """Runs a test here: prints what failed, and last how many passed. A test whose commands are missing has failed."""
-    with tempfile.TemporaryDirectory(prefix=f"elfmap-{test.name}.") as room, progress(f"tools/test {test.name}"):
-        tally, lacking = Tally(test.name, room), packages.missing(test.starts)
+    with tempfile.TemporaryDirectory(prefix=f"elfmap-{test.name}.") as folder, progress(f"tools/test {test.name}"):
+        tally, lacking = Tally(test.name, folder), packages.missing(test.starts)
         try:
             if lacking:
                 raise SystemExit(packages.words_of(lacking))

@@ -34,6 +34,15 @@ def write(path: str, content: bytes | str) -> str:
     return path
 
 
+def replaced(pattern: re.Pattern[str], text: str, own: Callable[[re.Match[str]], str], other: Callable[[str], str]) -> str:
+    """A text in which each match, and what is between them, is replaced."""
+    parts, at = list[str](), 0
+    for it in pattern.finditer(text):
+        parts += [other(text[at : it.start()]), own(it)]
+        at = it.end()
+    return "".join([*parts, other(text[at:])])
+
+
 def matched(pattern: str | re.Pattern[str], text: str) -> re.Match[str]:
     """A match at the beginning of a text, which has to be there."""
     found = re.match(pattern, text)
