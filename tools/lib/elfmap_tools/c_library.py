@@ -1,8 +1,8 @@
 """`tools/test c-library`: the libraries for C, of the crates elf_c (verdicts, records and tables, without memory) and elf_c_engines (show,
 rewrite, map and link, with the three functions of memory under the names that include/elfmap.h gives them):
 
-- each struct of the header has the fields of the library's struct, of their types and sizes, at their offsets, and each call its
-  parameters; the libraries export what the header declares, by names that begin with `elfmap_`, and need nothing, or the three functions
+- each struct of the header has the fields of the library's struct, of their types and in their order, and each call its parameters and its
+  result; the libraries export what the header declares, by names that begin with `elfmap_`, and need nothing, or the three functions
   and some of C's on bytes;
 - bindings/c/test.c passes, and says of each file of cases/*.txt, and of some of the machine's own, what the reference implementation says;
 - bindings/c/engines.c passes, and answers what each case of the commands show, rewrite, map and link says.
@@ -31,7 +31,7 @@ RESULTS = {VERDICTS: "bool", ENGINES: "uint32_t"}
 # Rattle's types as C has them.
 NUMBER = {"u8": "uint8_t", "u16": "uint16_t", "u32": "uint32_t", "u64": "uint64_t", "i64": "int64_t", "bool": "bool"}
 # The struct of the header that a program fills in itself.
-OF_PROGRAM = "elfmap_block"
+OF_PROGRAM = "struct elfmap_block"
 STRUCT = re.compile(r"`(struct elfmap_\w+)`[^\n]*\n#\[repr\(C\)\]\n#\[derive[^\n]*\npub struct (\w+) \{\n(.*?)^\}", re.M | re.S)
 EXPORT = re.compile(r'#\[unsafe\(no_mangle\)\]\npub extern "C" fn (\w+)\((.*?)\) -> (\w+)', re.S)
 # The tag in C, the name in Rattle, and the fields with their types as C has them.
@@ -53,49 +53,27 @@ def structs_in(text: str) -> Iterator[Struct]:
         yield tag, name, [(field, kinds[kind] + (f"[{sizes[size]}]" if array else "")) for field, array, kind, size in fields]
 
 
-def parameters(text: str, tags: dict[str, str]) -> str:
-    """The parameters of an export, as C has them: a slice is a pointer and a length."""
+def parameters(text: str, tags: dict[str, str]) -> list[str]:
+    """The types of the parameters of an export, as C has them: a slice is a pointer and a length; an allocator passes nothing in C."""
     found = []
-    for reference, is_slice, kind in re.findall(r"\w+: (&mut |&|)(\[?)(\w+)\]?", text):
-        if kind == "Global":
-            continue  # An allocator passes nothing in C.
-        kind = tags.get(kind) or NUMBER[kind]
-        found.append(f"{'const ' if reference == '&' else ''}{kind} {'*' if reference else ''}")
+    for reference, is_slice, kind in re.findall(r"\w+: (&mut |&|)(\[?)(?!Global)(\w+)\]?", text):
+        own = tags.get(kind) or NUMBER[kind]
+        found.append(f"{'const ' if reference == '&' else ''}{own} *" if reference else own)
         found += ["size_t"] if is_slice else []
-    return ", ".join(found)
+    return found
 
 
-def compared(text: str) -> tuple[str, list[Struct]]:
-    """C that compiles only where the header says what the library's texts say."""
-    shared = list(structs_in(text))
+def compare_header(tally: Tally) -> None:
+    """The header and the texts of the library say the same: so the fields of a struct are at the same offsets."""
+    shared = list(structs_in(text_of(it for it in libraries() if it == VERDICTS or it.startswith(f"{VERDICTS}_"))))
     tags = {name: tag for tag, name, _ in shared}
-    lines = ['#include "elfmap.h"']
-    for tag, name, fields in shared:
-        members = " ".join(f"{kind.partition('[')[0]} {field}{''.join(kind.partition('[')[1:])};" for field, kind in fields)
-        lines.append(f"struct own_{name} {{ {members} }};")
-        same = [f"sizeof({tag}) == sizeof(struct own_{name})"]
-        same += [f"offsetof({tag}, {field}) == offsetof(struct own_{name}, {field})" for field, _ in fields]
-        same += [f"sizeof((({tag} *) 0)->{field}) == sizeof({kind})" for field, kind in fields]
-        lines += [f"typedef char {name}_{k}[({it}) ? 1 : -1];" for k, it in enumerate(same)]
-        types = "".join(
-            f"const {kind.partition('[')[0]} *{field} = {'' if '[' in kind else '&'}it->{field}; (void) {field}; " for field, kind in fields
-        )
-        lines += [f"void types_of_{name}(const {tag} *it);", f"void types_of_{name}(const {tag} *it) {{ {types}}}"]
-    lines += [f"{NUMBER[result]} {name}({parameters(given, tags)});" for name, given, result in EXPORT.findall(text)]
-    return "\n".join([*lines, ""]), shared
-
-
-def compare_header(tally: Tally, room: str) -> None:
-    """The header and the texts of the library say the same."""
-    made, shared = compared(text_of(it for it in libraries() if it == VERDICTS or it.startswith(f"{VERDICTS}_")))
-    ran = said("cc", *WARNINGS, "-fsyntax-only", write(f"{room}/compared.c", made))
-    tally.check(ran.returncode == 0, f"the header says other than the library's texts:\n{ran.stdout}")
-    fields = {f"struct {tag}": [name for _, name, _ in own] for tag, own in structs().items() if tag != OF_PROGRAM}
-    own = {tag: [field for field, _ in fields] for tag, _, fields in shared}
-    tally.check(fields == own, f"the structs of the header have the fields {fields}, and those of the library {own}")
+    declared = {f"struct {tag}": [(name, kind + f"[{count}]" * bool(count)) for kind, name, count in own] for tag, own in structs().items()}
+    del declared[OF_PROGRAM]
+    tally.same("the structs of the header", declared, {tag: fields for tag, _, fields in shared})
     for crate, result in RESULTS.items():
-        exported, declared = sorted(name for name, *_ in EXPORT.findall(text_of([crate]))), sorted(calls(result))
-        tally.check(declared == exported, f"{crate} exports {exported}, and the header declares {declared}")
+        exported = EXPORT.findall(text_of([crate]))
+        tally.same(f"the calls of {crate}", calls(result), {name: parameters(given, tags) for name, given, _ in exported})
+        tally.same(f"the results of {crate}", {NUMBER[own] for _, _, own in exported}, {result})
 
 
 def compare_names(tally: Tally, library: str, crate: str, needs: set[str], may_need: set[str]) -> None:
@@ -210,7 +188,7 @@ TOOLS = f"cc c++ clang nm objcopy {SANITIZERS}"
 @Test("c-library", "the libraries for C, and the header, by cc and by clang with its checks", commands=TOOLS, crates=BOTH)
 def c_library(tally: Tally, options: Namespace) -> None:
     room, verdicts = tally.folder, built(VERDICTS)
-    compare_header(tally, room)
+    compare_header(tally)
     compare_names(tally, verdicts, VERDICTS, set(), set())
     paths = [write(f"{room}/{name}", content) for content, name in case_files().items()]
     files = {path: c_lines(read_bytes(path)) for path in [*paths, *filter(os.path.isfile, MACHINE_FILES)]}
