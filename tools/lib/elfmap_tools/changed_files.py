@@ -1,7 +1,7 @@
 """`tools/test changed-files`: the beginnings of an object of 608 bytes, and the files that differ from it in one byte, each byte to each
 other value. The program `tests_calls` makes the calls of the library on all of them: `check` and `verdict` say what the reference
 implementation says; a file that is accepted is written back unchanged; it is an object, or breaks the rule of objects that the reference
-says; and `rewrite` of it is the reference's. `elfmap` says the same of the beginnings, and of a few changed files, by the rules."""
+says; and `rewrite` of it is the reference's. (What `elfmap` says of such files by the rules is in cases/image_rules.txt.)"""
 
 import subprocess
 from argparse import Namespace
@@ -12,14 +12,7 @@ from .building import output_of
 from .failing_calls import files_by_hand
 from .reference import check, object_file, rewritten, text, verdict
 from .suite import Tally, Test, flag
-from .tree import PROCESSORS, PROGRAM, read_bytes, run, side_by_side, write
-
-# Of the object of a call: the byte at an offset, what it is set to, and what `check` says then.
-CHANGED = (
-    (4, 1, "refused 4 4"), (40, 0xE9, "refused 13 281"), (60, 7, "refused 15 40"), (60, 5, "refused 16 62"), (62, 4, "refused 32 480"),
-)  # fmt: skip
-# And of its beginnings up to a length.
-CUT = ((64, "refused 2 {}"), (288, "refused 12 40"), (608, "refused 15 40"))
+from .tree import PROCESSORS, read_bytes, side_by_side, write
 
 
 def variants(file: bytes) -> Iterator[bytes]:
@@ -67,23 +60,13 @@ def tried(part: tuple[str, int]) -> tuple[int, list[str]]:
     return count, wrong
 
 
-def by_the_rules(tally: Tally, file: bytes) -> None:
-    """The rows, through the program."""
-    rows = [(file[:at] + bytes([byte]) + file[at + 1 :], line) for at, byte, line in CHANGED]
-    rows += [(file[:length], next(line for end, line in CUT if length < end).format(length)) for length in range(len(file))]
-    for content, line in [*rows, (file, "ok 608 6 0")]:
-        answer = run(PROGRAM, "check", write(f"{tally.folder}/f", content)).stdout.decode().strip()
-        tally.same(f"check of {len(content)} bytes", answer, line)
-
-
 ABOUT, ALL = "each one-byte change of an object, beside the reference implementation", flag("all", "of two more objects too: 390,000 files")
 
 
-@Test("changed-files", ABOUT, crates="elfmap tests_calls", alone=True, family="fuzz", options=(ALL,))
+@Test("changed-files", ABOUT, crates="tests_calls", alone=True, family="fuzz", options=(ALL,))
 def changed_files(tally: Tally, options: Namespace) -> None:
     files = [files_by_hand()["call_0"]]
     files += [object_file([text(align=16)], order=order) for order in ("little", "big") if options.all]
-    by_the_rules(tally, files[0])
     paths = [write(f"{tally.folder}/{k}", it) for k, it in enumerate(files)]
     for count, wrong in side_by_side(tried, [(it, share) for it in paths for share in range(PROCESSORS)], True):
         tally.count(count, wrong)
