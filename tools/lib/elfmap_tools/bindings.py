@@ -29,12 +29,6 @@ STRUCTS = {
 NUMBERS = {"u8": "uint8_t", "u16": "uint16_t", "u32": "uint32_t", "u64": "uint64_t", "i64": "int64_t", "usize": "size_t"}
 
 
-def in_c() -> tuple[Structs, Calls]:
-    """The structs of the header, each with the names and types of its fields, and the calls, each with the types of its parameters."""
-    fields = {tag: [(name, f"{kind}[{count}]" if count else kind) for kind, name, count in own] for tag, own in structs().items()}
-    return fields, calls()
-
-
 def rust_type(kind: str) -> str:
     """A type of Rust as C has it."""
     array = re.fullmatch(r"\[(\w+); (\d+)\]", kind)
@@ -75,7 +69,8 @@ def is_within(own: Mapping[str, object], declared: Mapping[str, object]) -> bool
 
 
 def declarations(tally: Tally) -> None:
-    c_structs, c_calls = in_c()
+    c_structs = {tag: [(name, f"{kind}[{count}]" if count else kind) for kind, name, count in own] for tag, own in structs().items()}
+    c_calls = calls()
     rust_structs, rust_calls = in_rust()
     same = is_within(rust_structs, c_structs) and is_within(rust_calls, c_calls)
     tally.check(same, "bindings/rust/src/raw.rs declares other than include/elfmap.h")
