@@ -20,7 +20,7 @@ from .packages import SANITIZERS
 from .reference import shown
 from .suite import Tally, Test, number
 from .dump import c_lines
-from .tree import PROCESSORS, TOP, libraries, read_bytes, read_text, run, said, side_by_side, texts_of, wanted, write
+from .tree import PROCESSORS, TOP, by_cc, libraries, read_bytes, read_text, run, said, side_by_side, texts_of, wanted, write
 
 C = f"{TOP}/bindings/c"
 WARNINGS = ["-std=c99", "-pedantic", "-Wall", "-Wextra", "-Werror", f"-I{TOP}/include"]
@@ -218,9 +218,7 @@ MADE += ["-shared -nostdlib -fPIC -Wl,--hash-style=sysv -Wl,-soname,answer.so"]
 
 def files_for_laws(room: str) -> Iterator[str]:
     """What cc makes of a few lines of C, and the files of the cases that are accepted."""
-    for k, words in enumerate(MADE):
-        wanted("cc", *words.split(), f"{TOP}/cases/sources/answer_twice.c", "-o", f"{room}/made-{k}")
-        yield f"{room}/made-{k}"
+    yield from (by_cc(f"{room}/made-{k}", words, "answer_twice.c") for k, words in enumerate(MADE))
     sound = (it for it in case_files() if 64 <= len(it) <= LONGEST and c_lines(it)[0] == "verdict kept")
     for k, content in enumerate(sorted(sound, key=lambda it: (-len(set(it)), it))):
         yield write(f"{room}/case-{k}", content)

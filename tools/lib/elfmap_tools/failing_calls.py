@@ -29,7 +29,7 @@ from .reference import (
     ALLOC, COMMON, HASH, PROGBITS, WRITE, edited, group, object_file, relocations, section, symbol, text, words as number_words,
 )  # fmt: skip
 from .suite import Tally, Test, environment
-from .tree import PROGRAM, RULES, TOP, read_text, run, wanted, write
+from .tree import PROGRAM, RULES, by_cc, read_text, run, wanted, write
 
 CALLER = "int callee(int); extern int shared; int common; int main(void) { return callee(1) + shared + common; }\n"
 CALLEE = "static int calls; int shared = 2; int callee(int x) { return calls += x; }\n"
@@ -72,9 +72,7 @@ def files_by_hand() -> dict[str, bytes]:
 
 def failing_library(folder: str) -> str:
     """Makes the library in which calls fail, and which counts them: its path."""
-    library = f"{folder}/failing.so"
-    wanted("cc", "-shared", "-fPIC", "-O1", "-w", "-o", library, f"{TOP}/cases/sources/failing.c")
-    return library
+    return by_cc(f"{folder}/failing.so", "-shared -fPIC -O1 -w", "failing.c")
 
 
 def make_files(folder: str) -> None:

@@ -13,7 +13,7 @@ from .cases import all_cases
 from .machine_files import content_of, objects_of
 from .reference import SYMTAB, File, object_verdict, shown, verdict
 from .rules_tables import by_anchor
-from .tree import TOP, read_bytes, run, side_by_side, wanted, write
+from .tree import by_cc, read_bytes, run, side_by_side, write
 
 FILES_A_RULE = 2
 # So many bytes are changed, one at a time.
@@ -77,8 +77,7 @@ def made_files() -> Iterator[tuple[str, bytes]]:
     """The files that cc makes."""
     with tempfile.TemporaryDirectory(prefix="peers-") as room:
         for name, words in MADE.items():
-            wanted("cc", *words.split(), f"{TOP}/cases/sources/answer_peers.c", "-o", "made", folder=room)
-            yield name, read_bytes(f"{room}/made")
+            yield name, read_bytes(by_cc(f"{room}/made", words, "answer_peers.c"))
 
 
 def first_rule(content: bytes) -> int | None:

@@ -70,6 +70,12 @@ def wanted(*words: str, folder: str | None = None) -> str:
     return ended.stdout
 
 
+def by_cc(path: str, words: str, source: str) -> str:
+    """Makes a file of one of cases/sources/ by cc: its path."""
+    wanted("cc", *words.split(), f"{TOP}/cases/sources/{source}", "-o", path)
+    return path
+
+
 def side_by_side(function: Callable[[T], R], items: Iterable[T], by_processes: bool = False) -> list[R]:
     """What a function returns for each item, with as many calls at a time as there are processors."""
     items = list(items)
