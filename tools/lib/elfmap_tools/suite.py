@@ -4,6 +4,7 @@ import argparse, contextlib, os, re, sys, tempfile, threading, time, traceback
 from collections.abc import Callable, Iterable, Iterator
 from concurrent.futures import ThreadPoolExecutor, as_completed
 from dataclasses import dataclass
+from typing import Any
 
 from . import packages
 from .building import built
@@ -189,15 +190,21 @@ def families(tests: Iterable[Test]) -> dict[str, list[Test]]:
     return found
 
 
+def add_command(commands: Any, name: str, about: str, options: Iterable[Option]) -> argparse.ArgumentParser:
+    """Adds a subcommand, with its words and its help."""
+    own: argparse.ArgumentParser = commands.add_parser(name, help=about, description=f"{about[0].upper()}{about[1:]}.")
+    for option, words in options:
+        own.add_argument(option, **words)  # type: ignore[arg-type]
+    return own
+
+
 def parser_of(tests: list[Test]) -> argparse.ArgumentParser:
     about = "Runs the tests of the repository: all, as the gate does after `rt ci`, or some by their names or the name of their family."
     parser = argparse.ArgumentParser("tools/test", description=about)
     parser.add_argument("-j", type=int, default=PROCESSORS, dest="jobs", metavar="N", help="so many tests side by side (one a processor)")
     commands = parser.add_subparsers(dest="name", metavar="NAME", title="tests")
     for it in tests:
-        own = commands.add_parser(it.name, help=it.about, description=f"{it.about[0].upper()}{it.about[1:]}.")
-        for name, words in it.options:
-            own.add_argument(name, **words)  # type: ignore[arg-type]
+        add_command(commands, it.name, it.about, it.options)
     for name, members in families(tests).items():
         commands.add_parser(name, help=f"these: {', '.join(it.name for it in members)}")
     commands.add_parser("setup", help="install the Debian packages that the tests need, as root or by sudo")
