@@ -36,6 +36,8 @@ class Item:
     traits: list[str] = field(default_factory=list)
     members: "list[Item]" = field(default_factory=list)
     fields: list[tuple[list[str], str]] = field(default_factory=list)
+    # Where it is on the page of the library.
+    anchor: str = ""
 
 
 def indent_of(line: str) -> int:
