@@ -75,8 +75,8 @@ class Test:
     name: str
     about: str
     function: Function | None = None
-    commands: str | tuple[str, ...] = ""
-    crates: str | tuple[str, ...] = ""
+    commands: str = ""
+    crates: str = ""
     alone: bool = False
     family: str = ""
     options: tuple[Option, ...] = ()
@@ -89,9 +89,8 @@ class Test:
     def __post_init__(self) -> None:
         if self.function:
             TESTS.append(self)
-        self.starts = list(self.commands.split() if isinstance(self.commands, str) else self.commands)
-        # Those that the repository has.
-        self.needs = [it for it in (self.crates.split() if isinstance(self.crates, str) else self.crates) if it in libraries()]
+        # Those crates that the repository has.
+        self.needs = [it for it in self.crates.split() if it in libraries()]
 
 
 def number(name: str, default: int, about: str) -> Option:
@@ -103,13 +102,13 @@ def flag(name: str, about: str) -> Option:
 
 
 def commands_of(tests: Iterable[Test]) -> list[str]:
-    return list(dict.fromkeys(command for it in tests for command in it.starts))
+    return list(dict.fromkeys(command for it in tests for command in it.commands.split()))
 
 
 def run_one(test: Test, options: argparse.Namespace) -> int:
     """Runs a test here: prints what failed, and last how many passed. A test whose commands are missing has failed."""
     with tempfile.TemporaryDirectory(prefix=f"elfmap-{test.name}.") as folder, progress(f"tools/test {test.name}"):
-        tally, lacking = Tally(test.name, folder), packages.missing(test.starts)
+        tally, lacking = Tally(test.name, folder), packages.missing(test.commands.split())
         try:
             if lacking:
                 raise SystemExit(packages.words_of(lacking))
@@ -221,11 +220,6 @@ def main(tests: list[Test], words: list[str]) -> int:
     if options.name in named:
         return run_one(named[options.name], options)
     return run_several(families(tests).get(options.name, tests), options.jobs)
-
-
-def crates_of(*names: str) -> tuple[str, ...]:
-    """Those of these crates that the repository has."""
-    return tuple(it for it in names if it in libraries())
 
 
 def environment(**more: str) -> dict[str, str]:
