@@ -6,7 +6,7 @@ exports the calls of include/elfmap.h and nothing else."""
 import argparse, functools, glob, os, re, shutil, tempfile
 
 from .building import built, output_of
-from .tree import TOP, read_text, wanted as wanted, write
+from .tree import TOP, read_text, wanted, write
 
 VERDICTS, ENGINES = "elf_c", "elf_c_engines"
 # As words: the crates of the library, and the commands that pack it.
