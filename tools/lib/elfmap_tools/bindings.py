@@ -20,11 +20,11 @@ Structs = dict[str, list[tuple[str, str]]]
 Calls = dict[str, list[str]]
 # The structs of C as Rust and Python name them, and Rust's numbers as C has them.
 STRUCTS = {
-    "Fault": "elfmap_fault", "Extent": "elfmap_extent", "Numbers": "elfmap_file", "Header": "elfmap_header", "SectionHeader": "elfmap_section",
-    "Section": "elfmap_section", "ProgramHeader": "elfmap_segment", "Segment": "elfmap_segment", "Table": "elfmap_table",
-    "SymbolEntry": "elfmap_symbol", "Symbol": "elfmap_symbol", "Relocation": "elfmap_relocation", "Dynamic": "elfmap_dynamic",
-    "NoteEntry": "elfmap_note", "Note": "elfmap_note", "Piece": "elfmap_part", "Part": "elfmap_part", "Outcome": "elfmap_outcome",
-    "LinkOptions": "elfmap_options",
+    "Fault": "elfmap_fault", "Extent": "elfmap_extent", "Numbers": "elfmap_file", "Header": "elfmap_header",
+    "SectionHeader": "elfmap_section", "Section": "elfmap_section", "ProgramHeader": "elfmap_segment", "Segment": "elfmap_segment",
+    "Table": "elfmap_table", "SymbolEntry": "elfmap_symbol", "Symbol": "elfmap_symbol", "Relocation": "elfmap_relocation",
+    "Dynamic": "elfmap_dynamic", "NoteEntry": "elfmap_note", "Note": "elfmap_note", "Piece": "elfmap_part", "Part": "elfmap_part",
+    "Outcome": "elfmap_outcome", "LinkOptions": "elfmap_options",
 }  # fmt: skip
 NUMBERS = {"u8": "uint8_t", "u16": "uint16_t", "u32": "uint32_t", "u64": "uint64_t", "i64": "int64_t", "usize": "size_t"}
 

@@ -1,6 +1,6 @@
-"""`tools/dev doc`: one page of the whole library, for a browser. For each of the crates that `elf` shows it has the front doc and each public
-item: signature, doc comment, and contract as it is in the source, where each word that is a definition of specs/ leads to that definition,
-at the end of the page with its comment and text. It fails where an item has no doc comment or is not in the page once."""
+"""`tools/dev doc`: one page of the whole library, for a browser. For each of the crates that `elf` shows it has the front doc and each
+public item: signature, doc comment, and contract as it is in the source, where each word that is a definition of specs/ leads to that
+definition, at the end of the page with its comment and text. It fails where an item has no doc comment or is not in the page once."""
 
 import argparse, collections, functools, re, sys
 from collections.abc import Callable

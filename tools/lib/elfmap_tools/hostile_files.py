@@ -1,8 +1,8 @@
-"""`tools/test hostile-files`: the cases of cases/ that have files, tables made to do harm among them (cases/hostile.txt), large objects and large
-files, through the commands of the program. No call takes a second of the processor, or asks for more than a MiB of memory and 128 times as
-many bytes as its files have, all growths together; `check --seek` for no more than a MiB and twice as many bytes as the tables have. The
-large files have up to 4 MB, but for sparse ones of up to 2^30 bytes, whose tables are far from the header: there `check` and `check --seek`
-have to find them. `failing.c` counts what is asked for. The answers of large objects are the reference implementation's."""
+"""`tools/test hostile-files`: the cases of cases/ that have files, tables made to do harm among them (cases/hostile.txt), large objects and
+large files, through the commands of the program. No call takes a second of the processor, or asks for more than a MiB of memory and 128
+times as many bytes as its files have, all growths together; `check --seek` for no more than a MiB and twice as many bytes as the tables
+have. The large files have up to 4 MB, but for sparse ones of up to 2^30 bytes, whose tables are far from the header: there `check` and
+`check --seek` have to find them. `failing.c` counts what is asked for. The answers of large objects are the reference implementation's."""
 
 import os, random, resource, struct, tempfile
 from argparse import Namespace

@@ -1,7 +1,7 @@
 """`tools/release library`: the library for C in one archive, libelfmap.a. It has the calls without memory (the crate elf_c), the engines
-(elf_c_engines), whose calls for memory get the names of include/elfmap.h, and that memory over malloc (bindings/c/memory.c). A program takes
-of it what it calls: without an engine neither the engines nor malloc. A release has the same as a shared library, libelfmap.so.0, which
-exports the calls of include/elfmap.h and nothing else."""
+(elf_c_engines), whose calls for memory get the names of include/elfmap.h, and that memory over malloc (bindings/c/memory.c). A program
+takes of it what it calls: without an engine neither the engines nor malloc. A release has the same as a shared library, libelfmap.so.0,
+which exports the calls of include/elfmap.h and nothing else."""
 
 import argparse, functools, glob, os, re, shutil, tempfile
 

@@ -1,10 +1,10 @@
 """The tests `tools/test linked`: what `elfmap map --rules` and `elfmap link` make, beside the system's `ld` and where it runs.
 
-- linked-like-ld: gcc compiles a program of three C files in a few ways; elfmap maps it by rules/x86-64.rules; and ld links the same files by a
-  script made of the lines `output` and `common`: each output section at its address, its members in order, nothing said of where they are in
-  it. Then each live section has the same bytes at its address in what ld wrote, each output section the same length, each name the same
-  value; and where the program does not fit its addresses, ld refuses it too. Where ld edits sections itself, the files are made without
-  what it edits: strings to be merged, and .eh_frame, which is renamed. Addresses from 2^63 on are left out: ld counts modulo 2^64 there.
+- linked-like-ld: gcc compiles a program of three C files in a few ways; elfmap maps it by rules/x86-64.rules; and ld links the same files
+  by a script made of the lines `output` and `common`: each output section at its address, its members in order, nothing said of where they
+  are in it. Then each live section has the same bytes at its address in what ld wrote, each output section the same length, each name the
+  same value; and where the program does not fit its addresses, ld refuses it too. Where ld edits sections itself, the files are made
+  without what it edits: strings to be merged, and .eh_frame, which is renamed. From 2^63 on ld counts modulo 2^64: that is left out.
 - linked-runs: programs of C and C++, and of C over Debian's klibc, of which the objects that a program needs are taken from its archive,
   print and end the same by ld and by elfmap; the executable is the reference's, and `check`, readelf and eu-elflint accept it.
 - linked-elsewhere: the same for the other machines of rules/ that qemu has, by qemu. The program reads numbers through addresses and

@@ -1,8 +1,8 @@
-"""`tools/test made-programs`: programs for Linux on x86-64, made of one to three objects by chance, are linked by `elfmap link` and run: each
-ends by a system call, with the status that its steps come to. A step adds to a register a number, a word of memory, what a pointer leads to,
-or the value of a name, or adds the register to a word; then it goes to the next step, in another section, or another file. So the status
-depends on where words, commons, weak and absolute names and groups that are in two files come to, and on each relocated field. What is
-written is the executable of the reference implementation, byte for byte, and `elfmap check` accepts it. The same seed makes the same
+"""`tools/test made-programs`: programs for Linux on x86-64, made of one to three objects by chance, are linked by `elfmap link` and run:
+each ends by a system call, with the status that its steps come to. A step adds to a register a number, a word of memory, what a pointer
+leads to, or the value of a name, or adds the register to a word; then it goes to the next step, in another section, or another file. So the
+status depends on where words, commons, weak and absolute names and groups that are in two files come to, and on each relocated field. What
+is written is the executable of the reference implementation, byte for byte, and `elfmap check` accepts it. The same seed makes the same
 programs. What went wrong is put into the current folder, as made-program-SEED-K."""
 
 import functools, os, platform, random, shutil, tempfile
@@ -25,8 +25,8 @@ R_64, R_PC32, R_PLT32, R_32, R_32S = 1, 2, 4, 10, 11
 # Every so many programs has the larger page, for which the file has megabytes of zeros.
 PLACES = [("0x400000", "0x1000")] * 12 + [("0x10000000", "0x1000")] * 7 + [("0x10000000", "0x200000")]
 OPTIONS = (number("count", 100, "so many programs"), number("seed", 1, "the same seed makes the same programs"))
-# The instructions on edi, the status, each before the four bytes that are a number or a field: edi += NUMBER, edi += word, edi += word at an
-# absolute address, word += edi; rax = pointer; and of the whole ones: edi = 0, edi += word at rax, exit.
+# The instructions on edi, the status, each before the four bytes that are a number or a field: edi += NUMBER, edi += word, edi += word at
+# an absolute address, word += edi; rax = pointer; and of the whole ones: edi = 0, edi += word at rax, exit.
 ADD, ADD_WORD, ADD_ABSOLUTE, STORE, LOAD_POINTER = b"\x81\xc7", b"\x03\x3d", b"\x03\x3c\x25", b"\x01\x3d", b"\x48\x8b\x05"
 BEGIN, ADD_POINTED, END = b"\x31\xff", b"\x03\x38", b"\xb8\x3c\0\0\0\x0f\x05"
 

@@ -1,5 +1,5 @@
-"""`tools/test memory-faults`: every place in the libraries (crates/elf*/src) that makes out of memory: where a value `OutOfMemory`, of whatever
-fault, or `AllocError` is in an expression. It may be made
+"""`tools/test memory-faults`: every place in the libraries (crates/elf*/src) that makes out of memory: where a value `OutOfMemory`, of
+whatever fault, or `AllocError` is in an expression. It may be made
 
   in a `From` of another out of memory (`impl From<AllocError> for Fault`),
   in the arm of a `match` for out of memory (`Err(Fault::OutOfMemory) => Err(ToolFault::OutOfMemory)`),
@@ -8,9 +8,9 @@ fault, or `AllocError` is in an expression. It may be made
   in a function that is called from such places alone,
 
 and nowhere else: so it is answered only where a growth was refused, as far as the lines of a function show, as `rt fmt` lays them out. A
-growth may not ask for a number of bytes that is in the text and above a MiB. And every place that makes a failed write: a `WriteFault`, a `Write` of another fault,
-an `Io` that has `written`. It may be made in a `From` and in a method `after`, which have a failed write; where a call of a writer failed or
-took nothing, the arm `_` on `write`; and where a call that writes failed, the arm `Err(..)` on it.
+growth may not ask for a number of bytes that is in the text and above a MiB. And every place that makes a failed write: a `WriteFault`, a
+`Write` of another fault, an `Io` that has `written`. It may be made in a `From` and in a method `after`, which have a failed write; where a
+call of a writer failed or took nothing, the arm `_` on `write`; and where a call that writes failed, the arm `Err(..)` on it.
 
 Then bodies are planted that give up where no memory was refused, in each library that takes memory one, in the ways in which a thoughtless
 limit is written; and in each library that writes one that makes a failed write where no call of a writer failed. Each has to be refused."""

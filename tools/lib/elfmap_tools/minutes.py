@@ -1,5 +1,5 @@
-"""`tools/dev minutes PID`: the processor minutes of what the process PID starts, by part (each program that it starts itself, and each test of
-`tools/test`) and by crate.
+"""`tools/dev minutes PID`: the processor minutes of what the process PID starts, by part (each program that it starts itself, and each test
+of `tools/test`) and by crate.
 
 It looks every two seconds at the processes below PID, until it is told to end (SIGTERM) or PID is gone, and then prints what it saw. A
 crate has the minutes of the checker's runs on it: its proof, its tests, the edits of its must-fail/, and its planted bugs. What a process

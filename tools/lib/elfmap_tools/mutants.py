@@ -1,12 +1,12 @@
-"""`tools/test mutants`: so many fuzzed files, every other one of a file: of real ones, objects, libraries and executables of gcc, clang, rustc,
-`as` and their linkers in both byte orders, and every fourth time of a generated one; through `check`, `show` and `rewrite`. Each call ends
-by itself within ten seconds, with status 0 or 1; they say what the reference implementation says, which was written from docs/RULES.md and
-shares nothing with the crates: the verdict, all lines, the object in its canonical layout or why there is none; `check --seek` says what
-`check` does; and what `rewrite` wrote it writes again.
+"""`tools/test mutants`: so many fuzzed files, every other one of a file: of real ones, objects, libraries and executables of gcc, clang,
+rustc, `as` and their linkers in both byte orders, and every fourth time of a generated one; through `check`, `show` and `rewrite`. Each
+call ends by itself within ten seconds, with status 0 or 1; they say what the reference implementation says, which was written from
+docs/RULES.md and shares nothing with the crates: the verdict, all lines, the object in its canonical layout or why there is none; `check
+--seek` says what `check` does; and what `rewrite` wrote it writes again.
 
-The others are of two objects that are linked, and of the rules of rules/x86-64.rules, through `map`, `map --rules` and `link`: a bad line of
-the rules is an error of status 2, a file that is not there one of status 3; else all say what the reference says, and `check` accepts what
-`link` wrote. The same seed makes the same files. What went wrong is put into the current folder, as fuzzed-SEED-K."""
+The others are of two objects that are linked, and of the rules of rules/x86-64.rules, through `map`, `map --rules` and `link`: a bad line
+of the rules is an error of status 2, a file that is not there one of status 3; else all say what the reference says, and `check` accepts
+what `link` wrote. The same seed makes the same files. What went wrong is put into the current folder, as fuzzed-SEED-K."""
 
 import os, random, re, shutil, subprocess
 from argparse import Namespace

@@ -1,5 +1,5 @@
-"""`tools/release page`: a page for a browser on which a file is dropped, and that shows its verdict and what each of its bytes belongs to. It
-is one file, which needs no network: the library for C as a WebAssembly module, and the scripts of page/.
+"""`tools/release page`: a page for a browser on which a file is dropped, and that shows its verdict and what each of its bytes belongs to.
+It is one file, which needs no network: the library for C as a WebAssembly module, and the scripts of page/.
 
 The module is made of the same proved crates as the library for C: the kit's compiler makes it for a memory of 64-bit addresses, which not
 every browser has, and wasm-opt (of binaryen) lowers it to one of 32-bit addresses."""

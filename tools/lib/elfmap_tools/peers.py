@@ -1,10 +1,10 @@
-"""`tools/dev peers > docs/PEERS.md`: what other tools say of files that elfmap refuses; and `tools/dev shared-tails PROGRAM FILE..`, how much
-shorter string tables are whose names share their tails.
+"""`tools/dev peers > docs/PEERS.md`: what other tools say of files that elfmap refuses; and `tools/dev shared-tails PROGRAM FILE..`, how
+much shorter string tables are whose names share their tails.
 
 For each rule of images, tables and objects there are up to FILES_A_RULE files that break it first. They are files that cc made, with one
 byte changed, which the other tools take without a word as they were; where no such change is found for a rule, files of cases/*.txt; of
-rules 1 and 40 there are none. The reference implementation says which rule a file breaks. Nothing else is judged here: a tool is called, and
-its status and what it writes become a word. Tools that are not installed have no column."""
+rules 1 and 40 there are none. The reference implementation says which rule a file breaks. Nothing else is judged here: a tool is called,
+and its status and what it writes become a word. Tools that are not installed have no column."""
 
 import argparse, os, random, re, shutil, subprocess, tempfile
 from collections.abc import Iterator
@@ -166,8 +166,8 @@ def rewritten(program: str, content: bytes) -> bytes | None:
 
 
 def shared_tails(options: argparse.Namespace) -> int:
-    """Of each file, an object or an archive, a row of the table in docs/PERFORMANCE.md: how many of its objects `rewrite` takes, the bytes of
-    the two string tables of all that it writes, and those of tables that hold each distinct name once."""
+    """Of each file, an object or an archive, a row of the table in docs/PERFORMANCE.md: how many of its objects `rewrite` takes, the bytes
+    of the two string tables of all that it writes, and those of tables that hold each distinct name once."""
     print("| objects of | objects | each name once | tails shared | |")
     print("|---|---|---|---|---|")
     for path in options.file:

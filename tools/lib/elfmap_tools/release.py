@@ -1,5 +1,5 @@
-"""`tools/release pack`: what is built in one archive, elfmap-VERSION-x86_64-linux.tar.gz, which is used on a Linux with the GNU C library and
-without the Rattle kit:
+"""`tools/release pack`: what is built in one archive, elfmap-VERSION-x86_64-linux.tar.gz, which is used on a Linux with the GNU C library
+and without the Rattle kit:
 
     elfmap, VERSION, README.md and the other pages at the top
     bin/elfmap                               runs elfmap with the memory settings of the script ./elfmap
@@ -13,8 +13,8 @@ without the Rattle kit:
     docs/, doc/elfmap-doc.html               the pages that README.md links to; the page of the library
     examples/, rules/                        the sources of the examples; the files of rules
 
-A page's link to a file that the archive lacks becomes its words. VERSION is the first line of the file VERSION, unless another one is given.
-The same program, library, version, texts and commit make the same archive."""
+A page's link to a file that the archive lacks becomes its words. VERSION is the first line of the file VERSION, unless another one is
+given. The same program, library, version, texts and commit make the same archive."""
 
 import argparse, functools, glob, os, re, shutil, sys, tempfile
 

@@ -1,4 +1,4 @@
-"""The tests of `tools/test`: each by its name, with the commands and the built crates that it needs; one after the other or side by side."""
+"""The tests of `tools/test`: each by its name, with the commands and the built crates that it needs; alone or side by side."""
 
 import argparse, contextlib, os, re, sys, tempfile, threading, time, traceback
 from collections.abc import Callable, Iterable, Iterator
@@ -14,7 +14,7 @@ COUNTS = re.compile(r"^(\d+) passed, (\d+) failed\n\Z", re.M)
 
 
 class Tally:
-    """What a test counts: how many checks passed, and what failed, which is printed at once; and a folder that is there until it has ended."""
+    """What a test counts: how many checks passed, and what failed, which is printed at once; and a folder that is gone after it."""
 
     def __init__(self, name: str, folder: str) -> None:
         self.name, self.folder, self.passed, self.failed = name, folder, 0, 0
