@@ -99,11 +99,6 @@ def unittests(tally: Tally, *modules: str) -> None:
     count_run(tally, ran, count - failed, failed)
 
 
-@Test("explain", "a file that breaks each rule, and what elfmap-explain says of it", commands=PACKERS, crates=BOTH)
-def explain(tally: Tally, options: Namespace) -> None:
-    unittests(tally, "tests.test_explain")
-
-
 @Test("bindings", "the bindings for Rust and Python, and what they declare", commands=TOOLS, crates=BOTH)
 def bindings(tally: Tally, options: Namespace) -> None:
     declarations(tally)
@@ -113,3 +108,8 @@ def bindings(tally: Tally, options: Namespace) -> None:
     ran = said("cargo", "test", "--frozen", "--no-fail-fast", folder=f"{TOP}/bindings/rust", env=env)
     found = re.findall(r"^test result: .* (\d+) passed; (\d+) failed;", ran.stdout, re.M)
     count_run(tally, ran, sum(int(it) for it, _ in found), sum(int(it) for _, it in found))
+
+
+@Test("explain", "a file that breaks each rule, and what elfmap-explain says of it", commands=PACKERS, crates=BOTH)
+def explain(tally: Tally, options: Namespace) -> None:
+    unittests(tally, "tests.test_explain")
