@@ -46,7 +46,7 @@ class Workshop:
 
     def __init__(self, folder: str) -> None:
         self.folder = folder
-        self.run, self.wanted = partial(run, folder=folder, timeout=60), partial(wanted, folder=folder)
+        self.run, self.wanted = partial(run, folder=folder, timeout=60), partial(wanted, folder=folder, timeout=60)
 
     def content(self, name: str) -> bytes:
         return read_bytes(os.path.join(self.folder, name))

@@ -3,7 +3,7 @@
 import contextlib, functools, os, re, subprocess, sys, threading, time
 from collections.abc import Callable, Iterable, Iterator, Mapping
 from concurrent.futures import ProcessPoolExecutor, ThreadPoolExecutor
-from typing import TypeVar
+from typing import Any, TypeVar
 
 TOP = os.path.dirname(os.path.dirname(os.path.dirname(os.path.dirname(os.path.realpath(__file__)))))
 PROCESSORS = len(os.sched_getaffinity(0))
@@ -55,16 +55,15 @@ def run(*words: str, folder: str | None = None, env: Mapping[str, str] | None = 
     return subprocess.run(words, cwd=folder, env=env, timeout=timeout, stdin=subprocess.DEVNULL, capture_output=True)
 
 
-def said(*words: str, folder: str | None = None, env: Mapping[str, str] | None = None) -> Texts:
+def said(*words: str, folder: str | None = None, env: Mapping[str, str] | None = None, timeout: float | None = None) -> Texts:
     """Runs a command without input: its status, and both its outputs as one text."""
-    return subprocess.run(
-        words, cwd=folder or TOP, env=env, stdin=subprocess.DEVNULL, stdout=subprocess.PIPE, stderr=subprocess.STDOUT, errors="replace"
-    )
+    more: dict[str, Any] = {"stdin": subprocess.DEVNULL, "stdout": subprocess.PIPE, "stderr": subprocess.STDOUT, "errors": "replace"}
+    return subprocess.run(words, cwd=folder or TOP, env=env, timeout=timeout, **more)
 
 
-def wanted(*words: str, folder: str | None = None) -> str:
+def wanted(*words: str, folder: str | None = None, timeout: float | None = None) -> str:
     """Runs a command that has to end well: what it says."""
-    ended = said(*words, folder=folder)
+    ended = said(*words, folder=folder, timeout=timeout)
     if ended.returncode:
         raise SystemExit(f"{os.path.basename(words[0])} ended with status {ended.returncode}: {ended.stdout[-2000:]}")
     return ended.stdout
