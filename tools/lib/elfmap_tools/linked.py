@@ -29,16 +29,11 @@ from .tree import PROGRAM, RULES, TOP, Ended, read_bytes, read_text, run, wanted
 SOURCES = f"{TOP}/cases/sources"
 
 
-def assembler_of(machine: str) -> list[str]:
-    if machine in BY_LLVM:
-        return ["llvm-mc-19", f"-triple={BY_LLVM[machine][0]}", "-filetype=obj"]
-    return [f"{MACHINES[machine]}-as" if machine in MACHINES else "as"]
-
-
-def linker_of(machine: str) -> list[str]:
-    if machine in BY_LLVM:
-        return ["ld.lld-19", "-m", BY_LLVM[machine][1]]
-    return [f"{MACHINES[machine]}-ld" if machine in MACHINES else "ld"]
+# The assembler and the linker of a machine; of all others those of this one.
+HOST = (["as"], ["ld"])
+TOOLS = {machine: ([f"{target}-as"], [f"{target}-ld"]) for machine, target in MACHINES.items()}
+LLVM = (["llvm-mc-19", "-filetype=obj"], ["ld.lld-19", "-m"])
+TOOLS |= {machine: ([*LLVM[0], f"-triple={triple}"], [*LLVM[1], name]) for machine, (triple, name) in BY_LLVM.items()}
 
 
 class Workshop:
@@ -61,7 +56,7 @@ class Workshop:
         """Assembles a file of cases/sources/ for a machine, whose name is a macro there: the name of the object."""
         words = f"-E -P -undef -D{machine} -x assembler-with-cpp -o source.s".split()
         self.wanted("gcc", *words, f"{SOURCES}/{source}")
-        self.wanted(*assembler_of(machine), "source.s", "-o", f"{source}.o")
+        self.wanted(*TOOLS[machine][0], "source.s", "-o", f"{source}.o")
         return f"{source}.o"
 
     def link(self, objects: list[str], base: str, page: str, entry: str, rules: str = RULES) -> None:
@@ -330,6 +325,7 @@ def numbers_in(width: str, admitted: str) -> tuple[int, ...]:
 
 def kinds_differ(shop: Workshop, machine: str, lines: list[list[str]], names: dict[int, str]) -> list[str]:
     """What ld makes otherwise of an object that has fields of each kind with a name, with numbers near the ends of their range."""
+    assembler, linker = TOOLS.get(machine, HOST)
     fields = [(names[int(kind)], form, it) for kind, form, *own in lines if int(kind) in names for it in numbers_in(*own)]
 
     def assemble(addends: list[int]) -> None:
@@ -337,13 +333,13 @@ def kinds_differ(shop: Workshop, machine: str, lines: list[list[str]], names: di
         entries = (f"\t.reloc ., {re.sub('^R_(ALPHA|IA64)_', '', name)}, target + {it}\n" for (name, *_), it in zip(fields, addends))
         text = "\t.data\n\t.globl fields, start, target\n\t.balign 8\nfields:\n" + "".join(f"{it}\t.quad 0\n" for it in entries)
         write(f"{shop.folder}/kinds.s", f'{text}\t.section .far,"aw"\nstart:\n\t.balign 8\ntarget:\n\t.quad 0\n')
-        shop.wanted(*assembler_of(machine), "kinds.s", "-o", "kinds.o")
+        shop.wanted(*assembler, "kinds.s", "-o", "kinds.o")
 
     assemble([0] * len(fields))
     lines_of_map = shop.wanted(PROGRAM, "map", "--base", "0x10000", "--page", "1", "kinds.o")
     places = {name: int(at, 16) for at, name in re.findall(r"^name (0x\w+) \S+ (\w+)$", lines_of_map, re.M)}
     assemble([it - places["target"] + (places["fields"] + 8 * k if form == "pc" else 0) for k, (_, form, it) in enumerate(fields)])
-    return Both(shop, ["kinds.o"], 0x10000, 1, f"{TOP}/rules/{machine}.rules", linker_of(machine)).differences()
+    return Both(shop, ["kinds.o"], 0x10000, 1, f"{TOP}/rules/{machine}.rules", linker).differences()
 
 
 @Test("linked-kinds", "each kind of rules/ beside the ld of its machine", commands=OF_KINDS, crates="elfmap", family="linked")
@@ -352,7 +348,7 @@ def linked_kinds(tally: Tally, options: Namespace) -> None:
         lines = [it.split() for it in read_text(f"rules/{machine}.rules").splitlines()]
         numbers, names = named_kinds(machine)
         tally.check(numbers == {int(it[0]) for it in lines}, f"docs/RULE_FILES.md lists other kinds than rules/{machine}.rules")
-        tools = assembler_of(machine)[0], linker_of(machine)[0]
+        tools = [it[0] for it in TOOLS.get(machine, HOST)]
         if not all(map(is_there, tools)):
             tally.note(f"skipped: {machine}, without {' and '.join(tools)}")
             continue
