@@ -3,9 +3,11 @@
 import collections, glob, os, re, shutil
 from argparse import Namespace
 
+from .doc_examples import words as words_over_sources
+from .kit import kit, said_by
 from .sources import Definition, definitions
 from .suite import Tally, Test
-from .tree import TOP, below, crate_lines, read_text, run, said, write
+from .tree import TOP, read_text, run, write
 
 # ---- names: one name of a definition means one thing in the whole repository
 
@@ -60,21 +62,13 @@ CASES = (
 
 @Test("must-not-compile", "what borrows from a file's bytes and outlives them is refused by the borrow checker")
 def must_not_compile(tally: Tally, options: Namespace) -> None:
-    """The crate is made in a copy of the repository; the check has to have an error of the borrow checker in each of its files."""
-    copy = tally.folder
-    direct = sorted(set(re.findall(r"use (elf_\w+)::", " ".join([CASE, *(uses for _, _, uses, _ in CASES)]))))
-    needs = list(dict.fromkeys(it for crate in direct for it in [*below(crate), crate]))
-    shutil.copy(f"{TOP}/HANDLES", copy)
-    for it in needs:
-        shutil.copytree(f"{TOP}/crates/{it}", f"{copy}/crates/{it}", ignore=shutil.ignore_patterns("out"))
-    lines = [f"{' '.join(head)}: {' '.join(rest)}" for head, rest in crate_lines() if head[0] in needs]
-    write(f"{copy}/crates.txt", "\n".join([*lines, f"outlives: {' '.join(direct)}", ""]))
-    source = f"{copy}/crates/outlives/src"
-    os.makedirs(source)
+    """The check has to have an error of the borrow checker in each file of a crate."""
+    crates = sorted(set(re.findall(r"use (elf_\w+)::", " ".join([CASE, *(uses for _, _, uses, _ in CASES)]))))
+    source = tally.new_folder("src")
     write(f"{source}/lib.rt", CRATE_HEAD + "".join(f"pub mod {name};\n" for name, *_ in CASES))
     for name, kind, uses, body in CASES:
         write(f"{source}/{name}.rt", CASE.format(kind=kind, uses=uses, body=body))
-    output = said("rt", "check", folder=f"{copy}/crates/outlives").stdout
+    output = said_by([f"{kit()}/bin/rattle", *words_over_sources(crates)], tally.folder)
     for name, *_ in CASES:
         tally.check(re.search(rf"{name}\.rt:.*borrow-e0(505|515|597)", output), f"the borrow checker did not refuse {name}")
     if tally.failed:
