@@ -2,7 +2,7 @@
  * Tests of the library for C.
  *
  *   test            checks every export on bytes that stand here; the last line is 'N passed, M failed'
- *   test FILE..     prints what the library tells of each file, for tools/test c-library to compare with the reference implementation
+ *   test FILE..     dumps what the library says of each file, for tools/test c-library to compare with the reference implementation
  *
  * The bytes of a file stand between two pages that can't be read, so that a read before or behind them ends the program.
  */
@@ -646,11 +646,11 @@ static void check_descending(void) {
     free(bytes);
 }
 
-#include "telling.h"
+#include "dump.h"
 
 int main(int count, char **words) {
     for (int k = 1; k < count; k++)
-        tell_file(words[k]);
+        dump_file(words[k]);
     if (count > 1)
         return 0;
     check_refusals();

@@ -17,7 +17,7 @@ from elfmap import build
 
 PACKAGE = Path(__file__).resolve().parents[1]
 sys.path.insert(0, str(build.REPOSITORY / "tools" / "lib"))
-from elfmap_tools import told as reference  # noqa: E402
+from elfmap_tools import dump as reference  # noqa: E402
 
 
 def small_file():
@@ -119,7 +119,7 @@ class JudgedTest(unittest.TestCase):
         broken = set()
         for number, content in enumerate(reference.files()):
             with self.subTest(file=number, size=len(content)):
-                lines, expected = comparable(told(content), reference.told(content))
+                lines, expected = comparable(told(content), reference.lines_of(content))
                 if lines != expected:
                     other = [it for it in zip(lines, expected) if it[0] != it[1]][:1]
                     self.fail(f"the package and the reference: {str(other):.800}")

@@ -2,40 +2,31 @@
 `tools/release library`; what both declare of the library is what include/elfmap.h declares. Nothing is fetched, and nothing is written but
 in a temporary folder. `tools/test explain` runs the package's tests of elfmap-explain alone."""
 
-import ctypes, re, sys, tempfile
+import ctypes, re, sys
 from argparse import Namespace
 from collections.abc import Mapping
 from typing import Any
 
-from .library import ENGINES, FOLDER, VERDICTS, packed
+from .library import BOTH, FOLDER, PACKERS, calls, packed, structs
 from .packages import JSONSCHEMA, JUNITPARSER
-from .suite import Tally, Test, crates_of, environment
+from .suite import Tally, Test, environment
 from .tree import PACKAGE, TOP, Texts, read_text, said
 
 sys.path.insert(0, PACKAGE)
 from elfmap import _library  # noqa: E402
 
+TOOLS = f"{PACKERS} cargo git pre-commit {JSONSCHEMA} {JUNITPARSER}"
 Structs = dict[str, list[tuple[str, str]]]
 Calls = dict[str, list[str]]
 # The structs of C as Rust and Python name them, and Rust's numbers as C has them.
 STRUCTS = {
-    "Fault": "elfmap_fault", "Extent": "elfmap_extent", "Numbers": "elfmap_file", "Header": "elfmap_header", "SectionHeader": "elfmap_section",
-    "Section": "elfmap_section", "ProgramHeader": "elfmap_segment", "Segment": "elfmap_segment", "Table": "elfmap_table",
-    "SymbolEntry": "elfmap_symbol", "Symbol": "elfmap_symbol", "Relocation": "elfmap_relocation", "Dynamic": "elfmap_dynamic",
-    "NoteEntry": "elfmap_note", "Note": "elfmap_note", "Piece": "elfmap_part", "Part": "elfmap_part", "Outcome": "elfmap_outcome",
-    "LinkOptions": "elfmap_options",
+    "Fault": "elfmap_fault", "Extent": "elfmap_extent", "Numbers": "elfmap_file", "Header": "elfmap_header",
+    "SectionHeader": "elfmap_section", "Section": "elfmap_section", "ProgramHeader": "elfmap_segment", "Segment": "elfmap_segment",
+    "Table": "elfmap_table", "SymbolEntry": "elfmap_symbol", "Symbol": "elfmap_symbol", "Relocation": "elfmap_relocation",
+    "Dynamic": "elfmap_dynamic", "NoteEntry": "elfmap_note", "Note": "elfmap_note", "Piece": "elfmap_part", "Part": "elfmap_part",
+    "Outcome": "elfmap_outcome", "LinkOptions": "elfmap_options",
 }  # fmt: skip
 NUMBERS = {"u8": "uint8_t", "u16": "uint16_t", "u32": "uint32_t", "u64": "uint64_t", "i64": "int64_t", "usize": "size_t"}
-
-
-def in_c() -> tuple[Structs, Calls]:
-    """The structs of the header, each with the names and types of its fields, and the calls, each with the types of its parameters."""
-    text = re.sub(r"/\*.*?\*/", "", read_text("include/elfmap.h"), flags=re.S)
-    found = re.findall(r"^struct (\w+) \{(.*?)^\};", text, re.M | re.S)
-    fields = {tag: re.findall(r"((?:struct )?\w+) (\w+)(\[\d+\])?;", body) for tag, body in found}
-    structs = {tag: [(name, kind + size) for kind, name, size in own] for tag, own in fields.items()}
-    calls = re.findall(r"^(?:bool|uint32_t) (\w+)\((.*?)\);", text, re.M | re.S)
-    return structs, {name: [re.sub(r"\w+$", "", it.strip()).strip() for it in given.split(",")] for name, given in calls}
 
 
 def rust_type(kind: str) -> str:
@@ -78,13 +69,14 @@ def is_within(own: Mapping[str, object], declared: Mapping[str, object]) -> bool
 
 
 def declarations(tally: Tally) -> None:
-    structs, calls = in_c()
+    c_structs = {tag: [(name, f"{kind}[{count}]" if count else kind) for kind, name, count in own] for tag, own in structs().items()}
+    c_calls = calls()
     rust_structs, rust_calls = in_rust()
-    same = is_within(rust_structs, structs) and is_within(rust_calls, calls)
+    same = is_within(rust_structs, c_structs) and is_within(rust_calls, c_calls)
     tally.check(same, "bindings/rust/src/raw.rs declares other than include/elfmap.h")
     own = {tag: getattr(_library, it)._fields_ for it, tag in STRUCTS.items() if hasattr(_library, it)}
-    python_structs = {tag: [(name, python_type(kind)) for name, kind in structs[tag]] for tag in own}
-    python_calls = {name: python_parameters(calls[name]) for name in _library.CALLS}
+    python_structs = {tag: [(name, python_type(kind)) for name, kind in c_structs[tag]] for tag in own}
+    python_calls = {name: python_parameters(c_calls[name]) for name in _library.CALLS}
     same = is_within(own, python_structs) and is_within(_library.CALLS, python_calls)
     tally.check(same, "bindings/python/elfmap/_library.py declares other than include/elfmap.h")
 
@@ -96,9 +88,10 @@ def count_run(tally: Tally, ran: Texts, passed: int, failed: int) -> None:
     tally.count(passed + failed, [ran.stdout] * bool(failed) + ["the same"] * (failed - 1))
 
 
-def unittests(tally: Tally, room: str, *modules: str) -> None:
+def unittests(tally: Tally, *modules: str) -> None:
     """Runs tests of the package: all, or those of some modules."""
-    own = environment(ELFMAP_LIB_DIR=FOLDER, XDG_CACHE_HOME=f"{room}/cache", PYTHONDONTWRITEBYTECODE="1")
+    packed()
+    own = environment(ELFMAP_LIB_DIR=FOLDER, XDG_CACHE_HOME=f"{tally.folder}/cache", PYTHONDONTWRITEBYTECODE="1")
     ran = said(sys.executable, "-m", "unittest", *modules, folder=PACKAGE, env=own)
     count = sum(int(it) for it in re.findall(r"^Ran (\d+) tests?", ran.stdout, re.M))
     # A test of many files fails for each of them.
@@ -106,27 +99,17 @@ def unittests(tally: Tally, room: str, *modules: str) -> None:
     count_run(tally, ran, count - failed, failed)
 
 
-def explain(tally: Tally, options: Namespace) -> None:
-    packed()
-    with tempfile.TemporaryDirectory(prefix="explain-") as room:
-        unittests(tally, room, "tests.test_explain")
-
-
+@Test("bindings", "the bindings for Rust and Python, and what they declare", commands=TOOLS, crates=BOTH)
 def bindings(tally: Tally, options: Namespace) -> None:
     declarations(tally)
-    packed()
-    with tempfile.TemporaryDirectory(prefix="bindings-") as room:
-        cargo = {"CARGO_HOME": f"{room}/cargo", "CARGO_TARGET_DIR": f"{room}/target", "CARGO_INCREMENTAL": "0"}
-        unittests(tally, room)
-        ran = said(
-            "cargo", "test", "--frozen", "--no-fail-fast", folder=f"{TOP}/bindings/rust", env=environment(ELFMAP_LIB_DIR=FOLDER, **cargo)
-        )
-        found = re.findall(r"^test result: .* (\d+) passed; (\d+) failed;", ran.stdout, re.M)
-        count_run(tally, ran, sum(int(it) for it, _ in found), sum(int(it) for _, it in found))
+    unittests(tally)
+    folders = {"CARGO_HOME": f"{tally.folder}/cargo", "CARGO_TARGET_DIR": f"{tally.folder}/target"}
+    env = environment(ELFMAP_LIB_DIR=FOLDER, CARGO_INCREMENTAL="0", **folders)
+    ran = said("cargo", "test", "--frozen", "--no-fail-fast", folder=f"{TOP}/bindings/rust", env=env)
+    found = re.findall(r"^test result: .* (\d+) passed; (\d+) failed;", ran.stdout, re.M)
+    count_run(tally, ran, sum(int(it) for it, _ in found), sum(int(it) for _, it in found))
 
 
-CRATES, COMMANDS = crates_of(VERDICTS, ENGINES), ("cc", "ar", "objcopy", "cargo", "git", "pre-commit", JSONSCHEMA, JUNITPARSER)
-TESTS = [
-    Test("bindings", "the bindings for Rust and Python, and what they declare", bindings, COMMANDS, CRATES),
-    Test("explain", "a file that breaks each rule, and what elfmap-explain says of it", explain, COMMANDS[:3], CRATES),
-]
+@Test("explain", "a file that breaks each rule, and what elfmap-explain says of it", commands=PACKERS, crates=BOTH)
+def explain(tally: Tally, options: Namespace) -> None:
+    unittests(tally, "tests.test_explain")

@@ -1,8 +1,8 @@
 """`tools/test c-library`: the libraries for C, of the crates elf_c (verdicts, records and tables, without memory) and elf_c_engines (show,
 rewrite, map and link, with the three functions of memory under the names that include/elfmap.h gives them):
 
-- each struct of the header has the fields of the library's struct, of their types and sizes, at their offsets, and each call its
-  parameters; the libraries export what the header declares, by names that begin with `elfmap_`, and need nothing, or the three functions
+- each struct of the header has the fields of the library's struct, of their types and in their order, and each call its parameters and its
+  result; the libraries export what the header declares, by names that begin with `elfmap_`, and need nothing, or the three functions
   and some of C's on bytes;
 - bindings/c/test.c passes, and says of each file of cases/*.txt, and of some of the machine's own, what the reference implementation says;
 - bindings/c/engines.c passes, and answers what each case of the commands show, rewrite, map and link says.
@@ -12,18 +12,16 @@ They are compiled by cc, and by clang with its checks of addresses and of undefi
 import os, re, tempfile
 from argparse import Namespace
 from collections.abc import Iterable, Iterator
-from concurrent.futures import ThreadPoolExecutor
 
 from .building import built
 from .cases import Case, all_cases, case_files, put_needs
-from .library import ENGINES, FUNCTIONS, RENAMED, VERDICTS, packed
+from .library import BOTH, ENGINES, FUNCTIONS, PACKERS, RENAMED, VERDICTS, calls, packed, structs
 from .packages import SANITIZERS
 from .reference import shown
-from .suite import Tally, Test, crates_of, number
-from .told import c_lines
-from .tree import PROCESSORS, TOP, libraries, read_bytes, read_text, run, said, texts_of, write
+from .suite import Tally, Test, number
+from .dump import c_lines
+from .tree import PROCESSORS, TOP, by_cc, libraries, read_bytes, read_text, run, said, side_by_side, texts_of, wanted, write
 
-HEADER_TEXT = read_text("include/elfmap.h")
 C = f"{TOP}/bindings/c"
 WARNINGS = ["-std=c99", "-pedantic", "-Wall", "-Wextra", "-Werror", f"-I{TOP}/include"]
 COMPILERS = {"cc": ["-O2"], "clang": ["-O1", "-g", "-fsanitize=address,undefined", "-fno-sanitize-recover=all"]}
@@ -55,62 +53,34 @@ def structs_in(text: str) -> Iterator[Struct]:
         yield tag, name, [(field, kinds[kind] + (f"[{sizes[size]}]" if array else "")) for field, array, kind, size in fields]
 
 
-def parameters(text: str, tags: dict[str, str]) -> str:
-    """The parameters of an export, as C has them: a slice is a pointer and a length."""
+def parameters(text: str, tags: dict[str, str]) -> list[str]:
+    """The types of the parameters of an export, as C has them: a slice is a pointer and a length; an allocator passes nothing in C."""
     found = []
-    for reference, is_slice, kind in re.findall(r"\w+: (&mut |&|)(\[?)(\w+)\]?", text):
-        if kind == "Global":
-            continue  # An allocator passes nothing in C.
-        kind = tags.get(kind) or NUMBER[kind]
-        found.append(f"{'const ' if reference == '&' else ''}{kind} {'*' if reference else ''}")
+    for reference, is_slice, kind in re.findall(r"\w+: (&mut |&|)(\[?)(?!Global)(\w+)\]?", text):
+        own = tags.get(kind) or NUMBER[kind]
+        found.append(f"{'const ' if reference == '&' else ''}{own} *" if reference else own)
         found += ["size_t"] if is_slice else []
-    return ", ".join(found)
+    return found
 
 
-def compared(text: str) -> tuple[str, list[Struct]]:
-    """C that compiles only where the header says what the library's texts say."""
-    shared = list(structs_in(text))
+def compare_header(tally: Tally) -> None:
+    """The header and the texts of the library say the same: so the fields of a struct are at the same offsets."""
+    shared = list(structs_in(text_of(it for it in libraries() if it == VERDICTS or it.startswith(f"{VERDICTS}_"))))
     tags = {name: tag for tag, name, _ in shared}
-    lines = ['#include "elfmap.h"']
-    for tag, name, fields in shared:
-        members = " ".join(f"{kind.partition('[')[0]} {field}{''.join(kind.partition('[')[1:])};" for field, kind in fields)
-        lines.append(f"struct own_{name} {{ {members} }};")
-        same = [f"sizeof({tag}) == sizeof(struct own_{name})"]
-        same += [f"offsetof({tag}, {field}) == offsetof(struct own_{name}, {field})" for field, _ in fields]
-        same += [f"sizeof((({tag} *) 0)->{field}) == sizeof({kind})" for field, kind in fields]
-        lines += [f"typedef char {name}_{k}[({it}) ? 1 : -1];" for k, it in enumerate(same)]
-        types = "".join(
-            f"const {kind.partition('[')[0]} *{field} = {'' if '[' in kind else '&'}it->{field}; (void) {field}; " for field, kind in fields
-        )
-        lines += [f"void types_of_{name}(const {tag} *it);", f"void types_of_{name}(const {tag} *it) {{ {types}}}"]
-    lines += [f"{NUMBER[result]} {name}({parameters(given, tags)});" for name, given, result in EXPORT.findall(text)]
-    return "\n".join([*lines, ""]), shared
-
-
-def compare_header(tally: Tally, room: str) -> None:
-    """The header and the texts of the library say the same."""
-    made, shared = compared(text_of(it for it in libraries() if it == VERDICTS or it.startswith(f"{VERDICTS}_")))
-    ran = said("cc", *WARNINGS, "-fsyntax-only", write(f"{room}/compared.c", made))
-    tally.check(ran.returncode == 0, f"the header says other than the library's texts:\n{ran.stdout}")
-    structs = re.findall(r"^(struct elfmap_\w+) \{\n(.*?)^\};", HEADER_TEXT, re.M | re.S)
-    fields = {tag: re.findall(r"^    (?:struct )?\w+ (\w+)(?:\[\d+\])?;", body, re.M) for tag, body in structs if tag != OF_PROGRAM}
-    own = {tag: [field for field, _ in fields] for tag, _, fields in shared}
-    tally.check(fields == own, f"the structs of the header have the fields {fields}, and those of the library {own}")
+    declared = {f"struct {tag}": [(name, kind + f"[{count}]" * bool(count)) for kind, name, count in own] for tag, own in structs().items()}
+    del declared[OF_PROGRAM]
+    tally.same("the structs of the header", declared, {tag: fields for tag, _, fields in shared})
     for crate, result in RESULTS.items():
-        exported, declared = sorted(name for name, *_ in EXPORT.findall(text_of([crate]))), declared_in(result)
-        tally.check(declared == exported, f"{crate} exports {exported}, and the header declares {declared}")
-
-
-def declared_in(result: str) -> list[str]:
-    """The calls of the library that the header declares with this result."""
-    return sorted(re.findall(rf"^{result} (elfmap_\w+)\(", HEADER_TEXT, re.M))
+        exported = EXPORT.findall(text_of([crate]))
+        tally.same(f"the calls of {crate}", calls(result), {name: parameters(given, tags) for name, given, _ in exported})
+        tally.same(f"the results of {crate}", {NUMBER[own] for _, _, own in exported}, {result})
 
 
 def compare_names(tally: Tally, library: str, crate: str, needs: set[str], may_need: set[str]) -> None:
     """The library exports what the header declares, and needs these names, and at most some more."""
     names = [it.split() for it in said("nm", "-g", library).stdout.splitlines() if " " in it]
     defined, needed = sorted(it[-1] for it in names if it[-2] != "U"), {it[-1] for it in names if it[-2] == "U"}
-    tally.check(defined == declared_in(RESULTS[crate]), f"{crate} exports {defined}, and the header declares {declared_in(RESULTS[crate])}")
+    tally.same(f"what {crate} exports", defined, sorted(calls(RESULTS[crate])))
     tally.check(needed - may_need == needs, f"{crate} needs {sorted(needed)}")
 
 
@@ -212,27 +182,30 @@ def try_engines(tally: Tally, program: str) -> None:
         try_call(tally, program, ["show", path], (DONE, (0, 0, 0, 0), shown(read_bytes(path)).encode()), f"elfmap show {path}")
 
 
+TOOLS = f"cc c++ clang nm objcopy {SANITIZERS}"
+
+
+@Test("c-library", "the libraries for C, and the header, by cc and by clang with its checks", commands=TOOLS, crates=BOTH)
 def c_library(tally: Tally, options: Namespace) -> None:
-    verdicts = built(VERDICTS)
-    with tempfile.TemporaryDirectory(prefix="c-library-") as room:
-        compare_header(tally, room)
-        compare_names(tally, verdicts, VERDICTS, set(), set())
-        paths = [write(f"{room}/{name}", content) for content, name in case_files().items()]
-        files = {path: c_lines(read_bytes(path)) for path in [*paths, *filter(os.path.isfile, MACHINE_FILES)]}
-        engines = f"{room}/lib{ENGINES}.a"
-        ran = said("objcopy", *RENAMED, built(ENGINES), engines)
-        tally.check(ran.returncode == 0, f"objcopy: {ran.stdout}")
-        compare_names(tally, engines, ENGINES, {f"elfmap_{it}" for it in FUNCTIONS}, ON_BYTES)
-        for compiler in COMPILERS:
-            program = f"{room}/test-{compiler}"
-            if compiled(tally, compiler, program, f"{C}/test.c", verdicts):
-                compare_files(tally, program, files)
-            if compiled(tally, compiler, f"{program}-engines", f"{C}/engines.c", engines, verdicts):
-                try_engines(tally, f"{program}-engines")
-        if compiled(tally, "cc", f"{room}/over-malloc", f"{C}/engines.c", "-DOVER_MALLOC", f"{C}/memory.c", engines, verdicts):
-            try_engines(tally, f"{room}/over-malloc")
-        ran = said("c++", "-Wall", "-Wextra", "-Werror", "-fsyntax-only", "-x", "c++", f"{TOP}/include/elfmap.h")
-        tally.check(ran.returncode == 0, f"the header in C++:\n{ran.stdout}")
+    room, verdicts = tally.folder, built(VERDICTS)
+    compare_header(tally)
+    compare_names(tally, verdicts, VERDICTS, set(), set())
+    paths = [write(f"{room}/{name}", content) for content, name in case_files().items()]
+    files = {path: c_lines(read_bytes(path)) for path in [*paths, *filter(os.path.isfile, MACHINE_FILES)]}
+    engines = f"{room}/lib{ENGINES}.a"
+    ran = said("objcopy", *RENAMED, built(ENGINES), engines)
+    tally.check(ran.returncode == 0, f"objcopy: {ran.stdout}")
+    compare_names(tally, engines, ENGINES, {f"elfmap_{it}" for it in FUNCTIONS}, ON_BYTES)
+    for compiler in COMPILERS:
+        program = f"{room}/test-{compiler}"
+        if compiled(tally, compiler, program, f"{C}/test.c", verdicts):
+            compare_files(tally, program, files)
+        if compiled(tally, compiler, f"{program}-engines", f"{C}/engines.c", engines, verdicts):
+            try_engines(tally, f"{program}-engines")
+    if compiled(tally, "cc", f"{room}/over-malloc", f"{C}/engines.c", "-DOVER_MALLOC", f"{C}/memory.c", engines, verdicts):
+        try_engines(tally, f"{room}/over-malloc")
+    ran = said("c++", "-Wall", "-Wextra", "-Werror", "-fsyntax-only", "-x", "c++", f"{TOP}/include/elfmap.h")
+    tally.check(ran.returncode == 0, f"the header in C++:\n{ran.stdout}")
 
 
 # ---- laws: what the library says of changed files agrees with itself
@@ -245,38 +218,25 @@ MADE += ["-shared -nostdlib -fPIC -Wl,--hash-style=sysv -Wl,-soname,answer.so"]
 
 def files_for_laws(room: str) -> Iterator[str]:
     """What cc makes of a few lines of C, and the files of the cases that are accepted."""
-    for k, words in enumerate(MADE):
-        made = said("cc", *words.split(), f"{TOP}/cases/sources/answer_twice.c", "-o", f"{room}/made-{k}")
-        if made.returncode:
-            raise SystemExit(f"cc {words}: {made.stdout}")
-        yield f"{room}/made-{k}"
+    yield from (by_cc(f"{room}/made-{k}", words, "answer_twice.c") for k, words in enumerate(MADE))
     sound = (it for it in case_files() if 64 <= len(it) <= LONGEST and c_lines(it)[0] == "verdict kept")
     for k, content in enumerate(sorted(sound, key=lambda it: (-len(set(it)), it))):
         yield write(f"{room}/case-{k}", content)
 
 
-def laws(tally: Tally, options: Namespace) -> None:
-    with tempfile.TemporaryDirectory(prefix="laws-") as room:
-        made = said("cc", "-O2", *WARNINGS, f"{C}/laws.c", packed(), "-o", f"{room}/laws")
-        if made.returncode:
-            return tally.fail(f"laws.c is not compiled:\n{made.stdout}")
-        files = list(files_for_laws(room))[:MOST]
-        counts = [options.count // PROCESSORS + (k < options.count % PROCESSORS) for k in range(PROCESSORS)]
-        words = [[f"{room}/laws", str(it), str(options.seed * PROCESSORS + k), *files] for k, it in enumerate(counts)]
-        with ThreadPoolExecutor(PROCESSORS) as pool:
-            for ran in pool.map(lambda it: said(*it, folder=os.getcwd()), words):
-                found = re.search(r"^(\d+) of them are accepted\n(\d+) passed, (\d+) failed$", ran.stdout, re.M)
-                if tally.check(found and ran.returncode in (0, 1), f"a run ended with {ran.returncode}:\n{ran.stdout}") and found:
-                    lines = [it.removeprefix("laws: ") for it in ran.stdout.splitlines() if it.startswith("laws: ")]
-                    failed = int(found[3])
-                    tally.count(int(found[2]) + failed, lines[:failed] + ["more of them"] * (failed - len(lines)))
-
-
-BOTH = crates_of(VERDICTS, ENGINES)
-TOOLS = ("cc", "c++", "clang", "nm", "objcopy", SANITIZERS)
 COPIES = (number("count", 20000, "so many copies"), number("seed", 1, "the same seed makes the same copies"))
 ABOUT = "bytes of files changed; what the library for C says of each copy agrees with itself (bindings/c/laws.c)"
-TESTS = [
-    Test("c-library", "the libraries for C, and the header, by cc and by clang with its checks", c_library, TOOLS, BOTH),
-    Test("laws", ABOUT, laws, ("cc", "ar", "objcopy"), BOTH, True, options=COPIES),
-]
+
+
+@Test("laws", ABOUT, commands=PACKERS, crates=BOTH, alone=True, options=COPIES)
+def laws(tally: Tally, options: Namespace) -> None:
+    wanted("cc", "-O2", *WARNINGS, f"{C}/laws.c", packed(), "-o", f"{tally.folder}/laws")
+    files = list(files_for_laws(tally.folder))[:MOST]
+    counts = [options.count // PROCESSORS + (k < options.count % PROCESSORS) for k in range(PROCESSORS)]
+    words = [[f"{tally.folder}/laws", str(it), str(options.seed * PROCESSORS + k), *files] for k, it in enumerate(counts)]
+    for ran in side_by_side(lambda it: said(*it, folder=os.getcwd()), words):
+        found = re.search(r"^(\d+) of them are accepted\n(\d+) passed, (\d+) failed$", ran.stdout, re.M)
+        if tally.check(found and ran.returncode in (0, 1), f"a run ended with {ran.returncode}:\n{ran.stdout}") and found:
+            lines = [it.removeprefix("laws: ") for it in ran.stdout.splitlines() if it.startswith("laws: ")]
+            failed = int(found[3])
+            tally.count(int(found[2]) + failed, lines[:failed] + ["more of them"] * (failed - len(lines)))

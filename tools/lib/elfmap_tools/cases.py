@@ -3,14 +3,14 @@ cases/*.txt, whose heads say how they are written; `tools/test make-cases` gener
 
 import filecmp, functools, glob, os, random, re, shlex, tempfile
 from argparse import Namespace
-from collections.abc import Callable, Iterator
+from collections.abc import Callable, Iterable, Iterator
 from dataclasses import dataclass, field
 
 from .building import output_of
-from .making import SPOKEN_OF, Chance, a_file, an_object, an_object_file, mutant, one_thing_wrong
+from .making import SPOKEN_OF, Chance, a_file, an_object, an_object_file, fuzzed, one_thing_wrong
 from .reference import File, check, entries_of, laid, link_refusal, linked, mapped, object_verdict, rewritten, shown, table_verdict, verdict
-from .suite import Option, Tally, Test, crates_of, number
-from .tree import PROGRAM, TOP, run, write
+from .suite import Option, Tally, Test, number
+from .tree import PROGRAM, TOP, T, libraries, read_text, run, write
 
 Needs = list[tuple[str, str]]
 Named = tuple[str, bytes]
@@ -36,42 +36,34 @@ class Cases:
     cases: list[Case] = field(default_factory=list)
 
 
-def word_of(text: str) -> str:
-    """A word of a case, in which a byte that is no text is written \\xNN."""
-    return os.fsdecode(re.sub(rb"\\x(..)", lambda it: bytes.fromhex(it[1].decode()), text.encode()))
-
-
-def add_file(files: dict[str, bytearray], name: str, words: list[str]) -> None:
-    how = dict(zip(words[::2], words[1::2]))
-    files[name] = bytearray(files[how["like"]] if "like" in how else int(how["size"]))
-    if "size" in how:
-        files[name] = files[name][: int(how["size"])].ljust(int(how["size"]), b"\0")
-
-
 def cases_of(path: str) -> Cases:
     found, name = Cases(), ""
-    with open(path, encoding="ascii") as lines:
-        for line in lines:
-            line = line.rstrip("\n")
-            if line.startswith("file "):
-                _, name, *how = line.split(" ")
-                add_file(found.files, name, how)
-            elif line.startswith("  "):
-                at, data = int(line.split()[0], 16), bytes.fromhex(line.split()[1])
-                found.files[name][at : at + len(data)] = data
-            elif line.startswith("run "):
-                words, _, needs = line[4:].partition("   with ")
-                found.cases.append(Case([word_of(it) for it in shlex.split(words)], needs.split()))
-            elif line.startswith("status "):
-                found.cases[-1].status = int(line[7:])
-            elif line.startswith("> "):
-                found.cases[-1].out += line[2:].encode() + b"\n"
-            elif line.startswith("! "):
-                found.cases[-1].err += line[2:].encode() + b"\n"
-            elif line.startswith("? "):
-                found.cases[-1].note = line[2:]
-            elif line.startswith("= "):
-                found.cases[-1].out = bytes(found.files[line[2:]])
+    for line in read_text(path).splitlines():
+        kind, _, rest = line.partition(" ")
+        if kind == "file":
+            name, *words = rest.split()
+            how = dict(zip(words[::2], words[1::2]))
+            content = found.files[how["like"]] if "like" in how else b""
+            size = int(how.get("size", len(content)))
+            found.files[name] = bytearray(content[:size].ljust(size, b"\0"))
+        elif line.startswith("  "):
+            at, data = rest.split()
+            found.files[name][int(at, 16) : int(at, 16) + len(data) // 2] = bytes.fromhex(data)
+        elif kind == "run":
+            words_of, _, needs = rest.partition("   with ")
+            # A byte of a word that is no text is written \\xNN.
+            bare = [re.sub(rb"\\x(..)", lambda it: bytes.fromhex(it[1].decode()), it.encode()) for it in shlex.split(words_of)]
+            found.cases.append(Case([os.fsdecode(it) for it in bare], needs.split()))
+        elif kind == "status":
+            found.cases[-1].status = int(rest)
+        elif kind == ">":
+            found.cases[-1].out += rest.encode() + b"\n"
+        elif kind == "!":
+            found.cases[-1].err += rest.encode() + b"\n"
+        elif kind == "?":
+            found.cases[-1].note = rest
+        elif kind == "=":
+            found.cases[-1].out = bytes(found.files[rest])
     return found
 
 
@@ -106,17 +98,19 @@ def answer_of(program: str, case: Case, files: dict[str, bytearray]) -> tuple[in
     return ran.returncode, ran.stdout, ran.stderr if case.err or case.status < 2 else b""
 
 
+FROM: Option = ("--in", {"dest": "folder", "metavar": "FOLDER", "default": f"{TOP}/cases", "help": "another folder of cases"})
+
+
+@Test("cases", "the program answers the cases of cases/*.txt", crates="elfmap elfmap_check", options=(FROM,))
 def try_cases(tally: Tally, options: Namespace) -> None:
     # Beside the program that has all commands, the one that has `check` alone.
-    for program in [PROGRAM, *map(output_of, crates_of("elfmap_check"))]:
+    for program in [PROGRAM, *(output_of(it) for it in ("elfmap_check",) if it in libraries())]:
         for path, cases in all_cases(options.folder).items():
             for case in cases.cases:
                 if program != PROGRAM and (case.words[:1] != ["check"] or "--seek" in case.words):
                     continue
-                right, answer = (case.status, case.out, case.err), answer_of(program, case, cases.files)
-                tally.check(
-                    answer == right, f"{path}: elfmap {' '.join(case.words)} with {' '.join(case.needs)}: {answer}, and not {right}"
-                )
+                what = f"{path}: elfmap {' '.join(case.words)} with {' '.join(case.needs)}"
+                tally.same(what, answer_of(program, case, cases.files), (case.status, case.out, case.err))
 
 
 # ---- generated cases
@@ -155,25 +149,18 @@ class Text:
         base = like[: len(content)].ljust(len(content), b"\0") if like is not None else bytes(len(content))
         self.lines.append(f"file {name}" + (f" like {self.files[like]}" if like is not None else ""))
         self.lines[-1] += f" size {len(content)}" if like is None or len(like) != len(content) else ""
-        at = 0
-        while at < len(content):
-            end = min(at + 32, len(content))
-            if content[at:end] != base[at:end]:
-                self.lines.append(f"  {at:#x} {content[at:end].hex()}")
-            at = end
+        lines = ((at, content[at : at + 32], base[at : at + 32]) for at in range(0, len(content), 32))
+        self.lines += [f"  {at:#x} {own.hex()}" for at, own, other in lines if own != other]
         return name
 
-    def case(self, words: str, needs: Needs, status: int, said: str, complained: str = "") -> None:
+    def case(self, words: str, needs: Needs, status: int, said: str, complained: str = "", out: str = "") -> None:
+        """A case, whose output is a text, or the bytes of a file of this name."""
         self.lines.append(f"run {words}   with " + " ".join(f"{name}={file}" for name, file in needs))
-        self.lines += [f"status {status}"] * (status != 0)
+        self.lines += [f"status {status}"] * (status != 0) + [f"= {out}"] * bool(out)
         self.lines += [f"> {line}" for line in said.splitlines()] + [f"! {line}" for line in complained.splitlines()]
 
     def chance(self, kind: str, k: int) -> Chance:
         return random.Random(f"{self.seed} {kind} {k}")
-
-    def write(self, path: str) -> None:
-        with open(path, "w", encoding="ascii") as it:
-            it.write("\n".join(self.lines) + "\n")
 
 
 def changed(chance: Chance, text: Text, sound: bytes) -> Named:
@@ -181,33 +168,53 @@ def changed(chance: Chance, text: Text, sound: bytes) -> Named:
     name = text.file(sound)
     if chance.randrange(3) == 0:
         return name, sound
-    content = mutant(sound, chance)
+    content = fuzzed(sound, chance)
     return text.file(content, sound), content
 
 
-def breaks_image_rule(rule: int, content: bytes) -> bool:
-    broken = verdict(content)
-    return broken is not None and broken[0] == rule
+# The rules that a file breaks first: as an image, as an object, and of tables.
 
 
-def breaks_table_rule(rule: int, content: bytes) -> bool:
+def broken_image_rules(content: bytes) -> set[int]:
+    return {broken[0] for broken in [verdict(content)] if broken}
+
+
+def broken_object_rules(content: bytes) -> set[int]:
+    return {broken[0] for broken in [object_verdict(content)] if broken}
+
+
+def broken_table_rules(content: bytes) -> set[int]:
     f = File(content)
-    return verdict(content) is None and any((table_verdict(f, i) or (0,))[0] == rule for i, _ in f.sections())
-
-
-def breaks_object_rule(rule: int, content: bytes) -> bool:
-    broken = object_verdict(content)
-    return broken is not None and broken[0] == rule
+    return {broken[0] for i, _ in f.sections() for broken in [table_verdict(f, i)] if broken} if verdict(content) is None else set()
 
 
 def wrong_in_one_thing(
-    text: Text, rules: list[int], made: Callable[[Chance, str], bytes], is_broken_by: Callable[[int, bytes], bool]
+    text: Text, rules: list[int], made: Callable[[Chance, str], bytes], broken_by: Callable[[bytes], set[int]]
 ) -> Iterator[tuple[Named, Named]]:
     """For each rule and byte order the names and the bytes of a sound file and of one that breaks the rule."""
     for order in ("little", "big"):
         chance = text.chance(f"{made.__name__} {order}", rules[0])
-        for _, sound, content in one_thing_wrong(chance, rules, functools.partial(made, order=order), is_broken_by):
+        for _, sound, content in one_thing_wrong(chance, rules, functools.partial(made, order=order), broken_by):
             yield (text.file(sound), sound), (text.file(content, sound), content)
+
+
+def once(pairs: Iterable[tuple[Named, Named]]) -> Iterator[tuple[Named, bytes]]:
+    """Each file of these pairs once, with the bytes of the first of its pair."""
+    seen = set[str]()
+    for first, second in pairs:
+        for it in (first, second):
+            if it[0] not in seen:
+                yield it, first[1]
+            seen.add(it[0])
+
+
+def series(text: Text, kind: str, made: Callable[[Chance], T]) -> Iterator[tuple[int, Chance, T]]:
+    """So many times the chance by which a case is made, and what it is of; several cases are of one thing."""
+    for k in range(text.count):
+        chance = text.chance(kind, k)
+        if k % 6 == 0:
+            sound = made(chance)
+        yield k, chance, sound
 
 
 def say_image(text: Text, command: str, name: str, content: bytes) -> None:
@@ -216,35 +223,21 @@ def say_image(text: Text, command: str, name: str, content: bytes) -> None:
 
 
 def image_cases(text: Text) -> None:
-    commands, image_rules = ("check", "check --seek", "show"), [rule for rule in SPOKEN_OF if rule < 40]
-    for _, wrong in wrong_in_one_thing(text, image_rules, a_file, breaks_image_rule):
-        for command in commands:
+    for _, wrong in wrong_in_one_thing(text, [rule for rule in SPOKEN_OF if rule < 40], a_file, broken_image_rules):
+        for command in ("check", "check --seek", "show"):
             say_image(text, command, *wrong)
-    said = set()
-    for right, wrong in wrong_in_one_thing(text, [rule for rule in SPOKEN_OF if 40 < rule < 70], a_file, breaks_table_rule):
-        for it in (right, wrong):
-            if it[0] not in said:
-                say_image(text, "show", *it)
-            said.add(it[0])
-    sound = b""
-    for k in range(text.count):
-        chance = text.chance("image", k)
-        # Several cases are of one file.
-        sound = a_file(chance) if k % 6 == 0 else sound
+    for it, _ in once(wrong_in_one_thing(text, [rule for rule in SPOKEN_OF if 40 < rule < 70], a_file, broken_table_rules)):
+        say_image(text, "show", *it)
+    for k, chance, sound in series(text, "image", a_file):
         say_image(text, ("check", "check --seek", "show", "show")[k % 4], *changed(chance, text, sound))
 
 
 def say_object(text: Text, name: str, content: bytes, like: bytes) -> None:
-    answer = rewritten(content)
-    if answer is None:
-        return
-    refusal, written = answer
+    refusal, written = rewritten(content) or (None, b"")
     if refusal:
         text.case("rewrite f", [("f", name)], 1, "", refusal)
-    else:
-        out = text.file(written, like)
-        text.case("rewrite f", [("f", name)], 0, "")
-        text.lines.append(f"= {out}")
+    elif refusal is not None:
+        text.case("rewrite f", [("f", name)], 0, "", out=text.file(written, like))
 
 
 # Rules on segments, which an object has none of; and on notes, dynamic sections and hash tables, which it has as bytes, or not at all.
@@ -252,18 +245,12 @@ OF_SEGMENTS, NOT_OF_OBJECTS = [19, 21, *range(25, 30)], range(59, 70)
 
 
 def object_cases(text: Text) -> None:
-    for right, wrong in wrong_in_one_thing(text, OF_SEGMENTS, a_file, breaks_object_rule):
+    for right, wrong in wrong_in_one_thing(text, OF_SEGMENTS, a_file, broken_object_rules):
         say_object(text, *wrong, right[1])
-    said, rules = set(), [rule for rule in SPOKEN_OF if rule not in OF_SEGMENTS and rule not in NOT_OF_OBJECTS]
-    for right, wrong in wrong_in_one_thing(text, rules, an_object_file, breaks_object_rule):
-        for name, content in (right, wrong):
-            if name not in said:
-                say_object(text, name, content, right[1])
-            said.add(name)
-    sound = b""
-    for k in range(text.count):
-        chance = text.chance("object", k)
-        sound = an_object_file(chance) if k % 6 == 0 else sound
+    rules = [rule for rule in SPOKEN_OF if rule not in OF_SEGMENTS and rule not in NOT_OF_OBJECTS]
+    for it, like in once(wrong_in_one_thing(text, rules, an_object_file, broken_object_rules)):
+        say_object(text, *it, like)
+    for _, chance, sound in series(text, "object", an_object_file):
         say_object(text, *changed(chance, text, sound), sound)
 
 
@@ -271,37 +258,6 @@ def objects_to_link(chance: Chance) -> list[bytes]:
     """The files of one object to three, which may not link."""
     order = chance.choice(("little", "big"))
     return [laid(an_object(chance, order)) for _ in range(chance.randrange(1, 4))]
-
-
-def files_to_link(text: Text, kind: str, made: Callable[[Chance], list[bytes]]) -> Iterator[tuple[Chance, Needs, list[bytes]]]:
-    """So often several files, every third time all of them sound: the chance by which the case goes on, their names, and their bytes."""
-    sound: list[bytes] = []
-    for k in range(text.count):
-        chance = text.chance(kind, k)
-        sound = made(chance) if k % 6 == 0 else sound
-        at = chance.randrange(3 * len(sound))
-        files = [changed(chance, text, it) if f == at else (text.file(it), it) for f, it in enumerate(sound)]
-        yield chance, [(f"f{f}", name) for f, (name, _) in enumerate(files)], [content for _, content in files]
-
-
-def words_of(needs: Needs) -> str:
-    return " ".join(name for name, _ in needs)
-
-
-def link_cases(text: Text) -> None:
-    for chance, needs, contents in files_to_link(text, "link", objects_to_link):
-        base, page = chance.choice(PLACES[:2] * 3 + PLACES)
-        rules = chance.choice((None, *RULES))
-        said = mapped(contents, int(base, 0), int(page, 0), rules)
-        words, given = f"map --base {base} --page {page}", list(needs)
-        if rules is not None:
-            words, given = words + " --rules r", [*given, ("r", text.file(rules))]
-        text.case(f"{words} {words_of(needs)}", given, int(said.startswith(("refused ", "file "))), said)
-
-
-def entries(contents: list[bytes]) -> list[str]:
-    """The names of the files that a program may begin at."""
-    return [it.decode("ascii") for it in entries_of(contents) if it.isalpha()]
 
 
 def objects_that_link(chance: Chance) -> list[bytes]:
@@ -313,17 +269,38 @@ def objects_that_link(chance: Chance) -> list[bytes]:
     return found
 
 
+def entries(contents: list[bytes]) -> list[str]:
+    """The names of the files that a program may begin at."""
+    return [it.decode("ascii") for it in entries_of(contents) if it.isalpha()]
+
+
+def files_to_link(text: Text, kind: str, made: Callable[[Chance], list[bytes]]) -> Iterator[tuple[Chance, Needs, list[bytes]]]:
+    """So often several files, every third time all of them sound: the chance by which the case goes on, their names, and their bytes."""
+    for _, chance, sound in series(text, kind, made):
+        at = chance.randrange(3 * len(sound))
+        files = [changed(chance, text, it) if f == at else (text.file(it), it) for f, it in enumerate(sound)]
+        yield chance, [(f"f{f}", name) for f, (name, _) in enumerate(files)], [content for _, content in files]
+
+
+def link_cases(text: Text) -> None:
+    for chance, needs, contents in files_to_link(text, "link", objects_to_link):
+        base, page = chance.choice(PLACES[:2] * 3 + PLACES)
+        rules = chance.choice((None, *RULES))
+        said = mapped(contents, int(base, 0), int(page, 0), rules)
+        words, given = ("", []) if rules is None else (" --rules r", [("r", text.file(rules))])
+        words = f"map --base {base} --page {page}{words} {' '.join(name for name, _ in needs)}"
+        text.case(words, [*needs, *given], int(said.startswith(("refused ", "file "))), said)
+
+
 def executable_cases(text: Text) -> None:
     for chance, needs, contents in files_to_link(text, "executable", objects_that_link):
         base, page = chance.choice(PLACES[:2] * 4 + PLACES)
         rules = chance.choice((RULES[0], *RULES))
         entry = chance.choice(entries(contents) * 4 + ["main", "x"])
         refusal, file = linked(contents, int(base, 0), int(page, 0), rules, entry.encode())
-        # A file stands before its case, which takes the lines behind it.
-        out = None if refusal else text.file(file)
-        words = f"link --base {base} --page {page} --entry {entry} --rules r {words_of(needs)}"
-        text.case(words, [*needs, ("r", text.file(rules))], int(bool(refusal)), "", refusal)
-        text.lines += [] if out is None else [f"= {out}"]
+        out = "" if refusal else text.file(file)
+        words = f"link --base {base} --page {page} --entry {entry} --rules r {' '.join(name for name, _ in needs)}"
+        text.case(words, [*needs, ("r", text.file(rules))], int(bool(refusal)), "", refusal, out)
 
 
 def make(seed: str, count: int, folder: str) -> None:
@@ -331,28 +308,19 @@ def make(seed: str, count: int, folder: str) -> None:
     for name, cases in zip(NAMES, (image_cases, object_cases, link_cases, executable_cases)):
         text = Text(seed, count)
         cases(text)
-        text.write(f"{folder}/{name}")
+        write(f"{folder}/{name}", "\n".join([*text.lines, ""]))
 
 
-def make_cases(tally: Tally, options: Namespace) -> None:
-    """Without a folder: whether cases/ is what these seeds make, byte for byte."""
-    if options.folder:
-        make(options.seed, options.count, options.folder)
-        return tally.count(len(NAMES), [])
-    with tempfile.TemporaryDirectory() as folder:
-        make(options.seed, options.count, folder)
-        for name in NAMES:
-            is_same = filecmp.cmp(f"{folder}/{name}", f"{TOP}/cases/{name}", shallow=False)
-            tally.check(is_same, f"cases/{name} is not what `tools/test make-cases --in cases` makes")
-
-
-IN = {"dest": "folder", "metavar": "FOLDER"}
 COUNTED = number("count", COUNT, "cases of each kind")
 SEEDED: Option = ("--seed", {"default": SEED, "help": "the same seed makes the same cases"})
-FROM: Option = ("--in", {"dest": "folder", "metavar": "FOLDER", "default": f"{TOP}/cases", "help": "another folder of cases"})
 INTO: Option = ("--in", {"dest": "folder", "metavar": "FOLDER", "help": "write them there"})
-PROGRAMS = crates_of("elfmap", "elfmap_check")
-TESTS = [
-    Test("cases", "the program answers the cases of cases/*.txt", try_cases, crates=PROGRAMS, options=(FROM,)),
-    Test("make-cases", "the generated cases are what the generator makes, byte for byte", make_cases, options=(INTO, COUNTED, SEEDED)),
-]
+
+
+@Test("make-cases", "the generated cases are what the generator makes, byte for byte", options=(INTO, COUNTED, SEEDED))
+def make_cases(tally: Tally, options: Namespace) -> None:
+    """Without a folder: whether cases/ is what these seeds make, byte for byte."""
+    folder = options.folder or tally.folder
+    make(options.seed, options.count, folder)
+    for name in NAMES:
+        is_same = options.folder or filecmp.cmp(f"{folder}/{name}", f"{TOP}/cases/{name}", shallow=False)
+        tally.check(is_same, f"cases/{name} is not what `tools/test make-cases --in cases` makes")

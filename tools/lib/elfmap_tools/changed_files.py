@@ -1,26 +1,18 @@
 """`tools/test changed-files`: the beginnings of an object of 608 bytes, and the files that differ from it in one byte, each byte to each
 other value. The program `tests_calls` makes the calls of the library on all of them: `check` and `verdict` say what the reference
 implementation says; a file that is accepted is written back unchanged; it is an object, or breaks the rule of objects that the reference
-says; and `rewrite` of it is the reference's. `elfmap` says the same of the beginnings, and of a few changed files, by the rules."""
+says; and `rewrite` of it is the reference's. (What `elfmap` says of such files by the rules is in cases/image_rules.txt.)"""
 
-import os, subprocess, tempfile
+import subprocess
 from argparse import Namespace
 from collections.abc import Iterator
-from concurrent.futures import ProcessPoolExecutor
 from typing import IO, Any
 
 from .building import output_of
 from .failing_calls import files_by_hand
 from .reference import check, object_file, rewritten, text, verdict
-from .suite import Tally, Test, crates_of, flag
-from .tree import PROCESSORS, PROGRAM, run, write
-
-# Of the object of a call: the byte at an offset, what it is set to, and what `check` says then.
-CHANGED = (
-    (4, 1, "refused 4 4"), (40, 0xE9, "refused 13 281"), (60, 7, "refused 15 40"), (60, 5, "refused 16 62"), (62, 4, "refused 32 480"),
-)  # fmt: skip
-# And of its beginnings up to a length.
-CUT = ((64, "refused 2 {}"), (288, "refused 12 40"), (608, "refused 15 40"))
+from .suite import Tally, Test, flag
+from .tree import PROCESSORS, read_bytes, side_by_side, write
 
 
 def variants(file: bytes) -> Iterator[bytes]:
@@ -51,48 +43,30 @@ def right_answer(content: bytes) -> tuple[Any, ...]:
     return line, "none", "true", words, "false" if refusal else "true", written
 
 
-def tried(part: tuple[bytes, int, int]) -> tuple[int, list[str]]:
-    """How many of the files were tried, and what was wrong; each process tries its share."""
-    file, share, parts = part
-    wrong, count = list[str](), 0
-    with tempfile.TemporaryDirectory() as folder:
-        words = [output_of("tests_calls"), "changes", write(f"{folder}/f", file)]
-        with subprocess.Popen(words, stdin=subprocess.DEVNULL, stdout=subprocess.PIPE) as calls:
-            assert calls.stdout
-            for number, content in enumerate(variants(file)):
-                answer = answer_of_next(calls.stdout)
-                if number % parts != share:
-                    continue
-                count += 1
-                right = right_answer(content)
-                if answer != right:
-                    wrong.append(f"file {number} of {len(file)} bytes: {answer}, and not {right}"[:300])
-            if calls.stdout.read() or calls.wait() != 0:
-                wrong.append(f"the calls ended with status {calls.wait()}, or there were more of them")
+def tried(part: tuple[str, int]) -> tuple[int, list[str]]:
+    """How many of the files that differ from one were tried, and what was wrong; each process tries its share."""
+    path, share = part
+    file, wrong, count = read_bytes(path), list[str](), 0
+    words = [output_of("tests_calls"), "changes", path]
+    with subprocess.Popen(words, stdin=subprocess.DEVNULL, stdout=subprocess.PIPE) as calls:
+        assert calls.stdout
+        for number, content in enumerate(variants(file)):
+            answer = answer_of_next(calls.stdout)
+            if number % PROCESSORS == share:
+                count, right = count + 1, right_answer(content)
+                wrong += [f"file {number} of {len(file)} bytes: {answer}, and not {right}"[:300]] if answer != right else []
+        if calls.stdout.read() or calls.wait() != 0:
+            wrong.append(f"the calls ended with status {calls.wait()}, or there were more of them")
     return count, wrong
 
 
-def by_the_rules(tally: Tally, file: bytes) -> None:
-    """The rows, through the program."""
-    rows = [(file[:at] + bytes([byte]) + file[at + 1 :], line) for at, byte, line in CHANGED]
-    rows += [(file[:length], next(line for end, line in CUT if length < end).format(length)) for length in range(len(file))]
-    with tempfile.TemporaryDirectory() as folder:
-        for content, line in [*rows, (file, "ok 608 6 0")]:
-            answer = run(PROGRAM, "check", write(f"{folder}/f", content)).stdout.decode().strip()
-            tally.check(answer == line, f"check of {len(content)} bytes says {answer}, and not {line}")
+ABOUT, ALL = "each one-byte change of an object, beside the reference implementation", flag("all", "of two more objects too: 390,000 files")
 
 
+@Test("changed-files", ABOUT, crates="tests_calls", alone=True, family="fuzz", options=(ALL,))
 def changed_files(tally: Tally, options: Namespace) -> None:
-    file = files_by_hand()["call_0"]
-    files = [file]
-    if options.all:
-        files += [object_file([text(align=16)], order=order) for order in ("little", "big")]
-    by_the_rules(tally, file)
-    with ProcessPoolExecutor(PROCESSORS) as pool:
-        for count, wrong in pool.map(tried, [(it, share, PROCESSORS) for it in files for share in range(PROCESSORS)]):
-            tally.count(count, wrong)
-
-
-ABOUT, CRATES = "each one-byte change of an object, beside the reference implementation", crates_of("elfmap", "tests_calls")
-ALL = flag("all", "of two more objects too: 390,000 files")
-TESTS = [Test("changed-files", ABOUT, changed_files, (), CRATES, True, "fuzz", (ALL,))]
+    files = [files_by_hand()["call_0"]]
+    files += [object_file([text(align=16)], order=order) for order in ("little", "big") if options.all]
+    paths = [write(f"{tally.folder}/{k}", it) for k, it in enumerate(files)]
+    for count, wrong in side_by_side(tried, [(it, share) for it in paths for share in range(PROCESSORS)], True):
+        tally.count(count, wrong)

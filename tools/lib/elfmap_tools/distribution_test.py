@@ -14,10 +14,10 @@ import os, re, shutil, sys, tempfile, zlib
 from argparse import Namespace
 
 from . import distribution
-from .library import ENGINES, VERDICTS, calls
+from .library import BOTH, PACKERS, calls
 from .packages import setup
 from .release import version_of
-from .suite import Tally, Test, crates_of, environment
+from .suite import Tally, Test, environment
 from .tree import TOP, Texts, files_below, read_bytes, read_text, said
 
 SUITE = "bookworm"
@@ -139,29 +139,27 @@ def exported(path: str) -> list[str]:
     return sorted(it.split()[2].partition("@")[0] for it in lines if it.split()[1] != "A")
 
 
+TOOLS = f"{PACKERS} readelf nm git wasm-opt dpkg-deb unshare"
+
+
+@Test("packages", "what people install is the same twice, and works in a clean root", commands=TOOLS, crates=f"elfmap {BOTH}")
 def packages(tally: Tally, options: Namespace) -> None:
-    version = version_of()
+    version, room = version_of(), tally.folder
     for path, own in versions().items():
         tally.check(own == version, f"{path} has the version {own}, and VERSION has {version}")
-    with tempfile.TemporaryDirectory(prefix="packages-test-") as room:
-        first, second = f"{room}/first", f"{room}/second"
-        for it, mask, zone in ((first, "022", "UTC"), (second, "077", "Asia/Tokyo")):
-            words = ["sh", "-c", f'umask {mask} && exec "$@"', "sh", sys.executable, f"{TOP}/tools/release", "packages", it]
-            made = said(*words, folder=room, env=environment(TZ=zone))
-            if not tally.check(made.returncode == 0, f"no packages are made: {made.stdout}"):
-                return
-        tally.check(is_same(first, second), "the packages have other bytes the second time")
-        summed = said("sha256sum", "-c", "--quiet", "SHA256SUMS", folder=first)
-        others = {os.path.basename(it) for it in files_below(first)} - set(read_text(f"{first}/SHA256SUMS").split())
-        tally.check(summed.returncode == 0 and others == {"SHA256SUMS"}, f"SHA256SUMS: {summed.stdout} {others}")
-        names = [it for it in os.listdir(first) if it != "SHA256SUMS"]
-        tally.check(all(re.search(rf"[-_]{re.escape(version)}[-_.]", it) for it in names), f"not all have the version {version}: {names}")
-        said("dpkg-deb", "-x", f"{first}/libelfmap0_{version}_amd64.deb", f"{room}/own")
-        names = exported(f"{room}/own/{distribution.LIBRARIES}/libelfmap.so.0")
-        tally.check(names == sorted(calls()), f"the shared library exports {names}")
-        in_clean_root(tally, first, room)
-
-
-TOOLS = ("cc", "ar", "objcopy", "readelf", "nm", "git", "wasm-opt", "dpkg-deb", "unshare")
-ABOUT = "what people install is the same twice, and works in a clean root"
-TESTS = [Test("packages", ABOUT, packages, TOOLS, crates_of("elfmap", VERDICTS, ENGINES))]
+    first, second = f"{room}/first", f"{room}/second"
+    for it, mask, zone in ((first, "022", "UTC"), (second, "077", "Asia/Tokyo")):
+        words = ["sh", "-c", f'umask {mask} && exec "$@"', "sh", sys.executable, f"{TOP}/tools/release", "packages", it]
+        made = said(*words, folder=room, env=environment(TZ=zone))
+        if not tally.check(made.returncode == 0, f"no packages are made: {made.stdout}"):
+            return
+    tally.check(is_same(first, second), "the packages have other bytes the second time")
+    summed = said("sha256sum", "-c", "--quiet", "SHA256SUMS", folder=first)
+    others = {os.path.basename(it) for it in files_below(first)} - set(read_text(f"{first}/SHA256SUMS").split())
+    tally.check(summed.returncode == 0 and others == {"SHA256SUMS"}, f"SHA256SUMS: {summed.stdout} {others}")
+    names = [it for it in os.listdir(first) if it != "SHA256SUMS"]
+    tally.check(all(re.search(rf"[-_]{re.escape(version)}[-_.]", it) for it in names), f"not all have the version {version}: {names}")
+    said("dpkg-deb", "-x", f"{first}/libelfmap0_{version}_amd64.deb", f"{room}/own")
+    names = exported(f"{room}/own/{distribution.LIBRARIES}/libelfmap.so.0")
+    tally.check(names == sorted(calls()), f"the shared library exports {names}")
+    in_clean_root(tally, first, room)

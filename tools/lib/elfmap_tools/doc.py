@@ -1,6 +1,6 @@
-"""`tools/dev doc`: one page of the whole library, for a browser. For each of the crates that `elf` shows it has the front doc and each public
-item: signature, doc comment, and contract as it is in the source, where each word that is a definition of specs/ leads to that definition,
-at the end of the page with its comment and text. It fails where an item has no doc comment or is not in the page once."""
+"""`tools/dev doc`: one page of the whole library, for a browser. For each of the crates that `elf` shows it has the front doc and each
+public item: signature, doc comment, and contract as it is in the source, where each word that is a definition of specs/ leads to that
+definition, at the end of the page with its comment and text. It fails where an item has no doc comment or is not in the page once."""
 
 import argparse, collections, functools, re, sys
 from collections.abc import Callable
@@ -9,7 +9,7 @@ from html import escape
 from . import guarantees
 from .sources import PUBLIC_CRATES, WORD, Definition, Item, Uses, definition, items_of, module_file, named_in, source
 from .suite import Tally, Test
-from .tree import matched, read_text
+from .tree import matched, read_text, replaced
 
 # Where a word leads to, and its title.
 Place = tuple[str, str] | None
@@ -33,7 +33,7 @@ class Page:
                 self.add(public_crate, f"{home}.{item.name}", item.name, item)
 
     def add(self, public_crate: str, anchor: str, path: str, item: Item) -> None:
-        self.anchors[public_crate, path] = anchor
+        self.anchors[public_crate, path] = item.anchor = anchor
         for name in (name_of(text) for _, text in item.fields):
             self.anchors[public_crate, f"{path}::{name}"] = f"{anchor}.{name}"
         for it in item.members:
@@ -80,7 +80,7 @@ class Page:
     def contents(self) -> str:
         lines = []
         for public_crate, items in self.public_crates.items():
-            names = ", ".join(f'<a href="#{self.anchors[public_crate, it.name]}">{it.name}</a>' for it in items)
+            names = ", ".join(f'<a href="#{it.anchor}">{it.name}</a>' for it in items)
             lines.append(f'<p><a href="#{public_crate}"><b>{public_crate}</b></a>: {names}</p>')
         return f'<nav>{"".join(lines)}<p><a href="#definitions"><b>definitions</b></a></p></nav>'
 
@@ -108,14 +108,13 @@ def cells(line: str) -> list[str]:
 
 def linked(text: str, place_of: Callable[[str], Place]) -> str:
     """A text of code, each word of it with the anchor and the title that it has, if it has one."""
-    found, at = [], 0
-    for word in WORD.finditer(text):
+
+    def link(word: re.Match[str]) -> str:
         anchor, title = place_of(word[0]) or ("", "")
-        if anchor:
-            said = f' title="{escape(title)}"' if title else ""
-            found += [escape(text[at : word.start()]), f'<a href="#{escape(anchor)}"{said}>{escape(word[0])}</a>']
-            at = word.end()
-    return "".join([*found, escape(text[at:])])
+        said = f' title="{escape(title)}"' if title else ""
+        return f'<a href="#{escape(anchor)}"{said}>{escape(word[0])}</a>' if anchor else escape(word[0])
+
+    return replaced(WORD, text, link, escape)
 
 
 def said_of(found: Definition) -> str:
@@ -149,12 +148,7 @@ class PublicCrate:
 
     def marked(self, text: str, owner: str = "") -> str:
         """A paragraph with its code and its links."""
-        found, at = [], 0
-        for mark in MARK.finditer(text):
-            found.append(escape(text[at : mark.start()]))
-            found.append(f"<code>{escape(mark[1])}</code>" if mark[1] else self.link(mark, owner))
-            at = mark.end()
-        return "".join([*found, escape(text[at:])])
+        return replaced(MARK, text, lambda it: f"<code>{escape(it[1])}</code>" if it[1] else self.link(it, owner), escape)
 
     def link(self, mark: re.Match[str], owner: str) -> str:
         words = f"<code>{escape(mark[3])}</code>" if mark[2] else escape(mark[3])
@@ -224,16 +218,15 @@ class PublicCrate:
         lines = []
         for docs, text in item.fields:
             self.check_doc(item, docs, f"::{name_of(text)}")
-            anchor = self.page.anchors[self.name, f"{item.name}::{name_of(text)}"]
             line = " ".join(it.strip() for it in text.splitlines() if not it.strip().startswith("///"))
             code = escape(re.sub(r",? \}$", " }", line))
-            lines.append(f'<dt id="{anchor}"><code>{code}</code></dt><dd>{self.told(docs, item.name)}</dd>')
+            lines.append(f'<dt id="{item.anchor}.{name_of(text)}"><code>{code}</code></dt><dd>{self.told(docs, item.name)}</dd>')
         return f"<dl>{''.join(lines)}</dl>" if lines else ""
 
     def member(self, item: Item, owner: Item) -> str:
         self.check_doc(item, item.docs)
-        anchor = self.page.anchors[self.name, f"{owner.name}::{item.name}"]
-        return f"""<div class="member" data-names="{owner.name} {item.name}"><h4 id="{anchor}"><a href="#{anchor}">{item.name}</a></h4>
+        head = f'<h4 id="{item.anchor}"><a href="#{item.anchor}">{item.name}</a></h4>'
+        return f"""<div class="member" data-names="{owner.name} {item.name}">{head}
 {self.signature(item)}
 {self.told(item.docs, owner.name)}
 {self.guarantees(item)}
@@ -241,20 +234,19 @@ class PublicCrate:
 
     def constants(self, item: Item) -> str:
         """The constants of a module in a table, and then those of each module in it."""
-        rows = "".join(self.constant(it, item.name) for it in item.members if it.kind != "mod")
+        rows = "".join(self.constant(it) for it in item.members if it.kind != "mod")
         parts = [f"<table>{rows}</table>"] if rows else []
         for it in (it for it in item.members if it.kind == "mod"):
             self.check_doc(it, it.docs)
-            path = f"{item.name}::{it.name}"
-            inner = "\n".join(self.constant(own, path) for own in it.members)
-            parts.append(f'<h4 id="{self.page.anchors[self.name, path]}">{path}</h4>{self.told(it.docs)}<table>{inner}</table>')
+            inner = "\n".join(map(self.constant, it.members))
+            parts.append(f'<h4 id="{it.anchor}">{item.name}::{it.name}</h4>{self.told(it.docs)}<table>{inner}</table>')
         return "\n".join(parts)
 
-    def constant(self, item: Item, path: str) -> str:
+    def constant(self, item: Item) -> str:
         self.check_doc(item, item.docs)
         _, _, value = " ".join(it.strip() for it in item.text).removesuffix(";").partition(" = ")
-        anchor, said = self.page.anchors[self.name, f"{path}::{item.name}"], self.marked(" ".join(item.docs))
-        return f'<tr id="{anchor}"><td><code>{item.name}</code></td><td><code>{escape(value)}</code></td><td>{said}</td></tr>'
+        cells = f"<code>{item.name}</code>", f"<code>{escape(value)}</code>", self.marked(" ".join(item.docs))
+        return f'<tr id="{item.anchor}"><td>{"</td><td>".join(cells)}</td></tr>'
 
     def traits(self, item: Item) -> str:
         anchors = [(f"<code>{escape(it)}</code>", self.anchor(re.sub("<.*", "", it))) for it in item.traits]
@@ -262,11 +254,10 @@ class PublicCrate:
         return f'<p class="place">Has the traits {named}.</p>' if named else ""
 
     def article(self, item: Item) -> str:
-        anchor = self.page.anchors[self.name, item.name]
         self.check_doc(item, item.docs)
         members = "\n".join(self.member(it, item) for it in item.members) if item.kind != "mod" else self.constants(item)
         return f"""<article data-names="{" ".join([item.name, *(it.name for it in item.members)])}">
-<h3 id="{anchor}"><span class="kind">{item.kind}</span> <a href="#{anchor}">{item.name}</a></h3>
+<h3 id="{item.anchor}"><span class="kind">{item.kind}</span> <a href="#{item.anchor}">{item.name}</a></h3>
 {self.signature(item)}
 {self.told(item.docs, item.name)}
 {self.fields(item)}
@@ -277,12 +268,12 @@ class PublicCrate:
 {members}</article>"""
 
     def section(self) -> str:
-        anchors = [(it, self.page.anchors[self.name, it.name]) for it in self.page.public_crates[self.name]]
-        others = [f'<a href="#{anchor}"><code>{it.name}</code></a>' for it, anchor in anchors if not anchor.startswith(f"{self.name}.")]
+        items = self.page.public_crates[self.name]
+        own = [it for it in items if it.anchor.startswith(f"{self.name}.")]
+        others = [f'<a href="#{it.anchor}"><code>{it.name}</code></a>' for it in items if it not in own]
         also = f"<p>It shows too: {', '.join(others)}.</p>" if others else ""
         front = self.told(source(module_file(f"elf_{self.name}", ()))[0])
-        own = (self.article(it) for it, anchor in anchors if anchor.startswith(f"{self.name}."))
-        return "\n".join([f'<section><h2 id="{self.name}">elf::{self.name}</h2>{front}{also}', *own, "</section>"])
+        return "\n".join([f'<section><h2 id="{self.name}">elf::{self.name}</h2>{front}{also}', *map(self.article, own), "</section>"])
 
 
 def made() -> tuple[str, list[str]]:
@@ -302,8 +293,6 @@ def main(options: argparse.Namespace) -> int:
     return 1 if faults else 0
 
 
+@Test("doc", "each public item has a doc comment, and is in the page of `tools/dev doc` once")
 def doc(tally: Tally, options: argparse.Namespace) -> None:
     tally.count(1, made()[1][:1])
-
-
-TESTS = [Test("doc", "each public item has a doc comment, and is in the page of `tools/dev doc` once", doc)]

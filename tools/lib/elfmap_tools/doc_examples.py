@@ -2,10 +2,10 @@
 proved of it, since what an example leaves out, as a check of a number, a proof would need.
 
 An example is a code block of a doc comment whose fence names no language. It is made the body of a function that returns any error, in a
-crate for this alone. There it sees what its own crate shows; names of crates below are imported for it, and so are those of std in `OF_STD`.
-What it uses and does not bind is a parameter, of the type in `GIVEN`; a name that is not there is an unknown one. The crates are read as
-they are, so none has to be built. The function `REFUSED` beside the examples borrows wrongly: that it is refused shows that borrows are
-checked, and ends the compiler before the work of proofs, which takes ten times as long."""
+crate for this alone. There it sees what its own crate shows; names of crates below are imported for it, and so are those of std in
+`OF_STD`. What it uses and does not bind is a parameter, of the type in `GIVEN`; a name that is not there is an unknown one. The crates are
+read as they are, so none has to be built. The function `REFUSED` beside the examples borrows wrongly: that it is refused shows that borrows
+are checked, and ends the compiler before the work of proofs, which takes ten times as long."""
 
 import functools, os, re, tempfile
 from argparse import Namespace
@@ -137,6 +137,10 @@ def all_faults(examples: list[Example]) -> tuple[dict[Example, list[str]], str]:
     return found, ""
 
 
+CRATE: Option = ("--crate", {"action": "append", "metavar": "CRATE", "help": "the examples of this crate alone"})
+
+
+@Test("doc-examples", "each example in a doc comment compiles", options=(CRATE,))
 def doc_examples(tally: Tally, options: Namespace) -> None:
     crates = [it for it in libraries() if not is_program(it)]
     if not set(options.crate or ()) <= set(crates):
@@ -147,7 +151,3 @@ def doc_examples(tally: Tally, options: Namespace) -> None:
         tally.note(f"the compiler does not judge the examples:\n{broken}")
     tally.count(len(examples), ("\n".join(lines) for lines in faults.values()))
     tally.note(", ".join(f"{crate} {count}" for crate, count in Counter(it.crate for it in examples).items()))
-
-
-CRATE: Option = ("--crate", {"action": "append", "metavar": "CRATE", "help": "the examples of this crate alone"})
-TESTS = [Test("doc-examples", "each example in a doc comment compiles", doc_examples, options=(CRATE,))]

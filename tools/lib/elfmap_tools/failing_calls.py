@@ -17,9 +17,10 @@ By `growths` it makes the calls of the library one by one, with the Nth growth r
 out of memory or what it answers with enough; a reading goes on where a growth was refused, and loses nothing; what takes no memory answers
 as ever, and made three times it grows as much as made not at all."""
 
-import os, re, struct, tempfile
+import os, re, struct
 from argparse import Namespace
 from collections.abc import Iterable, Iterator
+from itertools import count
 
 from .building import output_of
 from .making import full_object
@@ -27,8 +28,8 @@ from .making import full_object
 from .reference import (
     ALLOC, COMMON, HASH, PROGBITS, WRITE, edited, group, object_file, relocations, section, symbol, text, words as number_words,
 )  # fmt: skip
-from .suite import Tally, Test, crates_of, environment
-from .tree import PROGRAM, RULES, TOP, read_text, run, write
+from .suite import Tally, Test, environment
+from .tree import PROGRAM, RULES, by_cc, read_text, run, wanted, write
 
 CALLER = "int callee(int); extern int shared; int common; int main(void) { return callee(1) + shared + common; }\n"
 CALLEE = "static int calls; int shared = 2; int callee(int x) { return calls += x; }\n"
@@ -45,6 +46,7 @@ BY_HAND |= {("common_0", "common_1", "common_2"): "x", ("groups_0", "groups_1"):
 PLACE = ["--base", "0x400000", "--page", "0x1000"]
 # How a call ended: its status, and what it printed.
 Ending = tuple[int, bytes, bytes]
+# How many calls failed, and what was wrong.
 Result = tuple[int, list[str]]
 
 
@@ -70,33 +72,24 @@ def files_by_hand() -> dict[str, bytes]:
 
 def failing_library(folder: str) -> str:
     """Makes the library in which calls fail, and which counts them: its path."""
-    library = f"{folder}/failing.so"
-    if not os.path.exists(library):
-        made = run("cc", "-shared", "-fPIC", "-O1", "-w", "-o", library, f"{TOP}/cases/sources/failing.c")
-        if made.returncode:
-            raise SystemExit(f"failing.c is not compiled: {made.stderr!r}")
-    return library
+    return by_cc(f"{folder}/failing.so", "-shared -fPIC -O1 -w", "failing.c")
 
 
 def make_files(folder: str) -> None:
     failing_library(folder)
-    sources = {"caller.c": CALLER, "callee.c": CALLEE, "many.s": MANY}
-    for name, source in sources.items():
+    for name, source in {"caller.c": CALLER, "callee.c": CALLEE, "many.s": MANY}.items():
         write(f"{folder}/{name}", source)
-        run("cc", "-c", "-O1", "-fcommon", "-fno-pic", name, "-o", f"{name[:-2]}.o", folder=folder)
+        wanted("cc", "-c", "-O1", "-fcommon", "-fno-pic", name, "-o", f"{name[:-2]}.o", folder=folder)
     for name, content in {"refused": b"no ELF file\n", "full.o": full_object(), "rules": b"2 pc 4 signed\n", **files_by_hand()}.items():
         write(f"{folder}/{name}", content)
 
 
 def ended(folder: str, words: list[str], call: str = "", program: str = PROGRAM) -> tuple[Ending, list[str]]:
     """How the program ended, and what the library says of the call that failed."""
-    report = f"{folder}/told"
-    if os.path.exists(report):
-        os.remove(report)
+    report = write(f"{folder}/report", "")
     around = environment(LD_PRELOAD=f"{folder}/failing.so", FAILING_CALL=f"{call} {report}")
     it = run(program, *words, folder=folder, env=around)
-    lines = read_text(report).split("\n")[:-1] if os.path.exists(report) else []
-    return (it.returncode, it.stdout, it.stderr), lines
+    return (it.returncode, it.stdout, it.stderr), read_text(report).split("\n")[:-1]
 
 
 def wrong_with(kind: str, how: str, words: list[str], ample: Ending, found: Ending, offset: int) -> str:
@@ -133,22 +126,19 @@ def quiet(folder: str, names: Iterable[str]) -> Result:
 
 
 def tried(folder: str, words: list[str], kind: str, how: str, program: str = PROGRAM) -> Result:
-    """Each call of a kind failing, one after the other: how many were, and what was wrong."""
+    """Each call of a kind failing, one after the other, or all calls at once: how many were, and what was wrong."""
     ample, _ = ended(folder, words, program=program)
-    count, wrong = 0, list[str]()
-    while True:
-        found, report = ended(folder, words, f"{kind} {count + 1} {how}", program)
+    wrong = list[str]()
+    for number in count(1):
+        found, report = ended(folder, words, f"{kind} {number} {how}", program)
         if not report:
-            return count, wrong + ([] if found == ample else [f"{' '.join(words)}: without a failing call: another answer"])
-        count += 1
+            return number - 1, wrong + ([] if found == ample else [f"{' '.join(words)}: without a failing call: another answer"])
         why = wrong_with(kind, how, words, ample, found, int(report[0].split()[1]))
-        if not why and any(it.startswith("again") for it in report):
-            why = "it was tried again"
-        if why:
-            wrong.append(f"{' '.join(words)}: {kind} {count} {how}: {why}: {found}"[:300])
+        why = why or "it was tried again" * any(it.startswith("again") for it in report)
+        wrong += [f"{' '.join(words)}: {kind} {number} {how}: {why}: {found}"[:300]] if why else []
         if how == "bytes":
-            # All calls at once.
-            return count, wrong
+            break
+    return number, wrong
 
 
 def wrong_growths(ample: list[bytes], found: list[bytes]) -> str:
@@ -169,18 +159,18 @@ def wrong_growths(ample: list[bytes], found: list[bytes]) -> str:
 def grown(folder: str, words: list[str], how: str) -> Result:
     """Each growth of the calls of the library refused: how many were, and what was wrong."""
     (sound, output, _), _ = ended(folder, words, program=CALLS)
-    ample, count, wrong = output.split(b"\n")[:-1], 0, list[str]()
-    while True:
-        (status, out, err), report = ended(folder, words, f"malloc {count + 1} {how}", CALLS)
+    ample, wrong = output.split(b"\n")[:-1], list[str]()
+    for number in count(1):
+        (status, out, err), report = ended(folder, words, f"malloc {number} {how}", CALLS)
         lines = out.split(b"\n")[:-1]
         if not report:
-            return count, wrong + ([] if lines == ample else [f"{' '.join(words)}: another answer without a refused growth"])
-        count += 1
+            break
         # The program ends where a growth of its own is refused, or a file can't be read.
         gave_up = status == 1 and b"OutOfMemory" in err or status == 3 and lines[-1:] == [b"read_to_end out of memory"]
         why = wrong_growths(ample[: len(lines)] if gave_up and lines == ample[: len(lines)] else ample, lines)
         if why or status != sound and not gave_up:
-            wrong.append(f"{' '.join(words)}: growth {count} {how}: {why or status} {err[:100]!r}")
+            wrong.append(f"{' '.join(words)}: growth {number} {how}: {why or status} {err[:100]!r}")
+    return number - 1, wrong + ([] if lines == ample else [f"{' '.join(words)}: another answer without a refused growth"])
 
 
 def growths(folder: str) -> Iterator[Result]:
@@ -226,12 +216,8 @@ def tries(folder: str) -> Iterator[Result]:
     yield from growths(folder)
 
 
+@Test("failing-calls", "every call of the C library failing once", commands="cc", crates="elfmap tests_calls", family="fuzz")
 def failing_calls(tally: Tally, options: Namespace) -> None:
-    with tempfile.TemporaryDirectory() as folder:
-        make_files(folder)
-        for count, wrong in tries(folder):
-            tally.count(count, wrong)
-
-
-CRATES = crates_of("elfmap", "tests_calls")
-TESTS = [Test("failing-calls", "every call of the C library failing once", failing_calls, ("cc",), CRATES, family="fuzz")]
+    make_files(tally.folder)
+    for tried_calls, wrong in tries(tally.folder):
+        tally.count(tried_calls, wrong)

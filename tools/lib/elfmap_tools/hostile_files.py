@@ -1,14 +1,13 @@
-"""`tools/test hostile-files`: the cases of cases/ that have files, tables made to do harm among them (cases/hostile.txt), large objects and large
-files, through the commands of the program. No call takes a second of the processor, or asks for more than a MiB of memory and 128 times as
-many bytes as its files have, all growths together; `check --seek` for no more than a MiB and twice as many bytes as the tables have. The
-large files have up to 4 MB, but for sparse ones of up to 2^30 bytes, whose tables are far from the header: there `check` and `check --seek`
-have to find them. `failing.c` counts what is asked for. The answers of large objects are the reference implementation's."""
+"""`tools/test hostile-files`: the cases of cases/ that have files, tables made to do harm among them (cases/hostile.txt), large objects and
+large files, through the commands of the program. No call takes a second of the processor, or asks for more than a MiB of memory and 128
+times as many bytes as its files have, all growths together; `check --seek` for no more than a MiB and twice as many bytes as the tables
+have. The large files have up to 4 MB, but for sparse ones of up to 2^30 bytes, whose tables are far from the header: there `check` and
+`check --seek` have to find them. `failing.c` counts what is asked for. The answers of large objects are the reference implementation's."""
 
-import os, random, struct, subprocess, tempfile
+import os, random, resource, struct, tempfile
 from argparse import Namespace
 from collections.abc import Callable, Iterator
 from dataclasses import dataclass, field
-from typing import Any
 
 from .cases import all_cases, put_needs
 from .failing_calls import failing_library
@@ -18,8 +17,8 @@ from .reference import (
     ALLOC, DYNSYM, HASH, NOTE, PROGBITS, STRTAB, SYMTAB_SHNDX, File, check, edited, group, mapped, object_file, relocations, rewritten,
     section, shown, symbol, text, words,
 )  # fmt: skip
-from .suite import Tally, Test, crates_of, environment
-from .tree import PROGRAM, read_bytes, read_text, run, write
+from .suite import Tally, Test, environment
+from .tree import PROGRAM, read_text, run
 
 MOST_SECONDS = 1.0
 LEAST_MEMORY, MOST_MEMORY, SEEKING_MEMORY = 1 << 20, 128, 2
@@ -136,18 +135,19 @@ def asked(report: str) -> int:
     return int(dict(line.split() for line in read_text(report).splitlines())["asked"])
 
 
+def seconds_of_children() -> float:
+    """The seconds of the processor that the calls took up to now."""
+    used = resource.getrusage(resource.RUSAGE_CHILDREN)
+    return used.ru_utime + used.ru_stime
+
+
 def run_row(row: Row, library: str) -> tuple[Answer, float, int]:
     """The answer, the seconds of the processor, and the bytes that were asked for."""
     with tempfile.TemporaryDirectory(prefix="hostile-") as folder, tempfile.TemporaryDirectory() as beside:
         put_needs(folder, row.needs, row.files)
-        with open(f"{beside}/out", "wb") as out, open(f"{beside}/err", "wb") as err:
-            # It shares this process's memory until it is the program, so no time goes into copying that.
-            more: Any = {"cwd": folder, "env": counting(library, f"{beside}/told"), "stdin": subprocess.DEVNULL}
-            child = subprocess.Popen([PROGRAM, *row.words], stdout=out, stderr=err, **more)
-            _, status, used = os.wait4(child.pid, 0)
-            child.returncode = os.waitstatus_to_exitcode(status)
-        answer = child.returncode, read_bytes(f"{beside}/out"), read_bytes(f"{beside}/err")
-        return answer, used.ru_utime + used.ru_stime, asked(f"{beside}/told")
+        before = seconds_of_children()
+        ended = run(PROGRAM, *row.words, folder=folder, env=counting(library, f"{beside}/report"))
+        return (ended.returncode, ended.stdout, ended.stderr), seconds_of_children() - before, asked(f"{beside}/report")
 
 
 def wrong_with(row: Row, library: str) -> str:
@@ -199,24 +199,21 @@ def far_tables(tally: Tally, folder: str, library: str) -> None:
     for order, at in ((order, at) for order in (LITTLE, "big") for at in FAR):
         right = f"ok {far_file(f'{folder}/f', at, order)} 2 0\n".encode()
         for command in (["check"], ["check", "--seek"]):
-            output = run(PROGRAM, *command, f"{folder}/f", env=counting(library, f"{folder}/told")).stdout
-            memory, most = asked(f"{folder}/told"), LEAST_MEMORY + (0 if "--seek" in command else MOST_MEMORY * at)
-            os.remove(f"{folder}/told")
+            output = run(PROGRAM, *command, f"{folder}/f", env=counting(library, f"{folder}/report")).stdout
+            memory, most = asked(f"{folder}/report"), LEAST_MEMORY + (0 if "--seek" in command else MOST_MEMORY * at)
+            os.remove(f"{folder}/report")
             what = f"{' '.join(command)} of a table at {at}, {order}"
             tally.check(output == right and memory <= most, f"{what}: {output!r}, and not {right!r}; {memory} bytes, and not {most}")
 
 
-def hostile_files(tally: Tally, options: Namespace) -> None:
-    with tempfile.TemporaryDirectory(prefix="hostile-") as folder:
-        library = failing_library(folder)
-        for number, it in enumerate(it for rows in (case_rows, many_rows, large_rows) for it in rows()):
-            why = wrong_with(it, library)
-            tally.check(not why, f"row {number}, {' '.join(it.words)} with {' '.join(it.needs)}: {why}")
-        far_tables(tally, folder, library)
+ABOUT = "tables made to do harm, and large files: answers, time and memory"
 
 
-CRATES = crates_of("elfmap")
 # It looks at the time of the processor, which other work on it lengthens.
-TESTS = [
-    Test("hostile-files", "tables made to do harm, and large files: answers, time and memory", hostile_files, ("cc",), CRATES, True, "fuzz")
-]
+@Test("hostile-files", ABOUT, commands="cc", crates="elfmap", alone=True, family="fuzz")
+def hostile_files(tally: Tally, options: Namespace) -> None:
+    library = failing_library(tally.folder)
+    for number, it in enumerate(it for rows in (case_rows, many_rows, large_rows) for it in rows()):
+        why = wrong_with(it, library)
+        tally.check(not why, f"row {number}, {' '.join(it.words)} with {' '.join(it.needs)}: {why}")
+    far_tables(tally, tally.folder, library)

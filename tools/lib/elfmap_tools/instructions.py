@@ -9,12 +9,12 @@ valgrind counts (its tool callgrind). It interprets the program, so the same run
 `rep movsb` and `rep stosb`. The program runs in its own folder, with relative names, the same environment, and the same routines of the C
 library on every processor. With another version of the C library or of valgrind the counts are slightly different."""
 
-import fcntl, os, re, shutil, subprocess, sys, tempfile
+import fcntl, os, re, shutil, subprocess, sys
 from argparse import Namespace
 from collections.abc import Callable
 from typing import Any
 
-from .suite import Tally, Test, crates_of, flag
+from .suite import Tally, Test, flag
 from .tree import PROGRAM, TOP, read_bytes, read_text, said, write
 
 sys.path.insert(0, f"{TOP}/bench")
@@ -98,19 +98,16 @@ def counted(folder: str, command: str, make: Callable[[int], Any], names: list[s
     return int(found[0]), ""
 
 
-def all_counted() -> dict[str, Count]:
-    """The count of each row."""
-    counts: dict[str, Count] = {}
-    with tempfile.TemporaryDirectory(prefix="elfmap-instructions.") as folder:
-        shutil.copy(PROGRAM, f"{folder}/program")
-        for make, length, commands in ROWS:
-            names = written(folder, make, length)
-            counts |= {f"{it}: {make.__name__}": counted(folder, it, make, names) for it in commands}
-    return counts
+STORE = flag("store", "store the new numbers")
 
 
+@Test("instructions", "the instructions of each command, beside the stored numbers", commands="valgrind", crates="elfmap", options=(STORE,))
 def instructions(tally: Tally, options: Namespace) -> None:
-    counts = all_counted()
+    shutil.copy(PROGRAM, f"{tally.folder}/program")
+    counts: dict[str, Count] = {}
+    for make, length, commands in ROWS:
+        names = written(tally.folder, make, length)
+        counts |= {f"{it}: {make.__name__}": counted(tally.folder, it, make, names) for it in commands}
     if options.store and not any(why for _, why in counts.values()):
         write(STORED, HEAD + "".join(f"{count:10} {row}\n" for row, (count, _) in counts.items()))
     lines = [line.split(maxsplit=1) for line in read_text(STORED).splitlines() if not line.startswith("#")]
@@ -128,7 +125,3 @@ def instructions(tally: Tally, options: Namespace) -> None:
     used = {COMMANDS[it][0] for _, _, commands in ROWS for it in commands}
     tally.check(listed and not set(listed) - used, f"commands of --help without a row: {set(listed) - used or 'none is listed'}")
     tally.note(f"{sum(count for count, _ in counts.values()):,} in {len(counts)} rows")
-
-
-ABOUT, STORE = "the instructions of each command, beside the stored numbers", flag("store", "store the new numbers")
-TESTS = [Test("instructions", ABOUT, instructions, ("valgrind",), crates_of("elfmap"), options=(STORE,))]

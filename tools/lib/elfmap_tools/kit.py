@@ -5,8 +5,6 @@ from collections.abc import Callable, Iterable
 
 from .tree import TOP, below, deps, is_newer, libraries, read_bytes, said, static_libraries, texts_of
 
-__all__ = ["RLIBS", "TOP", "below", "built_below", "deps", "gate_folder", "kit", "libraries", "said_by", "words"]
-
 # Where `tools/dev prove` puts the libraries that it proved, each beside a sum of what it was made from.
 RLIBS = f"{TOP}/crates/elfmap/out/rlibs"
 FolderOf = Callable[[str], str]

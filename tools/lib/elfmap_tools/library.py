@@ -1,26 +1,21 @@
 """`tools/release library`: the library for C in one archive, libelfmap.a. It has the calls without memory (the crate elf_c), the engines
-(elf_c_engines), whose calls for memory get the names of include/elfmap.h, and that memory over malloc (bindings/c/memory.c). A program takes
-of it what it calls: without an engine neither the engines nor malloc. A release has the same as a shared library, libelfmap.so.0, which
-exports the calls of include/elfmap.h and nothing else."""
+(elf_c_engines), whose calls for memory get the names of include/elfmap.h, and that memory over malloc (bindings/c/memory.c). A program
+takes of it what it calls: without an engine neither the engines nor malloc. A release has the same as a shared library, libelfmap.so.0,
+which exports the calls of include/elfmap.h and nothing else."""
 
-import argparse, glob, os, re, shutil, tempfile
+import argparse, functools, glob, os, re, shutil, tempfile
 
 from .building import built, output_of
-from .tree import TOP, read_text, said, write
+from .tree import TOP, read_text, wanted, write
 
 VERDICTS, ENGINES = "elf_c", "elf_c_engines"
+# As words: the crates of the library, and the commands that pack it.
+BOTH, PACKERS = f"{VERDICTS} {ENGINES}", "cc ar objcopy"
 FOLDER = f"{TOP}/crates/{VERDICTS}/out"
 LIBRARY = f"{FOLDER}/libelfmap.a"
 SHARED = "libelfmap.so.0"
 FUNCTIONS = ("alloc", "dealloc", "realloc")
 RENAMED = [word for it in FUNCTIONS for word in ("--redefine-sym", f"rattle_{it}=elfmap_{it}")]
-
-
-def wanted(*words: str, folder: str | None = None) -> None:
-    """Runs a command that has to end well."""
-    ended = said(*words, folder=folder)
-    if ended.returncode:
-        raise SystemExit(f"library: {words[0]}: {ended.stdout}")
 
 
 def pack(folder: str) -> str:
@@ -43,9 +38,22 @@ def pack(folder: str) -> str:
         return str(shutil.move(f"{room}/libelfmap.a", f"{folder}/libelfmap.a"))
 
 
-def calls() -> list[str]:
-    """The functions that include/elfmap.h declares."""
-    return re.findall(r"^(?:bool|uint32_t|void|struct \w+) (elfmap_\w+)\(", read_text("include/elfmap.h"), re.M)
+@functools.cache
+def header() -> str:
+    """The text of include/elfmap.h without comments."""
+    return re.sub(r"/\*.*?\*/", "", read_text("include/elfmap.h"), flags=re.S)
+
+
+def structs() -> dict[str, list[tuple[str, str, str]]]:
+    """The structs that the header declares: of each field its type, its name, and its count if it is an array."""
+    bodies = re.findall(r"^struct (\w+) \{(.*?)^\};", header(), re.M | re.S)
+    return {tag: re.findall(r"((?:struct )?\w+)(?: \*| )(\w+)(?:\[(\d+)\])?;", body) for tag, body in bodies}
+
+
+def calls(result: str = r"bool|uint32_t|void|struct \w+") -> dict[str, list[str]]:
+    """The functions that the header declares, those with a result, and the types of their parameters."""
+    found = re.findall(rf"^(?:{result}) \**(elfmap_\w+)\((.*?)\);", header(), re.M | re.S)
+    return {name: [re.sub(r"\w+$", "", it.strip()).strip() for it in given.split(",")] for name, given in found}
 
 
 def shared(archive: str, folder: str) -> str:

@@ -1,18 +1,17 @@
 """`tools/test real-files` and `tools/test real-objects`: files of this machine. A part of them is tried, the same each time: those whose
 paths have the least sums. `--all` tries each."""
 
-import hashlib, mmap, os, re, shutil, struct, tempfile
+import hashlib, mmap, os, re, shutil
 from argparse import Namespace
 from collections import Counter
 from collections.abc import Iterable, Iterator
-from concurrent.futures import ThreadPoolExecutor
 from functools import partial
 from typing import Any
 
 from .building import output_of
-from .reference import GROUP, NOBITS, NULL, REL, RELA, SYMTAB, SYMTAB_SHNDX, File
-from .suite import Tally, Test, crates_of, flag, number
-from .tree import PROCESSORS, PROGRAM, TOP, files_below, read_bytes, run, write
+from .reference import GROUP, NOBITS, REL, RELA, File, kept, string
+from .suite import Tally, Test, flag, number
+from .tree import PROGRAM, TOP, files_below, read_bytes, run, side_by_side, write
 
 ELF_64 = b"\x7fELF\x02"
 
@@ -65,9 +64,12 @@ def count_ends(tally: Tally, ends: list[str], good: Iterable[str]) -> None:
     tally.note(", ".join(f"{counts[it]} {it}" for it in sorted(good) if counts[it]))
 
 
+FILES, OBJECTS = ((number("count", it, "so many of them"), flag("all", "all of this machine")) for it in (2000, 4000))
+
+
+@Test("real-files", "ELF files of this machine through `check`, `show` and back", crates="elfmap example_edit", alone=True, options=FILES)
 def real_files(tally: Tally, options: Namespace) -> None:
-    with ThreadPoolExecutor(PROCESSORS) as pool:
-        count_ends(tally, list(pool.map(try_file, some(files(), options))), {"accepted", "refused"})
+    count_ends(tally, side_by_side(try_file, some(files(), options)), {"accepted", "refused"})
 
 
 # ---- objects
@@ -124,17 +126,14 @@ def compiled(folder: str) -> Iterator[str]:
 def sections(data: bytes) -> list[tuple[int, Any]]:
     """The sections that an object keeps: of each its index, and name, type, flags, address, alignment, entry size and content."""
     f = File(data)
-    left_out = {0, f.name_table} | {i for i, it in f.sections() if it.sh_type in (NULL, SYMTAB, SYMTAB_SHNDX)}
-    left_out |= {it.sh_link for _, it in f.sections() if it.sh_type == SYMTAB}
     names = f.content(f.name_table) if f.name_table else b"\0"
 
     def own(i: int, it: Any) -> object:
         # Entries and words hold indexes: readelf lists these.
         content = it.sh_size if it.sh_type in (NOBITS, RELA, REL, GROUP) else f.content(i)
-        name = names[it.sh_name :].partition(b"\0")[0]
-        return name, it.sh_type, it.sh_flags, it.sh_addr, it.sh_addralign, it.sh_entsize, content
+        return string(names, it.sh_name), it.sh_type, it.sh_flags, it.sh_addr, it.sh_addralign, it.sh_entsize, content
 
-    return [(i, own(i, it)) for i, it in f.sections() if i not in left_out]
+    return [(i, own(i, f.section(i))) for i in kept(f)]
 
 
 def listed(path: str, data: bytes) -> list[str]:
@@ -206,22 +205,15 @@ def linked(folder: str) -> Iterator[str]:
             yield f"a program of rewritten files prints another text: {prints}"
 
 
-def real_objects(tally: Tally, options: Namespace) -> None:
-    with tempfile.TemporaryDirectory(prefix="elfmap-objects.") as folder:
-        below = [it for it in files_below("/usr/lib") if it.endswith((".o", ".a"))]
-        found = {f"{path}({at})": (path, at, size) for it in below for path, at, size in objects_of(it)}
-        objects = [place for path in compiled(folder) for place in objects_of(path)] + [found[it] for it in some(found, options)]
-        with ThreadPoolExecutor(PROCESSORS) as pool:
-            ends = list(pool.map(partial(try_object, folder), enumerate(objects)))
-        count_ends(tally, ends, {"written", *(it for it in ends if re.fullmatch(r"refused by rule \d+", it))})
-        tally.count(len(WAYS), linked(folder))
-
-
-ROUNDTRIP, ELFMAP = crates_of("elfmap", "example_edit"), crates_of("elfmap")
-TOOLS = ("gcc", "g++", "clang", "readelf", "eu-elflint")
-FILES, OBJECTS = ((number("count", it, "so many of them"), flag("all", "all of this machine")) for it in (2000, 4000))
+TOOLS = "gcc g++ clang readelf eu-elflint"
 ABOUT = "objects of this machine and its compilers through `rewrite`, beside readelf and eu-elflint"
-TESTS = [
-    Test("real-files", "ELF files of this machine through `check`, `show` and back", real_files, (), ROUNDTRIP, True, options=FILES),
-    Test("real-objects", ABOUT, real_objects, TOOLS, ELFMAP, True, options=OBJECTS),
-]
+
+
+@Test("real-objects", ABOUT, commands=TOOLS, crates="elfmap", alone=True, options=OBJECTS)
+def real_objects(tally: Tally, options: Namespace) -> None:
+    below = [it for it in files_below("/usr/lib") if it.endswith((".o", ".a"))]
+    found = {f"{path}({at})": (path, at, size) for it in below for path, at, size in objects_of(it)}
+    objects = [place for path in compiled(tally.folder) for place in objects_of(path)] + [found[it] for it in some(found, options)]
+    ends = side_by_side(partial(try_object, tally.folder), enumerate(objects))
+    count_ends(tally, ends, {"written", *(it for it in ends if re.fullmatch(r"refused by rule \d+", it))})
+    tally.count(len(WAYS), linked(tally.folder))

@@ -1,76 +1,88 @@
-"""`tools/test made-programs`: programs for Linux on x86-64, made of one to three objects by chance, are linked by `elfmap link` and run: each
-ends by a system call, with the status that its steps come to. A step adds to a register a number, a word of memory, what a pointer leads to,
-or the value of a name, or adds the register to a word; then it goes to the next step, in another section, or another file. So the status
-depends on where words, commons, weak and absolute names and groups that are in two files come to, and on each relocated field. What is
-written is the executable of the reference implementation, byte for byte, and `elfmap check` accepts it. The same seed makes the same
+"""`tools/test made-programs`: programs for Linux on x86-64, made of one to three objects by chance, are linked by `elfmap link` and run:
+each ends by a system call, with the status that its steps come to. A step adds to a register a number, a word of memory, what a pointer
+leads to, or the value of a name, or adds the register to a word; then it goes to the next step, in another section, or another file. So the
+status depends on where words, commons, weak and absolute names and groups that are in two files come to, and on each relocated field. What
+is written is the executable of the reference implementation, byte for byte, and `elfmap check` accepts it. The same seed makes the same
 programs. What went wrong is put into the current folder, as made-program-SEED-K."""
 
 import functools, os, platform, random, shutil, tempfile
 from argparse import Namespace
-from concurrent.futures import ProcessPoolExecutor
+from dataclasses import dataclass, field
 from typing import Any
 
-from .making import Chance
+from .making import GLOBAL, WEAK, Chance
 
 from .reference import (
     ABS, ALLOC, COMMON, EXEC, IN_GROUP, INFO_LINK, NOBITS, PROGBITS, UNDEF, WRITE, group, linked, object_file, relocations, section, symbol,
 )  # fmt: skip
-from .suite import Tally, Test, crates_of, number
-from .tree import PROCESSORS, PROGRAM, RULES, read_bytes, run, write
+from .suite import Tally, Test, number
+from .tree import PROGRAM, RULES, read_bytes, run, side_by_side, write
 
 RUNS = platform.machine() == "x86_64"
-LOCAL, GLOBAL, WEAK = 0, 1, 2
+LOCAL = 0
 # The kinds of relocations of x86-64, by their names there.
 R_64, R_PC32, R_PLT32, R_32, R_32S = 1, 2, 4, 10, 11
 # Every so many programs has the larger page, for which the file has megabytes of zeros.
 PLACES = [("0x400000", "0x1000")] * 12 + [("0x10000000", "0x1000")] * 7 + [("0x10000000", "0x200000")]
+OPTIONS = (number("count", 100, "so many programs"), number("seed", 1, "the same seed makes the same programs"))
+# The instructions on edi, the status, each before the four bytes that are a number or a field: edi += NUMBER, edi += word, edi += word at
+# an absolute address, word += edi; rax = pointer; and of the whole ones: edi = 0, edi += word at rax, exit.
+ADD, ADD_WORD, ADD_ABSOLUTE, STORE, LOAD_POINTER = b"\x81\xc7", b"\x03\x3d", b"\x03\x3c\x25", b"\x01\x3d", b"\x48\x8b\x05"
+BEGIN, ADD_POINTED, END = b"\x31\xff", b"\x03\x38", b"\xb8\x3c\0\0\0\x0f\x05"
 
 
+@dataclass(eq=False)
 class Section:
-    def __init__(self, name: bytes, flags: int, align: int, is_without: bool = False) -> None:
-        self.name, self.flags, self.align, self.is_without = name, flags, align, is_without
-        self.body, self.fields = bytearray(), list[tuple[int, bytes, int, int]]()
-        # The signature of its group, if it is in one.
-        self.group: bytes | None = None
+    """A section while it is made: of each field its place, the name, the kind and the addend; and the signature of its group, if any."""
+
+    name: bytes
+    flags: int
+    align: int
+    is_without: bool = False
+    group: bytes | None = None
+    body: bytearray = field(default_factory=bytearray)
+    fields: list[tuple[int, bytes, int, int]] = field(default_factory=list)
+
+    def code(self, code: bytes, name: bytes, kind: int, addend: int = -4) -> None:
+        """Puts code there, and behind it a field of four bytes of this relocation."""
+        self.body += code + bytes(4)
+        self.fields.append((len(self.body) - 4, name, kind, addend))
 
 
 class Object:
-    """An object while it is made: its sections, its symbols by their names, and the groups by their signatures."""
+    """An object while it is made: its sections, and its symbols by their names."""
 
     def __init__(self) -> None:
         self.sections, self.symbols = list[Section](), dict[bytes, Any]()
 
-    def define(
-        self, name: bytes, binding: int, section: Section | None = None, value: int = 0, reserved: int = UNDEF, size: int = 4
-    ) -> None:
-        self.symbols[name] = symbol(name, section, 16 * binding, value, size, reserved)  # type: ignore[arg-type]
+    def define(self, name: bytes, binding: int, value: int = 0, reserved: int = UNDEF, size: int = 4) -> None:
+        self.symbols[name] = symbol(name, None, 16 * binding, value, size, reserved)
+
+    def put(self, name: bytes, binding: int, it: Section, content: bytes = b"", size: int | None = None) -> None:
+        """Puts bytes into a section, and defines their name."""
+        self.define(name, binding, len(it.body), size=len(content) if size is None else size)
+        self.symbols[name].section = it
+        it.body += content
 
     def object(self) -> bytes:
         """The object's bytes. A symbol that is named by a field and not defined is an undefined global one."""
-        for own in self.sections:
-            for _, name, _, _ in own.fields:
-                if name not in self.symbols:
-                    self.define(name, GLOBAL, size=0)
+        for name in (name for own in self.sections for _, name, _, _ in own.fields if name not in self.symbols):
+            self.define(name, GLOBAL, size=0)
         symbols = sorted(self.symbols.values(), key=lambda it: bool(it.info // 16 != LOCAL))
         index = {it.name: k + 1 for k, it in enumerate(symbols)}
-        # Each group comes before its member.
-        order: list[Section | bytes] = []
+        sections, at = list[Any](), dict[Section, int]()
         for it in self.sections:
-            order += [it] if it.group is None else [it.group, it]
-        at = {id(it): k for k, it in enumerate(order) if isinstance(it, Section)}
-        sections = []
-        for k, part in enumerate(order):
-            if isinstance(part, bytes):
-                sections.append(group([k + 1], index[part]))
-            else:
-                body = len(part.body) if part.is_without else bytes(part.body)
-                flags = part.flags | (IN_GROUP if part.group else 0)
-                sections.append(section(part.name, NOBITS if part.is_without else PROGBITS, body, flags, part.align))
+            if it.group is not None:
+                # Each group comes before its member.
+                sections.append(group([len(sections) + 1], index[it.group]))
+            at[it] = len(sections)
+            body, flags = len(it.body) if it.is_without else bytes(it.body), it.flags | (IN_GROUP if it.group else 0)
+            sections.append(section(it.name, NOBITS if it.is_without else PROGBITS, body, flags, it.align))
         for it in (it for it in self.sections if it.fields):
             entries = [(place, index[name], kind, addend % 2**64) for place, name, kind, addend in it.fields]
-            sections.append(relocations(entries, at[id(it)], b".rela" + it.name, INFO_LINK))
+            sections.append(relocations(entries, at[it], b".rela" + it.name, INFO_LINK))
         for named in symbols:
-            named.section = None if named.section is None else at[id(named.section)]
+            named.section = None if named.section is None else at[named.section]
         return object_file(sections, symbols)
 
 
@@ -87,7 +99,7 @@ class Program:
         self.pointers: dict[bytes, bytes] = {}
 
     def section(self, file: Object, name: bytes, flags: int, is_without: bool = False) -> Section:
-        """One of this name that stands there, or a new one."""
+        """One of this name that the file has, or a new one."""
         found = [it for it in file.sections if it.name == name and it.group is None]
         if not found or self.chance.randrange(3) == 0:
             found = [Section(name, flags, self.chance.choice((1, 1, 2, 4, 8, 16, 64)), is_without)]
@@ -96,95 +108,81 @@ class Program:
         it.body += (b"\0" if is_without else b"\xcc") * self.chance.randrange(9)
         return it
 
+    def seen(self, file: Object) -> list[bytes]:
+        """The words that a file may name."""
+        return [name for name, (home, *_) in self.words.items() if home in (None, file)]
+
     def add_word(self, k: int) -> None:
         chance, file = self.chance, self.chance.choice(self.files)
         name, number = b"word%d" % k, chance.randrange(2**32)
         kind = chance.choice(("data", "data", "rodata", "bss", "common", "abs", "weak", "nowhere", "group", "local", "pointer"))
         if kind in ("data", "rodata", "local"):
             it = self.section(file, b".rodata" if kind == "rodata" else b".data", ALLOC if kind == "rodata" else ALLOC | WRITE)
-            file.define(name, LOCAL if kind == "local" else chance.choice((GLOBAL, GLOBAL, WEAK)), it, len(it.body))
-            it.body += number.to_bytes(4, "little")
+            file.put(name, LOCAL if kind == "local" else chance.choice((GLOBAL, GLOBAL, WEAK)), it, number.to_bytes(4, "little"))
             self.words[name] = (file if kind == "local" else None, kind != "rodata", number)
         elif kind == "bss":
-            it = self.section(file, b".bss", ALLOC | WRITE, True)
-            file.define(name, GLOBAL, it, len(it.body))
-            it.body += bytes(4)
+            file.put(name, GLOBAL, self.section(file, b".bss", ALLOC | WRITE, True), bytes(4))
             self.words[name] = (None, True, 0)
         elif kind == "common":
             for other in chance.sample(self.files, chance.randrange(1, len(self.files) + 1)):
-                other.define(name, GLOBAL, value=chance.choice((1, 4, 16)), reserved=COMMON, size=chance.choice((4, 8)))
+                other.define(name, GLOBAL, chance.choice((1, 4, 16)), COMMON, chance.choice((4, 8)))
             self.words[name] = (None, True, 0)
         elif kind == "abs":
-            number = chance.randrange(2**31)
-            file.define(name, GLOBAL, value=number, reserved=ABS)
-            self.values[name] = number
+            self.values[name] = chance.randrange(2**31)
+            file.define(name, GLOBAL, self.values[name], ABS)
         elif kind == "nowhere":
             for other in self.files:
                 other.define(name, WEAK)
             self.values[name] = 0
         elif kind in ("weak", "group"):
             self.add_twice(name, number, kind == "group")
-        elif self.words:
-            self.add_pointer(file, name)
+        elif seen := self.seen(file):
+            # A pointer.
+            it, target = self.section(file, b".data", ALLOC | WRITE), chance.choice(seen)
+            it.fields.append((len(it.body), target, R_64, 0))
+            file.put(name, GLOBAL, it, bytes(8))
+            self.pointers[name] = target
 
     def add_twice(self, name: bytes, number: int, is_group: bool) -> None:
         """A word in two files: weak in one and strong in the other, or in a group, of which the first file's is kept."""
         both = self.files[:2]
         strong = self.chance.randrange(len(both))
         for f, file in enumerate(both):
-            it = Section(b".data.once" if is_group else b".data", ALLOC | WRITE, self.chance.choice((4, 8)))
+            it = Section(
+                b".data.once" if is_group else b".data", ALLOC | WRITE, self.chance.choice((4, 8)), False, name if is_group else None
+            )
             file.sections.append(it)
-            file.define(name, WEAK if is_group or f != strong else GLOBAL, it)
-            it.group = name if is_group else None
-            it.body += (number if f == (0 if is_group else strong) else number ^ 0x55).to_bytes(4, "little")
+            own = number if f == (0 if is_group else strong) else number ^ 0x55
+            file.put(name, WEAK if is_group or f != strong else GLOBAL, it, own.to_bytes(4, "little"))
         self.words[name] = (None, True, number)
 
-    def add_pointer(self, file: Object, name: bytes) -> None:
-        seen = [it for it, (home, *_) in self.words.items() if home in (None, file)]
-        if not seen:
-            return
-        it, target = self.section(file, b".data", ALLOC | WRITE), self.chance.choice(seen)
-        file.define(name, GLOBAL, it, len(it.body), size=8)
-        it.fields.append((len(it.body), target, R_64, 0))
-        it.body += bytes(8)
-        self.pointers[name] = target
-
-    def code(self, it: Section, code: bytes, name: bytes | None = None, kind: int = 0, addend: int = 0) -> None:
-        """Puts code there; its last four bytes are a field of this relocation, if a name is given."""
-        it.body += code
-        if name is not None:
-            it.fields.append((len(it.body) - 4, name, kind, addend))
-
     def add_step(self, file: Object, it: Section) -> None:
-        chance = self.chance
-        seen = [name for name, (home, *_) in self.words.items() if home in (None, file)]
+        chance, seen = self.chance, self.seen(file)
         kind = chance.choice(("number", "read", "read", "absolute", "store", "pointer", "value"))
         if kind in ("read", "absolute", "store") and seen:
             name = chance.choice(seen)
             home, is_changed, number = self.words[name]
             if kind == "store" and is_changed:
-                self.code(it, b"\x01\x3d" + bytes(4), name, R_PC32, -4)
+                it.code(STORE, name, R_PC32)
                 self.words[name] = (home, True, (number + self.status) % 2**32)
                 return
             if kind == "absolute":
-                self.code(it, b"\x03\x3c\x25" + bytes(4), name, chance.choice((R_32, R_32S)), 0)
+                it.code(ADD_ABSOLUTE, name, chance.choice((R_32, R_32S)), 0)
             else:
-                self.code(it, b"\x03\x3d" + bytes(4), name, R_PC32, -4)
-            self.status += number
+                it.code(ADD_WORD, name, R_PC32)
         elif kind == "pointer" and self.pointers:
             name = chance.choice(list(self.pointers))
-            self.code(it, b"\x48\x8b\x05" + bytes(4), name, R_PC32, -4)
-            self.code(it, b"\x03\x38")
-            self.status += self.words[self.pointers[name]][2]
+            it.code(LOAD_POINTER, name, R_PC32)
+            it.body += ADD_POINTED
+            number = self.words[self.pointers[name]][2]
         elif kind == "value" and self.values:
             name, addend = chance.choice(list(self.values)), chance.randrange(1000)
-            self.code(it, b"\x81\xc7" + bytes(4), name, R_32, addend)
-            self.status += self.values[name] + addend
+            it.code(ADD, name, R_32, addend)
+            number = self.values[name] + addend
         else:
             number = chance.randrange(2**32)
-            self.code(it, b"\x81\xc7" + number.to_bytes(4, "little"))
-            self.status += number
-        self.status %= 2**32
+            it.body += ADD + number.to_bytes(4, "little")
+        self.status = (self.status + number) % 2**32
 
     def make(self) -> tuple[list[bytes], int]:
         for k in range(self.chance.randrange(2, 9)):
@@ -193,15 +191,13 @@ class Program:
         for k in range(count):
             file = self.chance.choice(self.files)
             it = self.section(file, self.chance.choice((b".text", b".text", b".text.f")), ALLOC | EXEC)
-            file.define(b"step%d" % k if k else b"main", self.chance.choice((GLOBAL, GLOBAL, WEAK)), it, len(it.body), size=0)
-            self.code(it, b"" if k else b"\x31\xff")
+            file.put(b"step%d" % k if k else b"main", self.chance.choice((GLOBAL, GLOBAL, WEAK)), it, b"" if k else BEGIN, 0)
             self.add_step(file, it)
             if k + 1 < count:
                 # A jump, or a call that never returns.
-                code, kind = self.chance.choice((b"\xe9", b"\xe8")), self.chance.choice((R_PC32, R_PLT32))
-                self.code(it, code + bytes(4), b"step%d" % (k + 1), kind, -4)
+                it.code(self.chance.choice((b"\xe9", b"\xe8")), b"step%d" % (k + 1), self.chance.choice((R_PC32, R_PLT32)))
             else:
-                self.code(it, b"\xb8\x3c\0\0\0\x0f\x05")
+                it.body += END
         return [it.object() for it in self.files], self.status & 0xFF
 
 
@@ -233,15 +229,9 @@ def tried(seed: int, k: int) -> str:
         return f"made-program-{seed}-{k}: {wrong}" if wrong else ""
 
 
+@Test("made-programs", "programs of chance objects, linked and run", crates="elfmap", alone=True, family="linked", options=OPTIONS)
 def made_programs(tally: Tally, options: Namespace) -> None:
-    with ProcessPoolExecutor(PROCESSORS) as pool:
-        wrong = pool.map(functools.partial(tried, options.seed), range(options.count), chunksize=5)
-        tally.count(options.count, filter(None, wrong))
+    wrong = side_by_side(functools.partial(tried, options.seed), range(options.count), True)
+    tally.count(options.count, filter(None, wrong))
     if not RUNS:
         tally.note("the programs do not run on this machine")
-
-
-OPTIONS = (number("count", 100, "so many programs"), number("seed", 1, "the same seed makes the same programs"))
-TESTS = [
-    Test("made-programs", "programs of chance objects, linked and run", made_programs, (), crates_of("elfmap"), True, "linked", OPTIONS)
-]

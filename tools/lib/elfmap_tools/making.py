@@ -1,7 +1,7 @@
 """Generated files: sound ones, made by their fields and laid out by the reference implementation, and files with a few fields changed. All
 of it goes by a source of chance, so that the same seed makes the same files."""
 
-import random, struct
+import random
 from collections.abc import Callable, Iterator
 from typing import Any
 
@@ -53,8 +53,7 @@ def add_relocations(chance: Chance, o: Any) -> None:
     if not targets or not o.symbols:
         return
     target, kind = chance.choice(targets), chance.choice((RELA, RELA, REL))
-    entries: list[tuple[int, int, int, int]] = []
-    at = 0
+    entries, at = list[tuple[int, int, int, int]](), 0
     while at + 4 <= len(o.sections[target].body) and len(entries) < 4:
         addend = chance.choice((0, 4, 2**64 - 4)) if kind == RELA else 0
         entries.append((at, chance.randrange(len(o.symbols) + 1), chance.choice((1, 2, 2, 3)), addend))
@@ -176,43 +175,35 @@ def a_file(chance: Chance, order: str | None = None) -> bytes:
     o = an_object(chance, order)
     if chance.randrange(2):
         add_tables(chance, o)
-    file = bytearray(laid(o))
-    if chance.randrange(2):
-        count = chance.randrange(1, 4)
-        table, at = b"", 0x400000
-        for _ in range(count):
-            size = chance.choice((0, 64, len(file)))
-            kind, memory, align = chance.choice((LOAD, LOAD, 4)), size + chance.choice((0, 16)), chance.choice((0, 1, 0x1000))
-            sizes = {"p_filesz": size, "p_memsz": memory, "p_align": align}
-            table += record(o.order, PROGRAM_HEADER, p_type=kind, p_flags=5, p_vaddr=at, **sizes)
-            at += 0x10000
-        for place, width, value in ((16, 2, chance.choice((2, 3))), (24, 8, 0x400040), (32, 8, len(file)), (54, 2, 56), (56, 2, count)):
-            file[place : place + width] = value.to_bytes(width, o.order)
-        file += table
-    return bytes(file)
+    file, table = laid(o), b""
+    if chance.randrange(2) == 0:
+        return file
+    count = chance.randrange(1, 4)
+    for k in range(count):
+        size = chance.choice((0, 64, len(file)))
+        kind, memory, align = chance.choice((LOAD, LOAD, 4)), size + chance.choice((0, 16)), chance.choice((0, 1, 0x1000))
+        sizes = {"p_filesz": size, "p_memsz": memory, "p_align": align}
+        table += record(o.order, PROGRAM_HEADER, p_type=kind, p_flags=5, p_vaddr=0x400000 + 0x10000 * k, **sizes)
+    header = [("e_type", chance.choice((2, 3))), ("e_entry", 0x400040), ("e_phoff", len(file)), ("e_phentsize", 56), ("e_phnum", count)]
+    return edited(file, *header) + table
 
 
 # ---- changed ones
 
 
-def fields(file: bytes, types: tuple[int, ...]) -> tuple[str, list[tuple[int, int]]]:
+def fields(f: Any, types: tuple[int, ...]) -> list[tuple[int, int]]:
     """Places of fields: those of the header, of each section header and program header, and the beginnings of contents; or of the
     contents of sections of some types alone."""
-    order = "<" if file[5] == 1 else ">"
     places = [(at, 2) for at in (16, 18, 52, 54, 56, 58, 60, 62)] + [(20, 4), (24, 8), (32, 8), (40, 8)]
     wanted = []
-    segments, sections = struct.unpack_from(order + "QQ", file, 32)
-    _, phnum, _, shnum = struct.unpack_from(order + "4H", file, 54)
-    for at in range(sections, sections + 64 * shnum, 64) if sections else ():
-        places += [(at + it, 4) for it in (0, 4, 40, 44)] + [(at + it, 8) for it in (8, 16, 24, 32, 48, 56)]
-        start, size = struct.unpack_from(order + "QQ", file, at + 24)
-        content = [(start + it, width) for width in (1, 2, 4, 8) for it in range(0, min(size, 192), width)]
+    for _, it in f.sections():
+        places += [(it.offset + at, 4) for at in (0, 4, 40, 44)] + [(it.offset + at, 8) for at in (8, 16, 24, 32, 48, 56)]
+        content = [(it.sh_offset + at, width) for width in (1, 2, 4, 8) for at in range(0, min(it.sh_size, 192), width)]
         places += content
-        if struct.unpack_from(order + "I", file, at + 4)[0] in types:
-            wanted += content
-    for at in range(segments, segments + 56 * phnum, 56) if segments else ():
-        places += [(at + it, 4) for it in (0, 4)] + [(at + it, 8) for it in range(8, 56, 8)]
-    return order, [(at, size) for at, size in wanted or places if at + size <= len(file)]
+        wanted += content if it.sh_type in types else []
+    for it in f.segments():
+        places += [(it.offset + at, 4) for at in (0, 4)] + [(it.offset + at, 8) for at in range(8, 56, 8)]
+    return [(at, size) for at, size in wanted or places if at + size <= f.len]
 
 
 def value(chance: Chance, size: int, length: int, old: int) -> int:
@@ -223,18 +214,17 @@ def value(chance: Chance, size: int, length: int, old: int) -> int:
     return int(chance.choice(near) % most)
 
 
-def mutant(file: bytes, chance: Chance, types: tuple[int, ...] = ()) -> bytes:
+def fuzzed(file: bytes, chance: Chance, types: tuple[int, ...] = ()) -> bytes:
     """A file with one to eight changes; in the contents of sections of some types alone, where types are given."""
-    order, places = fields(file, types)
-    new = bytearray(file)
+    f, new = File(file), bytearray(file)
+    places = fields(f, types)
     for _ in range(chance.choice((1, 1, 1, 2, 3, 8))):
         kind = 0 if types else chance.randrange(10)
         if kind < 7:
             at, size = chance.choice(places)
             if at + size <= len(new):
-                byte_order: Any = "little" if order == "<" else "big"
-                old = int.from_bytes(new[at : at + size], byte_order)
-                new[at : at + size] = value(chance, size, len(new), old).to_bytes(size, byte_order)
+                old = int.from_bytes(new[at : at + size], f.order)
+                new[at : at + size] = value(chance, size, len(new), old).to_bytes(size, f.order)
         elif kind == 7 and new:
             new[chance.randrange(len(new))] = chance.randrange(256)
         elif kind == 8:
@@ -311,7 +301,7 @@ def changed_field(chance: Chance, file: bytes, of_rule: int) -> bytes | None:
 
 
 def one_thing_wrong(
-    chance: Chance, rules: list[int], made: Callable[[Chance], bytes], is_broken_by: Callable[[int, bytes], bool]
+    chance: Chance, rules: list[int], made: Callable[[Chance], bytes], broken_by: Callable[[bytes], set[int]]
 ) -> Iterator[tuple[int, bytes, bytes]]:
     """For each of these rules it, a sound file and what one change made of it, by which it breaks the rule."""
     left = list(rules)
@@ -319,7 +309,7 @@ def one_thing_wrong(
         sound = made(chance)
         for rule in list(left):
             changed = (changed_field(chance, sound, rule) for _ in range(12))
-            found = next((it for it in changed if it is not None and is_broken_by(rule, it)), None)
+            found = next((it for it in changed if it is not None and rule in broken_by(it)), None)
             if found is not None:
                 left.remove(rule)
                 yield rule, sound, found

@@ -1,12 +1,11 @@
-"""`tools/dev minutes PID`: the processor minutes of what the process PID starts, by part (each program that it starts itself, and each test of
-`tools/test`) and by crate.
+"""`tools/dev minutes PID`: the processor minutes of what the process PID starts, by part (each program that it starts itself, and each test
+of `tools/test`) and by crate.
 
 It looks every two seconds at the processes below PID, until it is told to end (SIGTERM) or PID is gone, and then prints what it saw. A
 crate has the minutes of the checker's runs on it: its proof, its tests, the edits of its must-fail/, and its planted bugs. What a process
 did after the last look at it is lost, two seconds at most."""
 
 import argparse, collections, os, signal, time
-from collections.abc import Iterator
 
 TICKS = 60 * os.sysconf("SC_CLK_TCK")
 SCRIPTED = ("python3", "python", "bash", "sh", "env")
@@ -65,25 +64,25 @@ class Minutes:
         def total(pid: int) -> int:
             return found[pid][2] + sum(map(total, children[pid]))
 
-        def see_works(pid: int, part: str) -> None:
-            work = work_of(words_of(pid))
+        def see(pid: int, part: str) -> None:
+            words, key = words_of(pid), (pid, found[pid][0])
+            if not part:
+                part = name_of(words).removeprefix("test ")
+                if part == "test":
+                    # A run of all tests has a process for each of them.
+                    part = ""
+                else:
+                    self.parts[key] = part, total(pid)
+            work = work_of(words) if part else None
             if work:
                 # The checker's copies of itself belong to the run that made them.
-                self.works[pid, found[pid][0]] = (part, *work, total(pid))
-                return
-            for child in children[pid]:
-                see_works(child, part)
+                self.works[key] = (part, *work, total(pid))
+            for child in [] if work else children[pid]:
+                see(child, part)
 
-        def see_parts(pids: list[int]) -> Iterator[tuple[int, str]]:
-            for pid in pids:
-                part = name_of(words_of(pid))
-                # A run of all tests has a process for each of them.
-                yield from see_parts(children[pid]) if part == "test" else [(pid, part)]
-
-        for pid, part in see_parts(children[self.top]):
+        for pid in children[self.top]:
             if pid != os.getpid():
-                self.parts[pid, found[pid][0]] = (part.removeprefix("test "), total(pid))
-                see_works(pid, part.removeprefix("test "))
+                see(pid, "")
 
     def print(self) -> None:
         parts, crates = collections.Counter[str](), collections.defaultdict[str, collections.Counter[str]](collections.Counter)

@@ -1,24 +1,23 @@
-"""`tools/test mutants`: so many mutants, every other one of a file: of real ones, objects, libraries and executables of gcc, clang, rustc, `as`
-and their linkers in both byte orders, and every fourth time of a generated one; through `check`, `show` and `rewrite`. Each call ends by
-itself within ten seconds, with status 0 or 1; they say what the reference implementation says, which was written from docs/RULES.md and
-shares nothing with the crates: the verdict, all lines, the object in its canonical layout or why there is none; `check --seek` says what
-`check` does; and what `rewrite` wrote it writes again.
+"""`tools/test mutants`: so many fuzzed files, every other one of a file: of real ones, objects, libraries and executables of gcc, clang,
+rustc, `as` and their linkers in both byte orders, and every fourth time of a generated one; through `check`, `show` and `rewrite`. Each
+call ends by itself within ten seconds, with status 0 or 1; they say what the reference implementation says, which was written from
+docs/RULES.md and shares nothing with the crates: the verdict, all lines, the object in its canonical layout or why there is none; `check
+--seek` says what `check` does; and what `rewrite` wrote it writes again.
 
-The others are mutants of two objects that are linked, and of the rules of rules/x86-64.rules, through `map`, `map --rules` and `link`: a
-bad line of the rules is an error of status 2, a file that is not there one of status 3; else all say what the reference says, and `check`
-accepts what `link` wrote. The same seed makes the same mutants of the same files."""
+The others are of two objects that are linked, and of the rules of rules/x86-64.rules, through `map`, `map --rules` and `link`: a bad line
+of the rules is an error of status 2, a file that is not there one of status 3; else all say what the reference says, and `check` accepts
+what `link` wrote. The same seed makes the same files. What went wrong is put into the current folder, as fuzzed-SEED-K."""
 
-import os, random, re, shutil, subprocess, tempfile
+import os, random, re, shutil, subprocess
 from argparse import Namespace
 from collections.abc import Iterator
-from concurrent.futures import ProcessPoolExecutor
 from dataclasses import dataclass
 from functools import partial
 
-from .making import Chance, a_file, mutant
+from .making import Chance, a_file, fuzzed
 from .reference import RELA, check, linked, mapped, rewritten, shown, verdict
-from .suite import Tally, Test, crates_of, number
-from .tree import PROCESSORS, PROGRAM, RULES, TOP, Ended, read_bytes, run as run_command, write
+from .suite import Tally, Test, number
+from .tree import PROGRAM, RULES, TOP, Ended, read_bytes, run as run_command, side_by_side, write
 
 run = partial(run_command, timeout=10)
 LONGEST = 1 << 19
@@ -66,7 +65,7 @@ def plan_of(folder: str, seed: int) -> Plan:
     return Plan(folder, seed, [*built(folder, BUILDS), *system], list(built(folder, PAIR)))
 
 
-def mutant_of_rules(rules: bytes, chance: Chance) -> bytes:
+def fuzzed_rules(rules: bytes, chance: Chance) -> bytes:
     """The rules, and every fourth time others, or lines that are none."""
     kind = chance.randrange(24)
     if kind == 0:
@@ -81,19 +80,17 @@ def mutant_of_rules(rules: bytes, chance: Chance) -> bytes:
         return rules * chance.choice((2, 36, 37, 40))
     if kind == 4:
         return chance.choice((b"4294967295", b"4294967296", b"0001", b"-1", b"")) + b" abs 4 wrap\n" + rules
-    if kind == 5:
-        return b"".join(chance.sample(rules.splitlines(True), chance.randrange(8)))
-    return rules
+    return b"".join(chance.sample(rules.splitlines(True), chance.randrange(8))) if kind == 5 else rules
 
 
 # ---- what becomes of one
 
 
 def tried(plan: Plan, number: int) -> str:
-    """What is wrong with the answers on a mutant."""
+    """What is wrong with the answers on a fuzzed file."""
     chance = random.Random(f"{plan.seed} {number}")
     names = plan.pair if number % 2 and len(plan.pair) == 2 else [plan.files[number // 2 % len(plan.files)]]
-    folder = f"{plan.folder}/mutant-{number}"
+    folder = f"{plan.folder}/{number}"
     os.mkdir(folder)
     if len(names) == 1 and number // 2 % 4 == 3:
         names = [write(f"{folder}/made", a_file(chance))]
@@ -102,16 +99,17 @@ def tried(plan: Plan, number: int) -> str:
     paths = []
     for place, name in enumerate(names):
         file = read_bytes(name)
-        content = mutant(file, chance, types) if place == changed or chance.randrange(4) == 0 else file
+        content = fuzzed(file, chance, types) if place == changed or chance.randrange(4) == 0 else file
         paths.append(write(f"{folder}/{os.path.basename(name)}", content))
     try:
         wrong = wrong_with(paths[0]) if len(paths) == 1 else wrong_link(paths, folder, chance)
     except subprocess.TimeoutExpired as late:
         wrong = f"{late.cmd[1]} did not end"
-    if not wrong:
-        shutil.rmtree(folder)
-        return ""
-    return f"mutant {number} of {' and '.join(os.path.basename(it) for it in names)}, kept in {folder}: {wrong}"
+    if wrong:
+        kept = shutil.copytree(folder, f"fuzzed-{plan.seed}-{number}", dirs_exist_ok=True)
+        wrong = f"{kept}, of {' and '.join(map(os.path.basename, names))}: {wrong}"
+    shutil.rmtree(folder)
+    return wrong
 
 
 def different(answer: str, right: str) -> str:
@@ -174,7 +172,7 @@ def ending(it: Ended) -> str:
 
 def wrong_link(paths: list[str], folder: str, chance: Chance) -> str:
     """What is wrong with the answers on the link of files."""
-    rules = mutant_of_rules(read_bytes(RULES), chance)
+    rules = fuzzed_rules(read_bytes(RULES), chance)
     write(f"{folder}/rules", rules)
     base, page = chance.choice(PLACES)
     words = ("map", "--base", base, "--page", page)
@@ -210,18 +208,13 @@ def wrong_program(paths: list[str], contents: list[bytes], rules: bytes, base: s
     return "" if refusal or verdict(file) is None else f"what it wrote is refused; {said}"
 
 
+OPTIONS = (number("count", 500, "so many files"), number("seed", 1, "the same seed makes the same files"))
+ABOUT, COMPILERS = "files and links with fields changed, beside the reference implementation", "gcc g++ clang ld.lld rustc as"
+
+
+@Test("mutants", ABOUT, commands=COMPILERS, crates="elfmap", alone=True, family="fuzz", options=OPTIONS)
 def mutants(tally: Tally, options: Namespace) -> None:
-    folder = tempfile.mkdtemp(prefix="elfmap-mutants.")
-    plan = plan_of(folder, options.seed)
+    plan = plan_of(tally.folder, options.seed)
     tally.check(plan.files and len(plan.pair) == 2, "the compilers make no files")
-    with ProcessPoolExecutor(PROCESSORS) as pool:
-        tally.count(options.count, filter(None, pool.map(partial(tried, plan), range(options.count), chunksize=10)))
-    tally.note(f"{options.count} mutants of {len(plan.files)} files and a link, seed {options.seed}")
-    if not tally.failed:
-        shutil.rmtree(folder)
-
-
-COMPILERS, CRATES = ("gcc", "g++", "clang", "ld.lld", "rustc", "as"), crates_of("elfmap")
-OPTIONS = (number("count", 500, "so many mutants"), number("seed", 1, "the same seed makes the same mutants"))
-ABOUT = "files and links with fields changed, beside the reference implementation"
-TESTS = [Test("mutants", ABOUT, mutants, COMPILERS, CRATES, True, "fuzz", OPTIONS)]
+    tally.count(options.count, filter(None, side_by_side(partial(tried, plan), range(options.count), True)))
+    tally.note(f"{options.count} fuzzed files of {len(plan.files)} files and a link, seed {options.seed}")

@@ -1,14 +1,14 @@
 """Mutation tests: the check has to refuse each bug, at the function that it is planted in.
 
 A bug is a paragraph of crates/CRATE/mutations.txt: `[NAME]`, `function: PATH`, the function as the check names it, without the crate, which
-must not be proved with the bug, and the lines of an edit, `file:`, `old:` and `new:`. Bugs are planted several at a time, each in a function
-of its own. If a check cannot tell, because all that it has against a function is that it calls another one that is open too, or because
-proof files name what the bug took away, the next check decides, and at last one of this bug alone.
+must not be proved with the bug, and the lines of an edit, `file:`, `old:` and `new:`. Bugs are planted several at a time, each in a
+function of its own. If a check cannot tell, because all that it has against a function is that it calls another one that is open too, or
+because proof files name what the bug took away, the next check decides, and at last one of this bug alone.
 
 A check reads only the functions that have a bug, and those that they call: that is why it takes less than `rt ci` does for an edit in
-must-fail/, which costs a check of its crate. In the gate only those with the line `gate: yes` are planted, over the libraries as `rt ci` has
-just left them. A library of the program that has none of them, and no edit in must-fail/ either, has failed: nothing shows there that its
-contracts refuse a wrong body."""
+must-fail/, which costs a check of its crate. In the gate only those with the line `gate: yes` are planted, over the libraries as `rt ci`
+has just left them. A library of the program that has none of them, and no edit in must-fail/ either, has failed: nothing shows there that
+its contracts refuse a wrong body."""
 
 import os, re, shutil, tempfile
 from argparse import Namespace
@@ -16,7 +16,7 @@ from collections.abc import Iterable
 from concurrent.futures import ThreadPoolExecutor, as_completed
 
 from .kit import FolderOf, built_below, gate_folder, kit, said_by, words
-from .suite import Tally, Test, flag
+from .suite import Option, Tally, Test, flag
 from .tree import PROCESSORS, TOP, below, libraries, read_text, write
 
 
@@ -24,21 +24,15 @@ class Edit:
     """A bug of mutations.txt, or an edit of must-fail/, which names no function."""
 
     def __init__(self, crate: str, name: str, lines: list[str], is_bug: bool) -> None:
-        self.crate, self.name, self.is_bug = crate, name, is_bug
-        self.pairs, self.function, self.is_for_gate = list[tuple[str, str, str]](), "", False
-        file = old = ""
-        for key, _, text in (line.partition(":") for line in lines):
-            text = text.removeprefix(" ")
-            if key == "function":
-                self.function = f"{crate}::{text}"
-            elif key == "gate":
-                self.is_for_gate = text == "yes"
-            elif key == "file":
-                file = text
-            elif key == "old":
-                old = text
-            elif key == "new":
-                self.pairs.append((file, old, text))
+        words = [(key, text.removeprefix(" ")) for key, _, text in (line.partition(":") for line in lines)]
+        said, own = dict(words), dict[str, str]()
+        self.crate, self.name, self.is_bug, self.is_for_gate = crate, name, is_bug, said.get("gate") == "yes"
+        self.function = f"{crate}::{said['function']}" if "function" in said else ""
+        # Of each line `new:` the file and the old text that were named last.
+        self.pairs = list[tuple[str, str, str]]()
+        for key, text in words:
+            own[key] = text
+            self.pairs += [(own["file"], own["old"], text)] if key == "new" else []
 
     def texts(self, folder: str) -> tuple[dict[str, str], str]:
         """What it makes of the crate's texts in this folder, by file; or why it can't be planted."""
@@ -112,12 +106,6 @@ def came_to_its_end(said: str) -> bool:
     return bool(re.search(r"^only=", said, re.M))
 
 
-def line_of(bug: Edit, said: str) -> str:
-    """What the check says of the bug's function."""
-    lines: list[str] = re.findall(rf"^fn {re.escape(bug.function)}: (.*)$", said, re.M)
-    return lines[0] if lines and came_to_its_end(said) else ""
-
-
 def split_by_lost_names(said: str) -> tuple[list[str], list[str]]:
     """What the check has against the text: first that proof files name what it no longer has, which says nothing of a contract; then
     the rest."""
@@ -126,24 +114,20 @@ def split_by_lost_names(said: str) -> tuple[list[str], list[str]]:
     return lost, [it for it in told if it not in lost]
 
 
-def is_in_proof_of(bug: Edit, told: str) -> bool:
-    """Whether this is told of the proof files of the bug's function."""
-    return f"proofs/{bug.function.removeprefix(f'{bug.crate}::').replace('::', '/')}/" in told
-
-
 def verdict(bug: Edit, said: str, others: Iterable[Edit]) -> str:
     """ "refused", or why not; nothing if other bugs that were planted too leave it open."""
-    line = line_of(bug, said)
-    if not line:
+    found = re.search(rf"^fn {re.escape(bug.function)}: (.+)$", said, re.M)
+    if not found or not came_to_its_end(said):
         return f"the check came to no verdict on {bug.function}: {said.strip()[-300:]}"
+    line = found[1]
     if line == "proved":
         return "NOT REFUSED: its function is still proved"
     lost, rest = split_by_lost_names(said)
-    others = list(others)
-    if others:
+    proofs = [f"proofs/{it.function.removeprefix(f'{it.crate}::').replace('::', '/')}/" for it in others]
+    if proofs:
         # A proof takes the functions that it calls by their contracts: what the check doesn't prove of this one is due to its own text.
         is_own = "it calls" not in line or "did not prove" in line
-        is_lost = any(not any(is_in_proof_of(other, it) for other in others) for it in lost)
+        is_lost = any(not any(own in it for own in proofs) for it in lost)
         return "refused" if is_own and not is_lost else ""
     if lost and not rest:
         return "NOT REFUSED: proof files name what it took away, and no more"
@@ -207,26 +191,21 @@ def plant_all(tally: Tally, bugs: list[list[Edit]], folder_of: FolderOf) -> None
             tally.note(f"{ends[0][0].crate}: {sum(end == 'refused' for _, end in ends)} of {len(ends)} refused")
 
 
-def fit_all(tally: Tally, crates: Iterable[str]) -> None:
-    """Whether the edits, those of must-fail/ too, fit the texts that they change."""
-    for crate in crates:
-        for edit in must_fail_of(crate) + bugs_of(crate):
-            why = edit.texts(f"{TOP}/crates/{crate}")[1]
-            tally.check(not why, f"{crate}: {edit.name}: {why}")
+ABOUT = "the check refuses each bug of mutations.txt with 'gate: yes'; of CRATE.., or with --all of every crate, each bug"
+CRATES: Option = ("crates", {"nargs": "*", "metavar": "CRATE", "help": "the crates whose bugs are planted, all of them"})
+FLAGS = flag("all", "plant all bugs"), flag("fit", "plant none: only say whether each edit fits the text that it changes")
 
 
-def has_wrong_body(crate: str) -> bool:
-    """Whether the gate tries a wrong body of this library."""
-    return bool(must_fail_of(crate)) or any(it.is_for_gate for it in bugs_of(crate))
-
-
+@Test("mutations", ABOUT, alone=True, options=(*FLAGS, CRATES))
 def mutations(tally: Tally, options: Namespace) -> None:
     crates = options.crates or sorted(libraries())
     unknown = [it for it in crates if it not in libraries()]
     if unknown:
         return tally.fail(f"no crate of crates.txt: {' '.join(unknown)}")
     if options.fit:
-        fit_all(tally, crates)
+        for edit in (it for crate in crates for it in must_fail_of(crate) + bugs_of(crate)):
+            why = edit.texts(f"{TOP}/crates/{edit.crate}")[1]
+            tally.check(not why, f"{edit.crate}: {edit.name}: {why}")
     else:
         everything = options.all or bool(options.crates)
         bugs = [[it for it in bugs_of(crate) if it.is_for_gate or everything] for crate in crates]
@@ -237,20 +216,5 @@ def mutations(tally: Tally, options: Namespace) -> None:
         plant_all(tally, bugs, folder_of)
     if not options.crates:
         for crate in below("elfmap"):
-            why = "nothing in must-fail/, and no bug with 'gate: yes': the gate tries no wrong body of it"
-            tally.check(has_wrong_body(crate), f"{crate}: {why}")
-
-
-TESTS = [
-    Test(
-        "mutations",
-        "the check refuses each bug of mutations.txt with 'gate: yes'; of CRATE.., or with --all of every crate, each bug",
-        mutations,
-        alone=True,
-        options=(
-            flag("all", "plant all bugs"),
-            flag("fit", "plant none: only say whether each edit fits the text that it changes"),
-            ("crates", {"nargs": "*", "metavar": "CRATE", "help": "the crates whose bugs are planted, all of them"}),
-        ),
-    )
-]
+            is_tried = must_fail_of(crate) or any(it.is_for_gate for it in bugs_of(crate))
+            tally.check(is_tried, f"{crate}: nothing in must-fail/, and no bug with 'gate: yes': the gate tries no wrong body of it")

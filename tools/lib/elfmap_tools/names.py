@@ -1,39 +1,32 @@
 """Checks of the texts of crates/ that need nothing built: `tools/test names`, `must-not-compile` and `launcher`."""
 
-import collections, glob, os, re, shutil, tempfile
+import collections, glob, os, re, shutil
 from argparse import Namespace
-from collections.abc import Iterator
 
+from .doc_examples import words as words_over_sources
+from .kit import kit, said_by
+from .sources import Definition, definitions
 from .suite import Tally, Test
-from .tree import TOP, below, crate_lines, read_text, run, said, write
+from .tree import TOP, read_text, run, write
 
 # ---- names: one name of a definition means one thing in the whole repository
 
-# A definition begins a line with its kind, or, as laws do, with its name and its type; a constructor has a line of its own.
-DEFINITIONS = re.compile(r"^(?:pub )?(?:abbrev|unfoldable|record|data) (?:pub )?([^\s(:]+)|^(?:pub )?([^\s(:]+) :", re.M)
-DATA = re.compile(r"^(?:pub )?data .*\n((?:  .*\n)+)", re.M)
-CONSTRUCTORS = re.compile(r"^  ([^\s(:]+) :", re.M)
 
-
-def names_in(text: str) -> Iterator[tuple[str, int]]:
-    """The names that a file of definitions has, each with its offset."""
-    for found in DEFINITIONS.finditer(text):
-        yield found[1] or found[2], found.start()
-    for block in DATA.finditer(text):
-        for found in CONSTRUCTORS.finditer(text, block.start(1), block.end(1)):
-            yield found[1], found.start()
-
-
+@Test("names", "each name of a definition is in one crate")
 def names(tally: Tally, options: Namespace) -> None:
-    places = collections.defaultdict(list)
+    places = collections.defaultdict[str, list[Definition]](list)
     for path in sorted(glob.glob("crates/*/specs/**/*.antt", root_dir=TOP, recursive=True)):
-        text = read_text(path)
-        for name, offset in names_in(text):
-            places[name].append((path, text.count("\n", 0, offset) + 1))
-    several = {name: own for name, own in sorted(places.items()) if len({path.split("/")[1] for path, _ in own}) > 1}
+        for name, it in definitions(path)[0].items():
+            places[name].append(it)
+    several = {name: own for name, own in sorted(places.items()) if len({it.path.split("/")[1] for it in own}) > 1}
     for name, own in several.items():
-        tally.fail(f"{name}: {', '.join(f'{path}:{line}' for path, line in own)}")
+        tally.fail(f"{name}: {', '.join(f'{it.path}:{line_of(it)}' for it in own)}")
     tally.check(places and not several, "a name is defined in more than one crate")
+
+
+def line_of(it: Definition) -> int:
+    before, _, _ = read_text(it.path).partition(it.text)
+    return before.count("\n") + 1
 
 
 # ---- must-not-compile: what borrows from a file's bytes must not outlive them
@@ -67,22 +60,15 @@ CASES = (
 )
 
 
+@Test("must-not-compile", "what borrows from a file's bytes and outlives them is refused by the borrow checker")
 def must_not_compile(tally: Tally, options: Namespace) -> None:
-    """The crate is made in a copy of the repository; the check has to have an error of the borrow checker in each of its files."""
-    direct = sorted(set(re.findall(r"use (elf_\w+)::", " ".join([CASE, *(uses for _, _, uses, _ in CASES)]))))
-    needs = list(dict.fromkeys(it for crate in direct for it in [*below(crate), crate]))
-    with tempfile.TemporaryDirectory(prefix="must-not-compile-") as copy:
-        shutil.copy(f"{TOP}/HANDLES", copy)
-        for it in needs:
-            shutil.copytree(f"{TOP}/crates/{it}", f"{copy}/crates/{it}", ignore=shutil.ignore_patterns("out"))
-        lines = [f"{' '.join(head)}: {' '.join(rest)}" for head, rest in crate_lines() if head[0] in needs]
-        write(f"{copy}/crates.txt", "\n".join([*lines, f"outlives: {' '.join(direct)}", ""]))
-        source = f"{copy}/crates/outlives/src"
-        os.makedirs(source)
-        write(f"{source}/lib.rt", CRATE_HEAD + "".join(f"pub mod {name};\n" for name, *_ in CASES))
-        for name, kind, uses, body in CASES:
-            write(f"{source}/{name}.rt", CASE.format(kind=kind, uses=uses, body=body))
-        output = said("rt", "check", folder=f"{copy}/crates/outlives").stdout
+    """The check has to have an error of the borrow checker in each file of a crate."""
+    crates = sorted(set(re.findall(r"use (elf_\w+)::", " ".join([CASE, *(uses for _, _, uses, _ in CASES)]))))
+    source = tally.new_folder("src")
+    write(f"{source}/lib.rt", CRATE_HEAD + "".join(f"pub mod {name};\n" for name, *_ in CASES))
+    for name, kind, uses, body in CASES:
+        write(f"{source}/{name}.rt", CASE.format(kind=kind, uses=uses, body=body))
+    output = said_by([f"{kit()}/bin/rattle", *words_over_sources(crates)], tally.folder)
     for name, *_ in CASES:
         tally.check(re.search(rf"{name}\.rt:.*borrow-e0(505|515|597)", output), f"the borrow checker did not refuse {name}")
     if tally.failed:
@@ -121,35 +107,28 @@ CALLS = (
 )
 
 
+@Test("launcher", "what ./elfmap builds and runs for which words")
 def launcher(tally: Tally, options: Namespace) -> None:
-    with tempfile.TemporaryDirectory(prefix="launcher-") as tree:
-        os.makedirs(f"{tree}/tools")
-        os.makedirs(f"{tree}/crates/elf_field/src")
-        shutil.copy(f"{TOP}/elfmap", tree)
-        write(f"{tree}/crates/elf_field/src/lib.rt", "\n")
-        write(f"{tree}/VERSION", "7.8\n")
-        for path, text in ((f"{tree}/tools/dev", DEV), (f"{tree}/replace", REPLACE)):
-            os.chmod(write(path, text), 0o755)
-        os.symlink(f"{tree}/elfmap", f"{tree}/link")
-        for status, built, output, words in CALLS:
-            given = words.split()
-            before = given.pop(0) if given and given[0].isupper() else ""
-            if before == "STEADY":
-                os.remove(f"{tree}/changes")
-            elif before:
-                write(f"{tree}/{before.lower()}", "")
-                run(f"{tree}/replace")
-            write(f"{tree}/built", "")
-            ended = run(f"{tree}/link", *given, folder="/")
-            found = (ended.returncode, read_text(f"{tree}/built").strip() or "-", ended.stdout.decode().strip())
-            tally.check(found == (status, built, output), f"elfmap {words}: {found}, and not {(status, built, output)}")
+    tree = tally.folder
+    for it in ("tools", "crates/elf_field/src"):
+        os.makedirs(f"{tree}/{it}")
+    shutil.copy(f"{TOP}/elfmap", tree)
+    texts = {"crates/elf_field/src/lib.rt": "\n", "VERSION": "7.8\n", "tools/dev": DEV, "replace": REPLACE}
+    for path, text in texts.items():
+        os.chmod(write(f"{tree}/{path}", text), 0o755)
+    os.symlink(f"{tree}/elfmap", f"{tree}/link")
+    for status, built, output, words in CALLS:
+        given = words.split()
+        before = given.pop(0) if given and given[0].isupper() else ""
+        if before == "STEADY":
+            os.remove(f"{tree}/changes")
+        elif before:
+            write(f"{tree}/{before.lower()}", "")
+            run(f"{tree}/replace")
+        write(f"{tree}/built", "")
+        ended = run(f"{tree}/link", *given, folder="/")
+        found = (ended.returncode, read_text(f"{tree}/built").strip() or "-", ended.stdout.decode().strip())
+        tally.same(f"elfmap {words}", found, (status, built, output))
     # It looks at the times of these folders alone.
     inner = [it for it in glob.glob(f"{TOP}/crates/elf*/src/*") if os.path.isdir(it)]
     tally.check(not inner, f"./elfmap does not see changes in {inner}")
-
-
-TESTS = [
-    Test("names", "each name of a definition is in one crate", names),
-    Test("must-not-compile", "what borrows from a file's bytes and outlives them is refused by the borrow checker", must_not_compile),
-    Test("launcher", "what ./elfmap builds and runs for which words", launcher),
-]

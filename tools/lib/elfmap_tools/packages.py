@@ -12,10 +12,11 @@ JSONSCHEMA, JUNITPARSER = (f"/usr/lib/python3/dist-packages/{it}/__init__.py" fo
 SANITIZERS = "/usr/lib/llvm-*/lib/clang/*/lib/linux/libclang_rt.asan-x86_64.a"
 # The commands of each package, by their first words, or a file that has to be there.
 COMMANDS = {
-    "binutils": "ar as ld nm objcopy readelf", "binaryen": "wasm-opt", "black": "black", "cargo-web": "cargo", "chromium": "chromium",
-    "clang": "clang", "debootstrap": "debootstrap", "dpkg": "dpkg-deb", "elfutils": "eu-elflint", "g++": "c++ g++", "gcc": "cc gcc", "git": "git", "groff": "groff",
-    "libclang-rt-14-dev": SANITIZERS, "libklibc-dev": KLIBC, "lld": "ld.lld", "llvm": "llvm-objcopy", "man-db": "man", "mypy": "mypy",
-    "nodejs": "node", "pkg-config": "pkg-config", "pre-commit": "pre-commit", "python3-jsonschema": JSONSCHEMA, "python3-junitparser": JUNITPARSER,
+    "binutils": "ar as ld nm objcopy readelf", "binaryen": "wasm-opt", "black": "black", "cargo-web": "cargo",
+    "chromium": "chromium", "clang": "clang", "debootstrap": "debootstrap", "dpkg": "dpkg-deb", "elfutils": "eu-elflint",
+    "g++": "c++ g++", "gcc": "cc gcc", "git": "git", "groff": "groff", "libclang-rt-14-dev": SANITIZERS, "libklibc-dev": KLIBC,
+    "lld": "ld.lld", "llvm": "llvm-objcopy", "man-db": "man", "mypy": "mypy", "nodejs": "node", "pkg-config": "pkg-config",
+    "pre-commit": "pre-commit", "python3-jsonschema": JSONSCHEMA, "python3-junitparser": JUNITPARSER,
     "rustc-web": "rustc", "util-linux": "unshare", "valgrind": "valgrind",
 }  # fmt: skip
 PACKAGES = {command: package for package, commands in COMMANDS.items() for command in commands.split()}

@@ -1,17 +1,18 @@
-"""`tools/release page`: a page for a browser on which a file is dropped, and that shows its verdict and what each of its bytes belongs to. It
-is one file, which needs no network: the library for C as a WebAssembly module, and the scripts of page/.
+"""`tools/release page`: a page for a browser on which a file is dropped, and that shows its verdict and what each of its bytes belongs to.
+It is one file, which needs no network: the library for C as a WebAssembly module, and the scripts of page/.
 
 The module is made of the same proved crates as the library for C: the kit's compiler makes it for a memory of 64-bit addresses, which not
 every browser has, and wasm-opt (of binaryen) lowers it to one of 32-bit addresses."""
 
-import argparse, base64, json, os, re, shutil, sys, tempfile
+import argparse, base64, ctypes, json, os, shutil, sys, tempfile
 from typing import Any
 
+from . import library
 from .browser import Browser
 from .kit import built_below, is_current, kit, words
-from .library import VERDICTS as CRATE, wanted
+from .library import VERDICTS as CRATE
 from .rules_tables import file_rules
-from .tree import PACKAGE, TOP, read_bytes, read_text, write
+from .tree import PACKAGE, TOP, read_bytes, read_text, wanted, write
 
 sys.path.insert(0, PACKAGE)
 from elfmap import _names as names  # noqa: E402
@@ -22,7 +23,6 @@ OUT = f"{TOP}/crates/{CRATE}/out"
 MODULE = f"{OUT}/{CRATE}.wasm"
 LOWERED = "--enable-memory64 --enable-bulk-memory --enable-sign-ext --enable-nontrapping-float-to-int --enable-mutable-globals".split()
 LOWERED += ["--enable-multivalue", "--memory64-lowering"]
-WIDTHS = {"uint8_t": 1, "uint16_t": 2, "uint32_t": 4, "uint64_t": 8, "int64_t": 8}
 
 
 def module() -> str:
@@ -45,33 +45,25 @@ def module() -> str:
 # ---- what the page's scripts are given
 
 
-def field_of(kind: str, name: str, count: str, at: int, structs: Structs) -> tuple[dict[str, Any], int]:
-    """A field at the first offset from `at` on that fits it, and its alignment."""
-    if kind.startswith("struct "):
-        inner = structs[kind[7:]]
-        width, align, more = inner["size"], inner["align"], dict[str, Any](struct=kind[7:])
-    else:
-        width, align, more = WIDTHS[kind], WIDTHS[kind], dict[str, Any]()
-    at = -(-at // align) * align
-    more |= {"count": int(count)} if count else {}
-    more |= {"signed": True} if kind.startswith("int") else {}
-    return {"name": name, "at": at, "width": width, **more}, align
-
-
 def layout() -> Structs:
     """The structs of include/elfmap.h: the size of each, and its fields with their offsets, as C lays them out."""
-    header = re.sub(r"/\*.*?\*/", "", read_text("include/elfmap.h"), flags=re.S)
-    structs: Structs = {}
-    for tag, body in re.findall(r"^struct (\w+) \{(.*?)^\};", header, re.M | re.S):
-        if "void *" in body:
+    found: Structs = {}
+    types: dict[str, Any] = {
+        f"{sign}int{8 * width}_t": getattr(ctypes, f"c_{sign}int{8 * width}") for sign in ("", "u") for width in (1, 2, 4, 8)
+    }
+    for tag, fields in library.structs().items():
+        if any(kind not in types for kind, _, _ in fields):
             continue  # It belongs to the engines, which the page has not.
-        at, widest, fields = 0, 1, list[dict[str, Any]]()
-        for kind, name, count in re.findall(r"((?:struct )?\w+) (\w+)(?:\[(\d+)\])?;", body):
-            field, align = field_of(kind, name, count, at, structs)
-            fields.append(field)
-            at, widest = field["at"] + field["width"] * field.get("count", 1), max(widest, align)
-        structs[tag] = {"size": -(-at // widest) * widest, "align": widest, "fields": fields}
-    return structs
+        own = [(name, types[kind] * int(count) if count else types[kind]) for kind, name, count in fields]
+        made = types[f"struct {tag}"] = type(tag, (ctypes.Structure,), {"_fields_": own})
+        found[tag] = {"size": ctypes.sizeof(made), "align": ctypes.alignment(made), "fields": []}
+        for kind, name, count in fields:
+            more: dict[str, Any] = {"struct": kind[7:]} if kind.startswith("struct ") else {}
+            more |= {"count": int(count)} if count else {}
+            more |= {"signed": True} if kind.startswith("int") else {}
+            place = {"name": name, "at": getattr(made, name).offset, "width": ctypes.sizeof(types[kind])}
+            found[tag]["fields"].append(place | more)
+    return found
 
 
 def rules() -> dict[int, list[str]]:

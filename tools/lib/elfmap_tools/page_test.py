@@ -6,14 +6,14 @@
   alone; what the tree for readers of the screen has; that no message is in the console; that an object of 1,000,000 symbols is validated in
   less than 200 ms."""
 
-import json, os, random, tempfile
+import json, os, random
 from argparse import Namespace
 
 from .browser import Browser, colours
 from .cases import case_files, cases_of
 from .library import VERDICTS as CRATE
 from .page import layout, module, page
-from .suite import Tally, Test, crates_of, number
+from .suite import Tally, Test, number
 from .tree import PROGRAM, TOP, read_bytes, said, write
 
 MACHINE_FILES = ["/bin/true", "/bin/ls", "/usr/lib/gcc/x86_64-linux-gnu/12/crtbegin.o"]
@@ -263,11 +263,11 @@ def in_chromium(tally: Tally, room: str) -> None:
         browser.close()
 
 
+ABOUT, TOOLS = "the page for a browser, in node beside `elfmap show`, and in chromium", "node wasm-opt chromium cc"
+COUNT = number("count", 3000, "so many changed files")
+
+
+@Test("page", ABOUT, commands=TOOLS, crates=f"elfmap {CRATE}", alone=True, options=(COUNT,))
 def try_page(tally: Tally, options: Namespace) -> None:
-    with tempfile.TemporaryDirectory(prefix="page-test-") as room:
-        in_node(tally, room, options.count)
-        in_chromium(tally, room)
-
-
-ABOUT, TOOLS = "the page for a browser, in node beside `elfmap show`, and in chromium", ("node", "wasm-opt", "chromium", "cc")
-TESTS = [Test("page", ABOUT, try_page, TOOLS, crates_of("elfmap", CRATE), True, "", (number("count", 3000, "so many changed files"),))]
+    in_node(tally, tally.folder, options.count)
+    in_chromium(tally, tally.folder)

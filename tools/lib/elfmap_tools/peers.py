@@ -1,20 +1,19 @@
-"""`tools/dev peers > docs/PEERS.md`: what other tools say of files that elfmap refuses; and `tools/dev shared-tails PROGRAM FILE..`, how much
-shorter string tables are whose names share their tails.
+"""`tools/dev peers > docs/PEERS.md`: what other tools say of files that elfmap refuses; and `tools/dev shared-tails PROGRAM FILE..`, how
+much shorter string tables are whose names share their tails.
 
 For each rule of images, tables and objects there are up to FILES_A_RULE files that break it first. They are files that cc made, with one
 byte changed, which the other tools take without a word as they were; where no such change is found for a rule, files of cases/*.txt; of
-rules 1 and 40 there are none. The reference implementation says which rule a file breaks. Nothing else is judged here: a tool is called, and
-its status and what it writes become a word. Tools that are not installed have no column."""
+rules 1 and 40 there are none. The reference implementation says which rule a file breaks. Nothing else is judged here: a tool is called,
+and its status and what it writes become a word. Tools that are not installed have no column."""
 
 import argparse, os, random, re, shutil, subprocess, tempfile
 from collections.abc import Iterator
-from concurrent.futures import ThreadPoolExecutor
 
 from .cases import all_cases
 from .machine_files import content_of, objects_of
 from .reference import SYMTAB, File, object_verdict, shown, verdict
 from .rules_tables import by_anchor
-from .tree import TOP, read_bytes, run, write
+from .tree import by_cc, read_bytes, run, side_by_side, write
 
 FILES_A_RULE = 2
 # So many bytes are changed, one at a time.
@@ -78,10 +77,7 @@ def made_files() -> Iterator[tuple[str, bytes]]:
     """The files that cc makes."""
     with tempfile.TemporaryDirectory(prefix="peers-") as room:
         for name, words in MADE.items():
-            made = run("cc", *words.split(), f"{TOP}/cases/sources/answer_peers.c", "-o", "made", folder=room)
-            if made.returncode:
-                raise SystemExit(f"peers: {name} is not made: {made.stderr.decode()}")
-            yield name, read_bytes(f"{room}/made")
+            yield name, read_bytes(by_cc(f"{room}/made", words, "answer_peers.c"))
 
 
 def first_rule(content: bytes) -> int | None:
@@ -128,11 +124,6 @@ def row(title: str, contents: list[bytes], tools: list[str]) -> str:
     return f"| {title} | {len(contents)} | {' | '.join(', '.join(it) for it in cells)} |"
 
 
-def title_of(rule: int) -> str:
-    kind = next(kind for kind, rules in KINDS.values() if rule in rules)
-    return f"{rule} `{by_anchor()[f'{kind}-{rule}'].name}`"
-
-
 def peers(options: argparse.Namespace) -> int:
     tools = [it for it, words in TOOLS.items() if shutil.which(words.split()[0])]
     made = list(made_files())
@@ -145,7 +136,9 @@ def peers(options: argparse.Namespace) -> int:
         print(row(f"none: {name}", [content], tools))
     rules = sorted(changed.keys() | rest.keys())
     for rule in rules:
-        print(row(title_of(rule) + ("" if rule in changed else " *"), changed.get(rule) or rest[rule], tools))
+        kind = next(kind for kind, own in KINDS.values() if rule in own)
+        title = f"{rule} `{by_anchor()[f'{kind}-{rule}'].name}`" + ("" if rule in changed else " *")
+        print(row(title, changed.get(rule) or rest[rule], tools))
     print(f"\n{sum(len(changed.get(it) or rest[it]) for it in rules)} files.")
     return 0
 
@@ -173,14 +166,13 @@ def rewritten(program: str, content: bytes) -> bytes | None:
 
 
 def shared_tails(options: argparse.Namespace) -> int:
-    """Of each file, an object or an archive, a row of the table in docs/PERFORMANCE.md: how many of its objects `rewrite` takes, the bytes of
-    the two string tables of all that it writes, and those of tables that hold each distinct name once."""
+    """Of each file, an object or an archive, a row of the table in docs/PERFORMANCE.md: how many of its objects `rewrite` takes, the bytes
+    of the two string tables of all that it writes, and those of tables that hold each distinct name once."""
     print("| objects of | objects | each name once | tails shared | |")
     print("|---|---|---|---|---|")
     for path in options.file:
-        with ThreadPoolExecutor() as pool:
-            found = pool.map(lambda it: rewritten(os.path.abspath(options.program), content_of(it)), objects_of(path))
-            written = [it for it in found if it is not None]
+        found = side_by_side(lambda it: rewritten(os.path.abspath(options.program), content_of(it)), objects_of(path))
+        written = [it for it in found if it is not None]
         shared, once = (sum(it) for it in zip(*map(lengths, written)))
         print(f"| `{os.path.basename(path)}` | {len(written):,} | {once:,} | {shared:,} | {100 * (shared / once - 1):+.1f} % |")
     return 0

@@ -23,7 +23,11 @@ notes: Callable[[Any, int], list[tuple[int, int, int, int]]] = tables.notes
 padded: Callable[[int], int] = tables.padded
 is_section: Callable[[Any, int], bool] = tables.is_section
 entries_before_null: Callable[[Any, int], Any] = tables.entries_before_null
+kept: Callable[[Any], list[int]] = objects.kept
+string: Callable[[bytes, int], bytes] = objects.string
 parts: Callable[[Any], Any] = show.parts
+signed: Callable[[int, int], int] = show.signed
+name_of: Callable[[Any, Any], bytes] = show.name_of
 Layout = dict[str, tuple[int, int]]
 HEADER: Layout = records.HEADER
 SECTION_HEADER: Layout = records.SECTION_HEADER
@@ -39,53 +43,31 @@ UNDEF, ABS, COMMON, XINDEX = 0, 0xFFF1, 0xFFF2, 0xFFFF
 
 # ---- what it answers
 
-
-def verdict(content: bytes) -> Broken | None:
-    """The first image rule that a file breaks, and where."""
-    return cast("Broken | None", image.verdict(content))
-
-
-def object_verdict(content: bytes) -> Broken | None:
-    return cast("Broken | None", objects.verdict(content))
-
-
-def table_verdict(file: Any, index: int) -> Broken | None:
-    return cast("Broken | None", tables.verdict(file, index))
+# The first rule that is broken, and where: by a file as an image or as an object, and by the table in a section.
+verdict: Callable[[bytes], Broken | None] = image.verdict
+object_verdict: Callable[[bytes], Broken | None] = objects.verdict
+table_verdict: Callable[[Any, int], Broken | None] = tables.verdict
+# What `elfmap check` and `elfmap show` print.
+check: Callable[[bytes], str] = image.check
+shown: Callable[[bytes], str] = show.show
+# What `elfmap rewrite` prints on standard error, and what it writes; None where the reference leaves it open.
+rewritten: Callable[[bytes], tuple[str, bytes] | None] = objects.rewrite
 
 
-def section_of_symbol(file: Any, table: int, index: int) -> int:
-    """The index of the section of a symbol that the index table has."""
-    return cast(int, tables.index_words(file, table)[index][1])
-
-
-def rule_name(rule: int) -> str:
+def rule_name(rule: int) -> Any:
     """The name of an image rule, in small letters."""
-    return cast(str, image.RULES[rule - 1][1].__name__)
-
-
-def check(content: bytes) -> str:
-    """The line of `elfmap check`."""
-    return cast(str, image.check(content))
-
-
-def shown(content: bytes) -> str:
-    """The lines of `elfmap show`."""
-    return cast(str, show.show(content))
-
-
-def rewritten(content: bytes) -> tuple[str, bytes] | None:
-    """What `elfmap rewrite` prints on standard error, and what it writes; None where the reference leaves it open."""
-    return cast("tuple[str, bytes] | None", objects.rewrite(content))
+    return image.RULES[rule - 1][1].__name__
 
 
 def mapped(contents: Sequence[bytes], base: int, page: int, rules: bytes | None = None) -> str:
     """The lines of `elfmap map`, by a file of rules if one is given."""
-    return cast(str, link.map_lines(contents, base, page, None if rules is None else link.rules_of(rules)))
+    return str(link.map_lines(contents, base, page, None if rules is None else link.rules_of(rules)))
 
 
 def linked(contents: Sequence[bytes], base: int, page: int, rules: bytes, entry: bytes) -> tuple[str, bytes]:
     """What `elfmap link` prints on standard error, and what it writes."""
-    return cast("tuple[str, bytes]", executable.answer(contents, base, page, link.rules_of(rules), entry))
+    refusal, file = executable.answer(contents, base, page, link.rules_of(rules), entry)
+    return refusal, file
 
 
 def entries_of(contents: Sequence[bytes]) -> list[bytes]:
@@ -157,10 +139,8 @@ def place_of(file: bytes, *where: Any) -> tuple[int, int]:
     name, *rest = where
     if not rest:
         return HEADER[name]
-    layout, start = (
-        (SECTION_HEADER, File(file).section(rest[0])) if name.startswith("sh_") else (PROGRAM_HEADER, File(file).segment(rest[0]))
-    )
-    return start.at(name), layout[name][1]
+    record = File(file).section(rest[0]) if name.startswith("sh_") else File(file).segment(rest[0])
+    return record.at(name), record.layout[name][1]
 
 
 def edited(file: bytes, *edits: Edit) -> bytes:
@@ -170,10 +150,3 @@ def edited(file: bytes, *edits: Edit) -> bytes:
         at, width = place_of(file, *where)
         new[at : at + width] = number.to_bytes(width, File(file).order)
     return bytes(new)
-
-
-def with_segments(file: bytes, *segments: dict[str, int]) -> bytes:
-    """A file with a program header table after it."""
-    order = File(file).order
-    table = b"".join(record(order, PROGRAM_HEADER, **it) for it in segments)
-    return edited(file, ("e_phoff", len(file)), ("e_phentsize", 56), ("e_phnum", len(segments))) + table

@@ -1,5 +1,5 @@
-"""`tools/release pack`: what is built in one archive, elfmap-VERSION-x86_64-linux.tar.gz, which is used on a Linux with the GNU C library and
-without the Rattle kit:
+"""`tools/release pack`: what is built in one archive, elfmap-VERSION-x86_64-linux.tar.gz, which is used on a Linux with the GNU C library
+and without the Rattle kit:
 
     elfmap, VERSION, README.md and the other pages at the top
     bin/elfmap                               runs elfmap with the memory settings of the script ./elfmap
@@ -13,14 +13,14 @@ without the Rattle kit:
     docs/, doc/elfmap-doc.html               the pages that README.md links to; the page of the library
     examples/, rules/                        the sources of the examples; the files of rules
 
-A page's link to a file that the archive lacks becomes its words. VERSION is the first line of the file VERSION, unless another one is given.
-The same program, library, version, texts and commit make the same archive."""
+A page's link to a file that the archive lacks becomes its words. VERSION is the first line of the file VERSION, unless another one is
+given. The same program, library, version, texts and commit make the same archive."""
 
 import argparse, functools, glob, os, re, shutil, sys, tempfile
 
 from . import doc, library, man, page
 from .building import output_of
-from .tree import PROGRAM, TOP, below, read_text, run, said, write
+from .tree import PROGRAM, TOP, below, read_bytes, read_text, run, said, wanted, write
 
 RUNNER = """#!/bin/sh
 # elfmap WORDS..: the program elfmap, with settings of the C library's memory.
@@ -53,17 +53,7 @@ Libs: -L${{libdir}} -lelfmap
 # What git has of the bindings, but for their tests, which need the repository.
 BINDINGS = {"rust": "Cargo.lock Cargo.toml README.md build.rs examples src", "python": "README.md pyproject.toml examples elfmap"}
 # Those of these files that the repository has.
-PAGES = (
-    "README.md",
-    "CONTRIBUTING.md",
-    "CHANGELOG.md",
-    "SECURITY.md",
-    "docs/*",
-    "rules/*.rules",
-    "examples/*",
-    "bindings/c/*.[ch]",
-    "include/elfmap.h",
-)
+PAGES = "README.md CONTRIBUTING.md CHANGELOG.md SECURITY.md docs/* rules/*.rules examples/* bindings/c/*.[ch] include/elfmap.h".split()
 LINK = re.compile(r"(?<!!)\[((?:`[^`]*`|[^\]`])*)\]\((?!https?:|#)([^)#\s]+)[^)]*\)")
 
 
@@ -137,8 +127,7 @@ def put(path: str, text: str | bytes, mode: int = 0o644) -> None:
 
 
 def copied(source: str, path: str, mode: int = 0o644) -> None:
-    with open(source, "rb") as file:
-        put(path, file.read(), mode)
+    put(path, read_bytes(source), mode)
 
 
 def runner(version: str, program: str) -> str:
@@ -221,8 +210,8 @@ def archived(folder: str, path: str) -> str:
     """Packs a folder as a compressed archive, which is the same for the same files: its path."""
     parent, name = os.path.split(folder)
     owner = ["--sort=name", "--owner=0", "--group=0", "--numeric-owner", "--mode=u=rwX,go=rX", f"--mtime=@{epoch()}"]
-    library.wanted("tar", "-C", parent, "--format=gnu", *owner, "-cf", f"{folder}.tar", name)
-    library.wanted("gzip", "-9n", f"{folder}.tar")
+    wanted("tar", "-C", parent, "--format=gnu", *owner, "-cf", f"{folder}.tar", name)
+    wanted("gzip", "-9n", f"{folder}.tar")
     return str(shutil.move(f"{folder}.tar.gz", path))
 
 

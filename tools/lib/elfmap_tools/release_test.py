@@ -12,13 +12,13 @@
 - what is built is packed in 30 seconds of a processor;
 - `man` and `groff` format the manual page without a warning."""
 
-import glob, os, re, shutil, subprocess, sys, tempfile
+import glob, os, re, shutil, subprocess, sys
 from argparse import Namespace
 from collections.abc import Mapping
 
-from .library import ENGINES, VERDICTS
+from .library import BOTH, PACKERS
 from .release import commands, pack, version_of
-from .suite import Tally, Test, crates_of
+from .suite import Tally, Test
 from .tree import TOP, Texts, files_below, read_bytes, read_text, write
 
 VERSION = "0-test"
@@ -219,12 +219,11 @@ def usage_by_help(said: str) -> str:
     return re.sub(r"[<>]", "", usage.replace("[OPTIONS]", " ".join(f"[{it}]" for it in options)))
 
 
+TOOLS = f"{PACKERS} nm git pkg-config cargo groff man wasm-opt"
+
+
+@Test("release", "what a release has, and that all of it works", commands=TOOLS, crates=f"elfmap {BOTH}")
 def release(tally: Tally, options: Namespace) -> None:
-    with tempfile.TemporaryDirectory(prefix="release-test-") as room:
-        it = Release(tally, room)
-        for part in (it.links, it.program, it.runner, it.usage, it.names, it.c, it.rust, it.python, it.commands, it.manual):
-            part()
-
-
-TOOLS = ("cc", "ar", "objcopy", "nm", "git", "pkg-config", "cargo", "groff", "man", "wasm-opt")
-TESTS = [Test("release", "what a release has, and that all of it works", release, TOOLS, crates_of("elfmap", VERDICTS, ENGINES))]
+    it = Release(tally, tally.folder)
+    for part in (it.links, it.program, it.runner, it.usage, it.names, it.c, it.rust, it.python, it.commands, it.manual):
+        part()

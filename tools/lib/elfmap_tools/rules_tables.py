@@ -127,11 +127,9 @@ def main(options: argparse.Namespace) -> int:
     return 0
 
 
+@Test("rules-tables", "the tables of rules in the crates and the bindings are those of docs/RULES.md")
 def rules_tables(tally: Tally, options: argparse.Namespace) -> None:
     for path, text in tables().items():
         # The first line says by what the file is made.
         is_same = read_text(path).partition("\n")[2] == text.partition("\n")[2]
         tally.check(is_same, f"{path} is not what docs/RULES.md says; `tools/release tables` makes it anew")
-
-
-TESTS = [Test("rules-tables", "the tables of rules in the crates and the bindings are those of docs/RULES.md", rules_tables)]

@@ -9,14 +9,14 @@ Skipped are the commands of SKIPPED, by their text, those of tools of other vers
 other lengths, what is not built, and what needs a file that such a command makes. A code line that begins as a command does has to have its
 `$ `, and the tools that a page names and what it links to have to be there."""
 
-import os, re, shutil, subprocess, sys, tempfile
+import os, re, shutil, subprocess, sys
 from argparse import Namespace
 from collections.abc import Iterator
 
-from .library import ENGINES, VERDICTS
+from .library import BOTH
 from .pages import all_pages
 from .release import pack
-from .suite import Tally, Test, crates_of, environment
+from .suite import Tally, Test, environment
 from .tree import PROGRAM, TOP, read_text, run, write
 
 # The folders that a release has not.
@@ -232,25 +232,23 @@ class Page:
 
 
 def furnish(folder: str, archive: str) -> None:
-    os.mkdir(folder)
     subprocess.run(["tar", "xf", archive, "--strip-components=1"], cwd=folder, check=True)
     for it in FOLDERS:
         os.symlink(f"{TOP}/{it}", f"{folder}/{it}")
     shutil.copy(archive, folder)
 
 
+TOOLS = " ".join([*PACKAGES, "cc ar pkg-config wasm-opt"])
+
+
+@Test("shown-commands", "the commands that the pages show print what is below them", commands=TOOLS, crates=f"elfmap {BOTH}")
 def shown_commands(tally: Tally, options: Namespace) -> None:
     pages = [f"{TOP}/{it}" for it in all_pages()]
     every = [command for path in pages for lines in blocks(read_text(path)) for command, _ in commands(lines)]
     for command in SKIPPED:
         tally.check(command in every, f"no page shows the command that is skipped: {command}")
-    with tempfile.TemporaryDirectory(prefix="shown-commands-") as room:
-        archive = pack(room, "VERSION")
-        for number, path in enumerate(pages):
-            furnish(f"{room}/{number}", archive)
-            Page(tally, path, f"{room}/{number}").try_all()
-
-
-TOOLS = (*PACKAGES, "cc", "ar", "pkg-config", "wasm-opt")
-CRATES = crates_of("elfmap", VERDICTS, ENGINES)
-TESTS = [Test("shown-commands", "the commands that the pages show print what is below them", shown_commands, TOOLS, CRATES)]
+    archive = pack(tally.folder, "VERSION")
+    for number, path in enumerate(pages):
+        folder = tally.new_folder(str(number))
+        furnish(folder, archive)
+        Page(tally, path, folder).try_all()

@@ -1,6 +1,6 @@
 """The public items of the crates, and the definitions that their contracts name, read from the sources as `rt fmt` lays them out."""
 
-import functools, os, re
+import functools, os, re, textwrap
 from collections.abc import Iterator
 from dataclasses import dataclass, field, replace
 
@@ -18,7 +18,7 @@ CLAUSE = re.compile(r"(requires|ensures)\b")
 LITERAL = re.compile(r"""b?"(?:\\.|[^"\\])*"|b?'(?:\\.[^']*|[^'\\])'|//.*""")
 WORD = re.compile(r"(?<![\w.])[^\W\d]\w*")
 IMPORT = re.compile(r"use Rattle\.([\w.]+)\.\{([^}]*)\}")
-DEFINITION = re.compile(r"(?:pub )?(?:abbrev|unfoldable|record|data) (?:pub )?([^\s(:]+)|(?:pub )?([^\s(:=]+) :")
+DEFINITION = re.compile(r"^(?:(?:pub )?(?:abbrev|unfoldable|record|data) (?:pub )?([^\s(:]+)|(?:pub )?([^\s(:=]+) :)", re.M)
 
 
 @dataclass
@@ -36,6 +36,8 @@ class Item:
     traits: list[str] = field(default_factory=list)
     members: "list[Item]" = field(default_factory=list)
     fields: list[tuple[list[str], str]] = field(default_factory=list)
+    # Where it is on the page of the library.
+    anchor: str = ""
 
 
 def indent_of(line: str) -> int:
@@ -87,8 +89,7 @@ def inside(text: list[str]) -> list[str]:
 
 
 def unindented(lines: list[str]) -> list[str]:
-    least = min((indent_of(it) for it in lines if it.strip()), default=0)
-    return [it[least:].rstrip() for it in lines]
+    return [it.rstrip() for it in textwrap.dedent("\n".join(lines)).split("\n")]
 
 
 def signature_and_clauses(text: list[str], uses: Uses) -> tuple[list[str], Uses, list[str]]:
@@ -286,27 +287,17 @@ def definitions(path: str) -> tuple[dict[str, Definition], Uses]:
     """The definitions of a file of specs/ by their names, constructors among them, and what it takes from other files."""
     if not os.path.isfile(f"{TOP}/{path}"):
         return {}, {}
-    found, comment, text = dict[str, Definition](), list[str](), list[str]()
-    for line in [*read_text(path).splitlines(), ""]:
-        if text and (not line or line.startswith("--")):
-            add_definition(found, path, comment, text)
-            comment, text = [], []
-        if not line:
-            comment = []
-        elif line.startswith("--"):
-            comment.append(line[2:].strip())
-        elif text or DEFINITION.match(line):
-            text.append(line)
-    return found, imports(read_text(path))
-
-
-def add_definition(found: dict[str, Definition], path: str, comment: list[str], text: list[str]) -> None:
-    match = matched(DEFINITION, text[0])
-    said = " ".join(it for it in comment if not it.startswith("--"))
-    it = Definition(match[1] or match[2], path, said, "\n".join(text))
-    found[it.name] = it
-    if " data " in f" {text[0]}":
-        found.update({name: it for name in re.findall(r"^  (?:pub )?([^\s(:]+) :", it.text, re.M)})
+    found, text = dict[str, Definition](), read_text(path)
+    # Comment lines, and the lines below them up to an empty line or the next comment.
+    for comment, lines in re.findall(r"((?:^--.*\n)*)((?:^(?!--).+\n)+)", text, re.M):
+        match = DEFINITION.search(lines)
+        if match:
+            said = " ".join(it[2:].strip() for it in comment.splitlines() if not it[2:].strip().startswith("--"))
+            own = lines[match.start() :].rstrip("\n")
+            it = found[match[1] or match[2]] = Definition(match[1] or match[2], path, said, own)
+            if " data " in f" {own.partition(chr(10))[0]}":
+                found |= {name: it for name in re.findall(r"^  (?:pub )?([^\s(:]+) :", own, re.M)}
+    return found, imports(text)
 
 
 def definition(place: str, name: str) -> Definition | None:

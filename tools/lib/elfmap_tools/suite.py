@@ -1,30 +1,34 @@
-"""The tests of `tools/test`: each by its name, with the commands and the built crates that it needs; one after the other or side by side."""
+"""The tests of `tools/test`: each by its name, with the commands and the built crates that it needs; alone or side by side."""
 
-import argparse, os, re, subprocess, sys, threading, time, traceback
-from collections.abc import Callable, Iterable
+import argparse, contextlib, os, re, sys, tempfile, threading, time, traceback
+from collections.abc import Callable, Iterable, Iterator
 from concurrent.futures import ThreadPoolExecutor, as_completed
-from dataclasses import dataclass, field
+from dataclasses import dataclass
+from typing import Any
 
 from . import packages
 from .building import built
-from .tree import PROCESSORS, TOP, libraries, progress
+from .tree import PROCESSORS, TOP, Texts, libraries, progress, said
 
-COUNTS = re.compile(r"^(\d+) passed, (\d+) failed$")
+COUNTS = re.compile(r"^(\d+) passed, (\d+) failed\n\Z", re.M)
 
 
 class Tally:
-    """What a test counts: how many checks passed, and what failed, which is printed at once."""
+    """What a test counts: how many checks passed, and what failed, which is printed at once; and a folder that is gone after it."""
 
-    def __init__(self, name: str) -> None:
-        self.name, self.passed, self.failed = name, 0, 0
+    def __init__(self, name: str, folder: str) -> None:
+        self.name, self.folder, self.passed, self.failed = name, folder, 0, 0
 
     def check(self, holds: object, why: str) -> bool:
         """One check, and what to print if it does not hold."""
-        if holds:
-            self.passed += 1
-        else:
+        self.passed += bool(holds)
+        if not holds:
             self.fail(why)
         return bool(holds)
+
+    def same(self, what: str, found: object, right: object) -> bool:
+        """One check that what was found is right."""
+        return self.check(found == right, f"{what}: {found}, and not {right}")
 
     def fail(self, why: str) -> None:
         self.failed += 1
@@ -37,6 +41,19 @@ class Tally:
             self.fail(it)
         self.passed += tried - (self.failed - before)
 
+    @contextlib.contextmanager
+    def trying(self, what: str) -> Iterator[None]:
+        """A block that has failed, and ends, where a command in it does that has to end well."""
+        try:
+            yield
+        except SystemExit as error:
+            self.fail(f"{what}: {error}")
+
+    def new_folder(self, name: str) -> str:
+        """A folder of this name in the test's own."""
+        os.mkdir(f"{self.folder}/{name}")
+        return f"{self.folder}/{name}"
+
     def note(self, text: str) -> None:
         print(f"{self.name}: {text}", flush=True)
 
@@ -47,20 +64,33 @@ class Tally:
 Function = Callable[[Tally, argparse.Namespace], None]
 # An option of a test: its words for argparse.
 Option = tuple[str, dict[str, object]]
+TESTS: list["Test"] = []
 
 
-@dataclass(frozen=True)
+@dataclass
 class Test:
-    """A test. `alone` is one that uses all processors itself, or looks at the clock; crates are to be built."""
+    """A test, set before its function: `@Test("NAME", "what it shows")`. It has the commands that it starts and the crates that have to be
+    built, as words; `alone` is one that uses all processors itself, or looks at the clock."""
 
     name: str
     about: str
-    function: Function
-    commands: tuple[str, ...] = ()
-    crates: tuple[str, ...] = ()
+    function: Function | None = None
+    commands: str = ""
+    crates: str = ""
     alone: bool = False
     family: str = ""
-    options: tuple[Option, ...] = field(default=())
+    options: tuple[Option, ...] = ()
+
+    def __call__(self, function: Function) -> Function:
+        self.function = function
+        TESTS.append(self)
+        return function
+
+    def __post_init__(self) -> None:
+        if self.function:
+            TESTS.append(self)
+        # Those crates that the repository has.
+        self.needs = [it for it in self.crates.split() if it in libraries()]
 
 
 def number(name: str, default: int, about: str) -> Option:
@@ -71,18 +101,21 @@ def flag(name: str, about: str) -> Option:
     return f"--{name}", {"action": "store_true", "help": about}
 
 
+def commands_of(tests: Iterable[Test]) -> list[str]:
+    return list(dict.fromkeys(command for it in tests for command in it.commands.split()))
+
+
 def run_one(test: Test, options: argparse.Namespace) -> int:
     """Runs a test here: prints what failed, and last how many passed. A test whose commands are missing has failed."""
-    tally = Tally(test.name)
-    lacking = packages.missing(test.commands)
-    if lacking:
-        tally.fail(packages.words_of(lacking))
-    else:
+    with tempfile.TemporaryDirectory(prefix=f"elfmap-{test.name}.") as folder, progress(f"tools/test {test.name}"):
+        tally, lacking = Tally(test.name, folder), packages.missing(test.commands.split())
         try:
-            with progress(f"tools/test {test.name}"):
-                for crate in test.crates:
-                    built(crate)
-                test.function(tally, options)
+            if lacking:
+                raise SystemExit(packages.words_of(lacking))
+            for crate in test.needs:
+                built(crate)
+            assert test.function
+            test.function(tally, options)
         except (Exception, SystemExit) as error:
             trace = "" if isinstance(error, SystemExit) else traceback.format_exc()
             tally.fail(f"it ended early: {error}\n{trace}".rstrip())
@@ -95,29 +128,25 @@ def run_one(test: Test, options: argparse.Namespace) -> int:
 class Runner:
     """A run of several tests, each in a process of its own: what they counted, which failed, and what was skipped."""
 
-    def __init__(self, tests: list[Test], jobs: int) -> None:
-        self.tests, self.jobs = tests, jobs
-        self.passed, self.failed, self.broken, self.skipped = 0, 0, list[str](), list[str]()
+    def __init__(self) -> None:
+        self.passed, self.failed, self.skipped, self.broken = 0, 0, list[str](), list[str]()
         self.running: dict[str, float] = {}
 
-    def run(self, test: Test) -> tuple[Test, str, int]:
-        """One test, and what it printed."""
+    def run(self, test: Test) -> tuple[Test, float, Texts]:
+        """One test: how long it took, and how it ended."""
         self.running[test.name] = time.monotonic()
-        command = [sys.executable, f"{TOP}/tools/test", test.name]
-        ended = subprocess.run(command, cwd=TOP, stdin=subprocess.DEVNULL, stdout=subprocess.PIPE, stderr=subprocess.STDOUT)
-        seconds = time.monotonic() - self.running.pop(test.name)
-        return test, f"{test.name}: {seconds:.0f} s\n{ended.stdout.decode(errors='replace')}", ended.returncode
+        ended = said(sys.executable, f"{TOP}/tools/test", test.name)
+        return test, time.monotonic() - self.running.pop(test.name), ended
 
-    def tell(self, test: Test, output: str, status: int) -> None:
+    def count(self, test: Test, seconds: float, ended: Texts) -> None:
         """Prints what a test printed, in one piece, and counts what it counted; one that ends without its last line has failed."""
-        print(output, end="", flush=True)
-        counts = COUNTS.match(output.splitlines()[-1])
-        self.skipped += re.findall(rf"^{test.name}: (skipped: .*)", output, re.M)
+        print(f"{test.name}: {seconds:.0f} s\n{ended.stdout}", end="", flush=True)
+        counts = COUNTS.search(ended.stdout)
         passed, failed = (int(counts[1]), int(counts[2])) if counts else (0, 1)
-        failed = failed or int(status != 0)
+        failed = failed or int(ended.returncode != 0)
         self.passed, self.failed = self.passed + passed, self.failed + failed
-        if failed:
-            self.broken.append(f"{failed} of {test.name}: run `tools/test {test.name}`")
+        self.skipped += re.findall(rf"^{test.name}: (skipped: .*)", ended.stdout, re.M)
+        self.broken += [f"failed: {failed} of {test.name}: run `tools/test {test.name}`"] if failed else []
 
     def show(self, ended: threading.Event) -> None:
         """Every ten seconds a line on what runs."""
@@ -125,30 +154,30 @@ class Runner:
             names = ", ".join(f"{name} {time.monotonic() - begun:.0f} s" for name, begun in list(self.running.items()))
             print(f"tools/test: {names}", file=sys.stderr, flush=True)
 
-    def all(self) -> int:
+    def all(self, tests: list[Test], jobs: int) -> int:
+        """Runs tests, so many side by side."""
         ended = threading.Event()
         if sys.stderr.isatty():
             threading.Thread(target=self.show, args=(ended,), daemon=True).start()
-        with ThreadPoolExecutor(self.jobs) as pool:
-            for it in as_completed([pool.submit(self.run, it) for it in self.tests if not it.alone]):
-                self.tell(*it.result())
-        for test in (it for it in self.tests if it.alone):
-            self.tell(*self.run(test))
+        with ThreadPoolExecutor(jobs) as pool:
+            for it in as_completed([pool.submit(self.run, it) for it in tests if not it.alone]):
+                self.count(*it.result())
+        for test in (it for it in tests if it.alone):
+            self.count(*self.run(test))
         ended.set()
-        print("".join(f"{it}\n" for it in [*self.skipped, *(f"failed: {it}" for it in self.broken)]), end="")
-        print(f"{self.passed} passed, {self.failed} failed")
+        print("\n".join([*self.skipped, *self.broken, f"{self.passed} passed, {self.failed} failed"]))
         return 1 if self.failed else 0
 
 
 def run_several(tests: list[Test], jobs: int) -> int:
     """Installs what is missing, builds what is older than its texts, and runs these tests."""
-    packages.setup(dict.fromkeys(command for it in tests for command in it.commands))
-    for crate in dict.fromkeys(crate for it in tests for crate in it.crates):
+    packages.setup(commands_of(tests))
+    for crate in dict.fromkeys(crate for it in tests for crate in it.needs):
         try:
             built(crate)
         except SystemExit as error:
             print(f"tools/test: {error}")
-    return Runner(tests, jobs).all()
+    return Runner().all(tests, jobs)
 
 
 def families(tests: Iterable[Test]) -> dict[str, list[Test]]:
@@ -160,15 +189,21 @@ def families(tests: Iterable[Test]) -> dict[str, list[Test]]:
     return found
 
 
+def add_command(commands: Any, name: str, about: str, options: Iterable[Option]) -> argparse.ArgumentParser:
+    """Adds a subcommand, with its words and its help."""
+    own: argparse.ArgumentParser = commands.add_parser(name, help=about, description=f"{about[0].upper()}{about[1:]}.")
+    for option, words in options:
+        own.add_argument(option, **words)  # type: ignore[arg-type]
+    return own
+
+
 def parser_of(tests: list[Test]) -> argparse.ArgumentParser:
     about = "Runs the tests of the repository: all, as the gate does after `rt ci`, or some by their names or the name of their family."
     parser = argparse.ArgumentParser("tools/test", description=about)
     parser.add_argument("-j", type=int, default=PROCESSORS, dest="jobs", metavar="N", help="so many tests side by side (one a processor)")
     commands = parser.add_subparsers(dest="name", metavar="NAME", title="tests")
     for it in tests:
-        own = commands.add_parser(it.name, help=it.about, description=f"{it.about[0].upper()}{it.about[1:]}.")
-        for name, words in it.options:
-            own.add_argument(name, **words)  # type: ignore[arg-type]
+        add_command(commands, it.name, it.about, it.options)
     for name, members in families(tests).items():
         commands.add_parser(name, help=f"these: {', '.join(it.name for it in members)}")
     commands.add_parser("setup", help="install the Debian packages that the tests need, as root or by sudo")
@@ -181,15 +216,10 @@ def main(tests: list[Test], words: list[str]) -> int:
         return run_several([named[it] for it in words], PROCESSORS)
     options = parser_of(tests).parse_args(words)
     if options.name == "setup":
-        return 0 if packages.setup(dict.fromkeys(command for it in tests for command in it.commands)) else 1
+        return 0 if packages.setup(commands_of(tests)) else 1
     if options.name in named:
         return run_one(named[options.name], options)
     return run_several(families(tests).get(options.name, tests), options.jobs)
-
-
-def crates_of(*names: str) -> tuple[str, ...]:
-    """Those of these crates that the repository has."""
-    return tuple(it for it in names if it in libraries())
 
 
 def environment(**more: str) -> dict[str, str]:

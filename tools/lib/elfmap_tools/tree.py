@@ -1,7 +1,9 @@
 """The folders of the repository, its crates, and what every tool does: read and write files, run commands, show that it still runs."""
 
 import contextlib, functools, os, re, subprocess, sys, threading, time
-from collections.abc import Iterable, Iterator, Mapping
+from collections.abc import Callable, Iterable, Iterator, Mapping
+from concurrent.futures import ProcessPoolExecutor, ThreadPoolExecutor
+from typing import Any, TypeVar
 
 TOP = os.path.dirname(os.path.dirname(os.path.dirname(os.path.dirname(os.path.realpath(__file__)))))
 PROCESSORS = len(os.sched_getaffinity(0))
@@ -10,6 +12,8 @@ RULES = f"{TOP}/rules/x86-64.rules"
 PACKAGE = f"{TOP}/bindings/python"
 Ended = subprocess.CompletedProcess[bytes]
 Texts = subprocess.CompletedProcess[str]
+T = TypeVar("T")
+R = TypeVar("R")
 
 
 def read_bytes(path: str) -> bytes:
@@ -30,6 +34,15 @@ def write(path: str, content: bytes | str) -> str:
     return path
 
 
+def replaced(pattern: re.Pattern[str], text: str, own: Callable[[re.Match[str]], str], other: Callable[[str], str]) -> str:
+    """A text in which each match, and what is between them, is replaced."""
+    parts, at = list[str](), 0
+    for it in pattern.finditer(text):
+        parts += [other(text[at : it.start()]), own(it)]
+        at = it.end()
+    return "".join([*parts, other(text[at:])])
+
+
 def matched(pattern: str | re.Pattern[str], text: str) -> re.Match[str]:
     """A match at the beginning of a text, which has to be there."""
     found = re.match(pattern, text)
@@ -42,11 +55,31 @@ def run(*words: str, folder: str | None = None, env: Mapping[str, str] | None = 
     return subprocess.run(words, cwd=folder, env=env, timeout=timeout, stdin=subprocess.DEVNULL, capture_output=True)
 
 
-def said(*words: str, folder: str | None = None, env: Mapping[str, str] | None = None) -> Texts:
+def said(*words: str, folder: str | None = None, env: Mapping[str, str] | None = None, timeout: float | None = None) -> Texts:
     """Runs a command without input: its status, and both its outputs as one text."""
-    return subprocess.run(
-        words, cwd=folder or TOP, env=env, stdin=subprocess.DEVNULL, stdout=subprocess.PIPE, stderr=subprocess.STDOUT, errors="replace"
-    )
+    more: dict[str, Any] = {"stdin": subprocess.DEVNULL, "stdout": subprocess.PIPE, "stderr": subprocess.STDOUT, "errors": "replace"}
+    return subprocess.run(words, cwd=folder or TOP, env=env, timeout=timeout, **more)
+
+
+def wanted(*words: str, folder: str | None = None, timeout: float | None = None) -> str:
+    """Runs a command that has to end well: what it says."""
+    ended = said(*words, folder=folder, timeout=timeout)
+    if ended.returncode:
+        raise SystemExit(f"{os.path.basename(words[0])} ended with status {ended.returncode}: {ended.stdout[-2000:]}")
+    return ended.stdout
+
+
+def by_cc(path: str, words: str, source: str) -> str:
+    """Makes a file of one of cases/sources/ by cc: its path."""
+    wanted("cc", *words.split(), f"{TOP}/cases/sources/{source}", "-o", path)
+    return path
+
+
+def side_by_side(function: Callable[[T], R], items: Iterable[T], by_processes: bool = False) -> list[R]:
+    """What a function returns for each item, with as many calls at a time as there are processors."""
+    items = list(items)
+    with (ProcessPoolExecutor if by_processes else ThreadPoolExecutor)(PROCESSORS) as pool:
+        return list(pool.map(function, items, chunksize=max(1, min(10, len(items) // PROCESSORS))))
 
 
 def files_below(folder: str) -> Iterator[str]:

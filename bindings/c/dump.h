@@ -1,9 +1,9 @@
 /*
- * What the library tells of a file, line by line, for tools/test c-library to compare with the reference: a part of test.c, whose functions
- * and section types it uses.
+ * Dumps what the library says of a file, line by line, for tools/test c-library to compare with the reference: a part of test.c, whose
+ * functions and section types it uses.
  */
-#ifndef TELLING_H
-#define TELLING_H
+#ifndef DUMP_H
+#define DUMP_H
 
 static uint8_t *read_whole(const char *path, size_t *len) {
     FILE *file = fopen(path, "rb");
@@ -19,7 +19,7 @@ static uint8_t *read_whole(const char *path, size_t *len) {
     return bytes;
 }
 
-static void tell_verdict(const char *how, bool is_kept, struct elfmap_fault fault) {
+static void dump_verdict(const char *how, bool is_kept, struct elfmap_fault fault) {
     if (is_kept)
         printf("%s kept\n", how);
     else
@@ -27,44 +27,44 @@ static void tell_verdict(const char *how, bool is_kept, struct elfmap_fault faul
 }
 
 /* The verdict, and that by rooms: an empty one, one that is short by an extent, and one that is as large as is wanted. */
-static bool tell_verdicts(const uint8_t *bytes, size_t len) {
+static bool dump_verdicts(const uint8_t *bytes, size_t len) {
     struct elfmap_fault fault = {0, 0}, short_fault = {0, 0}, fault_in = {0, 0};
     struct elfmap_extent none;
     bool is_kept = elfmap_verdict(bytes, len, &fault);
-    tell_verdict("verdict", is_kept, fault);
-    tell_verdict("in none", elfmap_verdict_in(bytes, len, &none, 0, &short_fault), short_fault);
+    dump_verdict("verdict", is_kept, fault);
+    dump_verdict("in none", elfmap_verdict_in(bytes, len, &none, 0, &short_fault), short_fault);
     if (short_fault.rule == ELFMAP_SHORT_ROOM) {
         size_t wanted = (size_t) short_fault.at;
         struct elfmap_extent *room = malloc(wanted * sizeof *room);
         if (!room)
             stop("malloc");
-        tell_verdict("in less", elfmap_verdict_in(bytes, len, room, wanted - 1, &short_fault), short_fault);
-        tell_verdict("in enough", elfmap_verdict_in(bytes, len, room, wanted, &fault_in), fault_in);
+        dump_verdict("in less", elfmap_verdict_in(bytes, len, room, wanted - 1, &short_fault), short_fault);
+        dump_verdict("in enough", elfmap_verdict_in(bytes, len, room, wanted, &fault_in), fault_in);
         free(room);
     }
     return is_kept;
 }
 
 /* The parts, and the verdict by rooms for them: an empty one, one that is short by a part, and one that is as large as is wanted. */
-static void tell_parts(const uint8_t *bytes, size_t len) {
+static void dump_parts(const uint8_t *bytes, size_t len) {
     struct elfmap_fault fault = {0, 0};
     struct elfmap_part none;
     uint64_t parts = 0;
-    tell_verdict("parts in none", elfmap_parts(bytes, len, &none, 0, &parts, &fault), fault);
+    dump_verdict("parts in none", elfmap_parts(bytes, len, &none, 0, &parts, &fault), fault);
     if (fault.rule != ELFMAP_SHORT_ROOM)
         return;
     size_t wanted = (size_t) fault.at;
     struct elfmap_part *room = malloc(wanted * sizeof *room);
     if (!room)
         stop("malloc");
-    tell_verdict("parts in less", elfmap_parts(bytes, len, room, wanted - 1, &parts, &fault), fault);
-    tell_verdict("parts in enough", elfmap_parts(bytes, len, room, wanted, &parts, &fault), fault);
+    dump_verdict("parts in less", elfmap_parts(bytes, len, room, wanted - 1, &parts, &fault), fault);
+    dump_verdict("parts in enough", elfmap_parts(bytes, len, room, wanted, &parts, &fault), fault);
     for (uint64_t k = 0; k < parts; k++)
         printf("part %" PRIu64 " %" PRIu64 " %" PRIu64 "\n", room[k].start, room[k].len, room[k].owner);
     free(room);
 }
 
-static void tell_header(const struct elfmap_file *file, const uint8_t *bytes, size_t len) {
+static void dump_header(const struct elfmap_file *file, const uint8_t *bytes, size_t len) {
     struct elfmap_header h;
     printf("file %" PRIu64 " %" PRIu64 " %" PRIu64 " %" PRIu64 " %" PRIu64 " %u\n", file->e_phoff, file->e_shoff, file->sections,
            file->segments, file->name_table, (unsigned) file->ei_data);
@@ -78,7 +78,7 @@ static void tell_header(const struct elfmap_file *file, const uint8_t *bytes, si
            (unsigned) h.e_phentsize, (unsigned) h.e_phnum, (unsigned) h.e_shentsize, (unsigned) h.e_shnum, (unsigned) h.e_shstrndx);
 }
 
-static void tell_records(const struct elfmap_file *file, const uint8_t *bytes, size_t len) {
+static void dump_records(const struct elfmap_file *file, const uint8_t *bytes, size_t len) {
     struct elfmap_section s;
     struct elfmap_segment p;
     struct elfmap_extent name;
@@ -97,7 +97,7 @@ static void tell_records(const struct elfmap_file *file, const uint8_t *bytes, s
 }
 
 /* What each loadable segment's first and last addresses are given, those of its bytes in the file, and the address behind it. */
-static void tell_loaded(const struct elfmap_file *file, const uint8_t *bytes, size_t len) {
+static void dump_loaded(const struct elfmap_file *file, const uint8_t *bytes, size_t len) {
     struct elfmap_segment p;
     for (uint64_t j = 0; elfmap_segment(file, bytes, len, j, &p); j++) {
         uint64_t addresses[] = {p.p_vaddr, p.p_vaddr + p.p_filesz - 1, p.p_vaddr + p.p_filesz, p.p_vaddr + p.p_memsz - 1,
@@ -112,37 +112,37 @@ static void tell_loaded(const struct elfmap_file *file, const uint8_t *bytes, si
     }
 }
 
-static void tell_bytes(const uint8_t *bytes, struct elfmap_extent place) {
+static void dump_bytes(const uint8_t *bytes, struct elfmap_extent place) {
     for (uint64_t k = 0; k < place.len; k++)
         printf("%02x", (unsigned) bytes[place.start + k]);
 }
 
-static void tell_symbols(const struct elfmap_table *table, const uint8_t *bytes, size_t len) {
+static void dump_symbols(const struct elfmap_table *table, const uint8_t *bytes, size_t len) {
     struct elfmap_symbol s;
     for (uint64_t j = 0; j < table->entries; j++) {
         if (!elfmap_symbol(table, bytes, len, j, &s))
             continue;
         printf("symbol %" PRIu32 " %u %u %u %" PRIu64 " %" PRIu64 " %" PRIu32 " ", s.st_name, (unsigned) s.st_info, (unsigned) s.st_other,
                (unsigned) s.st_shndx, s.st_value, s.st_size, s.section);
-        tell_bytes(bytes, s.name);
+        dump_bytes(bytes, s.name);
         printf("\n");
     }
 }
 
-static void tell_relocations(const struct elfmap_table *table, const uint8_t *bytes, size_t len) {
+static void dump_relocations(const struct elfmap_table *table, const uint8_t *bytes, size_t len) {
     struct elfmap_relocation r;
     for (uint64_t j = 0; elfmap_relocation(table, bytes, len, j, &r); j++)
         printf("relocation %" PRIu64 " %" PRId64 " %" PRIu32 " %" PRIu32 "\n", r.r_offset, r.r_addend, r.symbol, r.relocation_type);
 }
 
 /* The entries of a dynamic array, and what each would name if its value were the offset of a string. */
-static void tell_dynamic(const struct elfmap_table *table, const uint8_t *bytes, size_t len) {
+static void dump_dynamic(const struct elfmap_table *table, const uint8_t *bytes, size_t len) {
     struct elfmap_dynamic e;
     struct elfmap_extent text;
     for (uint64_t j = 0; elfmap_dynamic(table, bytes, len, j, &e); j++) {
         printf("dynamic %" PRId64 " %" PRIu64 " ", e.d_tag, e.d_un);
         if (elfmap_string(table, bytes, len, e.d_un, &text))
-            tell_bytes(bytes, text);
+            dump_bytes(bytes, text);
         else
             printf("none");
         printf("\n");
@@ -150,14 +150,14 @@ static void tell_dynamic(const struct elfmap_table *table, const uint8_t *bytes,
 }
 
 /* The notes one after the other, and each by its index too. */
-static void tell_notes(const struct elfmap_table *table, const uint8_t *bytes, size_t len) {
+static void dump_notes(const struct elfmap_table *table, const uint8_t *bytes, size_t len) {
     struct elfmap_note n, by_index;
     uint64_t j = 0;
     for (uint64_t at = 0; elfmap_note_at(table, bytes, len, at, &n); at = n.next, j++) {
         printf("note %" PRIu32 " %" PRIu64 " ", n.n_type, n.next);
-        tell_bytes(bytes, n.name);
+        dump_bytes(bytes, n.name);
         printf(" ");
-        tell_bytes(bytes, n.desc);
+        dump_bytes(bytes, n.desc);
         bool is_same = elfmap_note(table, bytes, len, j, &by_index) && by_index.name.start == n.name.start
             && by_index.name.len == n.name.len && by_index.desc.start == n.desc.start && by_index.desc.len == n.desc.len
             && by_index.next == n.next && by_index.n_type == n.n_type;
@@ -168,7 +168,7 @@ static void tell_notes(const struct elfmap_table *table, const uint8_t *bytes, s
 }
 
 /* Which symbol is found by the name of each symbol of a hash table, and by one that none has. */
-static void tell_found(const struct elfmap_table *table, const uint8_t *bytes, size_t len) {
+static void dump_found(const struct elfmap_table *table, const uint8_t *bytes, size_t len) {
     struct elfmap_table symbols = *table;
     struct elfmap_relocation entry;
     struct elfmap_extent name;
@@ -199,7 +199,7 @@ static void tell_found(const struct elfmap_table *table, const uint8_t *bytes, s
     }
 }
 
-static void tell_tables(const struct elfmap_file *file, const uint8_t *bytes, size_t len) {
+static void dump_tables(const struct elfmap_file *file, const uint8_t *bytes, size_t len) {
     struct elfmap_table t;
     for (uint64_t i = 0; i < file->sections; i++) {
         if (!elfmap_table(file, bytes, len, i, &t))
@@ -208,32 +208,32 @@ static void tell_tables(const struct elfmap_file *file, const uint8_t *bytes, si
                t.content.start, t.content.len, t.linked.start, t.linked.len, t.strings.start, t.strings.len, t.entries, t.sh_type,
                (unsigned) t.ei_data);
         if (t.sh_type == SYMTAB || t.sh_type == DYNSYM)
-            tell_symbols(&t, bytes, len);
+            dump_symbols(&t, bytes, len);
         else if (t.sh_type == RELA || t.sh_type == REL)
-            tell_relocations(&t, bytes, len);
+            dump_relocations(&t, bytes, len);
         else if (t.sh_type == DYNAMIC)
-            tell_dynamic(&t, bytes, len);
+            dump_dynamic(&t, bytes, len);
         else if (t.sh_type == NOTE)
-            tell_notes(&t, bytes, len);
+            dump_notes(&t, bytes, len);
         else if (t.sh_type == HASH)
-            tell_found(&t, bytes, len);
+            dump_found(&t, bytes, len);
     }
 }
 
-static void tell_file(const char *path) {
+static void dump_file(const char *path) {
     size_t len;
     uint8_t *read = read_whole(path, &len);
     struct elfmap_file file;
     for (int at_end = 0; at_end < 2; at_end++) {
         struct guarded it = guarded_bytes(read, len, at_end);
         printf("-- %s\n", path);
-        bool is_kept = tell_verdicts(it.bytes, it.len);
-        tell_parts(it.bytes, it.len);
+        bool is_kept = dump_verdicts(it.bytes, it.len);
+        dump_parts(it.bytes, it.len);
         if (elfmap_file(it.bytes, it.len, &file) && is_kept) {
-            tell_header(&file, it.bytes, it.len);
-            tell_records(&file, it.bytes, it.len);
-            tell_loaded(&file, it.bytes, it.len);
-            tell_tables(&file, it.bytes, it.len);
+            dump_header(&file, it.bytes, it.len);
+            dump_records(&file, it.bytes, it.len);
+            dump_loaded(&file, it.bytes, it.len);
+            dump_tables(&file, it.bytes, it.len);
         }
         give_back(it);
     }

@@ -1,0 +1,239 @@
+"""What the libraries have to say of files, by the reference implementation: the lines that bindings/c/test.c prints, and those with which
+the tests of bindings/rust and bindings/python compare. `tools/dev told FOLDER` writes these into FOLDER: a file as K.elf, and its lines as
+K.txt, K from 0; bytes as `=` and their hexadecimal digits, `-` where there are none."""
+
+import argparse, os
+from collections.abc import Iterator
+from typing import Any
+
+from .cases import case_files
+
+from .reference import (
+    DYNAMIC, DYNAMIC_SECTION, DYNSYM, ENTRY_SIZE, HASH, HEADER, LOAD, NOBITS, NOTE, NULL, PROGRAM_HEADER, REL, RELA, RELOCATION,
+    SECTION_HEADER, SYMBOL, SYMTAB, SYMTAB_SHNDX, XINDEX, Broken, File, Layout, check, elf_hash, entries_before_null, is_section, name_of,
+    notes, padded, parts, rewritten, rule_name, shown, signed, string, symbols, table_verdict, verdict,
+)  # fmt: skip
+from .tree import read_bytes, write
+
+# ---- the entries of tables: also of those that break a rule, as far as they lie in the file
+
+
+def content_of(f: Any, i: int | None) -> bytes:
+    """The bytes of section i; none where there is none of this index."""
+    return b"" if i is None or f.section(i).sh_type in (NULL, NOBITS) else bytes(f.content(i))
+
+
+def beside(f: Any, i: int) -> tuple[int | None, int | None]:
+    """The sections that the table in section i is read by beside its own, each None where there is none: its index table or its symbol
+    table, and its string table."""
+    kind, link = f.section(i).sh_type, f.section(i).sh_link
+    if kind in (SYMTAB, DYNSYM):
+        return next((k for k, it in f.sections() if it.sh_type == SYMTAB_SHNDX and it.sh_link == i), None), link
+    if kind == HASH:
+        return link, f.section(link).sh_link
+    return None, link if kind == DYNAMIC_SECTION else None
+
+
+def symbols_in(f: Any, i: int) -> Iterator[tuple[Any, int, str]]:
+    """Each symbol, the index of its section, and its name."""
+    index_table, strings = beside(f, i)
+    words, names = [] if index_table is None else f.words(index_table), content_of(f, strings)
+    for k, it in enumerate(symbols(f, i)):
+        if it.st_shndx != XINDEX or k < len(words):
+            yield it, words[k][1] if it.st_shndx == XINDEX else it.st_shndx, string(names, it.st_name).hex()
+
+
+def relocations_in(f: Any, i: int) -> Iterator[str]:
+    """The numbers of each relocation: its offset, addend, symbol and kind."""
+    kind = f.section(i).sh_type
+    for it in f.entries(i, RELOCATION, ENTRY_SIZE[kind]):
+        yield f"{it.r_offset} {signed(it.r_addend, 64) if kind == RELA else 0} {it.r_info // 2 ** 32} {it.r_info % 2 ** 32}"
+
+
+def dynamic_in(f: Any, i: int) -> Iterator[tuple[str, str | None]]:
+    """The numbers of each dynamic entry, and the string at its number."""
+    strings, entries = content_of(f, f.section(i).sh_link), entries_before_null(f, i)
+    for it in f.entries(i, DYNAMIC, 16) if entries is None else entries:
+        yield f"{signed(it.d_tag, 64)} {it.d_un}", string(strings, it.d_un).hex() if it.d_un < len(strings) else None
+
+
+def notes_in(f: Any, i: int) -> Iterator[tuple[int, int, str, str]]:
+    """Each whole note: its type, where it ends, its name, and its descriptor."""
+    for at, end, name, size in notes(f, i):
+        named, begin = at + 12, at + 12 + padded(name)
+        if begin + padded(size) <= end:
+            yield f.number(at + 8, 4), begin + padded(size), f.bytes[named : named + name][:-1].hex(), f.bytes[begin : begin + size].hex()
+
+
+def fields(record: Any, layout: Layout) -> str:
+    return " ".join(str(getattr(record, it)) for it in layout)
+
+
+# ---- for bindings/c/test.c
+
+
+def by_rooms(f: Any, broken: Broken | None, wanted: int) -> list[str]:
+    """The ends of the lines on a verdict by rooms: an empty one, one that is too short by one, and one that is as large as is wanted."""
+    if broken and broken[0] < 33:
+        return [f"in none {end_of(broken)}"]
+    return [f"in none refused 0 {wanted}", f"in less refused 0 {wanted}", f"in enough {end_of(broken)}"]
+
+
+def end_of(broken: Broken | None) -> str:
+    return f"refused {broken[0]} {broken[1]}" if broken else "kept"
+
+
+# The owner of a part by its index in the list of a file's extents, as the reference calls it: of a content by the section's index.
+OWNERS = {"header": 0, "sections": 1, "segments": 2, "content": 3, "gap": 2**64 - 1}
+
+
+def part_lines(f: Any) -> Iterator[str]:
+    for start, size, whose in parts(f):
+        kind, _, index = whose.partition(" ")
+        yield f"part {start} {size} {OWNERS[kind] + (int(index) if kind == 'content' else 0)}"
+
+
+def loaded(f: Any, address: int) -> object:
+    """The byte that the first loadable segment with this address gives it, or 'none'."""
+    for it in f.segments():
+        k = address - it.p_vaddr
+        if it.p_type == LOAD and 0 <= k < it.p_memsz:
+            return f.bytes[it.p_offset + k] if k < it.p_filesz else 0
+    return "none"
+
+
+def load_lines(f: Any) -> Iterator[str]:
+    for it in (it for it in f.segments() if it.p_type == LOAD):
+        for k in (0, it.p_filesz - 1, it.p_filesz, it.p_memsz - 1, it.p_memsz):
+            address = (it.p_vaddr + k) % 2**64
+            yield f"load {address} {loaded(f, address)}"
+
+
+def record_lines(f: Any) -> Iterator[str]:
+    yield f"file {f.header.e_phoff} {f.header.e_shoff} {f.section_count} {f.segment_count} {f.name_table} {f.bytes[5]}"
+    yield f"header {f.bytes[:16].hex()} {fields(f.header, HEADER)}"
+    yield from (f"section {fields(it, SECTION_HEADER)} {name_of(f, it).hex()}" for _, it in f.sections())
+    yield from (f"segment {fields(it, PROGRAM_HEADER)}" for it in f.segments())
+
+
+def found(words: list[int], names: list[bytes], name: bytes) -> object:
+    """The first symbol of this name on the chain of its bucket, or 'none': of words that may break a rule."""
+    word = dict(enumerate(words))
+    buckets, chains = word.get(0, 0), word.get(1, 0)
+    symbol = word.get(2 + elf_hash(name) % buckets, 0) if buckets and chains == len(names) else 0
+    for _ in range(chains if symbol else 0):
+        if symbol == 0 or names[symbol : symbol + 1] == [name]:
+            break
+        symbol = word.get(2 + buckets + symbol, 0)
+    return symbol if names[symbol : symbol + 1] == [name] and symbol else "none"
+
+
+def found_lines(f: Any, i: int) -> Iterator[str]:
+    linked, strings = (content_of(f, k) for k in beside(f, i))
+    names = [string(strings, int.from_bytes(linked[at : at + 4], f.order)) for at in range(0, len(linked) // 24 * 24, 24)]
+    words = [it for _, it in f.words(i)]
+    for name in [*names, b"no such name"]:
+        yield f"found {name.hex()} {found(words, names, name)}"
+
+
+def entry_lines(f: Any, i: int, kind: int) -> list[str]:
+    if kind in (SYMTAB, DYNSYM):
+        return [f"symbol {fields(it, SYMBOL)} {section} {name}" for it, section, name in symbols_in(f, i)]
+    if kind in (RELA, REL):
+        return [f"relocation {it}" for it in relocations_in(f, i)]
+    if kind == DYNAMIC_SECTION:
+        return [f"dynamic {numbers} {'none' if name is None else name}" for numbers, name in dynamic_in(f, i)]
+    if kind == NOTE:
+        return [f"note {type} {end - f.section(i).sh_offset} {name} {own}" for type, end, name, own in notes_in(f, i)]
+    return list(found_lines(f, i))
+
+
+def place(f: Any, i: int | None) -> str:
+    """Where the bytes of section i are."""
+    return "0 0" if i is None else f"{f.section(i).sh_offset} {len(content_of(f, i))}"
+
+
+def is_linked(f: Any, i: int) -> bool:
+    """Whether the sections are there that the table in section i links to."""
+    kind, link = f.section(i).sh_type, f.section(i).sh_link
+    return kind == NOTE or is_section(f, link) and (kind != HASH or is_section(f, f.section(link).sh_link))
+
+
+def table_lines(f: Any, i: int) -> Iterator[str]:
+    kind = f.section(i).sh_type
+    if kind in (SYMTAB, DYNSYM, RELA, REL, DYNAMIC_SECTION, NOTE, HASH) and is_linked(f, i):
+        lines = entry_lines(f, i, kind)
+        count = len(notes(f, i)) if kind == NOTE else len(lines) if kind == DYNAMIC_SECTION else f.section(i).sh_size // ENTRY_SIZE[kind]
+        beside_it = " ".join(place(f, it) for it in beside(f, i))
+        yield f"table {i} {place(f, i)} {beside_it} {count} {kind} {f.bytes[5]}"
+        yield from lines
+
+
+def c_lines(content: bytes) -> list[str]:
+    """What the test of the library for C prints of a file."""
+    f, broken = File(content), verdict(content)
+    lines = [f"verdict {end_of(broken)}", *by_rooms(f, broken, 3 + f.section_count)]
+    lines += [f"parts {it}" for it in by_rooms(f, broken, 3 * (3 + f.section_count) + 1)]
+    if broken:
+        return lines
+    tables = (line for i, _ in f.sections() for line in table_lines(f, i))
+    return [*lines, *part_lines(f), *record_lines(f), *load_lines(f), *tables]
+
+
+# ---- for bindings/rust and bindings/python
+
+MACHINE_FILES = ["/bin/true"]
+# Of a longer file the records alone are told: the reference is slow.
+LONG = 1 << 20
+
+
+def files() -> list[bytes]:
+    """The files of cases/*.txt and some of the machine's own, each once."""
+    return list(dict.fromkeys([*case_files(), *map(read_bytes, filter(os.path.isfile, MACHINE_FILES))]))
+
+
+def record_line(word: str, record: Any, layout: Layout, *parts: bytes | None) -> str:
+    return " ".join([word, fields(record, layout), *("-" if it is None else f"={it.hex()}" for it in parts)])
+
+
+def entries(f: Any, i: int, kind: int) -> list[str]:
+    """The entries of a table that breaks none of its rules."""
+    if table_verdict(f, i):
+        return [f"broken {i}"]
+    if kind in (SYMTAB, DYNSYM):
+        numbers = "{0.st_value} {0.st_size} {1} {0.st_shndx} {0.st_info} {0.st_other}"
+        return [f"symbol {i} {numbers.format(it, section)} ={name}" for it, section, name in symbols_in(f, i)]
+    if kind in (RELA, REL):
+        return [f"relocation {i} {it}" for it in relocations_in(f, i)]
+    if kind == DYNAMIC_SECTION:
+        return [f"dynamic {i} {numbers} ={name or ''}" for numbers, name in dynamic_in(f, i)]
+    return [f"note {i} {type} ={name} ={own}" for type, _, name, own in notes_in(f, i)]
+
+
+def lines_of(content: bytes) -> list[str]:
+    """The lines on a file: its refusal, or what it counts, each of its records, parts and entries, and its object."""
+    broken = verdict(content)
+    if broken:
+        return [f"refused {broken[0]} {broken[1]} {rule_name(broken[0]).upper()}"]
+    f = File(content)
+    lines = [check(content), record_line("header", f.header, HEADER, content[:16])]
+    for i, it in f.sections():
+        own = None if it.sh_type in (NULL, NOBITS) else f.content(i)
+        lines.append(record_line("section", it, SECTION_HEADER, name_of(f, it), own))
+    for it in f.segments():
+        own = content[it.p_offset : it.p_offset + it.p_filesz]
+        lines.append(record_line("segment", it, PROGRAM_HEADER, None if it.p_type == NULL else own))
+    if len(content) > LONG:
+        return lines
+    lines += [f"part {start} {size} {'gap' if owner.startswith('gap') else owner}" for start, size, owner in parts(f)]
+    tables = (SYMTAB, DYNSYM, RELA, REL, DYNAMIC_SECTION, NOTE)
+    lines += [line for i, it in f.sections() if it.sh_type in tables for line in entries(f, i, it.sh_type)]
+    refusal, written = rewritten(content) or ("", b"")
+    return [*lines, f"show ={shown(content).encode().hex()}", f"rewrite {refusal.strip()}" if refusal else f"rewrite ={written.hex()}"]
+
+
+def main(options: argparse.Namespace) -> int:
+    for k, content in enumerate(files()):
+        write(f"{options.folder}/{k}.elf", content)
+        write(f"{options.folder}/{k}.txt", "".join(f"{it}\n" for it in lines_of(content)))
+    return 0
