@@ -17,6 +17,7 @@ use Rattle.elf_object_writer.specs.ObjectWriting.{IsLayoutWritten}
 use Rattle.elf_object_writer.specs.declared.object_writing.ObjectWriteFault.{ObjectWriteFault}
 use Rattle.elf_object_writer.specs.declared.object_writing.ObjectWriteFault.TheVariants.{TooLong, OutOfMemory, Io}
 use Rattle.elf_object_writer.proofs.Public.{one_layout}
+use Rattle.elf_object_writer.proofs.SharedNames.{shared_names}
 use Rattle.elf_table_symbols.specs.Sections.{sections_of}
 
 module _ (o : ObjectValue) (object : IsObject o) (widths : ObjectFits o) where
@@ -26,6 +27,7 @@ module _ (o : ObjectValue) (object : IsObject o) (widths : ObjectFits o) where
       let denotes = written_denotes_object o b written in
       record {
         laid = laid;
+        names = shared_names o object;
         short = short;
         accepted = written_accepted o b written;
         image = some_image b (written_is_bytes o b written) (written_accepted o b written);

@@ -13,6 +13,7 @@ use Rattle.elf_object_type.specs.ObjectRules.{IsObject}
 use Rattle.elf_object_type.specs.Widths.{ObjectFits}
 use Rattle.elf_object_writer.specs.Laid.{Laid}
 use Rattle.elf_object_writer.specs.LayoutView.{IsLayoutFault}
+use Rattle.elf_object_writer.specs.NameTables.{HasSharedNames}
 use Rattle.elf_object_writer.specs.declared.layout.LayoutFault.TheVariants as layout
 use Rattle.elf_object_writer.specs.declared.object_writing.ObjectWriteFault.{ObjectWriteFault}
 use Rattle.elf_object_writer.specs.declared.object_writing.ObjectWriteFault.TheVariants.{TooLong, OutOfMemory, Io}
@@ -23,6 +24,8 @@ use Rattle.elf_table_symbols.specs.Sections.{sections_of}
 -- objects are equal
 pub record IsWrittenFile (o : ObjectValue) (b : List ℕ) : Type 0 where
   pub laid : Laid o b
+  -- each name is at its lowest offset in the two string tables, and no table that holds these names is shorter
+  pub names : HasSharedNames o
   pub short : length b ≤ MAX_LEN
   pub accepted : IsFault b None
   pub image : (v : ImageValue) × IsImage v b
