@@ -6,6 +6,7 @@ import contextlib
 import os
 import random
 import shutil
+import signal
 import subprocess
 import sys
 import tempfile
@@ -22,19 +23,28 @@ LINT = ["lint", "--tables", "--object"]
 MEMORY = "/dev/shm"
 
 
+# A process begins with the peak memory of the one that starts it, and that of the tests is large. So a small one starts the command.
+START = """
+import os, sys
+words = [sys.executable, *sys.argv[2:]]
+_, status, usage = os.wait4(os.posix_spawn(words[0], words, os.environ), 0)
+os.write(int(sys.argv[1]), f"{os.waitstatus_to_exitcode(status)} {usage.ru_maxrss}".encode())
+"""
+
+
 def run(*words, limit=LONGEST):
     """The status, standard output and standard error of a command of the package, and its peak memory in MiB."""
-    with tempfile.TemporaryFile() as out, tempfile.TemporaryFile() as err:
-        process = subprocess.Popen(
-            [sys.executable, "-m", f"elfmap.{words[0]}", *words[1:]], stdin=subprocess.DEVNULL, stdout=out, stderr=err, env=ENVIRONMENT
-        )
-        timer = threading.Timer(limit, process.kill)
+    with tempfile.TemporaryFile() as out, tempfile.TemporaryFile() as err, tempfile.TemporaryFile() as ended:
+        command = [sys.executable, "-c", START, str(ended.fileno()), "-m", f"elfmap.{words[0]}", *words[1:]]
+        keep = {"pass_fds": [ended.fileno()], "env": ENVIRONMENT, "start_new_session": True}
+        process = subprocess.Popen(command, stdin=subprocess.DEVNULL, stdout=out, stderr=err, **keep)
+        timer = threading.Timer(limit, os.killpg, [process.pid, signal.SIGKILL])
         timer.start()
-        _, status, usage = os.wait4(process.pid, 0)
+        process.wait()
         timer.cancel()
-        process.returncode = os.waitstatus_to_exitcode(status)
         said = [os.pread(it.fileno(), 1 << 26, 0).decode("utf-8", "surrogateescape") for it in (out, err)]
-        return process.returncode, *said, usage.ru_maxrss / 1024
+        status, peak = os.pread(ended.fileno(), 100, 0).split()
+        return int(status), *said, int(peak) / 1024
 
 
 def room_in_memory(files):
