@@ -212,8 +212,10 @@ def parser_of(tests: list[Test]) -> argparse.ArgumentParser:
 
 def main(tests: list[Test], words: list[str]) -> int:
     named = {it.name: it for it in tests}
-    if len(words) > 1 and all(it in named for it in words):
-        return run_several([named[it] for it in words], PROCESSORS)
+    is_counted = len(words) > 2 and words[0] == "-j" and words[1].isdecimal()
+    jobs, names = (int(words[1]), words[2:]) if is_counted else (PROCESSORS, words)
+    if len(names) > 1 and all(it in named for it in names):
+        return run_several([named[it] for it in names], jobs)
     options = parser_of(tests).parse_args(words)
     if options.name == "setup":
         return 0 if packages.setup(commands_of(tests)) else 1
