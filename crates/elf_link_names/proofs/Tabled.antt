@@ -1,5 +1,5 @@
--- What is known of each name, kept up symbol by symbol. A symbol changes only what is known of its own name: whether it is defined, the
--- first definitions, and its largest common. After the last file this is what the whole link says of the name.
+-- What is known of each name, kept up symbol by symbol. A symbol changes only what is known of its own name: whether an entry is not
+-- WEAK, the first definitions, and the largest common. After the last file this is what the whole link says of the name.
 use Rattle.std.proofs.Common.{◌≡◌, ◌≢◌, ◌↔◌, ℕ, ◌+◌, ◌<◌, ◌≤◌, ◌⊎◌, Bool, true, false, List, [], ◌∷◌, ◌++◌, length, map, set, inl, inr, refl, sym, ◌∙◌, ap, subst, arith, length-append}
 use Rattle.std.specs.Prelude.{if◌then◌else◌, Option, None, Some, MatchOption}
 use Rattle.std.specs.Str.{bytes_eq}

@@ -1,5 +1,6 @@
--- Names of which none ends with another take the bytes of all of them, with a zero each, in whatever list holds them. Cut out one name
--- with its zero: the others are still there, so by induction the list is at least that long.
+-- Names without zeros, of which none ends with another, take the bytes of all of them, with a zero each, in whatever list holds them. Cut out
+-- one name with its zero. Another name that met the cut would end with it, or it with that one. So the others are still there, and by
+-- induction the list is at least that long.
 use Rattle.std.proofs.Common.{◌≡◌, ◌≤◌, ℕ, List, [], ◌∷◌, ◌++◌, length, sym, ap, ap₂, ◌∙◌, arith, length-append, inl, inr}
 use Rattle.std.specs.Prelude.{◌⊎◌, ⊤}
 use Rattle.std.specs.List.{AllByRecursion, flat_map}

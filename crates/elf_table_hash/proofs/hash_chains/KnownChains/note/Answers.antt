@@ -1,4 +1,5 @@
--- The chain of a symbol is one longer than that of its chain word, and what leads to a symbol is a symbol.
+-- The chain of a symbol is one longer than that of its chain word, and what a symbol leads to is a symbol. The tables of jumps and of starts
+-- change at this symbol alone.
 use Rattle.std.proofs.Common.{ℕ, ◌<◌, arith, vec_len}
 use Rattle.elf_table_hash.specs.ChainDepths.{Leads}
 use Rattle.elf_table_hash.specs.HashTable.{chain, nchain}
