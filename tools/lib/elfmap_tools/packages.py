@@ -15,7 +15,8 @@ COMMANDS = {
     "binutils": "ar as ld nm objcopy readelf", "binaryen": "wasm-opt", "black": "black", "cargo-web": "cargo",
     "chromium": "chromium", "clang": "clang", "debootstrap": "debootstrap", "dpkg": "dpkg-deb", "elfutils": "eu-elflint",
     "g++": "c++ g++", "gcc": "cc gcc", "git": "git", "groff": "groff", "libclang-rt-14-dev": SANITIZERS, "libklibc-dev": KLIBC,
-    "lld": "ld.lld", "llvm": "llvm-objcopy", "man-db": "man", "mypy": "mypy", "nodejs": "node", "pkg-config": "pkg-config",
+    "lld": "ld.lld", "lld-19": "ld.lld-19", "llvm": "llvm-objcopy", "llvm-19": "llvm-mc-19",
+    "man-db": "man", "mypy": "mypy", "nodejs": "node", "pkg-config": "pkg-config",
     "pre-commit": "pre-commit", "python3-jsonschema": JSONSCHEMA, "python3-junitparser": JUNITPARSER,
     "rustc-web": "rustc", "util-linux": "unshare", "valgrind": "valgrind",
 }  # fmt: skip
