@@ -1,5 +1,6 @@
--- A table of records as a list of bytes, and back, for every kind of record. All records have one size, so record k is at k times the
--- size, and the laws of one record carry over by induction on the entries.
+-- A table of records, written and read back, for every kind of record: the records read are those written, and the bytes written are those
+-- read. By induction on the entries, each by the laws of one record; all records have one size, so record k is at k times the size. A
+-- record read in a part of the bytes is the one at its place in the whole.
 use Rattle.std.proofs.Common.{◌≡◌, ◌≤◌, ◌<◌, ◌+◌, ◌-◌, ◌*◌, ℕ, zero, suc, List, [], ◌∷◌, ◌++◌, length, take, drop, get_or, take_all, map, refl, sym, ap, ap₂, ◌∙◌, arith, length-append, length-drop}
 use Rattle.std.specs.List.{AllByRecursion, flat_map, range_with_len}
 use Rattle.std.proofs.Math.Nat.{mul-add, mul-one, mul-suc, mul-zero}
