@@ -1,5 +1,6 @@
--- The walk over ascending members that accounts for every offset. Between the last end and the next start there is one gap or nothing,
--- because no other member begins there; after the gap comes the member. So one step extends the account to the member's end.
+-- The walk over ascending members that accounts for every offset. Between the last end and the next start no byte is held: earlier members
+-- have ended, and later ones have not begun. So there is one gap or nothing, and then the member. After the last member there is one gap or
+-- nothing up to the total.
 use Rattle.std.proofs.Common.{◌≡◌, ℕ, ◌+◌, ◌-◌, ◌<◌, ◌≤◌, ◌⊎◌, true, false, cond, List, [], ◌∷◌, ◌++◌, length, get_or, None, Some, nat_lt, inl, inr, refl, ap, sym, subst, ◌∙◌, arith, append_assoc}
 use Rattle.std.specs.List.Sorted.{IsNonDecreasingBy}
 use Rattle.std.proofs.lemmas.Bool.{cases_lt}

@@ -1,5 +1,5 @@
--- The lowest offset of a predicate: it depends only on where the predicate holds, there is one, and that of two predicates is the lower of
--- both.
+-- The lowest offset at which a predicate holds: it depends only on where the predicate holds, there is at most one, and that of "P or Q" is
+-- the lower one of theirs. By cases on which of them is found.
 use Rattle.std.proofs.Common.{◌≡◌, ℕ, ◌⊎◌, Option, None, Some, inl, inr, refl, ap, sym, subst, arith}
 use Rattle.std.proofs.Math.Nat.{min-eq_left, min-eq_right}
 use Rattle.std.proofs.lemmas.Bool.{cases_lt}

@@ -1,5 +1,6 @@
--- The members of a list: the extents that hold a byte, each with its index. An extent more adds a member or none, so they are gathered in
--- one pass; sorting permutes them, and being the members does not depend on the order.
+-- The members of a list are the extents that hold a byte, each with its index. An extent more adds one member or none, and the members'
+-- extents stay the list without its empty extents. A permutation of members is the members again, and the extents of ascending members
+-- ascend.
 use Rattle.std.proofs.Common.{◌≡◌, ◌≢◌, ℕ, ◌+◌, ◌<◌, ◌≤◌, Bool, true, false, cond, List, [], ◌∷◌, ◌++◌, filter, map, length, get_or, take, Some, inl, inr, ap, sym, subst, ◌∙◌, arith}
 use Rattle.std.specs.Prelude.{slice_get, nat_eq}
 use Rattle.std.specs.List.{AllPairs, Contains}

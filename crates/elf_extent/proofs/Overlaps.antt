@@ -1,5 +1,5 @@
--- Each byte that a list of extents holds lies in a member, which is at one position only. So extents are disjoint exactly if no byte is
--- held twice.
+-- Each byte that a list of extents holds is held by one of its members, and each index is at one position of the members only. Extents are
+-- disjoint exactly if no byte is held doubly: of two different indices one is the lower.
 use Rattle.std.proofs.Common.{◌≡◌, ℕ, ◌<◌, List, length, get_or, Option, None, Some, inl, inr, ap, sym, subst, ◌∙◌, arith}
 use Rattle.std.specs.Prelude.{slice_get, IfNone}
 use Rattle.std.specs.List.{Contains}

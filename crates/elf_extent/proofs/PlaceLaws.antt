@@ -1,4 +1,5 @@
--- What places that fit report: no part begins below the start or before an earlier part's end, and the least places are one list.
+-- Places that fit are as many as the parts, and none is below the start or before an earlier part's end: by induction on the parts. Least
+-- places are one list, because of two such lists each is at every part at most the other.
 use Rattle.std.proofs.Common.{◌≡◌, ℕ, zero, suc, ◌+◌, ◌<◌, ◌≤◌, List, [], ◌∷◌, length, get_or, ap, sym, ◌∙◌, arith, refl}
 use Rattle.std.proofs.lemmas.List.{ext_get_or}
 use Rattle.elf_extent.specs.Place.{Fits, Least, end_of}

@@ -1,5 +1,6 @@
--- Least places, part by part. The least place of a part is its cursor, rounded up to the alignment; least places from its end on make
--- least places of all. By induction the first part whose end passes 2^64 is the first that no placement fits.
+-- One step of the walk that gives each part its least place: the cursor, rounded up to the alignment. Least places of the first parts,
+-- followed by least places of the rest, are least places of all (`ArePlaced`). So the first part that ends past 2^64 at its least place is
+-- an overflow; the parts after it have least places too, by induction on the parts.
 use Rattle.std.proofs.Common.{◌≡◌, ℕ, zero, suc, ◌+◌, ◌-◌, ◌*◌, ◌/◌, ◌%◌, ◌^◌, ◌<◌, ◌≤◌, max, List, [], ◌∷◌, ◌++◌, length, get_or, drop, Option, None, Some, inl, inr, refl, ap, sym, subst, ◌∙◌, arith, append_assoc}
 use Rattle.std.specs.Prelude.{MatchOption, SomeIff}
 use Rattle.std.proofs.Math.Nat.{mul-le-mul_left, mul-mod_right, max-eq_left}

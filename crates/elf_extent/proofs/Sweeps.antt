@@ -1,5 +1,6 @@
--- The sweep over extents in ascending order of their starts. Each holds a byte. Of the extents so far one reaches furthest: if the next
--- one starts before its end, they share the byte at that start, which is the lowest shared one; otherwise the next one reaches furthest.
+-- The sweep over extents in ascending order of their starts. Each holds a byte. Of the extents so far one reaches furthest: if the next one
+-- starts before its end, they share the byte at that start. It is the lowest shared byte, and the next extent is the first that overlaps an
+-- earlier one. Otherwise the next one reaches furthest.
 use Rattle.std.proofs.Common.{◌≡◌, ℕ, ◌+◌, ◌-◌, ◌<◌, ◌≤◌, List, length, get_or, None, Some, inl, inr, ap, sym, subst, ◌∙◌, arith}
 use Rattle.std.specs.Prelude.{slice_get}
 use Rattle.std.specs.List.{All}

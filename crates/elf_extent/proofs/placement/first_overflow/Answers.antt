@@ -1,5 +1,5 @@
--- Invariant: all parts so far have their least places and end at the cursor. The first part without a place, or whose end does not fit, is
--- the answer.
+-- Invariant: all parts so far have their least places, end within a u64 there, and the last one ends at the cursor. The first part that has
+-- no place in a u64, or ends past it, is the overflow. After the last part all parts fit.
 use Rattle.std.proofs.Common.{◌+◌, ◌++◌, [], ◌∷◌, sym, subst, arith}
 use Rattle.elf_extent.proofs.PlaceLemmas.{ArePlaced, placed_more, overflow_at, no_place_at, placed_all}
 use Rattle.elf_extent.proofs.placement.first_overflow.Goals as goal

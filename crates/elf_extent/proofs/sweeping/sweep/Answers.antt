@@ -1,5 +1,5 @@
--- Invariant: the extents so far share no byte, and none ends after the end of `last`. Since starts never fall, the first extent of some byte
--- that begins before that end shares its first byte with `last`, and that is the lowest one.
+-- Invariant: the extents before `k` share no byte, and none ends after `last`. If the next one begins before that end, the byte at its
+-- start is the lowest shared one (`shared_at`). Otherwise it is the new `last` (`swept_more`).
 use Rattle.std.proofs.Common.{None, Some, ◌∙◌, arith}
 use Rattle.elf_extent.proofs.Sweeps.{shared_at, swept_more, unshared}
 use Rattle.elf_extent.proofs.sweeping.sweep.Goals as goal
