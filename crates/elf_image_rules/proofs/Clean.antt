@@ -1,5 +1,5 @@
--- What holds of a file that breaks none of rules 1 to 32: counts are in the right fields, and the tables, contents and names lie inside.
--- With rule 33 the extents share no byte. Each fact is read off the positive facts of the rules.
+-- What holds of a file that breaks none of rules 1 to 32: both tables and the contents lie in the file, and the name table's index is below
+-- the count. With rule 33 the extents share no byte. Each fact follows from the positive facts of the rules (`KeepsRules`).
 use Rattle.std.proofs.Common.{◌≡◌, ◌≢◌, ℕ, zero, suc, ◌+◌, ◌-◌, ◌*◌, ◌<◌, ◌≤◌, ◌⊎◌, inl, inr, None, Some, List, length, refl, sym, ◌∙◌, ap, subst, arith}
 use Rattle.std.proofs.lemmas.Bool.{cases_eq, ne_eqb}
 use Rattle.std.proofs.lemmas.Option.{slice_get_within}

@@ -1,4 +1,5 @@
--- If a test of numbers does not fail, the opposite holds. Numbers are decidable, so each case is settled by comparing them.
+-- If a comparison of numbers cannot hold, its opposite does: by cases, because two numbers can be compared. An alignment is 0 or a power of
+-- two exactly if it is not wrong; for that its bits are counted.
 use Rattle.std.proofs.Common.{◌≡◌, ◌≢◌, ℕ, ◌<◌, ◌≤◌, ◌⊎◌, inl, inr}
 use Rattle.std.specs.Int.Count.{ones}
 use Rattle.std.proofs.lemmas.Bool.{cases_eq, cases_lt}

@@ -1,5 +1,6 @@
--- The runs of rules, one after the other, are the rules of the file. If a run finds a fault, it is the file's; if not, the rules after it
--- decide. So the tests of the runs, chained, give the verdict.
+-- Rules 1 to 32 are runs of rules, one after the other. After runs that found nothing, what the rest finds is what all find
+-- (`FirstIn-later`). So the tests of the runs, chained, find the fault of rules 1 to 32, which is the file's. If there is none, the fault
+-- is the lowest byte that two extents hold, by rule 33.
 use Rattle.std.proofs.Common.{◌≡◌, ℕ, inl, inr, Option, None, Some, Result, Ok, Err, List, ◌++◌, length, refl, subst}
 use Rattle.std.specs.Prelude.{IfErr, IfOk, OnErr, OnOk}
 use Rattle.elf_field.specs.declared.ehdr.Ehdr.{Ehdr}

@@ -1,11 +1,12 @@
--- Of a list of rules it can't be that no answer is the first one that is broken, at its first place. What a rule says need not be decided
--- for that: the least place of a row is looked for from below, and where none is found at which the row holds, it holds nowhere.
+-- It cannot be that neither a fault nor "no fault" is the answer of a list of rules; the proof decides no rule. By induction on the list:
+-- it cannot be that a row neither has a first place nor holds nowhere. For that, a predicate on numbers without a least number holds for
+-- none below any bound, by induction on the bound.
 use Rattle.std.proofs.Common.{◌≡◌, ◌<◌, ◌≤◌, ◌⊎◌, ℕ, zero, suc, Option, None, Some, List, [], ◌∷◌, inl, inr, refl, subst, arith}
 use Rattle.std.proofs.lemmas.Bool.{cases_lt}
 use Rattle.elf_extent.specs.Least.{IsLeast, Never}
 use Rattle.elf_image_rules.specs.Rows.{FirstBy, FirstIn, Row, Ruled}
 
--- a row of a rule has no first place, and yet one at which it holds: that can't be
+-- the row has a first place, or holds nowhere
 abbrev pub HasFirst : {At : Type 0} → (Row At → At → Type 0) → Row At → Type 0
 HasFirst {At} IsFirst row = ((x : At) × IsFirst row x) ⊎ Never row
 

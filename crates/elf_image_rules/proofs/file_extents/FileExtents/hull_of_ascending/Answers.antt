@@ -1,4 +1,5 @@
--- Invariant: the contents so far ascend and lie in the hull. An early end is a content that begins before the one before it ends.
+-- Invariant: the contents so far ascend, from the start of `first` to the end of `last`. If the next one begins before `last` ends, the
+-- contents don't ascend. At the end each byte of a content is between these two offsets.
 use Rattle.std.proofs.Common.{rules, ◌<◌, length, arith}
 use Rattle.std.proofs.lemmas.Option.{slice_get_within}
 use Rattle.elf_image_rules.specs.FileExtents.{file_extents}
