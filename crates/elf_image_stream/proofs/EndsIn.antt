@@ -1,5 +1,5 @@
--- The two ends of a table, read as two bytes of a list. A table inside the list has these ends; and whatever two bytes were read, some
--- table has them as its ends, so the rules about ends can be tested without the table.
+-- The two ends of a table, read as two bytes of a list. A table inside the list has these ends. Whatever two bytes were read, some table
+-- has them as its ends: zeros with these two around them. So the rules about ends can be tested without the table.
 use Rattle.std.proofs.Common.{◌≡◌, ◌<◌, ◌≤◌, ◌+◌, ◌-◌, ℕ, zero, suc, List, [], ◌∷◌, ◌++◌, length, take, drop, replicate, get_or, slice_index, refl, sym, ap, ◌∙◌, arith, length-append, length-drop, rules}
 use Rattle.std.proofs.lemmas.List.{get_or-drop, get_or-take, get_or-append_right, length-replicate, length-take-le}
 use Rattle.elf_field.specs.Bytes.{IsBytes}

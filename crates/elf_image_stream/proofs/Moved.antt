@@ -1,5 +1,5 @@
--- What moved from a reader or to a writer, call by call. The bytes of a further call follow those before it; a call that gave nothing or
--- failed adds none. So after any number of calls the bytes are a beginning of all.
+-- What moved from a reader or to a writer, call by call. The bytes of a further call follow those of the earlier ones; a call that gave
+-- nothing or failed adds none. A reader that is at its end, or gave n bytes, gave its first n.
 use Rattle.std.proofs.Common.{◌≡◌, ℕ, ◌+◌, ◌-◌, ◌≤◌, ◌⊎◌, inl, inr, List, [], ◌++◌, Option, None, Some, Result, Ok, Err, IfSome, OnOk, length, take, drop, sym, ap, ◌∙◌, append-nil, append_assoc, length-append, take_all, take-add}
 use Rattle.std.proofs.lemmas.List.{take_rest}
 use native.Mathlib.Numerals.{unary_clauses}

@@ -1,5 +1,6 @@
--- Bytes that are written piece by piece. After k pieces exactly these are out; if the next one fails, its first bytes follow. So the count
--- of what is out is that of the pieces and of the beginning.
+-- Bytes that are written piece by piece: several entries of a list at a time, or zeros. After k pieces exactly these are written. If the
+-- next piece fails, its first bytes follow, so what is written is a beginning of all, and its count is the sum of both. In a buffer each
+-- record is put right after the earlier ones.
 use Rattle.std.proofs.Common.{◌≡◌, ◌≤◌, ◌<◌, ◌+◌, ◌*◌, ℕ, List, [], ◌∷◌, ◌++◌, length, take, drop, get_or, Option, sym, ap, ap₂, subst, ◌∙◌, arith, length-append, length-drop}
 use Rattle.std.specs.Prelude.{replicate}
 use Rattle.std.specs.List.{flat_map}

@@ -1,4 +1,5 @@
--- Invariant: the entries before `next` are out. A block that fails leaves out a beginning of its bytes, so of all.
+-- Invariant: the entries before `next` are written. A block that succeeds adds its entries (`flat_ok`). If one fails, a beginning of its
+-- bytes is written, and so a beginning of all (`flat_err`).
 use Rattle.std.proofs.Common.{◌*◌, take, arith, ap, ◌∙◌}
 use Rattle.std.proofs.lemmas.List.{length-take-le}
 use Rattle.elf_field.proofs.RecordTableLaws.{length-table}
