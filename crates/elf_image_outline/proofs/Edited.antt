@@ -1,5 +1,6 @@
--- An edit of a sound image value gives a sound one: no rule reads what it changes. The entry, flags from section 1 on, a content of the
--- same length and the gaps are in no rule's definition, so the same rules hold before and after.
+-- An edit of a sound image value gives a sound one, because no rule looks at what it changes: the entry, flags from section 1 on, the gaps,
+-- or a content of the same length that is not the name table's. So the same rules are kept before and after, and the other fields are shown
+-- one by one.
 use Rattle.std.proofs.Common.{◌≡◌, ◌<◌, ◌*◌, ◌^◌, ℕ, zero, suc, Bool, true, None, List, [], ◌∷◌, length, map, get_or, set, refl, sym, ap, ap₂, subst, ◌∙◌, arith, lit<}
 use Rattle.std.specs.Prelude.{replicate, if◌then◌else◌, ◌==◌, Result, Ok, Err, OnOk, OnErr}
 use Rattle.std.specs.List.{AllByRecursion}

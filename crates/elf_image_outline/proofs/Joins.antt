@@ -1,5 +1,5 @@
--- Parts that account for every offset, joined: the list has the length of the account, and each part's bytes are at its offset. By
--- induction on the parts; each begins where the one before it ends.
+-- Parts that account for every offset, joined: the list has the length of the account, and each part's bytes are at its offset. Conversely,
+-- parts that have a list's bytes at their offsets join to that list. By induction on the parts; each begins where the one before it ends.
 use Rattle.std.proofs.Common.{◌≡◌, ◌+◌, ℕ, List, [], ◌∷◌, ◌++◌, length, take, drop, map, sym, ap, ap₂, ◌∙◌, arith, append_assoc, length-append}
 use Rattle.std.specs.List.{AllByRecursion, flat_map}
 use Rattle.std.proofs.lemmas.List.{drop-drop, drop_at, take_at, take-append-drop}

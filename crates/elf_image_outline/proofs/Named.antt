@@ -1,5 +1,6 @@
--- What a sound image value says of its section headers, contents and names: one content for each header, as long as the header says,
--- inside the file. Each is a field of the soundness, read for one index.
+-- A sound image value has one content for each section header, as long as the header says, and each header and content lies in the file.
+-- The name table is the content of a section. Each follows from a field of the soundness or from a rule that is kept, at one index. The
+-- same holds if the contents are borrowed.
 use Rattle.std.proofs.Common.{◌≡◌, ◌≢◌, ◌<◌, ◌≤◌, ℕ, Bor, List, [], length, map, get_or, refl, sym, ap, ◌∙◌, arith, inl, inr}
 use Rattle.std.specs.Prelude.{◌==◌, ◌+◌, if◌then◌else◌}
 use Rattle.std.proofs.lemmas.Bool.{cases_eq, ne_eqb}

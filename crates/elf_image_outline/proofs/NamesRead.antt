@@ -1,5 +1,6 @@
--- What was read of a source that reports its bytes is what they hold: the records by their offsets, and of the name table the length and
--- the two ends, which are all that rules 30 to 32 look at. So the rules find of it what they find of the bytes.
+-- The tables that were read of a source are those of the bytes that it reports, index by index; its names are the bytes where the section
+-- header of the name table says. The rules look at no more than these (`same_rules`). So what they find in the tables is the file's fault,
+-- and tables and parts without a fault make its image.
 use Rattle.std.proofs.Common.{◌≡◌, ◌≢◌, ◌≤◌, ◌<◌, ◌+◌, ◌-◌, ◌⊎◌, ℕ, min, None, Some, Option, List, [], length, map, take, drop, refl, sym, ap, subst, ◌∙◌, inl, inr, arith, length-drop}
 use Rattle.std.specs.Prelude.{if◌then◌else◌, ◌==◌}
 use Rattle.std.proofs.Math.Nat.{min-eq_left, min-eq_right, min-le_left}

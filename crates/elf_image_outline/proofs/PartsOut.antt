@@ -1,5 +1,6 @@
--- The parts of an outline are written one after the other: records and zeros of the outline, and bytes of its source at their offsets.
--- Each part has the bytes that the image has there, so after k parts exactly the first k are out.
+-- The parts of an outline are written one after the other: records and zeros of the outline, and bytes of its source at their offsets. Each
+-- part has the bytes that the image has there, so after k parts exactly the first k are written. A part that fails adds a beginning of its
+-- bytes, and a read that fails is at one of its bytes.
 use Rattle.std.proofs.Common.{◌≡◌, ◌≤◌, ◌<◌, ◌+◌, ◌^◌, ℕ, suc, Bool, true, false, Option, Some, List, [], ◌∷◌, ◌++◌, length, take, drop, map, get_or, refl, sym, ap, ap₂, subst, ◌∙◌, arith, drop-cons, length-append, length-drop, take_all, zero-add, Err}
 use Rattle.std.specs.Prelude.{replicate, slice_get}
 use Rattle.std.specs.List.{flat_map}

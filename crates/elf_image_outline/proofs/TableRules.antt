@@ -1,5 +1,5 @@
--- The rules of tables in memory. Missing entries count as zeros, so the runs over the tables and counts are all rules of an image with
--- these tables, one run after the other.
+-- The rules of tables in memory that keep rules 1 to 21. What rules 22 to 32 find is then what rules 1 to 32 find (`entries_run`). If they
+-- find nothing, the lowest byte that two extents hold is the fault, by rule 33, and if there is none no rule is broken.
 use Rattle.std.proofs.Common.{◌≡◌, ℕ, None, Some, Option, Result, Ok, Err, List, refl, sym, ap, subst, ◌∙◌, inl}
 use Rattle.std.specs.Prelude.{IfErr, IfOk, OnOk}
 use Rattle.std.specs.Result.{IsErrAnd}

@@ -1,6 +1,6 @@
--- The theorem of images. A sound value is represented by its joined parts, which break no rule; by no other list, since each part's bytes
--- are determined by the value; and whatever is represented by bytes that break no rule is sound: the rules
--- see the same records and names there, and the rest is shown field by field.
+-- The theorem of images. A sound value is represented by its joined parts, which break no rule. No other list represents it, because the
+-- value determines the bytes of each part. Conversely, a value that bytes without a broken rule represent is sound, field by field. For
+-- both, the rules see the same records and names in the value and in the bytes (`same_clean`).
 use Rattle.std.proofs.Common.{◌≡◌, ◌≢◌, ◌≤◌, ◌<◌, ◌+◌, ◌*◌, ℕ, zero, suc, None, Some, List, [], ◌∷◌, length, take, drop, map, get_or, refl, sym, ap, ap₂, subst, ◌∙◌, inl, inr, arith, add-zero, length-drop}
 use Rattle.std.specs.Prelude.{slice_get}
 use Rattle.std.specs.List.{AllByRecursion, flat_map, range_with_len}

@@ -1,5 +1,5 @@
--- The parts of an image are written one after the other. The account says where each begins, so after k parts exactly the bytes before
--- part k are out, and a fault adds the bytes of its own part.
+-- The parts of an image are written one after the other. By induction on the account, part k begins where the parts before it end. So if
+-- part k fails after n bytes, exactly the first `start + n` bytes of the image are written (`parts_err`).
 use Rattle.std.proofs.Common.{◌≡◌, ◌≤◌, ◌<◌, ◌+◌, ℕ, zero, suc, Bool, Option, List, [], ◌∷◌, length, take, drop, map, get_or, sym, ap, subst, ◌∙◌, arith, length-append, ◌^◌}
 use Rattle.std.specs.List.{flat_map}
 use Rattle.std.specs.Io.KnownBytes.{Appends}

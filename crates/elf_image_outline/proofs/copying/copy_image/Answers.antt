@@ -1,4 +1,5 @@
--- Invariant: the parts so far are out. A part that fails leaves out exactly a beginning of its bytes, so of the whole.
+-- Invariant: the parts so far are written. If a part fails, exactly a beginning of its bytes is written, and so a beginning of the whole. A
+-- read that fails is at a byte of a part that comes from the source.
 use Rattle.std.proofs.Common.{◌∙◌}
 use Rattle.elf_image_outline.proofs.Theorem.{joined_is_image}
 use Rattle.elf_image_outline.proofs.PartsOut.{failed_fits, parts_all, parts_behind, parts_failed, parts_more, parts_read}

@@ -1,4 +1,5 @@
--- What rules 22 to 32 find of the tables is what rules 1 to 32 find, since the tables keep rules 1 to 21; then rule 33 is left.
+-- The tables keep rules 1 to 21, so what rules 22 to 32 find is what rules 1 to 32 find (`entries_run`); then rule 33 is left. If no rule
+-- is broken the outline is sound (`blank_sound`).
 use Rattle.std.proofs.Common.{◌≡◌, ◌∙◌, List, None, ap₂, map, subst, sym}
 use Rattle.std.proofs.lemmas.Result.{IfErr-weaker}
 use Rattle.elf_extent.specs.Account.{Accounts}

@@ -1,4 +1,5 @@
--- The records that are read are the file's, so their extents are too; the rest is `JudgedFile`.
+-- The records that were read are the file's, so their extents are too. If two of these share a byte, rule 33 is broken (`sharing_stops`).
+-- Otherwise the records and the parts make the file's image (`outline_image`), and so a sound outline (`blank_of`).
 use Rattle.std.proofs.Common.{◌∙◌, ap, ap₂, length, subst, sym, List, ℕ}
 use Rattle.elf_field.specs.Bytes.{IsBytes}
 use Rattle.elf_extent.specs.Extent.{AreWithin}

@@ -1,4 +1,5 @@
--- What each stage judges of the length and the header that the source gave, it judges of the file that the source reports.
+-- The length and the header that were read are those of the bytes that the source reports. So a rule of 1 to 12 that a stage finds broken
+-- is the first one that the file breaks (`length_broken`, `ident_broken`, `header_broken`).
 use Rattle.std.proofs.Common.{◌≡◌, ◌∙◌}
 use Rattle.elf_image_rules.specs.Tables.{header}
 use Rattle.elf_image_outline.proofs.ScanRules.{header_broken, header_of_block, ident_broken, length_broken, scans_rule, told_length}

@@ -1,4 +1,5 @@
--- The header and section header 0 are the file's, so what is judged by them is judged of the file; the tables are those that they lead to.
+-- The header and section header 0 that were read are the file's. So a rule of 13 to 21 that is found broken is the first one that the file
+-- breaks, and the tables that were read by the counts are the file's.
 use Rattle.std.proofs.Common.{◌≡◌, ◌≤◌, ◌∙◌, length, ap}
 use Rattle.elf_image_rules.specs.declared.tables.Counts.{Counts}
 use Rattle.elf_image_rules.specs.Tables.{sections, shdr_offset}
