@@ -1,5 +1,6 @@
--- A file that is written from its parts breaks no rule, and denotes its records and contents. Each owner's bytes are one part, and parts
--- ascend without overlap; so each owner's bytes are at its extent, no two share one, and the records are read back.
+-- A file that is written from its parts, by records that keep rules 1 to 32, breaks no rule and denotes its records and contents. Each
+-- owner's bytes are one part, and parts ascend without overlap. So each owner's bytes are at its extent, no two extents share a byte (rule
+-- 33), and the records are read back.
 use Rattle.std.proofs.Common.{◌≡◌, ◌≢◌, ◌<◌, ℕ, zero, suc, None, Some, List, [], ◌∷◌, length, take, drop, map, get_or, refl, sym, ap, ap₂, subst, ◌∙◌, inl, inr, arith}
 use Rattle.std.specs.Prelude.{slice_get}
 use Rattle.std.specs.List.{AllByRecursion, range_with_len}

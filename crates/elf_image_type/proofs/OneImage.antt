@@ -1,5 +1,5 @@
--- A list of bytes that breaks no rule is one image. The header, tables and contents are read from the list, and its account has one list
--- of pieces, so two values that it represents agree in each field.
+-- A list of bytes that breaks no rule represents at most one image. The header, tables and contents are read from the list, and disjoint
+-- extents have one account (`one_account`). So two values that it represents agree in each field.
 use Rattle.std.proofs.Common.{◌≡◌, ℕ, zero, suc, Option, None, Some, List, [], ◌∷◌, map, refl, sym, ap, subst, ◌∙◌}
 use Rattle.std.specs.List.{AllByRecursion, range_with_len}
 use Rattle.elf_field.specs.declared.ehdr.Ehdr.{Ehdr}

@@ -1,4 +1,5 @@
--- Invariant: the offset is not before the part in hand. The parts are an account of all bytes, so one of them has the offset.
+-- Invariant: the offset is at or above the start of the part at hand. If it is also below the part's end, the byte is the part's. The parts
+-- account for every offset, so the loop finds such a part.
 use Rattle.std.proofs.Common.{◌≤◌, ap, arith, length, map, take_all, ◌∙◌}
 use Rattle.std.specs.List.{flat_map}
 use Rattle.elf_image_outline.proofs.Written.{bytes_in_parts}
