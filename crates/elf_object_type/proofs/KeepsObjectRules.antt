@@ -1,5 +1,6 @@
 -- No rule of objects is broken exactly if each rule's positive fact holds. A rule says that something is wrong and its fact that it is
--- right; each is a test of numbers, which is decidable.
+-- right; each is made of tests of numbers and flags at each index, which are decidable. A section is a member only once, because of two
+-- positions the later one would break rule 6.
 use Rattle.std.proofs.Common.{◌≡◌, ◌≢◌, ◌<◌, ◌≤◌, ℕ, Bool, true, false, Option, None, Some, length, inl, inr, refl, sym, subst, ◌∙◌, arith}
 use Rattle.std.specs.Prelude.{slice_index, IfSome, pos}
 use Rattle.std.proofs.lemmas.Bool.{cases_order}

@@ -1,5 +1,6 @@
--- Marks over the sections: a section is marked exactly if it is a member of one of the groups so far. A group adds its members, and a
--- section without one adds nothing.
+-- Marks over the sections: a section is marked exactly if it is a member of an earlier group, or an earlier member of the group at hand.
+-- Each member that is passed is marked; after its last member the group is an earlier one. So a member breaks rule 6 exactly if its mark or
+-- its section forbids it.
 use Rattle.std.proofs.Common.{◌≡◌, ℕ, ◌+◌, ◌<◌, ◌⊎◌, inl, inr, Bool, true, false, List, [], length, get_or, set, sym, subst, ◌∙◌, arith, get_or-set_other, get_or-set_same}
 use Rattle.std.proofs.lemmas.Bool.{cases_eq, cases_lt}
 use Rattle.std.proofs.lemmas.List.{get_or_past, length-set}

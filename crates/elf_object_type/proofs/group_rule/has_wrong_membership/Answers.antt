@@ -1,4 +1,5 @@
--- Invariant: the members so far are not wrong. The marks are those of earlier groups, and a group without a wrong member adds its own.
+-- Invariant: the members so far are not wrong, and they and the members of earlier groups are marked. The first member that the marks or
+-- its section forbid is wrong. After the last member the group is an earlier one (`marked_group`).
 use Rattle.std.proofs.Common.{◌≡◌, ◌<◌, inl, inr, List, length, refl, ap, sym, ◌∙◌, subst, arith}
 use Rattle.std.proofs.lemmas.Bool.{cases_lt}
 use Rattle.elf_object_type.specs.GroupRule.{IsWrongMembership}
