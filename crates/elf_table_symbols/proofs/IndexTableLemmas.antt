@@ -1,5 +1,5 @@
--- The index tables of a symbol table, found section by section. The first two are noted; a section that is none changes nothing, so at the
--- end the first is the lowest, and rule 49 is broken at the second.
+-- The index tables of a symbol table, found section by section. The first two are noted; a section that is none changes nothing. So at the
+-- end the two are the lowest ones, and the first is `index_table` of the definition.
 use Rattle.std.proofs.Common.{◌≡◌, ℕ, ◌+◌, Bool, true, false, Option, None, Some, refl}
 use Rattle.std.specs.Prelude.{◌==◌, ◌&&◌}
 use Rattle.std.specs.Cmp.Derive.{both_true}

@@ -1,5 +1,5 @@
 -- The lowest index below a bound of which something holds, as the bound rises. If it does not hold of the new index nothing changes; if it
--- does and none was found, the new index is it; what was found stays.
+-- does and none was found, the new index is it; what was found stays. At the length of a list it is what `position` finds.
 use Rattle.std.proofs.Common.{◌≡◌, ℕ, ◌+◌, ◌<◌, Bool, true, false, Option, None, Some, List, length, get_or, inl, inr, refl, subst, arith}
 use Rattle.std.specs.Prelude.{position}
 use Rattle.std.specs.List.{position_or_len}

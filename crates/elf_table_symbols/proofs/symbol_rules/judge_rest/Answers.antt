@@ -1,4 +1,5 @@
--- One run of rules after the other. The index tables that are handed in are the first two of this symbol table.
+-- The runs of rules are tested one after the other: after runs that found nothing, what the next one finds is what all find. The first of
+-- the index tables that are handed in is that of the table's parts (`first_index_table`).
 use Rattle.std.proofs.Common.{◌≡◌, ℕ, Option, Some, length, ap, sym, ◌∙◌}
 use Rattle.elf_image_rules.proofs.Public.{FirstIn-later, FirstIn-stop}
 use Rattle.elf_table_symbols.specs.IndexTable.{AreIndexTables, index_table, index_words}
