@@ -1,5 +1,6 @@
--- The lengths of chains and the jumps on them, as more become known. A symbol's chain is one longer than that of its chain word, and what
--- a known chain leads to is known; a symbol that waits and is met again shows a circle.
+-- The lengths of chains and the jumps on them, as more become known. A symbol's chain is one longer than that of its chain word, and what a
+-- known chain leads to is known. A symbol on a known chain is met on the way down at its own depth (`on_behind`, `on_same`). A symbol that
+-- waits and is met again shows a circle.
 use Rattle.std.proofs.Common.{◌≡◌, ◌≢◌, ℕ, ◌+◌, ◌<◌, ◌≤◌, ◌⊎◌, Bool, true, false, List, [], ◌∷◌, ◌++◌, length, get_or, set, inl, inr, refl, sym, ap, subst, ◌∙◌, arith, append_assoc, length-append, get_or-set_other, get_or-set_same}
 use Rattle.std.proofs.lemmas.Bool.{cases_eq, cases_lt}
 use Rattle.std.proofs.lemmas.List.{length-set}

@@ -1,4 +1,5 @@
--- Invariant: the symbols of the chain so far do not have the name, and are as many as the steps. A sound chain ends, so the loop does.
+-- Invariant: the symbols of the chain so far do not have the name, and are as many as the steps. A chain that ends has fewer symbols than
+-- there are, so the walk returns before the loop runs out.
 use Rattle.std.proofs.Common.{◌+◌, arith, sym, subst, ◌∙◌}
 use Rattle.std.proofs.lemmas.Bool.{false≢true}
 use Rattle.elf_table_hash.proofs.ProbeLemmas.{IsWalked, walk_begins, walk_ended, walk_found, walk_more, walk_short, walk_shorter}

@@ -1,4 +1,5 @@
--- Rule 68 first, then rule 69, which asks for chains that end.
+-- Rule 68 first: offsets rise with the buckets, so the first bucket whose chain does not end has the lowest offset. Then rule 69, whose
+-- search needs chains that end.
 use Rattle.std.proofs.Common.{ℕ, inl, inr, refl, arith}
 use Rattle.elf_extent.specs.Least.{IsLeast, Never}
 use Rattle.elf_table_symbols.specs.Below.{Below}

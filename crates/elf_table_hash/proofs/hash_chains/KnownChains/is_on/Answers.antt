@@ -1,4 +1,6 @@
--- Jumps of known length lead from the deeper one up to the depth of the other: both are on one chain exactly if they then meet.
+-- Invariant: the chain of `start` leads to `here`, and if `s` is on that chain it is on the chain of `here`. Jumps lead down to the depth
+-- of `s`; there `s` is on the chain exactly if it is `here`. A symbol of depth 0 is on no known chain, and one that was first met from
+-- `start` is on its chain.
 use Rattle.std.proofs.Common.{◌≢◌, get_or, ap, eq-eqb, subst, arith, ◌<◌, inr, refl, sym, ◌∙◌}
 use Rattle.std.proofs.lemmas.Bool.{eqb-true, false≢true}
 use Rattle.elf_table_hash.specs.ChainDepths.{Leads}

@@ -1,4 +1,5 @@
--- Invariant: the chains of the buckets before this one are known, so they end.
+-- Invariant: the chains of the buckets below this one are known, so they end. If the next chain comes back to itself, its bucket is the
+-- lowest whose chain does not end. Otherwise all that waited are settled, and its chain is known too.
 use Rattle.std.proofs.Common.{◌≡◌, ◌∙◌, inl, inr, refl, arith}
 use Rattle.std.proofs.lemmas.Bool.{cases_lt}
 use Rattle.elf_table_hash.proofs.ChainDepthLemmas.{known_ends, known_kept, seen_settled}

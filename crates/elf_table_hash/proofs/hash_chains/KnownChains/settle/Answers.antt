@@ -1,4 +1,5 @@
--- Invariant: the chain from the top of the stack is known. Each symbol below it has a chain that is one longer.
+-- Invariant: the stack leads from `start` to `s`, whose chain is known. The chain word of the symbol on top is `s`, so its chain is one
+-- longer and becomes known. Each symbol that waited is on the stack still, or known.
 use Rattle.std.proofs.Common.{◌≡◌, ◌≢◌, ℕ, ◌+◌, ◌<◌, ◌⊎◌, List, [], ◌∷◌, ◌++◌, length, get_or, set, inl, inr, refl, subst, arith, get_or-set_same}
 use Rattle.elf_table_hash.specs.ChainDepths.{IsAmongSymbols}
 use Rattle.elf_table_hash.specs.Chains.{IsPath}
