@@ -1,5 +1,5 @@
--- The members of a group that were named so far, and the lowest one that is wrong. Members that ascend are named once without a set;
--- otherwise the set of those so far decides whether the next one was named before.
+-- The lowest wrong member of a group, and its offset by rule 58. Members that ascend are named once, so only those that can't be in the
+-- group are wrong (`ascending_lowest`). Otherwise the search keeps the set of the members so far, none of which is wrong (`AreRight`).
 use Rattle.std.proofs.Common.{◌≡◌, ℕ, ◌+◌, ◌*◌, ◌<◌, true, Option, None, Some, List, inl, inr, refl, arith}
 use Rattle.std.specs.Ordering.{nat_cmp}
 use Rattle.std.specs.BTreeSet.{BTreeSet}
