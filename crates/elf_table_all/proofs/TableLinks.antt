@@ -1,5 +1,6 @@
--- The tables that other tables link to, where these break no rule. The rules of a group and of a dynamic section include those of the
--- linked table, so it is there, of the right kind, and breaks no rule either.
+-- The sections that tables link to, if these tables break no rule. A group's rules include those of its symbol table, so the symbol table
+-- is there, breaks no rule, and has the symbol of the signature. The section that a dynamic section links to is there. A table that breaks
+-- no rule has the verdict None, because it has one fault only (`one_fault`).
 use Rattle.std.proofs.Common.{◌≡◌, ℕ, ◌<◌, Option, None, Some, List, length, get_or, inl, inr, refl, sym, subst}
 use Rattle.std.proofs.lemmas.Bool.{cases_eq, cases_lt}
 use Rattle.elf_field.specs.Abi.{SHT_SYMTAB}
