@@ -1,6 +1,6 @@
--- The records that are read of a file that breaks no rule make its image, with the contents and gaps cut from its bytes and the parts of
--- its account. The proof goes through the definition field by field. Records and extents lie in the file, and extents share no byte,
--- because no rule is broken (`counted_by_reads`).
+-- The records of a file that breaks no rule make its image. Contents and gaps are cut from its bytes, and the parts are its account. The
+-- proof goes through the definition field by field. Records and extents lie in the file, and extents share no byte, because no rule is
+-- broken (`counted_by_reads`).
 use Rattle.std.proofs.Common.{◌≡◌, ℕ, None, List, [], ◌∷◌, length, map, refl, sym, ap, subst}
 use Rattle.std.specs.Prelude.{Bool, false}
 use Rattle.std.specs.List.{AllByRecursion}

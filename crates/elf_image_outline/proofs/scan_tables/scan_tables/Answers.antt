@@ -1,5 +1,5 @@
 -- The header and section header 0 that were read are the file's. So a rule of 13 to 21 that is found broken is the first one that the file
--- breaks, and the tables that were read by the counts are the file's.
+-- breaks. The tables that were read by the counts are the file's too.
 use Rattle.std.proofs.Common.{◌≡◌, ◌≤◌, ◌∙◌, length, ap}
 use Rattle.elf_image_rules.specs.declared.tables.Counts.{Counts}
 use Rattle.elf_image_rules.specs.Tables.{sections, shdr_offset}
