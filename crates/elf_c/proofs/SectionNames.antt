@@ -1,5 +1,5 @@
--- The name of a section, by the numbers of a file, in the three cases of the definition: type NULL, no name table, or a string of the name
--- table. In each the place that is returned has the bytes of the name.
+-- The name of a section, by the numbers of a file. In each of three cases the name and its place are the definition's: type NULL, no name
+-- table, a string of the name table.
 use Rattle.std.proofs.Common.{◌≡◌, ◌≢◌, ◌<◌, ℕ, List, [], ap, inl, inr, refl, subst, sym, ◌∙◌}
 use Rattle.std.proofs.lemmas.Bool.{cases_eq, ne_eqb}
 use Rattle.elf_field.specs.declared.shdr.Shdr.{Shdr}

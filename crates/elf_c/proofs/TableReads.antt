@@ -1,5 +1,5 @@
--- What the numbers of a table stand for: the order of the file, the contents of the section and of those that it links to, and that no
--- rule of its kind is broken. All follow from the definition of the numbers.
+-- What the numbers of a table represent: the file's order, the contents of the section and those that it links to. The table breaks no
+-- rule. An index table has as many bytes as its section header says, since these are in the file.
 use Rattle.std.proofs.Common.{◌≡◌, ◌<◌, ◌≤◌, ◌+◌, ℕ, zero, suc, List, None, Option, Some, length, drop, inl, inr, refl, sym, subst, ap, ◌∙◌, arith}
 use Rattle.std.proofs.lemmas.Bool.{cases_eq, eqb-true}
 use Rattle.std.proofs.lemmas.List.{length-drop, length-take}

@@ -1,4 +1,5 @@
--- The executable of a link is an image that loads the link's memory, and no other list of bytes is its executable.
+-- The executable of a link is an image that loads the link's memory, and no other list of bytes is its executable. Its segments are read as
+-- they were written (`exec_read`), and they give memory's bytes (`loads_memory`, `memory_loads`).
 use Rattle.std.proofs.Common.{ℕ, List, sym, ap, subst}
 use Rattle.std.specs.Prelude.{◌↔◌}
 use Rattle.elf_field.specs.declared.ehdr.Ehdr.{Ehdr}

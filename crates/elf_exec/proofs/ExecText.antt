@@ -1,5 +1,5 @@
--- The executable as it goes out: the header, the program header table and the bytes of the segments, each after the zeros before it; these
--- are memory's, and so it is the executable of the definition.
+-- The executable as it is written: the header, the program header table, and each segment's bytes after zeros. These bytes are memory's, by
+-- cases: commons, an output without bits, an output with bits. The length is the end of the last part.
 use Rattle.std.proofs.Common.{◌≡◌, ◌<◌, ◌+◌, ◌-◌, ◌*◌, ◌⊎◌, ℕ, zero, suc, Bool, true, false, List, [], ◌∷◌, ◌++◌, length, map, get_or, replicate, refl, sym, ap, subst, ◌∙◌, inl, inr, arith, length-append}
 use Rattle.std.specs.Prelude.{slice_index}
 use Rattle.std.specs.List.{flat_map, range_with_len}

@@ -1,4 +1,5 @@
--- What goes out is the executable of the link: not too long, and as a file an image that loads the memory of the link.
+-- What is written is the executable of the link, or exactly its first bytes if the writer fails. The text sent is that of the definition
+-- (`text_is`), short enough, and so an image that loads the memory of the link (`executable`).
 use Rattle.std.proofs.Common.{ℕ, Option, Ok, Err, List, sym, subst, arith}
 use Rattle.std.specs.Io.KnownBytes.{Appends}
 use Rattle.elf_image_stream.specs.Chunks.{StoppedIn, WentOut}

@@ -1,4 +1,5 @@
--- The segments of an executable are in the order of the outputs, the commons last, and each of these that takes memory has one.
+-- The segments of an executable are in the order of the outputs, the commons last, and each of these that takes memory has one. They are
+-- what a filter leaves, which keeps the order: by induction on the list.
 use Rattle.std.proofs.Common.{◌≡◌, ◌<◌, ◌≤◌, ◌+◌, ℕ, zero, suc, Bool, true, cond, List, [], ◌∷◌, length, map, get_or, refl, sym, ◌∙◌, subst, arith}
 use Rattle.std.specs.List.{filter, range_with_len}
 use Rattle.std.proofs.lemmas.Bool.{cond_both, lt-ltb}

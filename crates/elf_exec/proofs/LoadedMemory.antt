@@ -1,5 +1,5 @@
--- The segments of an executable give each address the byte that memory has there, and no other address any. An address lies in at most one
--- output, at most one segment is that of the output, and its bytes are memory's, or 0 without bits.
+-- The segments of an executable give an address a byte exactly if memory has that byte there. A segment gives memory's bytes, or zeros
+-- without bits, where memory has zeros too. Each address of memory is in a segment, and memory has one byte there (`one_byte`).
 use Rattle.std.proofs.Common.{◌≡◌, ◌<◌, ◌≤◌, ◌+◌, ◌-◌, ℕ, Bool, true, false, List, [], length, get_or, refl, sym, ap, subst, ◌∙◌, inl, inr, arith}
 use Rattle.std.specs.Prelude.{◌⊎◌, if◌then◌else◌, nat_lt, slice_index, ◌↔◌, MatchOption, None, Option, Some}
 use Rattle.std.proofs.lemmas.Bool.{le-ltb, lt-ltb}

@@ -1,4 +1,5 @@
--- Where the segments of an executable are: each at a multiple of the page, ends below 2^64, and begins after those before it.
+-- Each segment of an executable begins at a multiple of the page, ends below 2^64, and begins no lower than those before it. By cases: it
+-- is that of an output, or of the commons, which are after all outputs.
 use Rattle.std.proofs.Common.{◌≡◌, ◌<◌, ◌≤◌, ◌+◌, ◌-◌, ◌^◌, ◌%◌, ℕ, Bool, true, false, List, [], ◌∷◌, length, refl, sym, ap, subst, inl, inr, arith}
 use Rattle.std.specs.Prelude.{bit_and, ◌==◌, if◌then◌else◌}
 use Rattle.std.proofs.lemmas.Bool.{cases_lt, le-ltb, lt-ltb}

@@ -1,5 +1,5 @@
--- The records of an executable, and the parts that it is written from. Each number of the header and of the program headers fits its
--- field, and the parts have the lengths and places of the definition, segment by segment.
+-- The header of an executable fits its fields and has a sound identification. By induction on the segments: each has its program header,
+-- its place is aligned, and bytes of its size fit there. As parts of the file these bytes have no owner.
 use Rattle.std.proofs.Common.{◌≡◌, ◌≢◌, ◌<◌, ◌+◌, ◌^◌, ◌%◌, ◌⊎◌, ℕ, zero, suc, Bool, true, false, List, [], ◌∷◌, ◌++◌, length, map, get_or, refl, sym, ap, subst, inl, inr, arith}
 use Rattle.std.specs.Prelude.{◌==◌, if◌then◌else◌}
 use Rattle.std.specs.List.{AllByRecursion}

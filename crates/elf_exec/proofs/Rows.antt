@@ -1,4 +1,5 @@
--- Parts in a row, each at its place: the bytes that they make are their pieces one after the other, and each byte is a part's, or 0.
+-- Parts in a row, each at its place. The bytes that they make are their pieces one after the other, and each byte is a part's, or 0. Both
+-- by induction on the parts.
 use Rattle.std.proofs.Common.{◌≡◌, ◌<◌, ◌≤◌, ◌+◌, ◌-◌, ◌⊎◌, ℕ, zero, suc, List, [], ◌∷◌, ◌++◌, length, map, get_or, slice_index, replicate, refl, sym, ap, ap₂, ◌∙◌, inl, inr, append_assoc, arith, length-append}
 use Rattle.std.specs.List.{flat_map, range_with_len}
 use Rattle.std.proofs.lemmas.Bool.{cases_lt}

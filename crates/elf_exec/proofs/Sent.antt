@@ -1,5 +1,5 @@
--- The executable as it is sent. An output is its members one after the other, each after zeros up to its address, and a segment's place is
--- that of its part, so what is sent is the text of the definition.
+-- Facts for placing and sending an executable. The bytes of an output are the pieces of its members, each after zeros up to its address.
+-- The parts that are placed, and their start, are those of the map, so a fault of placing is the link's.
 use Rattle.std.proofs.Common.{◌≡◌, ◌<◌, ◌+◌, ◌*◌, ℕ, Option, Result, Ok, Err, List, [], ◌++◌, length, map, get_or, replicate, ap, subst, ◌∙◌, arith}
 use Rattle.std.specs.Prelude.{IfErr}
 use Rattle.std.specs.List.{flat_map, range_with_len}

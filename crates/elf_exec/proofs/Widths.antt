@@ -1,5 +1,5 @@
--- The identity of the first object and the contents of all objects are bytes: each object fits the fields of a file, so the header and the
--- contents of the executable do.
+-- The identity of the first object fits a header, and the contents of all sections are bytes: each object fits a file. The object and the
+-- section read where there is none fit too.
 use Rattle.std.proofs.Common.{◌<◌, ℕ, zero, suc, List, [], ◌∷◌, length, get_or, sym, subst, inl, inr, arith}
 use Rattle.std.specs.List.{AllByRecursion}
 use Rattle.std.proofs.lemmas.Bool.{cases_lt}

@@ -1,4 +1,5 @@
--- A list put between the first x elements of another one and those from x + n on, element by element.
+-- The n elements of a list from position x on are replaced by n others. The length stays, those positions have the new elements, and all
+-- others the old ones. Each position is read in the part of the three joined ones that has it.
 use Rattle.std.proofs.Common.{arith, ◌≡◌, ◌∙◌, ap, ℕ, ◌+◌, ◌-◌, ◌≤◌, ◌<◌, ◌⊎◌, inl, inr, List, ◌++◌, drop, get_or, length, take}
 use Rattle.std.proofs.lemmas.List.{get_or_append_left, get_or-append_right, get_or-drop, get_or-take, length-append, length-drop, length-take-le}
 

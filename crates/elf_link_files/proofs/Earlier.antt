@@ -1,5 +1,5 @@
--- The first site of a row is at or before any other site of it. So two first sites are one, and a site before the first one is not in the
--- row.
+-- If a site of a row is earlier than a position, so is the row's first site. Two first sites have one file and one index. Both by comparing
+-- files, then indices: a lower one contradicts that the other is first.
 use Rattle.std.proofs.Common.{◌≡◌, ℕ, inl, inr, sym, arith}
 use Rattle.std.proofs.lemmas.Bool.{cases_lt}
 use Rattle.elf_link_files.specs.declared.site.Site.{Site}

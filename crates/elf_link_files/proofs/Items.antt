@@ -1,5 +1,5 @@
--- Lists that are described item by item: one more item extends the description, and two lists with the same description are equal. A table
--- in rows is read by its row and the position in it.
+-- Lists that are described item by item. One more item extends the description; two lists with one description are equal, if it leaves one
+-- choice for each item. An item of a table in rows is read by its row and the position in it.
 use Rattle.std.proofs.Common.{◌≡◌, ℕ, ◌+◌, ◌<◌, List, [], ◌∷◌, ◌++◌, get_or, length, map, inl, inr, sym, ◌∙◌, ap, subst, arith, length-append}
 use Rattle.std.specs.Global.{Vec}
 use Rattle.std.proofs.lemmas.Bool.{cases_lt}

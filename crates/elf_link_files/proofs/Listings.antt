@@ -1,5 +1,5 @@
 -- Lists of sites that grow at their end. The list has the sites of a row before a position, in order; passing the position adds it if the
--- row has it. After the last file the list has all of the row.
+-- row has it. Of two sites at most one is before the other, so no site is in such a list twice.
 use Rattle.std.proofs.Common.{◌≡◌, ℕ, ◌+◌, ◌<◌, ◌⊎◌, List, [], ◌∷◌, ◌++◌, length, inl, inr, refl, sym, ◌∙◌, ap, subst, arith, length-append}
 use Rattle.std.proofs.lemmas.Bool.{cases_lt}
 use Rattle.std.proofs.lemmas.List.{get_or_push}

@@ -1,4 +1,5 @@
--- Marks over the sections of the files. After k members exactly the first k are marked, and a further mark changes no other.
+-- Marks over the sections of the files. Marking member n adds it to those marked for the first n, and keeps the marks from before: any
+-- other position is unchanged. A row of marks for one file more extends the rows of the files.
 use Rattle.std.proofs.Common.{◌≡◌, ℕ, ◌+◌, ◌<◌, ◌⊎◌, Bool, true, false, List, [], ◌∷◌, ◌++◌, length, get_or, set, inl, inr, refl, sym, ◌∙◌, subst, arith, get_or-set_other, get_or-set_same, length-append}
 use Rattle.std.proofs.lemmas.Bool.{cases_eq, cases_lt}
 use Rattle.std.proofs.lemmas.List.{get_or_push, length-set}

@@ -1,5 +1,5 @@
--- What is earlier than the next section of a file, or than the next file, is earlier than this one or is this one. So what was seen up to
--- here, with one more, is what is seen up to there.
+-- A position that is earlier than the next section of a file is earlier than this one, or is this one. A position that is earlier than this
+-- one is earlier than the next section, and than the next file.
 use Rattle.std.proofs.Common.{◌≡◌, ℕ, ◌+◌, ◌⊎◌, Bool, true, false, inl, inr, refl, arith}
 use Rattle.std.specs.Prelude.{cond}
 use Rattle.std.proofs.lemmas.Bool.{cases_lt}

@@ -1,4 +1,5 @@
--- Of a list of rules of the link too: sites are ordered by file, index and entry, and a row that holds anywhere holds at a first site.
+-- A list of rules at sites has an answer: it is absurd that it has none. The first site of a row is the least entry of the least index of
+-- the least file. Each of these three is there, or never.
 use Rattle.std.proofs.Common.{◌≡◌, ◌<◌, ◌≤◌, ◌⊎◌, ℕ, Option, List, inl, inr, refl, subst, arith}
 use Rattle.elf_extent.specs.Least.{IsLeast, Never}
 use Rattle.elf_image_rules.specs.Rows.{Row, Ruled}

@@ -1,5 +1,5 @@
--- The number of a symbol's name is the position of that name in the link map. Names are in the order of their first entries in both lists,
--- so the position among the known names serves, and a search finds the same.
+-- The number of a symbol's name is the position of its binding in the link map: both lists are in the order of first entries. A search by
+-- name finds it too, since each name with an entry is bound.
 use Rattle.std.proofs.Common.{◌≡◌, ◌≢◌, ℕ, ◌<◌, List, [], get_or, length, refl, sym, ◌∙◌, subst}
 use Rattle.std.specs.Prelude.{None, Option, Some, MatchOption, unwrap_or}
 use Rattle.elf_field.specs.Abi.{STB_LOCAL}

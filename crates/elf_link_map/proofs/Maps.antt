@@ -1,5 +1,5 @@
--- From the plan and its addresses to the link map, and from a fault of each step to the fault of the link: the rules are tested in their
--- order, so the first step that fails has the first rule broken.
+-- A plan at its addresses is the link's, since its parts are those of the link's files and page. If no input rule is broken, a fault of
+-- rules 10 and 11 at the plan is the link's. The witness is the plan with its least places.
 use Rattle.std.proofs.Common.{◌≡◌, ℕ, List, length, inr, ◌∙◌, ap, subst}
 use Rattle.std.specs.Prelude.{None, IfErr, Result, Ok, Err}
 use Rattle.elf_extent.specs.Place.{EndsFit, Least}

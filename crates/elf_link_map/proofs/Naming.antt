@@ -1,5 +1,5 @@
--- The names of a link map by position. The list has each name once, at the rank of its first entry, so looking a name up finds this
--- position, and no position exactly if it has no entry.
+-- The names of a link map by position. The list has each name once, in the order of first entries (`names_once`). So a name is bound by the
+-- item at its position (`bound_first`), and a name without entries by none.
 use Rattle.std.proofs.Common.{◌≡◌, ℕ, ◌<◌, Bool, List, [], ◌∷◌, get_or, length, map, zero, suc, refl, sym, ◌∙◌, ap, ap₂, subst, arith}
 use Rattle.std.specs.Prelude.{cond, Option, None, Some, MatchOption}
 use Rattle.std.specs.Str.{bytes_eq}

@@ -1,4 +1,5 @@
--- A link has at most one answer: the first rule that is broken, or that none is. Rules are in one list, and each has one first site.
+-- A link has at most one answer: the first rule that is broken, or that none is. By cases on both: the input rules have one answer
+-- (`one_found`), and so have the address rules, asked of the one plan (`one_link_plan`).
 use Rattle.std.proofs.Common.{◌≡◌, ℕ, List, inl, inr, refl, subst}
 use Rattle.std.specs.Prelude.{Option, None, Some}
 use Rattle.elf_object_type.specs.Object.{ObjectValue}

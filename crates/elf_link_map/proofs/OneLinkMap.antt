@@ -1,5 +1,5 @@
--- Objects and options have at most one link map. There is one plan with one list of least places; addresses, marks, outputs, commons and
--- bindings are determined by it, field by field.
+-- Objects and options have at most one link map, since they have one plan (`one_link_plan`). Two maps of it agree field by field: addresses
+-- and marks by cell, outputs and commons by item, bindings by name.
 use Rattle.std.proofs.Common.{◌≡◌, ◌↔◌, ℕ, ◌+◌, ◌<◌, Bool, true, false, List, [], get_or, length, map, refl, sym, ◌∙◌, ap, ap₂, subst, arith}
 use Rattle.std.specs.Prelude.{Option, None, Some, MatchOption}
 use Rattle.std.proofs.lemmas.List.{ext_get_or, get_or-map, length-map}

@@ -1,5 +1,5 @@
--- If no rule of a link is broken, it cannot be that no value is its link map: there is a plan, its parts end below 2^64, and each field of
--- the map is filled from it. Whether a rule holds need not be decided, so the claim is a double negation.
+-- If no rule of a link is broken, it is absurd that no value is its link map. There is a plan, its parts end below 2^64, and each field of
+-- the map is filled from it. Whether a section is discarded need not be decided, so the claim is a double negation.
 use Rattle.std.proofs.Common.{◌≡◌, ℕ, ◌+◌, ◌-◌, ◌^◌, ◌<◌, ◌≤◌, zero, suc, Bool, false, true, List, [], ◌∷◌, length, get_or, map, inl, inr, refl, sym, ◌∙◌, ap, subst, arith, add-one}
 use Rattle.std.specs.Prelude.{◌↔◌, cond, MatchOption, Option, None, Some, replicate, slice_index}
 use Rattle.std.specs.Str.{bytes_eq}

@@ -1,5 +1,5 @@
--- Of any objects and options it can't be that they have no plan; so it can't be that no answer is the first rule of their link that is
--- broken, or that none is. What a rule or a list says need not be decided for that.
+-- It is absurd that objects and options have no plan, or that no answer is the first rule of their link. A row has a list of its sites, by
+-- induction on files and positions. A name has a choice, by cases on its first sites. Nothing need be decided for that.
 use Rattle.std.proofs.Common.{◌≡◌, ℕ, ◌+◌, ◌<◌, ◌≤◌, ◌⊎◌, zero, suc, false, true, List, [], ◌∷◌, ◌++◌, length, inl, inr, refl, sym, subst, arith, add-one}
 use Rattle.std.specs.Prelude.{Option, None, Some}
 use Rattle.std.specs.Borrow.{Bor}

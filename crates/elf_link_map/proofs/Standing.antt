@@ -1,5 +1,5 @@
--- Outputs are apart, and their members are inside them. The members of output k are the parts of the plan from its start on, and places
--- ascend; so a member ends before the next begins, and an output before the next output.
+-- Outputs are apart, with their members inside, and each section that has an address is a member of just one, once. The members of output k
+-- are the parts of the plan from its start on. Places ascend, so a member or output ends before the next begins.
 use Rattle.std.proofs.Common.{◌≡◌, ℕ, ◌+◌, ◌-◌, ◌<◌, ◌≤◌, List, [], ◌∷◌, get_or, length, map, take, zero, suc, inl, inr, refl, sym, ◌∙◌, ap, subst, arith, length-append}
 use Rattle.std.specs.Prelude.{Option, Some, slice_index}
 use Rattle.std.proofs.lemmas.Bool.{cases_lt}

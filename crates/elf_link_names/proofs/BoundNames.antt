@@ -1,5 +1,5 @@
--- Each name with an entry is bound if rules 6 and 9 are not broken: an entry that is GLOBAL is defined, common or undefined, and rule 9
--- excludes that only undefined ones are left.
+-- If no input rule is broken, each name with an entry is bound. An unbound name would have an entry that is not WEAK, which rule 6 makes
+-- GLOBAL. It is defined or common, so the name is bound, or undefined, so rule 9 is broken.
 use Rattle.std.proofs.Common.{◌≡◌, ◌≢◌, ℕ, ◌<◌, true, List, inl, inr, refl, sym, subst, arith}
 use Rattle.std.specs.Prelude.{None}
 use Rattle.std.proofs.lemmas.Bool.{cases_lt}

@@ -1,5 +1,5 @@
--- The list of what is known, as one row of it changes. A large one is read by the name that it is of alone, so that no other row is read
--- otherwise where it joins, or where it changes.
+-- The list of what is known of names, read from their rows and the large ones. Changing or adding the row of one name changes its item
+-- alone, since a large one is read for no other name. By induction on the rows.
 use Rattle.std.proofs.Common.{◌≡◌, ◌≢◌, ℕ, zero, suc, ◌+◌, ◌<◌, ◌≤◌, true, false, List, [], ◌∷◌, ◌++◌, get_or, length, set, refl, sym, ◌∙◌, ap, subst, arith}
 use Rattle.std.specs.Prelude.{Option, None, Some, slice_get}
 use Rattle.std.proofs.lemmas.Bool.{eq-eqb, eqb-true, ne_eqb}

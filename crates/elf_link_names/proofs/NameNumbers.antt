@@ -1,5 +1,5 @@
--- The number of each symbol's name, symbol by symbol and file by file. A name never loses its position, so what was noted for earlier
--- symbols stays true as names are added.
+-- Names keep their positions as new ones are added, so the rows of numbers noted for earlier symbols and files stay right. A number read
+-- from the rows is the position of that symbol's name.
 use Rattle.std.proofs.Common.{◌≡◌, ◌≢◌, ℕ, ◌<◌, Bool, true, false, List, [], get_or, length, map, refl, sym, ◌∙◌, ap}
 use Rattle.std.specs.Global.{Vec}
 use Rattle.std.specs.Prelude.{cond, Option, None, Some}

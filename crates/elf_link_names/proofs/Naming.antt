@@ -1,5 +1,5 @@
--- Names by position, in the order of their first entries. Two first entries have two names, so each name is at one position, and each name
--- with an entry is among them.
+-- Names by position, in the order of their first entries: one more name extends the positions. Two first entries have two names, since one
+-- is before the other. Each name with an entry has a first one (`first_in_row`), so it is listed.
 use Rattle.std.proofs.Common.{◌≡◌, ℕ, ◌+◌, ◌<◌, ◌⊎◌, Bool, List, length, inl, inr, refl, sym, ◌∙◌, ap, subst, arith}
 use Rattle.std.specs.Prelude.{if◌then◌else◌, Option, Some, MatchOption}
 use Rattle.std.specs.Str.{bytes_eq}

@@ -1,5 +1,5 @@
--- The number of a name, and of each name the position of its common. As no two first entries have one name, a rank that is noted for one
--- name leaves those of the others as they were.
+-- The position of a name among those known is its number, since there is one list of the first entries (`one_site_list`). Noting the rank
+-- of one name leaves those of the others, as no two first entries have one name.
 use Rattle.std.proofs.Common.{◌≡◌, ℕ, ◌+◌, ◌<◌, List, length, map, set, inl, inr, refl, sym, ◌∙◌, ap, subst, arith}
 use Rattle.std.specs.Prelude.{Option, None, Some, MatchOption}
 use Rattle.std.proofs.lemmas.Bool.{cases_eq, cases_lt}

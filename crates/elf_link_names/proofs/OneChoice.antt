@@ -1,5 +1,5 @@
--- A name has at most one choice: the first GLOBAL definition, else the largest common, else the first weak one, and each of these is
--- unique. So the list of chosen commons is unique too.
+-- A name has at most one choice, by cases on both choices. Two kinds exclude each other; a first definition, a largest size and a largest
+-- alignment are unique. So the list of chosen commons is unique too, and a name is in it at most once.
 use Rattle.std.proofs.Common.{◌≡◌, ℕ, ◌<◌, List, length, inl, inr, refl, sym, ◌∙◌, ap, ap₂, subst, arith}
 use Rattle.std.proofs.lemmas.Bool.{cases_lt}
 use Rattle.elf_object_type.specs.Object.{ObjectValue}

@@ -1,5 +1,5 @@
--- Names that are in slots, and after them in a map. A name whose slots report that it is in none has no entry, since an entry's slot is
--- after taken ones.
+-- Names in slots, and after them in a map. A name that is in none of its slots has no entry: an entry's slot comes after taken ones, so a
+-- search meets it. Hence a new name in a free slot, or in the map, keeps the tables and all other positions.
 use Rattle.std.proofs.Common.{◌≡◌, ℕ, zero, suc, ◌<◌, ◌+◌, ◌-◌, ◌⊎◌, Bool, true, false, List, [], ◌∷◌, ◌++◌, length, get_or, set, inl, inr, refl, sym, ◌∙◌, ap, subst, arith, get_or-set_other, get_or-set_same}
 use Rattle.std.specs.Prelude.{◌≢◌, cond, if◌then◌else◌, is_some, MatchOption, Option, None, Some}
 use Rattle.std.specs.Str.{bytes_eq}

@@ -1,5 +1,5 @@
--- The rank of a key in an ordered map. Two hashed keys are equal exactly if their keys are: a name has one hash, so the hash decides nothing
--- that the name would not decide.
+-- Two keys with their hashes compare equal exactly if the keys alone do. A comparison in parts is equal exactly if each part is. Equal
+-- names have equal hashes, so the test of the hash adds nothing (`implied`).
 use mathlib.Core.Bool.{beq}
 use Rattle.std.proofs.Common.{◌≡◌, ℕ, ◌&&◌, Bool, true, false, refl, ◌∙◌, arith}
 use Rattle.std.specs.Prelude.{◌==◌}

@@ -1,5 +1,5 @@
--- Where a part starts, by a walk over the parts before it. The cursor is the end of the part before; if a part has no place below 2^64,
--- neither has any part after it. So the walk finds the start, or that there is none.
+-- Where a part starts at the least places, by a walk with a cursor, the end of the part before. If a part has no place below 2^64, or ends
+-- there or later, each later part starts at 2^64 or later. A lost entry symbol has no value, a fixed one its own.
 use Rattle.std.proofs.Common.{◌≡◌, ℕ, ◌+◌, ◌^◌, ◌<◌, ◌≤◌, List, [], ◌∷◌, ◌++◌, length, get_or, drop, zero, suc, refl, sym, ◌∙◌, ap, subst, arith, append_assoc, add-one, drop-cons, length-append}
 use Rattle.std.specs.Prelude.{slice_index, map, Option, None, Some, MatchOption}
 use Rattle.std.proofs.Math.Seq.{get_or-append_seam}

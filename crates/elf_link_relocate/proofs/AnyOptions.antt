@@ -1,5 +1,5 @@
--- What a map says of its objects does not depend on its base, page and entry: outputs, members and addresses are fields of the map, so
--- each fact goes over to a map with other options.
+-- What a map says of its objects does not depend on its base, page and entry, which are other fields than outputs, members and addresses.
+-- And it is a map for options that name no entry symbol: the same plan and places, with the value 0.
 use Rattle.std.proofs.Common.{◌≡◌, ℕ, List, refl, arith}
 use Rattle.std.specs.Prelude.{None}
 use Rattle.elf_object_type.specs.Object.{ObjectValue}

@@ -1,5 +1,5 @@
--- Fields in ascending order share no byte: each begins after the end of the one before it, so of any two the earlier ends before the later
--- begins.
+-- Fields in ascending order share no byte. Each is in a later file or section than the one before it, or starts after its end. That order
+-- is transitive, so by induction it holds of any two fields.
 use Rattle.std.proofs.Common.{◌≡◌, ℕ, ◌+◌, ◌-◌, ◌<◌, List, length, inl, inr, ◌∙◌, subst, arith, zero, suc}
 use Rattle.std.proofs.lemmas.Bool.{cases_lt}
 use Rattle.elf_object_type.specs.Object.{ObjectValue}

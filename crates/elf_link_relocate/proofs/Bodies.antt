@@ -1,5 +1,5 @@
--- Sections whose entries are none, or are not applied, add no field: no applied entry is in them, so the fields before and after such a
--- section are the same.
+-- A section with no entries, or whose entries are not applied, adds no field: no applied entry is in it. So the fields before the section
+-- are those before the next one, as are those before the end of any section.
 use Rattle.std.proofs.Common.{◌≡◌, ℕ, ◌+◌, ◌<◌, Bool, List, [], length, refl, ap, subst, arith}
 use Rattle.elf_object_type.specs.declared.relocation.Relocation.{Relocation}
 use Rattle.elf_object_type.specs.declared.section.Body.{Body}

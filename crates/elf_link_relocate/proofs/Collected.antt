@@ -1,5 +1,5 @@
--- The list of fields, entry by entry. It has the fields of the applied entries before a site, in order; an entry with a field adds it, and
--- any other leaves the list as it is. After the last file it has all of them.
+-- The list of fields, entry by entry. It has the fields of the applied entries before a site, in order, and each of these entries has a
+-- relocation rule. An entry with a field adds it, one without leaves the list. After the last file it has all fields.
 use Rattle.std.proofs.Common.{◌≡◌, ℕ, ◌+◌, ◌<◌, ◌⊎◌, List, [], ◌∷◌, ◌++◌, length, inl, inr, refl, sym, ◌∙◌, ap, subst, arith, length-append}
 use Rattle.std.proofs.lemmas.Bool.{cases_lt}
 use Rattle.std.proofs.lemmas.List.{get_or_push}

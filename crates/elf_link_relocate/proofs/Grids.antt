@@ -1,5 +1,5 @@
--- Tables in rows with one item changed: the item is the new one, every other item and every length stay. So a table described cell by cell
--- is so after a change, but for that cell.
+-- Tables in rows with one item changed: the item is the new one, and all other items and all lengths stay. A change to a table of vectors
+-- is that change to its view.
 use Rattle.std.proofs.Common.{◌≡◌, ◌≢◌, ℕ, ◌<◌, ◌⊎◌, List, [], get_or, length, map, set, inl, inr, sym, ◌∙◌, ap}
 use Rattle.std.proofs.lemmas.Bool.{cases_eq}
 use Rattle.std.specs.Global.{Vec}

@@ -1,4 +1,5 @@
--- Memory has a byte at each address of an output and of the commons, and none elsewhere: fields lie in contents, contents in outputs.
+-- Memory has a byte at each address of an output and of the commons: that of a member's content (`content_byte`), or 0 outside of contents.
+-- It has none elsewhere, since fields lie in contents, and contents in outputs.
 use Rattle.std.proofs.Common.{◌≡◌, ℕ, ◌+◌, ◌-◌, ◌<◌, ◌≤◌, List, length, inl, inr, refl, sym, ap, subst, arith}
 use Rattle.std.specs.Prelude.{None}
 use Rattle.std.proofs.lemmas.Bool.{cases_lt}

@@ -1,5 +1,5 @@
--- What the rules of objects say of relocation sections: the target is a section with bits, and the symbol of an entry is there. So an
--- applied entry has a target and a symbol in its own file.
+-- What the rules of objects say of relocation sections: the target is a section with bits, and the symbol of an entry is there. So the
+-- target of an entry, and its symbol if it names one, are those of its own file.
 use Rattle.std.proofs.Common.{◌≡◌, ℕ, ◌<◌, Bool, true, List, length, arith}
 use Rattle.std.specs.Prelude.{IfSome, None, Option, Some, get_or}
 use Rattle.elf_object_type.specs.declared.relocation.Relocation.{Relocation}

@@ -1,5 +1,5 @@
--- Memory has one byte at each address. Two reasons for a byte are fields or contents that hold the address; outputs are apart and fields
--- share no byte, so both are the same place, and its number is one.
+-- Memory has one byte at each address, by cases on what two bytes come from. Fields or contents that have the address are in one section,
+-- as sections are apart, and fields share no byte. So both are one field or one content, at one offset.
 use Rattle.std.proofs.Common.{◌≡◌, ℕ, ◌+◌, ◌<◌, ℤ, List, length, inl, inr, sym, ◌∙◌, ap, subst, arith}
 use Rattle.std.specs.Prelude.{Option, None, Some, slice_index}
 use Rattle.std.proofs.lemmas.Bool.{cases_lt}

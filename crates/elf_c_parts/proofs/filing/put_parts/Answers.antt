@@ -1,5 +1,5 @@
--- The extents that hold a byte are sorted in the back of the room, so the account is that of the same extents; the two ranges never
--- overlap.
+-- The extents that hold a byte, sorted, are the same extents in ascending order (`held_moved`). So the lowest byte that two of them have is
+-- the file's fault. If there is none, the extents are disjoint, as their account asks.
 use Rattle.std.proofs.Common.{None, Some, rules}
 use Rattle.std.proofs.lemmas.List.Sorted.{IsNonDecreasingBy-from_sort_by_key}
 use Rattle.elf_extent.proofs.Public.{disjoint_from_never, lowest_sorted, nonempty_sorted}

@@ -1,4 +1,5 @@
--- The parts that are placed are those of the relocated bytes, of which the link is sound: it has objects that keep their rules.
+-- The link of the relocated bytes is sound, by what is known of its objects. So what was sent is its executable (`exec_sent`), or exactly
+-- the first bytes of it if the writer failed (`exec_cut`).
 use Rattle.std.proofs.Common.{◌<◌, ◌^◌, Ok, Err, sym, subst}
 use Rattle.elf_link_map.specs.Standing.{AreObjects, ObjectsFit}
 use Rattle.elf_link_relocate.specs.Linked.{LinkedValue}

@@ -1,4 +1,5 @@
--- The places are those of the resolution's objects, so what is made of them and of the bound names is the link map.
+-- The places are those of the resolution's objects, so what is made of them and of the bound names is the link map. A fault of placing is
+-- the link's (`link_fault`).
 use Rattle.std.proofs.Common.{IfErr, List, map, refl, rules, sym, subst}
 use Rattle.elf_link_outputs.specs.declared.common.Common.{Common}
 use Rattle.elf_link_outputs.specs.PlacedView.{common_value}

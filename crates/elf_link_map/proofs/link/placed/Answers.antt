@@ -1,4 +1,5 @@
--- The plan is of the resolution's files and commons, so the addresses of the plan are those of the link.
+-- The plan is of the resolution's files and commons. So its addresses are those of the link (`placed_at`), and its fault is the link's
+-- (`placing_fault`).
 use Rattle.std.proofs.Common.{refl, rules, ◌∙◌}
 use Rattle.std.proofs.lemmas.Result.{IfOk-weaker}
 use Rattle.elf_link_outputs.specs.Plan.{Plan}

@@ -1,4 +1,4 @@
--- After the last file all fields are found: none comes later, and none lacks a rule.
+-- After the last file the fields found are all fields, and each applied entry has a relocation rule: no entry comes later.
 use Rattle.std.proofs.Common.{◌∙◌, List, ◌≡◌, ℕ, length, refl, subst, arith, ap}
 use Rattle.elf_object_type.specs.Object.{ObjectValue}
 use Rattle.elf_link_relocate.specs.Linking.{LinkingValue}

@@ -1,4 +1,4 @@
--- A row is small, and has all of a name itself; or it is the number of a large one, which is the row's own.
+-- If the row leads to a large one of this name, the item is that (`read_own`). Else the row itself has all of it (`read_small`).
 use Rattle.std.proofs.Common.{◌≡◌, true, false, List, length, rules, sym, ◌∙◌, subst, arith, vec_len}
 use Rattle.std.specs.Prelude.{slice_get}
 use Rattle.elf_link_names.specs.declared.known_table.Large.{Large}

@@ -1,4 +1,5 @@
--- A mark changes one row: of a small name the row itself, of a large one that in the list of large ones, and no other name.
+-- A mark changes what is known of one name. If its row leads to a large one of this name, that changes (`set_own`), else the row
+-- (`set_small`).
 use Rattle.std.proofs.Common.{◌≡◌, ◌<◌, true, false, List, length, refl, rules, set, sym, ◌∙◌, ap, subst, arith, vec_len}
 use Rattle.std.specs.Prelude.{slice_get}
 use Rattle.std.proofs.lemmas.List.{get_or_default}

@@ -1,4 +1,5 @@
--- A name is set in its own row: a large one in the list of large ones, a small one in its row, or as one more large one.
+-- If the row leads to a large one of this name, that is replaced (`set_own`). Else the name gets a new row, perhaps with one more large
+-- one, and no other row is read otherwise (`from_set`).
 use Rattle.std.proofs.Common.{◌≡◌, true, List, length, refl, rules, sym, ◌∙◌, subst, arith, vec_len}
 use Rattle.std.specs.Prelude.{slice_get}
 use Rattle.elf_link_names.specs.declared.known_table.Large.{Large}

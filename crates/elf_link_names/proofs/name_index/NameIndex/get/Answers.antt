@@ -1,4 +1,5 @@
--- By what the slots say: the position is there; or a free slot shows that the name has none; or all are taken, and the map has it.
+-- By cases on what the slots report. An entry has the name, and its position. A free slot shows that neither an entry nor the map has it.
+-- Else no entry has it, and the map decides.
 use Rattle.std.proofs.Common.{ℕ, ap, rules, sym}
 use Rattle.std.specs.Prelude.{Option}
 use Rattle.elf_link_names.specs.Ordered.{position_by}

@@ -1,4 +1,5 @@
--- A name without an entry takes the free slot that was found, or goes to the map where all its slots are taken; the others keep theirs.
+-- By cases on what the slots report. A name with an entry keeps its position. One that finds a free slot gets an entry (`entered`); any
+-- other has no entry, and the map places it (`tables_behind`). All other names keep their positions.
 use Rattle.std.proofs.Common.{◌≡◌, ◌+◌, ap, length, rules, sym}
 use Rattle.std.specs.Prelude.{Option, ℕ}
 use Rattle.elf_link_names.specs.declared.slots.Entry.{Entry}

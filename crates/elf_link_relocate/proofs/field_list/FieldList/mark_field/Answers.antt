@@ -1,4 +1,5 @@
--- What is known of the field in hand leads to the section of the marks, and from its marks to those of all fields so far.
+-- The field in hand is within a section that is there (`target_section`), so it can be marked. It finds a mark exactly if it shares a byte
+-- with an earlier field. The marks are then those of one field more (`marks_more`).
 use Rattle.std.proofs.Common.{◌≡◌, ◌∙◌, ap, subst}
 use Rattle.std.proofs.lemmas.List.{length-map}
 use Rattle.elf_link_relocate.specs.declared.field.Field.{Field}
