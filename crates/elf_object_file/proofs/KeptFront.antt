@@ -1,5 +1,5 @@
--- Which sections of a file are kept, if a test passes exactly the first n after section 0: those of index 1 to n. So the position of
--- section p + 1 among them is p.
+-- A section is kept if none of six reasons leaves it out. If a test passes the numbers 1 to n and no other, the numbers that it keeps of a
+-- longer range are 1 to n. By induction on n: those that pass come first.
 use Rattle.std.proofs.Common.{◌≡◌, ◌<◌, ◌≤◌, ◌+◌, ◌⊎◌, ◌||◌, ℕ, zero, suc, Bool, true, false, List, [], ◌∷◌, inl, inr, refl, ap, ◌∙◌, arith}
 use Rattle.std.specs.Prelude.{not, filter}
 use Rattle.std.specs.List.{range_with_len}

@@ -1,5 +1,5 @@
--- The canonical layout of an object that keeps the rules and fits its fields is the file of the object: it is accepted, denotes this
--- object and no other, and is its only layout. The facts of `WrittenObjects`, put together.
+-- The canonical layout of an object that keeps the rules and fits its fields is the file of the object. It is accepted, denotes this object
+-- and no other, and is its only layout: the facts of `WrittenObjects`, put together. So a result that writes the layout writes this file.
 use Rattle.std.proofs.Common.{◌≡◌, ◌≤◌, ℕ, List, length, sym, subst}
 use Rattle.std.specs.Prelude.{Option, Result, Ok, Err}
 use Rattle.elf_image_type.proofs.Public.{some_image}

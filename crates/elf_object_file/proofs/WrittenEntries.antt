@@ -1,6 +1,6 @@
--- The tables of an object are read as what they were made of: symbols, index words, relocations and members. Each number fits its field,
--- so an entry is read back, and an index of 0xff00 or more is read from the index table. (gABI chapter 4: Symbol Table, Relocation,
--- Section Groups; Sections: SHT_SYMTAB_SHNDX.)
+-- The tables of an object are read as what they were made of: symbols, index words, relocations and members. Each number fits its field, so
+-- entry j of a table is read back as the record that was written (`record_at`). (gABI chapter 4: Symbol Table, Relocation, Section Groups;
+-- Sections: SHT_SYMTAB_SHNDX.)
 use Rattle.std.proofs.Common.{◌≡◌, ◌≤◌, ◌<◌, ◌+◌, ◌*◌, ◌^◌, ℕ, suc, Bool, true, false, None, Some, List, [], ◌∷◌, get_or, length, map, ap, ap₂, subst, ◌∙◌, inl, inr, arith}
 use Rattle.std.specs.Prelude.{◌/◌, ◌%◌, if◌then◌else◌, ℤ, Option}
 use Rattle.std.specs.List.{AllByRecursion, Any, flat_map}

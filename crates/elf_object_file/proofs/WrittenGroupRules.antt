@@ -1,5 +1,5 @@
--- A section group of the file that an object is written as breaks none of its rules, 40 to 58. Its entry size, link and flags are those
--- that are written, and rules 4 to 6 of objects say that its signature and members are there. (gABI chapter 4, Section Groups.)
+-- A section group of the file that an object is written as breaks none of its rules: 40 to 52 and 55 to 58. Its entry size is right by rule
+-- 5 of objects and its signature is there by rule 4. A member that broke rule 58 would break rule 6. (gABI chapter 4, Section Groups.)
 use Rattle.std.proofs.Common.{◌≡◌, ◌≢◌, ◌<◌, ◌≤◌, ◌+◌, ◌*◌, ◌^◌, ℕ, suc, Bool, true, false, None, List, length, get_or, inl, inr, refl, sym, ap, ap₂, subst, ◌∙◌, arith}
 use Rattle.std.specs.Prelude.{◌==◌, bit_and, if◌then◌else◌}
 use Rattle.std.specs.List.{Any, flat_map}

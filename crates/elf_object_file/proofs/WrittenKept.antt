@@ -1,5 +1,5 @@
--- What an object keeps of the file that it is written as. The symbol table, its index table and the string tables are the only sections of
--- their kind that are left out, and they are last; so section p + 1 is kept, at position p.
+-- What an object keeps of the file that it is written as. Types of own sections go with a body, so the first symbol table and its index
+-- table are those after them. These two and the string tables are left out, and they are last; so section p + 1 is kept, at position p.
 use Rattle.std.proofs.Common.{◌≡◌, ◌≢◌, ◌<◌, ◌≤◌, ◌+◌, ◌-◌, ◌⊎◌, ℕ, zero, suc, Bool, true, false, Option, None, Some, List, length, get_or, inl, inr, refl, sym, ap, ap₂, subst, ◌∙◌, arith}
 use Rattle.std.specs.Prelude.{◌==◌, ◌&&◌, if◌then◌else◌, Contains, filter}
 use Rattle.std.specs.List.{range_with_len}

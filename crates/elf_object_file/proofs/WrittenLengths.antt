@@ -1,5 +1,5 @@
--- Nothing in a written object is longer than its file: each part ends before the end of the layout, which is at most 2^30 bytes. So counts
--- of sections and symbols, and all name offsets, fit their fields.
+-- Nothing in a written object is longer than its file: no part ends after the end of the layout, which is at most 2^30 bytes. So there are
+-- few sections and symbols, and both string tables are short.
 use Rattle.std.proofs.Common.{◌<◌, ◌≤◌, ◌+◌, ◌*◌, ◌^◌, ℕ, List, length, get_or, refl, arith}
 use Rattle.elf_object_strings.specs.StringTable.{string_table}
 use Rattle.elf_object_writer.specs.Laid.{layout_bytes}

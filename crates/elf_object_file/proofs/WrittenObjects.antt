@@ -1,5 +1,5 @@
--- What an object is written as is accepted, and is read as that object and no other. Two objects with the same bytes are therefore one;
--- and the object that a file denotes is written as its canonical layout.
+-- What an object is written as is accepted, and is read as that object and no other. Two objects with the same bytes are therefore one. The
+-- object that a file denotes keeps the rules and fits its fields, so it is written as its canonical layout.
 use Rattle.std.proofs.Common.{◌≡◌, ◌≤◌, ℕ, List, length, sym, subst}
 use Rattle.std.specs.Prelude.{None}
 use Rattle.elf_field.specs.Bytes.{IsBytes}

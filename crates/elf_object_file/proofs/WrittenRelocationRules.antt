@@ -1,5 +1,5 @@
--- A relocation section of the file that an object is written as breaks none of its rules, 40 to 54. Sizes and types are those that are
--- written, and rules 4 and 5 of objects say that the target and the symbols are there.
+-- A relocation section of the file that an object is written as breaks none of its rules, 40 to 54. Its entry size is right by rule 5 of
+-- objects; its target and its symbols are there by rule 4. Its link is the symbol table, which breaks no rule.
 use Rattle.std.proofs.Common.{◌≡◌, ◌<◌, ◌≤◌, ◌+◌, ◌*◌, ℕ, suc, Bool, true, false, Option, None, Some, List, length, get_or, inl, inr, refl, sym, ap, ap₂, subst, ◌∙◌, arith}
 use Rattle.std.specs.Prelude.{◌%◌, ◌==◌, if◌then◌else◌}
 use Rattle.std.proofs.lemmas.Bool.{cases_eq, cases_lt}

@@ -1,5 +1,5 @@
--- The sections of a written object, by their indexes: section header p + 1 is that of the section at position p, and its content is at the
--- place that the header names.
+-- The sections of a written object, by their indexes. Section header p + 1 is that of the section at position p and has its place, by
+-- induction on the sections; content p + 1 is the content of that section.
 use Rattle.std.proofs.Common.{◌≡◌, ◌<◌, ◌+◌, ℕ, zero, suc, List, [], ◌∷◌, length, get_or, refl, ap, ◌∙◌, arith}
 use Rattle.std.proofs.lemmas.List.{get_or-map}
 use Rattle.elf_extent.proofs.Public.{fits_length}

@@ -1,5 +1,5 @@
--- The rules of the tables in the sections that are kept, section by section. A section without a fault passes on to the next, one that is
--- left out has no rules, and the first fault is that of all.
+-- Steps of a loop over the sections. Invariant: the first fault in the tables of the kept sections from i on is the first one of all. A
+-- section without a fault, or one that is left out, keeps it for i + 1. If section i has a fault, that is the first one of all.
 use Rattle.std.proofs.Common.{◌≡◌, ℕ, ◌+◌, ◌-◌, ◌<◌, true, false, Option, None, Some, List, sym, subst}
 use Rattle.std.specs.Prelude.{filter}
 use Rattle.std.specs.List.{range_with_len}

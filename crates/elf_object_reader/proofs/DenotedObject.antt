@@ -1,5 +1,5 @@
--- The object that a file denotes, by position. The section at a position is the kept section with as many kept ones before it, and each
--- kept section has a position. Names are strings, so they have no zero byte.
+-- The object that a file denotes, by position. The section at position q is the kept section that has q kept ones of lower index, and each
+-- kept section is at its position. Section names are strings, so they have no zero byte: rule 1 of objects.
 use Rattle.std.proofs.Common.{◌≡◌, ℕ, ◌<◌, Bool, List, [], false, true, get_or, length, sym, ap, subst, ◌∙◌, arith}
 use Rattle.std.specs.Prelude.{◌==◌, Contains, drop, if◌then◌else◌}
 use Rattle.std.specs.List.{position_or_len}

@@ -1,5 +1,5 @@
--- The members of the groups of a file, found group by group. A section that is no group changes nothing; a group adds its members to the
--- marks, and the lower of two offsets is kept.
+-- Steps of the loop that looks for wrong members, over the sections of a file. A section that is no group changes neither the marks nor the
+-- lowest offset. With one more group, the lowest offset is the lower one of two.
 use Rattle.std.proofs.Common.{◌≡◌, ◌≢◌, ℕ, ◌+◌, ◌<◌, ◌⊎◌, inl, inr, Bool, List, Option, subst, arith}
 use Rattle.std.proofs.lemmas.Bool.{cases_lt}
 use Rattle.elf_extent.specs.Least.{IsLowest, lower_of}

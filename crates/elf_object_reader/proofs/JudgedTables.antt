@@ -1,5 +1,5 @@
--- The tables of an object file, each tested once. The type of a section gives the kind of its table, and the verdict on the table is that
--- of the kind's rules; so the tables that the object needs can be read where no rule was found broken.
+-- The tables of an object file, and their verdicts. The type of a section gives the kind of its table, and the verdict on it is that of the
+-- kind's rules. So a table without a fault can be read: the group in a kept section, and the symbol table.
 use Rattle.std.proofs.Common.{◌≡◌, ℕ, ◌<◌, ◌⊎◌, ◌||◌, Bool, true, false, Option, None, Some, length, inl, inr, refl, sym, ap, subst, ◌∙◌}
 use Rattle.std.specs.Prelude.{◌==◌, if◌then◌else◌}
 use Rattle.std.proofs.lemmas.Bool.{eqb-true}

@@ -1,5 +1,5 @@
--- Indexes and positions. The place of an index is the number of passing indexes below it; so places ascend, no two are equal, and the list
--- of the passing indexes has each at its place.
+-- Indexes and positions. The place of an index is the number of passing indexes below it. By induction on n: the list of the passing
+-- indexes has each at its place, and nothing else. So the places of passing indexes ascend, and no two are equal.
 use Rattle.std.proofs.Common.{◌≡◌, ℕ, ◌+◌, ◌<◌, ◌⊎◌, ◌++◌, zero, suc, Bool, true, false, List, [], ◌∷◌, get_or, length, inl, inr, refl, sym, ap, subst, ◌∙◌, arith, length-append}
 use Rattle.std.specs.Prelude.{filter}
 use Rattle.std.specs.List.{range_with_len}

@@ -1,5 +1,5 @@
 -- The sections that are kept, one after the other: an index that is kept joins the list and raises the next position by one, any other
--- changes nothing. A section that is not there has the last position.
+-- changes nothing. So a position is at most its index (by induction), and a section that is not there has the last position.
 use Rattle.std.proofs.Common.{◌≡◌, ℕ, ◌+◌, ◌-◌, ◌<◌, ◌≤◌, ◌++◌, [], Bool, true, false, Some, zero, suc, List, ◌∷◌, get_or, length, map, refl, sym, ap, subst, ◌⊎◌, inl, inr, ◌∙◌, arith, length-append, zero-add}
 use Rattle.std.specs.Prelude.{◌==◌, filter}
 use Rattle.std.specs.List.{range_with_len}

@@ -1,5 +1,5 @@
--- The types of the sections that an object keeps. Rules 72 to 74 leave one symbol table and one index table, both left out; so a kept
--- section is of another type, and the rules of its own table hold.
+-- The types of the sections that an object keeps. By rules 49 and 72 to 74 the one symbol table and its index table are left out. So a kept
+-- section is of another type: rule 2 of objects. Its own table breaks no rule, by induction on the list of kept sections.
 use Rattle.std.proofs.Common.{◌≡◌, ◌≢◌, ℕ, zero, suc, ◌<◌, ◌||◌, Bool, true, false, Option, None, Some, List, [], ◌∷◌, get_or, length, inl, inr, refl, sym, ap, subst, ◌∙◌, arith}
 use Rattle.std.specs.Prelude.{◌==◌, ◌&&◌, not, Contains}
 use Rattle.std.specs.List.{AllByRecursion}

@@ -1,5 +1,5 @@
--- A symbol table has as many symbols as whole entries fit its content, 24 bytes each. So symbol j lies in the content, and its `st_info`
--- is put together again from its two halves.
+-- A symbol table has as many symbols as whole entries fit its content, 24 bytes each. So symbol j lies in the content, and its `st_info` is
+-- put together again from its two halves. Last, symbols with equal fields are equal.
 use Rattle.std.proofs.Common.{◌≡◌, ℕ, ◌+◌, ◌*◌, ◌<◌, ◌≤◌, List, get_or, length, ap, ◌∙◌, arith}
 use Rattle.std.specs.Prelude.{◌/◌, ◌%◌}
 use Rattle.elf_field.specs.Sym.{sym_at}

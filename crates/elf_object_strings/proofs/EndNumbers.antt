@@ -1,5 +1,6 @@
 -- Names as numbers of their last eight bytes, read from the end on: the last byte is the leading digit to the base 256. So if two numbers
--- differ, they are in the order of the names; if they are equal, the rest of the names decides.
+-- differ, they are in the order of the names; if they are equal, the names decide, without an end that both have. The code's number is this
+-- one.
 use Rattle.std.proofs.Common.{◌≡◌, ℕ, zero, suc, ◌+◌, ◌-◌, ◌*◌, ◌^◌, ◌<◌, ◌≤◌, List, [], ◌∷◌, ◌++◌, length, get_or, take, drop, min, replicate, reverse, Ordering, refl, sym, ap, subst, ◌∙◌, inl, inr, add-one, arith}
 use Rattle.std.specs.declared.cmp.Ordering.TheVariants.{Less, Equal, Greater}
 use Rattle.std.specs.Cmp.{nat_cmp_is}

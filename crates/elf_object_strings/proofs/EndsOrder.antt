@@ -1,5 +1,5 @@
--- The order by ends: names are compared from their last byte on, the greatest first, so a name comes after each one that ends with it.
--- Therefore the names that end with one name are all together, right before it.
+-- The order by ends: names are compared from their last byte on, the greatest first. A name that begins a greater one begins those between,
+-- so the names that end with one name are all together, up to it. After it only its equals end with it, in the order of their indexes.
 use Rattle.std.proofs.Common.{◌≡◌, ◌<◌, ◌≤◌, ℕ, false, List, [], ◌∷◌, ◌++◌, get_or, length, reverse, refl, sym, ap, ◌∙◌, arith, Ordering}
 use Rattle.std.specs.declared.cmp.Ordering.TheVariants.{Less, Equal, Greater}
 use Rattle.std.specs.Cmp.Lexicographic.{slice_cmp}

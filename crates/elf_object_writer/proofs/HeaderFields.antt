@@ -1,5 +1,5 @@
--- The section header of each kind of section, field by field: what the code fills in for bits, relocations, groups and the tables at the
--- end is the header of the definition.
+-- Section headers, field by field: what the code fills in is the header of the definition. This is shown for an own section with bits, and
+-- for the symbol table. For any own section, it reduces to a header that has name, offset and size.
 use Rattle.std.proofs.Common.{◌≡◌, ◌+◌, ℕ, List, length, refl, sym, ap, ap₂, subst, ◌∙◌}
 use Rattle.std.specs.Prelude.{filter}
 use Rattle.std.proofs.lemmas.Bool.{ne_eqb}

@@ -1,5 +1,5 @@
--- The section header table, header by header. Entry 0 is that of no section; entry k + 1 is that of the section at position k, with the
--- offset of its name in the list of all names.
+-- The section header at position k, by induction on the list of sections: it has the place at k, and the name at k in the list of all
+-- names. The code counts as many local symbols as the object's value has, by induction on the symbols.
 use Rattle.std.proofs.Common.{◌≡◌, ◌<◌, ◌+◌, ◌-◌, ℕ, zero, suc, Bool, true, false, List, [], ◌∷◌, ◌++◌, length, map, get_or, refl, sym, ap, ap₂, ◌∙◌, arith}
 use Rattle.std.specs.Prelude.{codes, cond, filter}
 use Rattle.std.proofs.lemmas.List.{get_or-map, map-append}

@@ -1,5 +1,5 @@
--- The positions that sections and symbols name are there, by the rules of objects, and there are fewer than 2^31 of them in a layout that
--- is not too long; so each fits a field of 32 bits.
+-- The position that a symbol's place names is there, by rule 8 of objects. A layout that is not too long has fewer than 2^31 sections, so
+-- the index fits a field of 32 bits. The symbol table takes at most 2^30 bytes.
 use Rattle.std.proofs.Common.{◌≡◌, ◌<◌, ◌≤◌, ◌+◌, ◌*◌, ◌^◌, ℕ, Option, None, Some, List, length, map, get_or, inl, inr, sym, ap, subst, ◌∙◌, arith}
 use Rattle.std.proofs.lemmas.Bool.{cases_lt}
 use Rattle.std.proofs.lemmas.List.{get_or-map, length-map}

@@ -1,5 +1,5 @@
--- The names of an object's sections and symbols and their offsets: the list that the code makes name by name is that of the object's
--- value, with or without the name of the index table.
+-- The names of an object's sections and symbols: the list that the code makes name by name is that of the object's value, with or without
+-- the name of the index table. Code and value agree whether there is one. Each is by induction on the list of sections or symbols.
 use Rattle.std.proofs.Common.{◌≡◌, ℕ, Bool, true, false, List, [], ◌∷◌, ◌++◌, map, refl, sym, ap, ap₂, ◌∙◌, append_assoc}
 use Rattle.std.specs.Prelude.{◌||◌, if◌then◌else◌, codes}
 use Rattle.std.specs.List.{list_any}

@@ -1,5 +1,5 @@
--- The sizes of an object's parts, as code counts them: entries times their size, saturated at the largest number. So each is the size of
--- the definition, or both are too large for a file.
+-- The parts of an object's own sections, as code counts them: entries times their size, saturated at the largest number of 64 bits. For
+-- bits, relocations and groups this is the saturated part of the definition, because entries have a fixed size.
 use Rattle.std.proofs.Common.{◌≡◌, ◌≢◌, ◌<◌, ◌+◌, ◌*◌, ◌^◌, min, ℕ, Bool, true, false, List, [], ◌∷◌, length, map, get_or, refl, sym, ap, subst, ◌∙◌, arith}
 use Rattle.std.specs.Prelude.{◌==◌}
 use Rattle.std.proofs.lemmas.Bool.{ne_eqb}

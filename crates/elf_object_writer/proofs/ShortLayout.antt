@@ -1,5 +1,5 @@
 -- What follows for the numbers of an object from a layout that is not too long. Each part ends at 2^30 or below, so there are few sections
--- and symbols, and each offset of a name is below the length of its table.
+-- and symbols. A name's offset is below the length of its table, so it fits 32 bits.
 use Rattle.std.proofs.Common.{◌≡◌, ◌<◌, ◌≤◌, ◌+◌, ◌-◌, ◌*◌, ◌^◌, ℕ, zero, suc, List, [], ◌∷◌, ◌++◌, length, map, get_or, inl, inr, refl, ap, ◌∙◌, arith, length-append}
 use Rattle.std.specs.Prelude.{codes}
 use Rattle.std.proofs.lemmas.List.{get_or-map, length-map}

@@ -1,5 +1,5 @@
--- `rewrite` says one thing of bytes. They denote one object, with one canonical layout, or one rule is broken first; and a layout is too
--- long or not.
+-- `rewrite` says one thing of bytes. They are one image that denotes one object with one canonical layout, which is too long or not; or one
+-- rule is broken first, of images or of objects' files. No two of these come together.
 use Rattle.std.proofs.Common.{◌≡◌, ◌∙◌, ℕ, List, [], ap, arith, refl, sym}
 use Rattle.std.specs.Prelude.{None, Some}
 use Rattle.elf_image_rules.specs.ImageRules.{rules_in}

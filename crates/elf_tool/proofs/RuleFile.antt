@@ -1,5 +1,5 @@
--- Bytes are the lines of at most one list of relocation rules, and have at most one bad line. No byte of a word is a blank and none of a
--- line is a line feed, so bytes are cut into lines and words in one way.
+-- Bytes are the lines of at most one list of relocation rules, or have at most one bad line, and never both. No byte of a word is a blank
+-- and none of a line is a line feed. So two lists of lines at the beginning of the same bytes agree, by induction on both (`meet`).
 use Rattle.std.proofs.Common.{◌≡◌, ◌∙◌, ◌+◌, ◌<◌, ◌⊎◌, ℕ, List, [], ◌∷◌, ◌++◌, ap, append_assoc, append-nil, arith, inl, inr, length, length-append, map, refl, subst, sym}
 use Rattle.std.specs.List.{AllByRecursion, concat}
 use Rattle.std.specs.Prelude.{◌==◌, if◌then◌else◌}

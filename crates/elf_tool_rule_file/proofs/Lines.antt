@@ -1,5 +1,5 @@
--- The lines of relocation rules, one more. Bytes that begin with lines of rules and the line of one more rule begin with one more line; so
--- a bad line is reported only after all lines before it.
+-- The lines of relocation rules, one more. Lines of rules and the line of one more rule are lines of one more rule, by induction on the
+-- lines. If what follows lines of rules begins with a rule, so do all the bytes.
 use Rattle.std.proofs.Common.{◌≡◌, ◌∙◌, ◌<◌, ◌≤◌, ℕ, List, [], ◌∷◌, ◌++◌, ap, append_assoc, append-nil, arith, length, length-append, map, refl}
 use Rattle.std.specs.List.{concat}
 use Rattle.std.proofs.lemmas.List.{map-append}

@@ -1,5 +1,5 @@
 -- Calls of engines: a fault before anything is written keeps the output as it was, and a fault of the writer leaves the first bytes of the
--- text. What an engine says goes over to whatever follows from it.
+-- text. If a file was read whole and its report is printed, or nothing is, that is a call that allocates first (`said`).
 use Rattle.std.proofs.Common.{◌≡◌, ◌∙◌, ℕ, ◌+◌, ◌^◌, ◌≤◌, ◌⊎◌, List, Option, Result, Ok, Err, inl, inr, length, refl, sym}
 use Rattle.std.specs.Io.KnownBytes.{Consumes, IsAtEnd, Keeps}
 use Rattle.std.proofs.KnownBytes.{Keeps-refl}

@@ -1,5 +1,5 @@
--- The digits of a number, put from the last one to the first. Each step puts the last digit in front of what is there and divides by the
--- base; a number below the base to the power k has at most k digits, so a place is left.
+-- The digits of a number, put from the last one to the first: each step puts the last digit in front and divides by the base. A number has
+-- at least one digit, so a place is left for it. By induction, a number below the base to the power k has at most k digits.
 use Rattle.std.proofs.Common.{◌≡◌, ◌∙◌, ℕ, zero, suc, ◌+◌, ◌-◌, ◌*◌, ◌/◌, ◌%◌, ◌^◌, ◌<◌, ◌≤◌, Bool, true, false, List, [], ◌∷◌, ◌++◌, length, drop, set, ap, append_assoc, arith, refl, sym}
 use Rattle.std.proofs.Math.Bool.{cond}
 use Rattle.std.proofs.Math.Dec.{eqb}

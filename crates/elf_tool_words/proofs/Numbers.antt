@@ -1,5 +1,5 @@
--- The numbers of a command line: a word is decimal, or `0x` and lower-case hexadecimal. Each digit has a value below the radix and is no
--- sign, so what the parser accepts is what the definition accepts.
+-- The numbers of a command line: a word of digits, decimal or lower-case hexadecimal. Each digit has a value below the radix and is no plus
+-- sign. So the parser gives what the definition gives: the number, or none if there is no digit or it is past 64 bits.
 use Rattle.std.proofs.Common.{◌≡◌, ℕ, ◌^◌, ◌<◌, ap, subst, refl, arith, Bool, true, ◌&&◌, List, [], ◌∷◌, length, nat_lt, None, Some, Result, Ok, Err, inl, inr, lt-ltb, if◌then◌else◌}
 use Rattle.std.specs.List.{list_all}
 use Rattle.std.specs.Char.{digit_value}

@@ -1,5 +1,5 @@
--- What the program's exit status says of a file whose bytes are known. The words of the test are those of `check`, so the status is that
--- of the engine: 0 for a file that breaks no rule, 1 for one that breaks some, and nothing for any other.
+-- What the program's exit status says of a file whose bytes are known, if its words are `check a.o` with or without `--seek`. These words
+-- make no other request, so the status is the engine's: 0 means that no rule is broken, 1 that one is. Any other status says nothing.
 use Rattle.std.proofs.Common.{◌≡◌, ◌∙◌, ℕ, ◌^◌, ◌≤◌, inl, inr, true, false, List, [], ◌∷◌, ◌++◌, Option, Some, None, Result, Ok, Err, length, ap, sym, subst, arith, length-append}
 use Rattle.std.proofs.lemmas.List.{append-nil}
 use Rattle.std.specs.Prelude.{codes}

@@ -1,5 +1,5 @@
--- The last part is the section header table: its end is the length of the file. A length above the limit means that some part has no
--- place.
+-- The end of the last part is the length of the file. If it is above the limit, the parts are too long, because they have no other least
+-- places.
 use Rattle.std.proofs.Common.{◌≡◌, ◌-◌, length, rules, arith}
 use Rattle.std.specs.Prelude.{vec_len}
 use Rattle.elf_extent.proofs.Public.{fits_length}

@@ -1,5 +1,5 @@
--- Invariant: all bytes before `out` are out, up to the end of the section before. Header, sections and section header table are the three
--- stages; each that fails leaves out a beginning of the file.
+-- Invariant: the first `out` bytes of the file are written, up to the end of the last section so far. Header, sections and section header
+-- table are the three stages. If one fails, the bytes written are a beginning of the file.
 use Rattle.std.proofs.Common.{◌≡◌, length, arith}
 use Rattle.elf_object_writer.specs.PlainSections.{plain_sections}
 use Rattle.elf_object_writer.proofs.Going.{content_cut, content_place, content_sent, header_bytes, header_cut, header_sent, table_cut, table_place, table_sent}

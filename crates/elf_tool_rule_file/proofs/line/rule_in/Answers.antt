@@ -1,4 +1,5 @@
--- A line is a rule exactly if it is cut into four words at its blanks, and each word is one of its kind: each refusal says which is not.
+-- If a line is refused, it is the line of no rule. A rule's line would be cut at its blanks into the rule's own words (`Words`). Then the
+-- cut or the word that failed would not have failed.
 use Rattle.elf_tool_rule_file.proofs.Cuts.{no_cut}
 use Rattle.elf_tool_rule_file.proofs.Words.{behind_form, form_is, kind_is, last_is, range_is, rest_is, width_is}
 use Rattle.elf_tool_rule_file.specs.RuleLine.{form_word, range_word, width_word}

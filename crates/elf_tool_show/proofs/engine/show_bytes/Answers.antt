@@ -1,4 +1,5 @@
--- Either the bytes are an image and its lines are sent, or its refusal is.
+-- If the writer fails, a beginning of the report is written: of the lines of the image and its tables, or of the line on the rule that the
+-- bytes break first.
 use Rattle.std.proofs.Common.{inr, refl}
 use Rattle.std.proofs.lemmas.Result.{err_from_is_err_and}
 use Rattle.elf_table_all.specs.TableVerdicts.{TablesValue}

@@ -1,4 +1,5 @@
--- The lines are sent kind by kind, each after those before it; a failure leaves out a beginning of all of them.
+-- The lines are sent kind by kind: the file, its parts, sections, segments and tables. If one kind fails, the bytes written are a beginning
+-- of all lines: those sent so far go in front, those to come are added after.
 use Rattle.std.proofs.Common.{◌≡◌, ◌∙◌, List, ℕ, [], ◌++◌, Option, ap, map, refl, subst}
 use Rattle.std.specs.List.{flat_map}
 use Rattle.std.proofs.lemmas.List.Folds.{flat_map-map}

@@ -1,4 +1,4 @@
--- The command is the builder's calls, one after the other: by computation.
+-- The command is what the builder's calls make, one after the other: the contract of each call, applied to the command so far.
 use Rattle.std.proofs.Common.{◌≡◌, ◌∙◌, ap, ap₂, codes, true}
 use Rattle.std.proofs.lemmas.Result.{IfOk-weaker}
 use Rattle.clap.specs.Simple.{App, app_of, app_of_fields, new_app, on_top, with_subcommand}

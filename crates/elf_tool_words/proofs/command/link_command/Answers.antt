@@ -1,4 +1,5 @@
--- The command is the builder's calls, one after the other: by computation.
+-- The command is what the builder's calls make, one after the other, and no argument of it is global: the contract of each call, applied to
+-- the command so far.
 use Rattle.std.proofs.Common.{◌≡◌, ◌∙◌, ◌||◌, false, ap, ap₂, codes}
 use Rattle.std.proofs.lemmas.Result.{IfOk-weaker}
 use Rattle.clap.specs.Simple.{App, app_of, app_of_fields, new_app, with_rule}

@@ -1,4 +1,5 @@
--- What clap's walk over the words takes is what the definition of the command takes.
+-- clap's contract is for simple commands, and `elfmap` is one, by computation. So words that are taken have no fault and enter the
+-- subcommand of the definition. An error, other than out of memory, is of words that are not taken, and its kind is one of their faults.
 use Rattle.std.proofs.Common.{◌≡◌, ◌∙◌, ap, inl, inr, sym, refl, subst, Bool, true, false, map, List}
 use Rattle.std.proofs.lemmas.Result.{err_from_is_err_and}
 use Rattle.clap.specs.Faults.{fault_of, is_simple_and_free}

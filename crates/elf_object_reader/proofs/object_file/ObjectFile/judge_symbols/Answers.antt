@@ -1,4 +1,5 @@
--- The symbol table that is left out is one of the image, so its verdict is that of rules 45 to 52; rule 75 is asked where they are kept.
+-- The symbol table that is left out is a section of the image, so its verdict is that of the rules of symbol tables. Where these are kept,
+-- rule 75 decides. Without a symbol table no rule is broken.
 use Rattle.elf_image_rules.proofs.Public.{FirstIn-handed}
 use Rattle.elf_object_reader.specs.ObjectFile.{sections_of_file}
 use Rattle.elf_object_reader.proofs.JudgedTables.{symbols_ready, symbols_there, symbols_told}

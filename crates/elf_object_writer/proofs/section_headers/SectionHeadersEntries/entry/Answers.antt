@@ -1,4 +1,4 @@
--- Section header 0 is the first of the list; the one at any other index is that of the section before it.
+-- Section header 0 is the first of the list; the one at another index i is that of the section at position i - 1.
 use Rattle.std.proofs.Common.{◌+◌, ◌-◌, ℕ, ap, arith, sym, ◌∙◌}
 use Rattle.elf_image_type.specs.RelocatableFile.{first_header}
 use Rattle.elf_object_strings.specs.StringTable.{name_offset}
