@@ -102,13 +102,6 @@ pub record ArePlaced (parts : List Part) (from i cursor : ℕ) (places : List �
   pub fits : EndsFit parts places i
   pub continues : (rest : List ℕ) → Least (drop i parts) cursor rest → Least parts from (places ++ rest)
 
-pub placed_none : (parts : List Part) (from : ℕ) → ArePlaced parts from 0 from []
-placed_none parts from = record {
-  count = refl;
-  fits = λ k lt. absurd (omega arith);
-  continues = λ rest least. least;
-}
-
 -- further places after the least place of part i are least places
 pub placed_then : (parts : List Part) (from i cursor x : ℕ) (places rest : List ℕ) (p : Part) →
     i < length parts → ArePlaced parts from i cursor places →

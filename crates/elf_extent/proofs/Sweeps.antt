@@ -23,14 +23,6 @@ pub record IsSwept (es : List Extent) (k : ℕ) (last : Extent) : Type 0 where
   pub below : (j : ℕ) (e : Extent) → k ≤ j → slice_get es j ≡ Some e → last.start ≤ e.start
   pub among : 0 < last.len → (i : ℕ) × (i < k) × (slice_get es i ≡ Some last)
 
-pub swept_none : (es : List Extent) → IsSwept es 0 (record { start = 0; len = 0 })
-swept_none es = record {
-  apart = λ j lt. absurd (omega arith);
-  reaches = λ i e lt. absurd (omega arith);
-  below = λ j e le here. omega arith;
-  among = λ lt. absurd (omega arith);
-}
-
 -- a later extent starts no lower
 pub rises : (es : List Extent) (i j : ℕ) (e f : Extent) → IsNonDecreasingBy start_of es → i ≤ j →
     slice_get es i ≡ Some e → slice_get es j ≡ Some f → e.start ≤ f.start

@@ -26,9 +26,6 @@ use Rattle.elf_field.proofs.RecordTableLaws.{length-table}
 
 -- ---- each part's bytes are as many as its length
 
-no_extent : Extent
-no_extent = record { start = 0; len = 0 }
-
 pub same_start : (d e : Extent) → Some d ≡ Some e → d.start ≡ e.start
 same_start d e same = let equal : d ≡ e = cc in ap (λ (x : Extent). x.start) equal
 

@@ -12,7 +12,7 @@ use Rattle.elf_extent.specs.declared.extent.Extent.{Extent}
 use Rattle.elf_extent.specs.Extent.{AreDisjoint, AreWithin}
 use Rattle.elf_image_rules.specs.Rows.{FirstIn}
 use Rattle.elf_image_rules.specs.OverlapRule.{extents}
-use Rattle.elf_image_rules.specs.ImageRules.{IsFault, KeepsRecordRules, image_rules, record_rules, rules_in}
+use Rattle.elf_image_rules.specs.ImageRules.{KeepsRecordRules, image_rules, record_rules}
 use Rattle.elf_image_rules.specs.SoundTables.{HasSoundTables}
 use Rattle.elf_image_rules.specs.Tables.{content_extent, header, name_table, names, no_section_header, order_of, program_header_count, section_header_count, sections, segments, shdr_offset}
 use Rattle.elf_image_rules.proofs.Extents.{content_extent_at, length-extents}
@@ -137,10 +137,6 @@ name_table_below len h s sound = elim (cases_eq h.e_shoff 0) [
 ]
 
 -- ---- of a file by its bytes
-
-pub kept_of_clean : (b : List ℕ) → IsFault b None → KeepsRecordRules b
-unfolding rules_in
-kept_of_clean b clean = clean_records (length b) (header b) (sections b (header b)) (segments b (header b)) (names b (header b)) clean
 
 pub sound_file : (b : List ℕ) (h : Ehdr) → h ≡ header b → KeepsRecordRules b → HasSoundTables (length b) h (sections b h)
 sound_file b h same kept = subst (λ (k : Ehdr). HasSoundTables (length b) k (sections b k)) (sym same)

@@ -2,7 +2,7 @@
 -- (`FirstIn-later`). So the tests of the runs, chained, find the fault of rules 1 to 32, which is the file's. If there is none, the fault
 -- is the lowest byte that two extents hold, by rule 33.
 use Rattle.std.proofs.Common.{◌≡◌, ℕ, inl, inr, Option, None, Some, Result, Ok, Err, List, ◌++◌, length, refl, subst}
-use Rattle.std.specs.Prelude.{IfErr, IfOk, OnErr, OnOk}
+use Rattle.std.specs.Prelude.{IfErr, IfOk, OnErr}
 use Rattle.elf_field.specs.declared.ehdr.Ehdr.{Ehdr}
 use Rattle.elf_field.specs.declared.shdr.Shdr.{Shdr}
 use Rattle.elf_field.specs.declared.phdr.Phdr.{Phdr}
@@ -69,11 +69,6 @@ pub judged_unkept : {T : Type 0} (b : List ℕ) (result : Result T (Broken ℕ))
     OnErr result (¬ KeepsRecordRules b)
 judged_unkept b (Ok u) run = tt
 judged_unkept b (Err e) run = λ kept. let same = one_fault (record_rules_of b) (Some (e.rule, e.at)) None run kept in absurd cc
-
-pub judged_kept : {T : Type 0} (b : List ℕ) (result : Result T (Broken ℕ)) → FirstIn (record_rules_of b) (fault_of result) →
-    OnOk result (KeepsRecordRules b)
-judged_kept b (Ok u) run = run
-judged_kept b (Err e) run = tt
 
 pub from_length : (b : List ℕ) (h : Ehdr) (found : Option (ℕ × ℕ)) → h ≡ header b →
     FirstIn (length_rules (length b) ++ (ident_rules h.e_ident ++ (header_rules (length b) h ++ table_rules_of b h))) found →

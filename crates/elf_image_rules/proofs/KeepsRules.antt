@@ -1,6 +1,6 @@
 -- No rule is broken exactly if each rule's positive fact holds, run by run: a rule says that something is wrong, its fact that it is
 -- right, and each test of numbers is decidable.
-use Rattle.std.proofs.Common.{◌≡◌, ◌≢◌, ℕ, ◌+◌, ◌-◌, ◌<◌, ◌≤◌, inl, inr, None, List, length, refl, arith}
+use Rattle.std.proofs.Common.{◌≡◌, ◌≢◌, ℕ, ◌+◌, ◌-◌, ◌<◌, ◌≤◌, inl, inr, None, List, ◌∷◌, length, refl, arith}
 use Rattle.std.specs.Prelude.{slice_index}
 use Rattle.elf_field.specs.Abi.{EHDR_SIZE, SHT_NULL}
 use Rattle.elf_field.specs.declared.ehdr.Ehdr.{Ehdr}
@@ -8,7 +8,7 @@ use Rattle.elf_field.specs.declared.shdr.Shdr.{Shdr}
 use Rattle.elf_field.specs.declared.phdr.Phdr.{Phdr}
 use Rattle.elf_extent.specs.Least.{Never}
 use Rattle.elf_extent.proofs.Public.{disjoint_from_never, never_from_disjoint}
-use Rattle.elf_image_rules.specs.Rows.{FirstIn}
+use Rattle.elf_image_rules.specs.Rows.{AtEntry, FirstIn}
 use Rattle.elf_image_rules.specs.HeaderRules.{MAX_LEN, count_without_section_table, header_rules, ident_rules, length_rules}
 use Rattle.elf_image_rules.specs.ImageRules.{header_entry_rules, header_table_rules, image_rules, record_rules}
 use Rattle.elf_image_rules.specs.KeepsRules.{IsNullHeader, KeepsEachRecordRule, KeepsHeaderRules, KeepsIdentRules, KeepsLengthRules, KeepsNameRules, KeepsProgramTableRules, KeepsRules, KeepsSectionRules, KeepsSectionTableRules, KeepsSegmentRules}
@@ -20,8 +20,15 @@ use Rattle.elf_image_rules.specs.SegmentRules.{IsIncongruentSegment, HasFileSize
 use Rattle.elf_image_rules.specs.StringTable.{UnclosedAt}
 use Rattle.elf_image_rules.specs.Tables.{phdr_offset, program_header_count, section_header_count, shdr_offset}
 use Rattle.elf_image_rules.proofs.Decided.{above, at_most, equal, equal_to_either, is_alignment, not_wrong}
-use Rattle.elf_image_rules.proofs.RowKinds.{entry_kept, entry_never}
 use Rattle.elf_image_rules.proofs.Rows.{FirstIn-behind, FirstIn-front, FirstIn-later}
+
+-- ---- a rule of each entry: it is broken nowhere exactly if what breaks it holds for no entry
+
+entry_kept : (n : ℕ) (P : ℕ → Type 0) (place : ℕ → ℕ) → Never (AtEntry n P place) → (i : ℕ) → i < n → P i → ⊥
+entry_kept n P place never i below broken = never (place i) (i, below, broken, refl)
+
+entry_never : (n : ℕ) (P : ℕ → Type 0) (place : ℕ → ℕ) → ((i : ℕ) → i < n → P i → ⊥) → Never (AtEntry n P place)
+entry_never n P place kept x (i, below, broken, here) = kept i below broken
 
 -- ---- rules 1 and 2
 

@@ -8,7 +8,6 @@ mod KeepsRules
 mod LoadOrder
 mod PowerOfTwo
 pub mod Public
-mod RowKinds
 mod Rows
 mod Same
 mod SomeFault

@@ -7,7 +7,7 @@ use Rattle.std.proofs.Math.ListN.{get_or-append}
 use Rattle.elf_object_type.specs.GroupRule.{NamesMember}
 use Rattle.elf_object_type.specs.Object.{ObjectValue}
 use Rattle.elf_link_files.specs.Files.{object_at}
-use Rattle.elf_link_files.specs.Marking.{AreMarkRows, AreMarksBefore, AreMembersMarked, IsDiscardedBefore}
+use Rattle.elf_link_files.specs.Marking.{AreMarkRows, AreMarksBefore, AreMembersMarked}
 
 -- ---- the members of one group
 
@@ -43,9 +43,6 @@ marked_next before members n row are there = record {
 }
 
 -- ---- the groups of one file
-
-pub discarded_more : (fs : List ObjectValue) (f n s : ℕ) → IsDiscardedBefore fs f n s → IsDiscardedBefore fs f (n + 1) s
-discarded_more fs f n s (g, lt, comdat, member, seen) = (g, omega arith, comdat, member, seen)
 
 -- ---- all files
 

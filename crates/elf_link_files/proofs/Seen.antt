@@ -1,7 +1,6 @@
 -- A position that is earlier than the next section of a file is earlier than this one, or is this one. A position that is earlier than this
 -- one is earlier than the next section, and than the next file.
-use Rattle.std.proofs.Common.{◌≡◌, ℕ, ◌+◌, ◌⊎◌, Bool, true, false, inl, inr, refl, arith}
-use Rattle.std.specs.Prelude.{cond}
+use Rattle.std.proofs.Common.{◌≡◌, ℕ, ◌+◌, ◌⊎◌, inl, inr, arith}
 use Rattle.std.proofs.lemmas.Bool.{cases_lt}
 use Rattle.elf_link_files.specs.Files.{IsEarlier}
 
@@ -16,18 +15,6 @@ earlier_next e h f g (inr (same, before)) = elim (cases_lt h g) [
 pub earlier_more : (e h f g : ℕ) → IsEarlier e h f g → IsEarlier e h f (g + 1)
 earlier_more e h f g (inl before) = inl before
 earlier_more e h f g (inr (same, before)) = inr (same, omega arith)
-
-cond_true : (b x : Bool) → cond b true x ≡ true → (b ≡ true) ⊎ (x ≡ true)
-cond_true true x is = inl refl
-cond_true false x is = inr is
-
-cond_left : (b x : Bool) → b ≡ true → cond b true x ≡ true
-cond_left true x is = refl
-cond_left false x is = absurd (cc)
-
-cond_right : (b x : Bool) → x ≡ true → cond b true x ≡ true
-cond_right true x is = refl
-cond_right false x is = is
 
 pub file_before : (e h f n : ℕ) → IsEarlier e h f n → IsEarlier e h (f + 1) 0
 file_before e h f n (inl before) = inl (omega arith)

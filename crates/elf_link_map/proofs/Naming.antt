@@ -3,7 +3,6 @@
 use Rattle.std.proofs.Common.{◌≡◌, ℕ, ◌<◌, Bool, List, [], ◌∷◌, get_or, length, map, zero, suc, refl, sym, ◌∙◌, ap, ap₂, subst, arith}
 use Rattle.std.specs.Prelude.{cond, Option, None, Some, MatchOption}
 use Rattle.std.specs.Str.{bytes_eq}
-use Rattle.std.proofs.lemmas.List.{get_or-map}
 use Rattle.std.proofs.lemmas.Slice.Eq.{bytes_eq-Decides}
 use Rattle.elf_object_type.specs.Object.{ObjectValue}
 use Rattle.elf_link_files.specs.declared.site.Site.{Site}
@@ -16,9 +15,7 @@ use Rattle.elf_link_names.specs.Naming.{ArePositionsOf}
 use Rattle.elf_link_names.proofs.Public.{names_once, entry_listed}
 use Rattle.elf_link_outputs.specs.Placed.{CommonValue}
 use Rattle.elf_link_map.specs.declared.bindings.Binding.{Binding}
-use Rattle.elf_link_map.specs.declared.names.Named.{Named}
 use Rattle.elf_link_map.specs.LinkMap.{AreBindings, AreNames, IsBinding, bound_in, no_name}
-use Rattle.elf_link_map.specs.LinkMapView.{named_value}
 use Rattle.elf_link_map.specs.Naming.{AreBindingPositions, AreNamedAt}
 
 -- ---- what a list has of a name
@@ -93,6 +90,3 @@ pub position_found : (bs : List (List ℕ × Binding)) (position : List ℕ → 
     (k < length bs) × (bound_in bs name ≡ Some (get_or bs k no_name).1)
 position_found bs position name k at are =
     subst (λ (o : Option ℕ). MatchOption o (bound_in bs name ≡ None) (λ j. (j < length bs) × (bound_in bs name ≡ Some (get_or bs j no_name).1))) at (are name)
-
-pub binding_at : (ns : List Named) (k : ℕ) (d : Named) → k < length ns → (get_or (map named_value ns) k no_name).1 ≡ (get_or ns k d).binding
-binding_at ns k d lt = ap (λ (e : List ℕ × Binding). e.1) (get_or-map named_value ns k d no_name lt)

@@ -11,14 +11,6 @@ use Rattle.elf_link_names.specs.declared.known_table.Row.{Row}
 use Rattle.elf_link_names.specs.KnownNames.{known_at, no_known}
 use Rattle.elf_link_names.specs.KnownTable.{KeepsOthers, is_of, known_by, known_from, known_in, small_known}
 
--- one of another name joins
-pub joined_other : (ls : List Large) (l : Large) (j n : ℕ) (small : Known) → j ≢ l.name →
-    known_by j (slice_get (ls ++ l ∷ []) n) small ≡ known_by j (slice_get ls n) small
-joined_other [] l j zero small other = rw (ne_eqb l.name j (λ same. other (sym same))) refl
-joined_other [] l j (suc n) small other = refl
-joined_other (x ∷ xs) l j zero small other = refl
-joined_other (x ∷ xs) l j (suc n) small other = joined_other xs l j n small other
-
 -- one of another name changes
 pub changed_other : (ls : List Large) (i : ℕ) (l : Large) (j n : ℕ) (small : Known) → j ≢ l.name → is_of l.name (slice_get ls i) ≡ true →
     known_by j (slice_get (set ls i l) n) small ≡ known_by j (slice_get ls n) small

@@ -8,7 +8,6 @@ pub mod NameNumbers
 pub mod Naming
 pub mod Numbers
 pub mod OneChoice
-pub mod OrderedNames
 pub mod Public
 pub mod Tabled
 pub mod Tables

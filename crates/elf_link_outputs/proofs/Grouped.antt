@@ -50,13 +50,6 @@ picks_none ps k P none = record {
 
 -- ---- a section joins a group
 
--- a head is a site of the list, before the next one
-head_before : (fs : List ObjectValue) (ps : List Site) (k : ℕ) (heads : List Site) (r : ℕ) → AreInOrder ps → k < length ps → Picks ps k (IsHead fs ps) heads →
-    r < length heads → Before (site_at heads r) (site_at ps k)
-head_before fs ps k heads r order lt picks within =
-    let (j, below, at) = (picks.each r within).1 in
-    subst (λ p. Before p (site_at ps k)) at (order j k below lt)
-
 not_head : (fs : List ObjectValue) (ps : List Site) (k : ℕ) (heads : List Site) (r : ℕ) → AreInOrder ps → k < length ps → Picks ps k (IsHead fs ps) heads →
     r < length heads → HaveOneKey fs (site_at ps k) (site_at heads r) → IsHead fs ps (site_at ps k) → ⊥
 not_head fs ps k heads r order lt picks within key head =

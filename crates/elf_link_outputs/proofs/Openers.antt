@@ -4,7 +4,7 @@ use Rattle.std.proofs.Common.{◌≡◌, ℕ, ◌<◌, ◌⊎◌, Bool, true, fa
 use Rattle.std.proofs.lemmas.Bool.{cases_eq, cases_lt}
 use Rattle.elf_object_type.specs.Object.{ObjectValue}
 use Rattle.elf_link_files.specs.declared.site.Site.{Site}
-use Rattle.elf_link_files.specs.Listing.{AreIn, Lists, site_at}
+use Rattle.elf_link_files.specs.Listing.{Lists, site_at}
 use Rattle.elf_link_files.specs.Items.{AreOnce, IsSiteIn, Pairs}
 use Rattle.elf_link_files.specs.Rows.{Before}
 use Rattle.elf_link_files.proofs.Public.{position_before, same_bool, same_name, once_of}
@@ -102,9 +102,6 @@ pub opener_live : (fs : List ObjectValue) (ps : List Site) → AreOpeners fs ps 
 opener_live fs ps (with, without, bits, rest, whole) k lt =
     let at : k < length (with ++ without) = subst (λ (xs : List Site). k < length xs) whole lt in
     subst (λ (xs : List Site). live fs (site_at xs k)) (sym whole) (all_append (live fs) with without (λ j below. (bits.each j below).0) (λ j below. (rest.each j below).0) k at)
-
-pub openers_in : (fs : List ObjectValue) (ps : List Site) → AreOpeners fs ps → AreIn fs ps
-openers_in fs ps are k lt = (let here = opener_live fs ps are k lt in (here.0, here.1))
 
 openers_apart : (fs : List ObjectValue) (without : Bool) (ps : List Site) → Lists (openers fs without) ps → Pairs (λ p q. HaveOneKey fs p q → ⊥) ps
 openers_apart fs without ps is j k lt within key =

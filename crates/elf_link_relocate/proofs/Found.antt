@@ -1,12 +1,11 @@
 -- The first field that breaks a rule, kept up as fields are added. It changes only if nothing was found before and the new field breaks
 -- the rule, so at the end it is the first of the list.
-use Rattle.std.proofs.Common.{◌≡◌, ◌↔◌, ℕ, ◌+◌, Bool, true, false, List, [], ◌∷◌, ◌++◌, ℤ, length, inl, inr, refl, sym, ◌∙◌, subst, arith}
-use Rattle.std.specs.Prelude.{MatchBool, MatchOption, Option, None, Some, not}
+use Rattle.std.proofs.Common.{◌≡◌, ◌↔◌, ℕ, ◌+◌, Bool, true, false, List, [], ◌∷◌, ◌++◌, length, inl, inr, refl, sym, ◌∙◌, subst, arith}
+use Rattle.std.specs.Prelude.{MatchOption, Option, None, Some}
 use Rattle.std.proofs.lemmas.Bool.{cases_lt}
 use Rattle.elf_object_type.specs.Object.{ObjectValue}
 use Rattle.elf_link_field.specs.declared.rule.RelocRule.{RelocRule}
-use Rattle.elf_link_field.specs.Number.{Admits}
-use Rattle.elf_link_field.specs.Rule.{IsFirstRelocationRule, size_of}
+use Rattle.elf_link_field.specs.Rule.{IsFirstRelocationRule}
 use Rattle.elf_link_files.specs.declared.site.Site.{Site}
 use Rattle.elf_link_map.specs.LinkMap.{LinkMapValue}
 use Rattle.elf_link_relocate.specs.declared.field.Field.{Field}
@@ -15,10 +14,7 @@ use Rattle.elf_link_relocate.specs.declared.field.Judged.{Judged}
 use Rattle.elf_link_relocate.specs.declared.field_test.FieldTest.TheVariants.{FieldOutOfRange, Unplaced, ValueOutOfRange}
 use Rattle.elf_link_relocate.specs.Entries.{entry_at}
 use Rattle.elf_link_relocate.specs.LinkingFacts.{AreFieldsRead, IsRead}
-use Rattle.elf_link_relocate.specs.Numbers.{number_at}
-use Rattle.elf_link_relocate.specs.RelocationRules.{IsValueOutOfRange}
 use Rattle.elf_link_relocate.specs.Collecting.{AreFieldsBefore, entry_site}
-use Rattle.elf_link_relocate.specs.Fields.{IsWithin}
 use Rattle.elf_link_relocate.specs.FieldTests.{BreaksFieldTest, HasNone, IsFirst}
 use Rattle.elf_link_relocate.specs.Found.{AreFoundBefore, IsJudgedField, first_of}
 use Rattle.elf_link_relocate.proofs.Collected.{fields_more, fields_none, kept, last, longer, pushed}
@@ -102,20 +98,3 @@ found_more fs m rules p found j next is old items unplaced out refused =
         refused = first_now (BreaksFieldTest fs m ValueOutOfRange) ds now j.field found.refused next.refused j.refused items refused old.firsts.refused is.refused;
       };
     }
-
--- ---- rule 16, by the number
-
-pub number_is : (fs : List ObjectValue) (m : LinkMapValue) (p : Site) (r : RelocRule) (z y : ℤ) → number_at fs m p r ≡ Some z → number_at fs m p r ≡ Some y → y ≡ z
-number_is fs m p r z y at there = (let same : Some y ≡ Some z = sym there ∙ at in cc)
-
-not_admitted : (b : Bool) (A : Type 0) → MatchBool b A (¬ A) → (not b ≡ true) ↔ (¬ A)
-not_admitted true A here = ((λ (is : false ≡ true). absurd (cc)), (λ never. absurd (never here)))
-not_admitted false A never = ((λ _. never), (λ _. refl))
-
-pub refused_is : (fs : List ObjectValue) (m : LinkMapValue) (p : Site) (r : RelocRule) (z : ℤ) (b : Bool) → IsWithin fs p r → number_at fs m p r ≡ Some z →
-    MatchBool b (Admits r.range (size_of r.width) z) (¬ Admits r.range (size_of r.width) z) → (not b ≡ true) ↔ IsValueOutOfRange fs m p r
-refused_is fs m p r z b within at is =
-    let both = not_admitted b (Admits r.range (size_of r.width) z) is in (
-      (λ refused. (within, (z, at, both.0 refused))),
-      (λ (_, (y, there, never)). both.1 (λ admits. never (subst (λ (x : ℤ). Admits r.range (size_of r.width) x) (sym (number_is fs m p r z y at there)) admits))),
-    )

@@ -5,8 +5,6 @@ use Rattle.std.specs.Prelude.{MatchOption, Option, None, Some, option_map, slice
 use Rattle.std.proofs.lemmas.Bool.{cases_eq, cases_lt}
 use Rattle.elf_object_type.specs.Object.{BodyValue, bits, no_bits, relocs, group, ObjectValue, SectionValue, no_section}
 use Rattle.elf_link_field.specs.declared.rule.RelocRule.{RelocRule}
-use Rattle.elf_link_field.specs.declared.rule.Width.{Width}
-use Rattle.elf_link_field.specs.declared.rule.Width.TheVariants.{W1, W2, W4, W8}
 use Rattle.elf_link_field.specs.Rule.{size_of}
 use Rattle.elf_link_map.specs.Apart.{BeginsAt, StandApart}
 use Rattle.elf_field.specs.Abi.{SHF_ALLOC}
@@ -37,12 +35,6 @@ use Rattle.elf_link_relocate.specs.Values.{value_at}
 use Rattle.elf_link_relocate.proofs.AtFields.{position}
 
 -- ---- small facts
-
-some_size : (w : Width) → 0 < size_of w
-some_size W1 = omega arith
-some_size W2 = omega arith
-some_size W4 = omega arith
-some_size W8 = omega arith
 
 pub content_fits : (b : BodyValue) → length (content_of b) ≤ memory_size b
 content_fits (bits type content) = omega arith

@@ -227,9 +227,6 @@ pub record IsWrittenTo (names : List (List ℕ)) (i : ℕ) (bytes ends : List �
   pub table : bytes ≡ 0 ∷ flat_map closed (held_to names i)
   pub places : HasEnds names i ends
 
-pub written_none : (names : List (List ℕ)) → IsWrittenTo names 0 (0 ∷ []) []
-written_none names = record { table = refl; places = record { as_many = refl; each = λ q lt written. absurd (omega arith) } }
-
 pub written_all : (names : List (List ℕ)) (i : ℕ) (bytes ends : List ℕ) → i ≡ length names → IsWrittenTo names i bytes ends →
     (bytes ≡ string_table names) × HasEnds names (length names) ends
 unfolding string_table

@@ -14,7 +14,6 @@ use Rattle.elf_object_type.specs.contracts.section.SectionPartialEq.TheImpl as s
 use Rattle.elf_object_type.specs.contracts.symbol.PlacePartialEq.TheImpl as place_eq
 use Rattle.elf_object_type.specs.contracts.symbol.SymbolPartialEq.TheImpl as symbol_eq
 use Rattle.elf_object_type.specs.declared.parts.ObjectParts.{ObjectParts}
-use Rattle.elf_object_type.specs.declared.relocation.Relocation.{Relocation}
 use Rattle.elf_object_type.specs.declared.section.Body.{Body}
 use Rattle.elf_object_type.specs.declared.section.Body.TheVariants.{Bits, NoBits, Relocs, Group}
 use Rattle.elf_object_type.specs.declared.section.Info.{Info}
@@ -23,7 +22,7 @@ use Rattle.elf_object_type.specs.declared.section.Section.{Section}
 use Rattle.elf_object_type.specs.declared.symbol.Place.{Place}
 use Rattle.elf_object_type.specs.declared.symbol.Place.TheVariants.{Undef, Abs, Common, In}
 use Rattle.elf_object_type.specs.declared.symbol.Symbol.{Symbol}
-use Rattle.elf_object_type.specs.Equality.{is_same_body, is_same_info, is_same_object, is_same_order, is_same_place, is_same_position, is_same_relocation, is_same_section, is_same_symbol}
+use Rattle.elf_object_type.specs.Equality.{is_same_body, is_same_info, is_same_object, is_same_order, is_same_place, is_same_position, is_same_section, is_same_symbol}
 use Rattle.elf_object_type.specs.ObjectView.{body_value, section_value, symbol_value, value_of}
 
 info_same : (a b : Info) → (info_eq.ghosts).eq a b ≡ is_same_info a b
@@ -49,9 +48,6 @@ place_same (In i) Undef = refl
 place_same (In i) Abs = refl
 place_same (In i) Common = refl
 place_same (In i) (In j) = refl
-
-relocation_same : (r s : Relocation) → (relocation_eq.ghosts).eq r s ≡ is_same_relocation r s
-relocation_same r s = refl
 
 body_same : (a b : Body) → (body_eq.ghosts).eq a b ≡ is_same_body (body_value a) (body_value b)
 body_same (Bits t b) (Bits u c) = refl

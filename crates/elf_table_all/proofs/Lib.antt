@@ -2,7 +2,6 @@
 mod AllIndexTables
 mod AskedRules
 mod EntriesInFile
-mod JudgedVerdicts
 mod SectionsOfBytes
 mod TableLinks
 pub mod Public

@@ -62,9 +62,6 @@ chain_of_on next start s before after chain =
 
 -- ---- a circle
 
-length_more : (xs ys : List ℕ) (x : ℕ) → length (xs ++ x ∷ ys) ≡ length xs + 1 + length ys
-length_more xs ys x = length-append xs (x ∷ ys) ∙ (omega arith)
-
 -- a symbol that leads to itself over others has no chain
 pub no_circle : (next : ℕ → ℕ) (x y : ℕ) (ys : List ℕ) → IsPath next x (y ∷ ys) x → Ends next x → ⊥
 no_circle next x y ys p (zs, chain) =

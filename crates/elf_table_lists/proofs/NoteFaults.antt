@@ -139,12 +139,6 @@ last_before o table x unclosed are y here =
     let is = here.3 in
     omega arith
 
-pub unclosed_within : (o : Order) (table : List ℕ) (x last : ℕ) → AreJudged o table x (Some last) → last < length table
-unclosed_within o table x last are =
-    let before = last_before o table x (Some last) are last are.lowest.holds in
-    let inside = are.inside in
-    omega arith
-
 -- of one note more
 one_further : (o : Order) (table : List ℕ) (n y : ℕ) → UnclosedBefore o table (suc n) y →
     UnclosedBefore o table n y ⊎ (IsUnclosedNoteName o table (note_offset o table 0 n) × (y ≡ name_last o table (note_offset o table 0 n)))

@@ -1,4 +1,3 @@
 -- Lemmas on the words of the command line.
 pub mod Entered
 pub mod Numbers
-pub mod Requests
