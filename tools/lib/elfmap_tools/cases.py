@@ -9,7 +9,7 @@ from dataclasses import dataclass, field
 from .building import output_of
 from .making import SPOKEN_OF, Chance, a_file, an_object, an_object_file, fuzzed, one_thing_wrong
 from .reference import File, check, entries_of, laid, link_refusal, linked, mapped, object_verdict, rewritten, shown, table_verdict, verdict
-from .suite import Option, Tally, Test, number
+from .suite import Option, Tally, Test, named, number
 from .tree import PROGRAM, TOP, T, libraries, read_text, run, write
 
 Needs = list[tuple[str, str]]
@@ -98,10 +98,11 @@ def answer_of(program: str, case: Case, files: dict[str, bytearray]) -> tuple[in
     return ran.returncode, ran.stdout, ran.stderr if case.err or case.status < 2 else b""
 
 
+ONLY = named("only", "run the cases alone whose words or files have this name in them")
 FROM: Option = ("--in", {"dest": "folder", "metavar": "FOLDER", "default": f"{TOP}/cases", "help": "another folder of cases"})
 
 
-@Test("cases", "the program answers the cases of cases/*.txt", crates="elfmap elfmap_check", options=(FROM,))
+@Test("cases", "the program answers the cases of cases/*.txt", crates="elfmap elfmap_check", options=(FROM, ONLY))
 def try_cases(tally: Tally, options: Namespace) -> None:
     # Beside the program that has all commands, the one that has `check` alone.
     for program in [PROGRAM, *(output_of(it) for it in ("elfmap_check",) if it in libraries())]:
@@ -110,6 +111,8 @@ def try_cases(tally: Tally, options: Namespace) -> None:
                 if program != PROGRAM and (case.words[:1] != ["check"] or "--seek" in case.words):
                     continue
                 what = f"{path}: elfmap {' '.join(case.words)} with {' '.join(case.needs)}"
+                if options.only not in what:
+                    continue
                 tally.same(what, answer_of(program, case, cases.files), (case.status, case.out, case.err))
 
 

@@ -16,7 +16,7 @@ from collections.abc import Iterable
 from concurrent.futures import ThreadPoolExecutor, as_completed
 
 from .kit import FolderOf, built_below, gate_folder, kit, said_by, words
-from .suite import Option, Tally, Test, flag
+from .suite import Option, Tally, Test, flag, named
 from .tree import PROCESSORS, TOP, below, libraries, read_text, write
 
 
@@ -194,9 +194,10 @@ def plant_all(tally: Tally, bugs: list[list[Edit]], folder_of: FolderOf) -> None
 ABOUT = "the check refuses each bug of mutations.txt with 'gate: yes'; of CRATE.., or with --all of every crate, each bug"
 CRATES: Option = ("crates", {"nargs": "*", "metavar": "CRATE", "help": "the crates whose bugs are planted, all of them"})
 FLAGS = flag("all", "plant all bugs"), flag("fit", "plant none: only say whether each edit fits the text that it changes")
+ONLY = named("only", "plant the bug of this name alone")
 
 
-@Test("mutations", ABOUT, alone=True, options=(*FLAGS, CRATES))
+@Test("mutations", ABOUT, alone=True, options=(*FLAGS, ONLY, CRATES))
 def mutations(tally: Tally, options: Namespace) -> None:
     crates = options.crates or sorted(libraries())
     unknown = [it for it in crates if it not in libraries()]
@@ -207,14 +208,17 @@ def mutations(tally: Tally, options: Namespace) -> None:
             why = edit.texts(f"{TOP}/crates/{edit.crate}")[1]
             tally.check(not why, f"{edit.crate}: {edit.name}: {why}")
     else:
-        everything = options.all or bool(options.crates)
+        everything = options.all or bool(options.crates) or bool(options.only)
         bugs = [[it for it in bugs_of(crate) if it.is_for_gate or everything] for crate in crates]
+        bugs = [[it for it in own if options.only in ("", it.name)] for own in bugs]
         bugs = [it for it in bugs if it]
+        if options.only and not bugs:
+            return tally.fail(f"no bug of the name {options.only}")
         folder_of, lacking = built_below([it[0].crate for it in bugs]) if everything else (gate_folder, [])
         if lacking:
             return tally.fail(f"not built: {' '.join(lacking)}; `tools/dev prove CRATE` builds the libraries below a crate")
         plant_all(tally, bugs, folder_of)
-    if not options.crates:
+    if not options.crates and not options.only:
         for crate in below("elfmap"):
             is_tried = must_fail_of(crate) or any(it.is_for_gate for it in bugs_of(crate))
             tally.check(is_tried, f"{crate}: nothing in must-fail/, and no bug with 'gate: yes': the gate tries no wrong body of it")

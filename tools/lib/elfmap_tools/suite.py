@@ -97,6 +97,10 @@ def number(name: str, default: int, about: str) -> Option:
     return f"--{name}", {"type": int, "default": default, "metavar": "N", "help": f"{about} ({default})"}
 
 
+def named(option: str, about: str) -> Option:
+    return f"--{option}", {"metavar": "NAME", "default": "", "help": about}
+
+
 def flag(name: str, about: str) -> Option:
     return f"--{name}", {"action": "store_true", "help": about}
 
@@ -211,16 +215,16 @@ def parser_of(tests: list[Test]) -> argparse.ArgumentParser:
 
 
 def main(tests: list[Test], words: list[str]) -> int:
-    named = {it.name: it for it in tests}
+    by_name = {it.name: it for it in tests}
     is_counted = len(words) > 2 and words[0] == "-j" and words[1].isdecimal()
     jobs, names = (int(words[1]), words[2:]) if is_counted else (PROCESSORS, words)
-    if len(names) > 1 and all(it in named for it in names):
-        return run_several([named[it] for it in names], jobs)
+    if len(names) > 1 and all(it in by_name for it in names):
+        return run_several([by_name[it] for it in names], jobs)
     options = parser_of(tests).parse_args(words)
     if options.name == "setup":
         return 0 if packages.setup(commands_of(tests)) else 1
-    if options.name in named:
-        return run_one(named[options.name], options)
+    if options.name in by_name:
+        return run_one(by_name[options.name], options)
     return run_several(families(tests).get(options.name, tests), options.jobs)
 
 
