@@ -1,5 +1,5 @@
--- The entries of a dynamic array, counted and by index. The array ends at its first DT_NULL, so the index of that entry is the count of
--- those before it.
+-- The index of the first DT_NULL, or the number of entries without one, is the length of the dynamic array (`length_before_null`). Entry j
+-- of the array is entry j of the content (`array_get`). Both follow from where `position_or_len` finds the first DT_NULL.
 use Rattle.std.proofs.Common.{◌≡◌, ◌<◌, ◌≤◌, ℕ, List, true, false, arith, get_or, length, sym, zero-add, ◌∙◌}
 use Rattle.std.specs.List.{before_first, position_or_len}
 use Rattle.std.proofs.lemmas.Bool.{false_from_ne_true}

@@ -1,5 +1,5 @@
--- A string of a table, by its place in the file. A table is a stretch of the file, and a string is a stretch of the table, so its bytes
--- are those of the file from the table's start plus its offset.
+-- A string that is not empty is in the file at the table's start plus its offset (`string_in_file`). The table is a part of the file and
+-- the string a part of the table, so the laws of `take` and `drop` apply. An empty table has the empty string alone.
 use Rattle.std.proofs.Common.{◌≡◌, ◌<◌, ◌≤◌, ◌+◌, ◌-◌, ℕ, zero, suc, List, [], inl, inr, length, take, drop, ap, arith, refl, sym, ◌∙◌}
 use Rattle.std.proofs.lemmas.Bool.{cases_lt}
 use Rattle.std.proofs.lemmas.List.{drop-drop, drop-take, length-take, length-take-le, length-drop, take-take, take_all}

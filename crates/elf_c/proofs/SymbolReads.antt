@@ -1,5 +1,6 @@
--- The symbols of a symbol table, read by the numbers of a table. Rules 49 to 52 say that a symbol with index 0xffff has a word in the
--- index table, so symbol j is there exactly if j is below the count, and is the one of the list.
+-- By the numbers of a table of a file, order, content and linked contents are the section's, and so are the symbols read
+-- (`symbols_by_numbers`). Rules 50 and 51 give each symbol with index 0xffff a word in the index table. So symbol j is there exactly if j
+-- is below the count, and is the one of the list.
 use Rattle.std.proofs.Common.{◌≡◌, ◌*◌, ◌+◌, ◌++◌, ◌<◌, ◌≤◌, ◌↔◌, ℕ, List, None, Option, Some, ap, arith, get_or, inl, inr, length, refl, subst, sym, ◌∙◌}
 use Rattle.std.proofs.lemmas.Bool.{cases_eq}
 use Rattle.elf_field.specs.Abi.{SHN_XINDEX, WORD_SIZE}

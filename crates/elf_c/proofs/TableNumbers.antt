@@ -1,5 +1,6 @@
--- The numbers of a table of a file are those that are gathered by the numbers of the file: order, content, linked contents and count,
--- field by field. So one lookup by the file's numbers serves all later reads of the table.
+-- If a section is there, and its header, kind, places and count were found by a file's numbers, these are the table's numbers.
+-- `table_gathered` shows this field by field, and that the table is held (`HoldsTable`). The count is the length of the table's list, by
+-- cases on the kind.
 use Rattle.std.proofs.Common.{◌≡◌, ◌<◌, ℕ, List, Option, Some, ap, refl, subst, sym, ◌∙◌}
 use Rattle.std.proofs.lemmas.List.FromFn.{length-map-range_with_len}
 use Rattle.elf_extent.specs.declared.extent.Extent.{Extent}

@@ -1,5 +1,5 @@
--- Files in one block of bytes, as extents that are tested in order. A file inside the block adds its bytes to the list; the first one that
--- passes the end is the fault, since all before it are inside.
+-- Files in one block of bytes, as extents that are tested in order. If all earlier files lie inside the block, a file that does not is the
+-- first outside (`first_outside`). A file inside keeps that, and adds its bytes to the list (`more_within`, `more_bytes`).
 use Rattle.std.proofs.Common.{◌≡◌, ℕ, ◌+◌, ◌<◌, List, [], ◌∷◌, ◌++◌, ap, arith, drop, get_or, length, map, subst, sym, take, take-append-drop, ◌∙◌}
 use Rattle.std.specs.List.{All}
 use Rattle.std.proofs.lemmas.List.{drop_more, length-take-le, map-append, take_more}

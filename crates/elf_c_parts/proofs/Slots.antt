@@ -1,5 +1,5 @@
--- The extents of a file in the slots of a buffer. The first k slots hold the extents so far that have a byte: an extent with a byte is one
--- slot more, and an empty one none.
+-- The extents of a file in the slots of a buffer: the first k slots hold the extents so far that have a byte. An extent with a byte is one
+-- slot more (`gathered_one`), and an empty one none (`gathered_none`). If slots ascend by their starts, so do their extents.
 use Rattle.std.proofs.Common.{◌≡◌, ℕ, ◌+◌, ◌<◌, ◌++◌, true, false, List, [], ◌∷◌, length, map, filter, take, get_or, refl, ap, sym, ◌∙◌, arith}
 use Rattle.std.specs.Prelude.{slice_set, Some}
 use Rattle.std.specs.List.{slice_get}

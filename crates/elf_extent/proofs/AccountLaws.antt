@@ -1,6 +1,6 @@
 -- Disjoint extents have at most one account: two pieces that start at one offset are equal, by induction on both lists. Each offset below
--- the total lies in exactly one piece, because the pieces ascend. An extent that holds a byte and starts below the total is the piece that
--- holds its start.
+-- the total lies in exactly one piece, because the pieces ascend. Of disjoint extents, each that is not empty and starts below the total is
+-- a piece: the one that holds its start.
 use Rattle.std.proofs.Common.{◌≡◌, ℕ, zero, suc, ◌+◌, ◌<◌, ◌≤◌, List, [], ◌∷◌, Option, None, Some, inl, inr, refl, ap, sym, subst, ◌∙◌, arith}
 use Rattle.std.specs.Prelude.{slice_get}
 use Rattle.std.proofs.lemmas.Bool.{cases_lt}

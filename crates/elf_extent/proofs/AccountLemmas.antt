@@ -1,6 +1,6 @@
--- The walk over ascending members that accounts for every offset. Between the last end and the next start no byte is held: earlier members
--- have ended, and later ones have not begun. So there is one gap or nothing, and then the member. After the last member there is one gap or
--- nothing up to the total.
+-- The walk over the ascending members of disjoint extents accounts for each offset below a total, if all extents end at or below it.
+-- `AccountsBelow` is what the walk keeps. At each step no byte is held from the last end to the next start, because earlier members have
+-- ended and later ones start higher.
 use Rattle.std.proofs.Common.{◌≡◌, ℕ, ◌+◌, ◌-◌, ◌<◌, ◌≤◌, ◌⊎◌, true, false, cond, List, [], ◌∷◌, ◌++◌, length, get_or, None, Some, nat_lt, inl, inr, refl, ap, sym, subst, ◌∙◌, arith, append_assoc}
 use Rattle.std.specs.List.Sorted.{IsNonDecreasingBy}
 use Rattle.std.proofs.lemmas.Bool.{cases_lt}

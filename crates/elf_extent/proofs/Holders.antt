@@ -1,5 +1,6 @@
--- A byte is held doubly exactly if at least two extents are counted at it: by induction on the list. A permutation keeps the count, a sum,
--- and so does leaving out the extents that hold no byte. So the lowest byte held doubly is that of the sorted list.
+-- A byte is held doubly exactly if at least two extents are counted at it: by induction on the list. A permutation keeps the count, because
+-- it is a sum, and so does a list without its empty extents. So the lowest byte held doubly is that of each permutation of the nonempty
+-- extents (`lowest_sorted`).
 use Rattle.std.proofs.Common.{◌≡◌, ℕ, zero, suc, ◌+◌, ◌<◌, ◌≤◌, ◌⊎◌, true, false, cond, List, [], ◌∷◌, Option, inl, inr, refl, ap, sym, subst, ◌∙◌, arith}
 use Rattle.std.specs.Prelude.{filter, nat_le, nat_lt}
 use Rattle.std.specs.List.{All, sum_by}

@@ -1,6 +1,6 @@
--- The members of a list are the extents that hold a byte, each with its index. An extent more adds one member or none, and the members'
--- extents stay the list without its empty extents. A permutation of members is the members again, and the extents of ascending members
--- ascend.
+-- One extent more: if it holds a byte, it is a new member (`members_more`), and if not, the members stay (`members_skip`). Both split on
+-- whether an index is the new one, and `held_more` and `held_skip` show the same of the members' extents. A permutation of members is
+-- members again, and the extents of ascending members ascend.
 use Rattle.std.proofs.Common.{◌≡◌, ◌≢◌, ℕ, ◌+◌, ◌<◌, ◌≤◌, Bool, true, false, cond, List, [], ◌∷◌, ◌++◌, filter, map, length, get_or, take, Some, inl, inr, ap, sym, subst, ◌∙◌, arith}
 use Rattle.std.specs.Prelude.{slice_get, nat_eq}
 use Rattle.std.specs.List.{AllPairs, Contains}

@@ -1,6 +1,6 @@
--- One step of the walk that gives each part its least place: the cursor, rounded up to the alignment. Least places of the first parts,
--- followed by least places of the rest, are least places of all (`ArePlaced`). So the first part that ends past 2^64 at its least place is
--- an overflow; the parts after it have least places too, by induction on the parts.
+-- `place_past` rounds the cursor up to the least place, and by induction on the parts there are always least places. A part that ends below
+-- 2^64 at its least place keeps `ArePlaced` (`placed_more`). Otherwise it is the overflow, because all earlier parts end below 2^64
+-- (`overflow_at`, `no_place_at`).
 use Rattle.std.proofs.Common.{◌≡◌, ℕ, zero, suc, ◌+◌, ◌-◌, ◌*◌, ◌/◌, ◌%◌, ◌^◌, ◌<◌, ◌≤◌, max, List, [], ◌∷◌, ◌++◌, length, get_or, drop, Option, None, Some, inl, inr, refl, ap, sym, subst, ◌∙◌, arith, append_assoc}
 use Rattle.std.specs.Prelude.{MatchOption, SomeIff}
 use Rattle.std.proofs.Math.Nat.{mul-le-mul_left, mul-mod_right, max-eq_left}

@@ -1,5 +1,5 @@
--- Extents that share no byte and lie below a total have an account. Each extent is put at its place among the ascending members, one after
--- the other; then the walk over the members accounts for every offset.
+-- Extents that share no byte and lie below a total have an account. By induction on the extents, each one that holds a byte is inserted at
+-- its place among the ascending members. Then the walk over the members accounts for every offset.
 use Rattle.std.proofs.Common.{◌≡◌, ℕ, zero, suc, ◌+◌, ◌<◌, ◌≤◌, List, [], ◌∷◌, ◌++◌, length, get_or, Some, inl, inr, subst, arith}
 use Rattle.std.specs.Prelude.{slice_get}
 use Rattle.std.specs.List.{insert}

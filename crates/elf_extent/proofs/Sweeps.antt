@@ -1,6 +1,6 @@
--- The sweep over extents in ascending order of their starts. Each holds a byte. Of the extents so far one reaches furthest: if the next one
--- starts before its end, they share the byte at that start. It is the lowest shared byte, and the next extent is the first that overlaps an
--- earlier one. Otherwise the next one reaches furthest.
+-- A sweep over nonempty extents in ascending order of their starts; `last` reaches as far as any extent so far (`IsSwept`). If the next
+-- extent starts lower than that end, its start is the lowest shared byte, and it is the first that overlaps (`shared_at`). Otherwise it is
+-- the new `last` (`swept_more`), and after the last extent no byte is shared (`unshared`).
 use Rattle.std.proofs.Common.{◌≡◌, ℕ, ◌+◌, ◌-◌, ◌<◌, ◌≤◌, List, length, get_or, None, Some, inl, inr, ap, sym, subst, ◌∙◌, arith}
 use Rattle.std.specs.Prelude.{slice_get}
 use Rattle.std.specs.List.{All}

@@ -1,6 +1,6 @@
--- A table of records, written and read back, for every kind of record: the records read are those written, and the bytes written are those
--- read. By induction on the entries, each by the laws of one record; all records have one size, so record k is at k times the size. A
--- record read in a part of the bytes is the one at its place in the whole.
+-- A table of records, for each kind of record that keeps `IsRecord`, by induction on the entries. Valid records are read back as they were
+-- written, and bytes inside the list are written back as they were read. From these, `record_at` reads record k at k times the size, and
+-- `record_of_part` reads a record of a part in the whole.
 use Rattle.std.proofs.Common.{◌≡◌, ◌≤◌, ◌<◌, ◌+◌, ◌-◌, ◌*◌, ℕ, zero, suc, List, [], ◌∷◌, ◌++◌, length, take, drop, get_or, take_all, map, refl, sym, ap, ap₂, ◌∙◌, arith, length-append, length-drop}
 use Rattle.std.specs.List.{AllByRecursion, flat_map, range_with_len}
 use Rattle.std.proofs.Math.Nat.{mul-add, mul-one, mul-suc, mul-zero}

@@ -1,5 +1,6 @@
--- An outline by itself is a sound image with zeros for contents and gaps, whether it was read or is of some bytes. The rules look at no
--- content but the names, and there at the length and the two ends, which zeros satisfy. If flags are set, it stays one.
+-- An outline is a sound image with zeros for contents and gaps, if its tables and parts keep the rules and its names are whole
+-- (`blank_sound`). So is an outline of some bytes (`blank_of`), and setting flags of a section from 1 on keeps both. The rules look at no
+-- content but the names, and there at the length and the two ends, which may be zeros.
 use Rattle.std.proofs.Common.{◌≡◌, ◌≢◌, ◌≤◌, ◌<◌, ◌+◌, ◌-◌, ◌^◌, ℕ, suc, min, true, None, List, [], ◌∷◌, length, map, get_or, refl, sym, ap, ap₂, subst, ◌∙◌, inl, inr, arith}
 use Rattle.std.specs.Prelude.{◌==◌, if◌then◌else◌, replicate, slice_index}
 use Rattle.std.specs.List.{AllByRecursion}

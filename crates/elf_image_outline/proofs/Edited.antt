@@ -1,6 +1,6 @@
--- An edit of a sound image value gives a sound one, because no rule looks at what it changes: the entry, flags from section 1 on, the gaps,
--- or a content of the same length that is not the name table's. So the same rules are kept before and after, and the other fields are shown
--- one by one.
+-- An edit of the entry, of flags from section 1 on, of the gaps, or of a content keeps a sound image value sound. A content must keep its
+-- length and not be the name table's, and new numbers must fit their fields. No rule looks at what is changed, so the rules stay kept; the
+-- other fields follow one by one.
 use Rattle.std.proofs.Common.{◌≡◌, ◌<◌, ◌*◌, ◌^◌, ℕ, zero, suc, Bool, true, None, List, [], ◌∷◌, length, map, get_or, set, refl, sym, ap, ap₂, subst, ◌∙◌, arith, lit<}
 use Rattle.std.specs.Prelude.{replicate, if◌then◌else◌, ◌==◌, Result, Ok, Err, OnOk, OnErr}
 use Rattle.std.specs.List.{AllByRecursion}

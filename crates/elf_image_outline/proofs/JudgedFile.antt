@@ -1,5 +1,6 @@
--- The outline of a file that keeps rules 1 to 32. The extents of the records that were read are the file's. So the lowest byte that two of
--- them hold is where the file breaks rule 33; if there is none, the records and the parts make its image.
+-- If a file keeps rules 1 to 32, the extents of the records that were read are the file's, and lie in it. So the lowest byte that two of
+-- them hold is where the file breaks rule 33. If there is none, the records and the parts that account for the file make its image
+-- (`outline_image`).
 use Rattle.std.proofs.Common.{◌≡◌, ℕ, None, Some, List, ◌∷◌, length, map, ap, ap₂, refl, sym, subst, ◌∙◌}
 use Rattle.std.specs.Prelude.{◌*◌}
 use Rattle.std.proofs.lemmas.List.FromFn.{length-map-range_with_len}

@@ -1,6 +1,6 @@
--- A sound image value has one content for each section header, as long as the header says, and each header and content lies in the file.
--- The name table is the content of a section. Each follows from a field of the soundness or from a rule that is kept, at one index. The
--- same holds if the contents are borrowed.
+-- A sound image value has one content for each section header, as long as it says; section headers and nonempty contents lie in the file.
+-- The name table, if there is one, is the content of a section. Each follows from a field of the soundness or a kept rule; lengths and
+-- names also hold of borrowed contents.
 use Rattle.std.proofs.Common.{◌≡◌, ◌≢◌, ◌<◌, ◌≤◌, ℕ, Bor, List, [], length, map, get_or, refl, sym, ap, ◌∙◌, arith, inl, inr}
 use Rattle.std.specs.Prelude.{◌==◌, ◌+◌, if◌then◌else◌}
 use Rattle.std.proofs.lemmas.Bool.{cases_eq, ne_eqb}

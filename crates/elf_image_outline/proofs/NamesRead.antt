@@ -1,6 +1,6 @@
--- The tables that were read of a source are those of the bytes that it reports, index by index; its names are the bytes where the section
--- header of the name table says. The rules look at no more than these (`same_rules`). So what they find in the tables is the file's fault,
--- and tables and parts without a fault make its image.
+-- If tables were read from some bytes, they are the bytes' records, index by index, and the names are where the name table's header says.
+-- The rules look at no more (`same_rules`), so what they find in the tables is the fault of the bytes (`verdict_of_tables`). Without a
+-- fault, tables and parts make the image of the bytes.
 use Rattle.std.proofs.Common.{◌≡◌, ◌≢◌, ◌≤◌, ◌<◌, ◌+◌, ◌-◌, ◌⊎◌, ℕ, min, None, Some, Option, List, [], length, map, take, drop, refl, sym, ap, subst, ◌∙◌, inl, inr, arith, length-drop}
 use Rattle.std.specs.Prelude.{if◌then◌else◌, ◌==◌}
 use Rattle.std.proofs.Math.Nat.{min-eq_left, min-eq_right, min-le_left}

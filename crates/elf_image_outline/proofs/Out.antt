@@ -1,5 +1,6 @@
--- Bytes that are copied piece by piece. What is out is always a beginning of the whole: pieces that were copied, and of a piece that fails
--- its first bytes. So the counts add up, and a failed read is in the piece at hand.
+-- Bytes that are copied piece by piece: a copied piece follows the earlier ones (`out_more`), and of a piece that fails its first bytes do
+-- (`copies_after`). So a beginning of the whole is written, and the counts add up. A read that failed in a piece failed in the whole
+-- (`behind_after`); small facts on ranges follow from `take` and `drop`.
 use Rattle.std.proofs.Common.{◌≡◌, ◌≤◌, ◌<◌, ◌+◌, ◌-◌, ℕ, List, ◌++◌, length, take, drop, Option, Some, Result, Ok, Err, sym, ap, ap₂, subst, ◌∙◌, arith, length-append, take-add}
 use Rattle.std.specs.Result.{IsErrAnd}
 use Rattle.std.specs.Io.KnownBytes.{Appends}

@@ -1,5 +1,5 @@
--- The parts of a sound image value hold each offset once, and each is its owner's. An account has one piece for each offset, and the parts
--- are its pieces with their owners.
+-- The parts of a sound image value hold each offset once, and each is its owner's extent or a gap. They are not empty, ascend, and end
+-- within the length. All follow from the value's account, because the parts are its pieces with their owners.
 use Rattle.std.proofs.Common.{◌≡◌, ◌<◌, ◌≤◌, ◌+◌, ℕ, zero, suc, None, Some, List, [], ◌∷◌, map, sym, ap, ◌∙◌, arith}
 use Rattle.std.specs.Prelude.{slice_get}
 use Rattle.elf_extent.specs.declared.extent.Extent.{Extent}

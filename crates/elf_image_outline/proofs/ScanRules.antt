@@ -1,5 +1,6 @@
--- The stages of a scan test the runs of rules in the order of the list, on the length, the header and the tables that were read. These are
--- those of the bytes that the source reports, so a rule that a stage finds is the first of the file.
+-- If the length, header and section header 0 that were read are the bytes' own, a broken rule of 1 to 21 is their first. The runs of rules
+-- that come first must have found nothing; they are chained by `from_ident`, `from_header` and the like. The tables read by the counts are
+-- the bytes' records (`tables_read`).
 use Rattle.std.proofs.Common.{◌≡◌, ◌<◌, ℕ, None, Some, Option, Result, Ok, Err, List, length, map, take, drop, refl, sym, ap, subst, ◌∙◌, inl, inr, arith}
 use Rattle.std.specs.Prelude.{IfSome}
 use Rattle.std.specs.List.{range_with_len}

@@ -1,5 +1,6 @@
--- What the rules say of a value whose records are as many as it counts. Its extents are those that the rules speak of, so they share no
--- byte, and each of them lies in the file.
+-- A value that breaks no rule, and has as many records as it counts (`IsCounted`), has extents that share no byte and lie in its length.
+-- Its extents are those that the rules look at (`extents_are`), so this follows from the facts on clean files. Small facts on lists by
+-- index come first.
 use Rattle.std.proofs.Common.{◌≡◌, ◌≢◌, ◌≤◌, ◌<◌, ◌+◌, ◌*◌, ℕ, zero, suc, None, Some, List, [], ◌∷◌, length, map, get_or, refl, sym, ap, subst, ◌∙◌, arith}
 use Rattle.std.specs.Prelude.{slice_get}
 use Rattle.std.specs.List.{AllByRecursion, range_with_len}

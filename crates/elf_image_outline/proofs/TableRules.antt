@@ -1,5 +1,6 @@
--- The rules of tables in memory that keep rules 1 to 21. What rules 22 to 32 find is then what rules 1 to 32 find (`entries_run`). If they
--- find nothing, the lowest byte that two extents hold is the fault, by rule 33, and if there is none no rule is broken.
+-- If tables in memory keep rules 1 to 21, what rules 22 to 32 find is what rules 1 to 32 find (`entries_run`). If they find nothing, the
+-- extents lie in the file, and the lowest byte that two of them hold breaks rule 33 (`sharing_broken`). If there is no such byte, no rule
+-- is broken (`none_shared`).
 use Rattle.std.proofs.Common.{◌≡◌, ℕ, None, Some, Option, Result, Ok, Err, List, refl, sym, ap, subst, ◌∙◌, inl}
 use Rattle.std.specs.Prelude.{IfErr, IfOk, OnOk}
 use Rattle.std.specs.Result.{IsErrAnd}

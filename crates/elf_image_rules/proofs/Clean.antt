@@ -1,5 +1,6 @@
--- What holds of a file that breaks none of rules 1 to 32: both tables and the contents lie in the file, and the name table's index is below
--- the count. With rule 33 the extents share no byte. Each fact follows from the positive facts of the rules (`KeepsRules`).
+-- If none of rules 1 to 32 is broken, both tables and all nonempty contents lie in the file; rule 33 makes the extents disjoint. The name
+-- table's index is below the count, or 0 without a section table. These follow from the positive facts (`KeepsRules`); small facts on
+-- reading the section table follow from its definition.
 use Rattle.std.proofs.Common.{◌≡◌, ◌≢◌, ℕ, zero, suc, ◌+◌, ◌-◌, ◌*◌, ◌<◌, ◌≤◌, ◌⊎◌, inl, inr, None, Some, List, length, refl, sym, ◌∙◌, ap, subst, arith}
 use Rattle.std.proofs.lemmas.Bool.{cases_eq, ne_eqb}
 use Rattle.std.proofs.lemmas.Option.{slice_get_within}

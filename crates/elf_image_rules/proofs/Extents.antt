@@ -1,6 +1,6 @@
--- The search for the lowest byte that two extents of a file hold. It grows by one extent at a time: the result is the lower one of the old
--- result and what the new extent adds. The first three extents are the header and the two tables. If all others ascend, each pair to
--- compare has one of these three. If the three lie outside of the others too, only pairs of the three are left.
+-- The lowest byte that two extents hold, searched pair by pair: each step takes the lower of the old result and the new pair's. If the
+-- extents from an index on ascend, pairs with a lower index are enough (`doubly_ascending`). If the first three also lie outside of the
+-- others, pairs of these three are enough (`doubly_outside`).
 use Rattle.std.proofs.Common.{◌≡◌, ℕ, suc, ◌+◌, ◌-◌, ◌<◌, ◌≤◌, ◌⊎◌, min, Option, None, Some, List, length, get_or, inl, inr, sym, ◌∙◌, ap, subst, arith}
 use Rattle.std.proofs.Math.Nat.{le-min, min-le_left, min-le_right}
 use Rattle.std.specs.List.{slice_get}

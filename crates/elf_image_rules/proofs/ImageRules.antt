@@ -1,6 +1,6 @@
--- Rules 1 to 32 are runs of rules, one after the other. After runs that found nothing, what the rest finds is what all find
--- (`FirstIn-later`). So the tests of the runs, chained, find the fault of rules 1 to 32, which is the file's. If there is none, the fault
--- is the lowest byte that two extents hold, by rule 33.
+-- After runs of rules that found nothing, what the rest finds is what all find; the lemmas `from_..` chain the runs up to rule 32. A fault
+-- of these is the file's fault (`fault_of_records`). If there is none, the fault is rule 33 at the lowest byte that two extents hold, or no
+-- rule is broken (`fault_of_extents`).
 use Rattle.std.proofs.Common.{◌≡◌, ℕ, inl, inr, Option, None, Some, Result, Ok, Err, List, ◌++◌, length, refl, subst}
 use Rattle.std.specs.Prelude.{IfErr, IfOk, OnErr}
 use Rattle.elf_field.specs.declared.ehdr.Ehdr.{Ehdr}

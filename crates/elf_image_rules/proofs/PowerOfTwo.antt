@@ -1,6 +1,6 @@
 -- A number is a power of two exactly if one bit of it is set. From one bit to a power: by induction on a bound, an even number is twice its
--- half, and an odd one is 1. From 2^k to one bit: its bits are those of 1 and k zeros. So the count of bits decides whether an alignment is
--- wrong.
+-- half, and an odd one is 1. From 2^k to one bit, its bits are counted (`ones_cat`); so the count decides whether an alignment that is not
+-- 0 is wrong.
 use Rattle.std.proofs.Common.{◌≡◌, ◌≢◌, ℕ, Bool, true, false, zero, suc, ◌+◌, ◌*◌, ◌/◌, ◌%◌, ◌^◌, ◌≤◌, ◌⊎◌, inl, inr, refl, sym, ◌∙◌, ap, arith}
 use Rattle.std.specs.Int.{IsPowerOfTwo}
 use Rattle.std.specs.Int.Count.{ones, ones_step}

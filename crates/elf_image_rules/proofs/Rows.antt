@@ -1,5 +1,6 @@
 -- Laws of lists of rules, by induction on the list. A fault of a run is also that of the run with more rules after it; after a run without
--- a fault the rest decides. Lists whose rules are broken at the same offsets have the same fault. A list has at most one fault.
+-- a fault the rest decides. Two lists with the same numbers, broken at the same offsets one by one, have the same fault; a list has at most
+-- one fault.
 use Rattle.std.proofs.Common.{◌≡◌, ℕ, inl, inr, Option, None, Some, List, [], ◌∷◌, ◌++◌, Result, Ok, Err, refl, sym, ap, subst, ◌∙◌, arith}
 use Rattle.std.specs.Result.{IsErrAnd}
 use Rattle.elf_extent.specs.Least.{IsLeast}

@@ -1,6 +1,6 @@
--- Rules look at no more than the file's length, the header, section header 0, the entries below the counts, and the name table's header and
--- content. If these agree, the same rules are broken at the same offsets, row by row. If no rule is broken, the name table's header is one
--- of those entries.
+-- If section header 0, the entries below the counts and the name table's header agree, the same rules are broken at the same offsets
+-- (`same_rules`). Length, header and names are the same on both sides; the proof goes row by row. If no rule is broken, the name table's
+-- header is such an entry, so the others suffice (`same_clean`).
 use Rattle.std.proofs.Common.{◌≡◌, ◌≢◌, ◌<◌, ◌≤◌, ◌+◌, ◌*◌, ℕ, zero, suc, None, List, ◌∷◌, ◌++◌, length, map, refl, sym, ap, ap₂, subst, inl, inr, arith}
 use Rattle.std.specs.List.{range_with_len}
 use Rattle.elf_field.specs.Abi.{EHDR_SIZE, PHDR_SIZE, SHDR_SIZE, SHT_NULL, SHT_STRTAB, SH_TYPE_AT}

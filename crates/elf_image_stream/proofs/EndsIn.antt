@@ -1,5 +1,6 @@
--- The two ends of a table, read as two bytes of a list. A table inside the list has these ends. Whatever two bytes were read, some table
--- has them as its ends: zeros with these two around them. So the rules about ends can be tested without the table.
+-- If a table lies inside a list, the bytes that the list has at the table's two ends are its ends (`ends_in`). For each length above 1 and
+-- any two bytes, some table has these ends, with zeros between them (`some_table`). A table of one byte has it as both ends
+-- (`one_byte_table`).
 use Rattle.std.proofs.Common.{◌≡◌, ◌<◌, ◌≤◌, ◌+◌, ◌-◌, ℕ, zero, suc, List, [], ◌∷◌, ◌++◌, length, take, drop, replicate, get_or, slice_index, refl, sym, ap, ◌∙◌, arith, length-append, length-drop, rules}
 use Rattle.std.proofs.lemmas.List.{get_or-drop, get_or-take, get_or-append_right, length-replicate, length-take-le}
 use Rattle.elf_field.specs.Bytes.{IsBytes}

@@ -1,5 +1,6 @@
 -- What moved from a reader or to a writer, call by call. The bytes of a further call follow those of the earlier ones; a call that gave
--- nothing or failed adds none. A reader that is at its end, or gave n bytes, gave its first n.
+-- nothing or failed adds none. If the reader's content is known, a reader at its end, or one that gave n bytes, gave its first n
+-- (`gives_first`).
 use Rattle.std.proofs.Common.{◌≡◌, ℕ, ◌+◌, ◌-◌, ◌≤◌, ◌⊎◌, inl, inr, List, [], ◌++◌, Option, None, Some, Result, Ok, Err, IfSome, OnOk, length, take, drop, sym, ap, ◌∙◌, append-nil, append_assoc, length-append, take_all, take-add}
 use Rattle.std.proofs.lemmas.List.{take_rest}
 use native.Mathlib.Numerals.{unary_clauses}

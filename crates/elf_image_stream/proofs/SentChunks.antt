@@ -1,5 +1,6 @@
--- Texts that are sent one after the other. What is out after k texts are these k, joined; a text that fails leaves a beginning of itself
--- after them. Counts stop at 2^64 - 1, and are exact below it.
+-- Texts that are sent one after the other: after k texts these k, joined, are written (`chunk_out`). If one stops, a beginning of all texts
+-- is written (`chunk_stopped`), by the laws of `take` and `++`. The count of a text that stopped is exact if the text has less than 2^64
+-- bytes (`stopped_whole`).
 use Rattle.std.proofs.Common.{◌≡◌, ◌∙◌, ℕ, ◌+◌, ◌^◌, ◌<◌, ◌≤◌, List, [], ◌∷◌, ◌++◌, Option, Result, Ok, Err, length, take, drop, get_or, sym, ap, subst, arith, length-append, take_all, refl, zero-add}
 use Rattle.std.specs.List.{flat_map, range_with_len}
 use Rattle.std.specs.Io.KnownBytes.{Appends}

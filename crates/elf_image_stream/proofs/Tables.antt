@@ -1,5 +1,6 @@
--- Records that are read one after the other are those of the table: record i is at i times the size. A fault in a later part of the table
--- is one of the table, because that part lies in it.
+-- A block of several records, read at its place, extends a table by its next records (`table_on`). A record in a part of the bytes is that
+-- of the whole, and record i is at i times the size. A fault in a later part of a table is a fault of the table, because the part lies in
+-- it (`fault_later`).
 use Rattle.std.proofs.Common.{◌≡◌, ◌<◌, ◌≤◌, ◌+◌, ◌-◌, ◌*◌, ◌⊎◌, inl, inr, ℕ, Option, List, [], ◌∷◌, ◌++◌, take, drop, map, sym, ap, ap₂, subst, ◌∙◌, arith, zero-add, mul-le-mul_left}
 use Rattle.std.specs.List.{AllByRecursion, range_with_len}
 use Rattle.std.proofs.Math.Nat.{mul-add, mul-one}

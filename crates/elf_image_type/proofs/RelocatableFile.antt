@@ -1,5 +1,6 @@
--- A relocatable file that is written breaks no rule, and is read as its header, section headers and contents. Its parts are the header,
--- the contents and the section header table, so `FileParts` applies; counts and indexes are in the field for their size.
+-- A relocatable file that is written breaks no rule, is read as its header, section headers and contents, and ends with its section header
+-- table. Its parts are the header, the contents and that table, so `FileParts` applies. Counts and indexes below SHN_LORESERVE are in the
+-- header, and others in section header 0.
 use Rattle.std.proofs.Common.{◌≡◌, ◌≢◌, ◌<◌, ◌≤◌, ◌+◌, ◌*◌, ◌^◌, ◌⊎◌, ℕ, zero, suc, None, Some, List, [], ◌∷◌, ◌++◌, length, map, get_or, refl, sym, ap, subst, ◌∙◌, inl, inr, arith, length-append}
 use Rattle.std.specs.Prelude.{slice_get}
 use Rattle.std.specs.List.{AllByRecursion}

@@ -1,5 +1,5 @@
--- Parts at their offsets, with zeros between, as one list. By induction on the parts each is at its place and the list ends with the last
--- one; places ascend, so two parts that hold one offset are the same.
+-- Parts at places that fit, with zeros between, as one list. By induction on the parts, each is at its place and the list ends with the
+-- last one. Places ascend, so two parts that hold one offset are the same.
 use Rattle.std.proofs.Common.{◌≡◌, ◌<◌, ◌≤◌, ◌+◌, ◌-◌, ℕ, zero, suc, List, [], ◌∷◌, ◌++◌, length, take, drop, map, get_or, replicate, refl, sym, ap, ◌∙◌, inl, inr, append_assoc, arith, length-append}
 use Rattle.std.specs.List.{AllByRecursion}
 use Rattle.std.proofs.lemmas.Bool.{cases_lt}

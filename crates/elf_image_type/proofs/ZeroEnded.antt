@@ -1,5 +1,5 @@
--- A string ends at its first zero, or at the end of the list if there is none. So a search for the zero cuts the list where the definition
--- does.
+-- The bytes up to the first zero of a list, or the whole list without a zero, are `before_first` of it (`before_zero`, `no_zero`). Both
+-- follow from `position_or_len_is`. `rest_from` cuts a list at an offset, or at its end if the offset is past it.
 use Rattle.std.proofs.Common.{◌≡◌, ◌<◌, ◌≤◌, ◌-◌, ℕ, Bool, true, false, List, length, min, take, drop, refl, sym, ap, ◌∙◌, arith, inl, inr}
 use Rattle.std.specs.Prelude.{◌==◌, slice_index}
 use Rattle.std.specs.List.{before_first}

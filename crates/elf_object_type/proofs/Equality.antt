@@ -1,5 +1,5 @@
--- The derived `==` of the parts returns whether their values are the same: field by field, each comparison of the code is the comparison
--- of the values.
+-- The derived `==` of object parts is `is_same_object` of their values. By cases on the variants and field by field, each comparison of the
+-- code is the comparison of the values.
 use Rattle.std.proofs.Common.{◌≡◌, ◌∙◌, ◌&&◌, nat_eq, List, refl, sym, map}
 use Rattle.std.specs.Cmp.Derive.Mapped.{pointwise-map}
 use Rattle.std.specs.Cmp.Lexicographic.{pointwise}

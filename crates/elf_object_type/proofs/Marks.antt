@@ -1,6 +1,6 @@
--- Marks over the sections: a section is marked exactly if it is a member of an earlier group, or an earlier member of the group at hand.
--- Each member that is passed is marked; after its last member the group is an earlier one. So a member breaks rule 6 exactly if its mark or
--- its section forbids it.
+-- The marks stay right (`AreMembershipMarks`) if each member that is passed is marked, and after its last member the group counts as an
+-- earlier one. Each step splits on whether the section is the new member, or the group the new one. With right marks, a member that is
+-- there breaks rule 6 exactly if its mark or its section forbids it.
 use Rattle.std.proofs.Common.{◌≡◌, ℕ, ◌+◌, ◌<◌, ◌⊎◌, inl, inr, Bool, true, false, List, [], length, get_or, set, sym, subst, ◌∙◌, arith, get_or-set_other, get_or-set_same}
 use Rattle.std.proofs.lemmas.Bool.{cases_eq, cases_lt}
 use Rattle.std.proofs.lemmas.List.{get_or_past, length-set}

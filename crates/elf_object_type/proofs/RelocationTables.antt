@@ -1,5 +1,6 @@
--- The relocations of a table that was read, by index: as many as whole entries fit its bytes, each at its offset. So bytes of whole
--- entries are a table of the relocations in them, and the numbers of these fit their fields.
+-- The list of a table's relocations has `table_count` entries, and entry j is `table_relocation` of j. The numbers of the relocations in a
+-- list of bytes fit their fields, by the laws of the records. Bytes that are whole entries long are a table of the relocations in them
+-- (`table_is_of`).
 use Rattle.std.proofs.Common.{◌≡◌, ◌<◌, ◌*◌, ◌^◌, ℕ, Bool, true, false, List, length, get_or, zero-add, subst, refl, sym, ap₂, arith}
 use Rattle.std.specs.Int.{w64}
 use Rattle.std.specs.List.{AllByRecursion}

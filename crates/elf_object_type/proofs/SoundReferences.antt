@@ -1,4 +1,5 @@
--- What an object names is there, since it breaks no rule: sections and symbols at positions below their counts.
+-- If an object breaks no rule, what its relocation sections, groups and symbols refer to is there: positions below the counts. Each is a
+-- field of `object_rules_kept`; a member of a group is found by cases on the body.
 use Rattle.std.proofs.Common.{◌≡◌, ◌<◌, ℕ, Bool, List, length, subst, arith}
 use Rattle.std.specs.Prelude.{IfSome, slice_index}
 use Rattle.elf_object_type.specs.declared.relocation.Relocation.{Relocation}

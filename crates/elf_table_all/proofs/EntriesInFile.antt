@@ -1,5 +1,5 @@
--- An entry of a content is the record at its place in the file: the content lies there at the section's offset, and a record is read by
--- itself.
+-- An entry that lies inside a content is the record at its place in the file, for symbols, words, relocations and dynamic entries. The
+-- content is a part of the file's bytes, and a record of a part is that of the whole (`record_of_part`).
 use Rattle.std.proofs.Common.{◌≡◌, ◌+◌, ◌*◌, ◌≤◌, ℕ, List}
 use Rattle.elf_extent.specs.declared.extent.Extent.{Extent}
 use Rattle.elf_field.specs.declared.order.Order.{Order}

@@ -1,6 +1,6 @@
--- The sections that tables link to, if these tables break no rule. A group's rules include those of its symbol table, so the symbol table
--- is there, breaks no rule, and has the symbol of the signature. The section that a dynamic section links to is there. A table that breaks
--- no rule has the verdict None, because it has one fault only (`one_fault`).
+-- If a group or a dynamic section breaks no rule, the section that it links to is there, by its own rules. A group's symbol table breaks no
+-- rule, which the group's rules include, and has the symbol of the signature. A table that breaks no rule has the verdict None, because it
+-- has one fault only (`one_fault`).
 use Rattle.std.proofs.Common.{◌≡◌, ℕ, ◌<◌, Option, None, Some, List, length, get_or, inl, inr, refl, sym, subst}
 use Rattle.std.proofs.lemmas.Bool.{cases_eq, cases_lt}
 use Rattle.elf_field.specs.Abi.{SHT_SYMTAB}

@@ -1,5 +1,6 @@
--- The words of a hash table as its chains are made. Putting a symbol first on its bucket's chain sets two words; all other chains stay,
--- and once all symbols are put the table is one for its names.
+-- Putting a symbol first on its bucket's chain sets two words, and the other chain words and buckets stay (`are_put`). So the symbol and
+-- the later ones are on their chains (`put_threaded`); a table of zeros has no chains. Once all symbols from 1 on are put, the table is
+-- built for its names, if its counts are at most MAX_HASH.
 use Rattle.std.proofs.Common.{◌≡◌, ◌≢◌, ℕ, ◌+◌, ◌%◌, ◌<◌, ◌≤◌, List, length, get_or, set, inl, inr, refl, sym, ap, subst, ◌∙◌, arith, get_or-set_other, get_or-set_same}
 use Rattle.std.proofs.Math.Nat.{mod-lt}
 use Rattle.std.proofs.lemmas.List.{length-set}

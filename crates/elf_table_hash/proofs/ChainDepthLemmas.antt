@@ -1,6 +1,6 @@
--- The lengths of chains and the jumps on them, as more become known. A symbol's chain is one longer than that of its chain word, and what a
--- known chain leads to is known. A symbol on a known chain is met on the way down at its own depth (`on_behind`, `on_same`). A symbol that
--- waits and is met again shows a circle.
+-- Depths, jumps, starts and seen marks stay right with one more symbol, whose depth is one more than its chain word's. If a known chain
+-- leads to `t`, a symbol on it that is no deeper than `t` is on the chain of `t` (`on_behind`). One as deep as the start is the start
+-- (`on_same`), and a waiting symbol that is met again shows an endless chain.
 use Rattle.std.proofs.Common.{◌≡◌, ◌≢◌, ℕ, ◌+◌, ◌<◌, ◌≤◌, ◌⊎◌, Bool, true, false, List, [], ◌∷◌, ◌++◌, length, get_or, set, inl, inr, refl, sym, ap, subst, ◌∙◌, arith, append_assoc, length-append, get_or-set_other, get_or-set_same}
 use Rattle.std.proofs.lemmas.Bool.{cases_eq, cases_lt}
 use Rattle.std.proofs.lemmas.List.{length-set}

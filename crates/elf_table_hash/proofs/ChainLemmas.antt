@@ -1,5 +1,6 @@
--- Chains: from a word there is at most one chain. It visits no symbol twice, so it is shorter than the count of symbols; and a path that
--- comes back to its start has no end.
+-- From a word there is at most one chain, by induction on it (`one_chain`). So no symbol is on a chain twice, and a path that comes back to
+-- its start has no end. If all chain words are below m, a chain that starts below m has fewer than m symbols (`chain_short`); the rest is
+-- on joined paths.
 use Rattle.std.proofs.Common.{◌≡◌, ◌≢◌, ℕ, ◌+◌, ◌<◌, ◌≤◌, ◌⊎◌, Bool, true, false, eqb, List, [], ◌∷◌, ◌++◌, length, inl, inr, refl, sym, ap, subst, ◌∙◌, arith, length-append}
 use Rattle.std.specs.Prelude.{◌||◌}
 use Rattle.std.specs.List.{AllByRecursion, IsDistinct, list_any}

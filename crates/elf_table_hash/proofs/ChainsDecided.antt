@@ -1,5 +1,5 @@
--- Whether a chain ends, and whether a symbol is on it, is decided by following it: a chain that goes on after as many steps as there are
--- symbols never ends, since a chain that ends is shorter.
+-- Whether a chain ends is decided by following it, if all chain words are below the number of symbols. A chain that goes on after that many
+-- steps never ends, because one that ends is shorter. Whether a symbol is on a chain that ends is decided by a search of its symbols.
 use Rattle.std.proofs.Common.{◌≡◌, ℕ, ◌<◌, ◌⊎◌, zero, suc, List, [], ◌∷◌, ◌++◌, length, inl, inr, refl, ap, subst, arith, length-append}
 use Rattle.std.proofs.lemmas.Bool.{cases_eq}
 use Rattle.elf_table_hash.specs.ChainDepths.{IsAmongSymbols}

@@ -1,5 +1,6 @@
--- What rules 65 to 69 say of a hash table that breaks none of them: its size is that of its counts, each word is a symbol, each chain
--- ends, and each symbol is on the chain of its bucket. This is what `Valid` asks.
+-- If a hash table breaks none of rules 65 to 69, and its content has all its bytes, it is `Valid` for its names. The rules give its size,
+-- its counts, and that each word is a symbol. Whether chains end, and what is on them, is decided (`ChainsDecided`), so rules 68 and 69
+-- give the rest.
 use Rattle.std.proofs.Common.{◌≡◌, ◌≢◌, ℕ, ◌+◌, ◌*◌, ◌%◌, ◌/◌, ◌<◌, None, length, get_or, inl, inr, refl, ap, sym, subst, ◌∙◌, arith}
 use Rattle.std.proofs.Math.Nat.{mod-lt}
 use Rattle.std.proofs.lemmas.Bool.{cases_eq, cases_lt}

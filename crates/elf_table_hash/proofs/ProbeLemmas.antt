@@ -1,5 +1,6 @@
--- A look-up along a chain. Each symbol looked at does not have the name, and the chain of a valid table ends and has all symbols of the
--- bucket; so the first symbol with the name is found, or none has it.
+-- A walk along a chain that ends: the symbols passed do not have the name, and are fewer than there are. At the first symbol with the name,
+-- or at the end, the walk has its result (`walk_found`, `walk_ended`). In a valid table a symbol is found exactly if one from 1 on has the
+-- name, because it is on its bucket's chain (`probe_some`).
 use Rattle.std.proofs.Common.{◌≡◌, ◌≢◌, ℕ, ◌+◌, ◌%◌, ◌<◌, Option, None, Some, List, [], ◌∷◌, ◌++◌, length, refl, ap, subst, arith, length-append}
 use Rattle.std.specs.Option.{IsSome}
 use Rattle.std.proofs.Math.Nat.{mod-lt}

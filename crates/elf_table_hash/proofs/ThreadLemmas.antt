@@ -1,5 +1,6 @@
 -- Chains as they are made, from the last symbol to the first. Each chain ascends, so putting a smaller symbol in front changes no path
--- above it, and every chain ends; a chain has the symbols of one bucket alone.
+-- above it, and every chain ends. Each symbol from 1 on is then on the chain of its bucket (`threaded_on`), and a chain has the symbols of
+-- one bucket alone (`threaded_own`).
 use Rattle.std.proofs.Common.{◌≡◌, ◌≢◌, ℕ, ◌+◌, ◌<◌, ◌≤◌, ◌⊎◌, zero, suc, List, [], ◌∷◌, inl, inr, refl, sym, ap, subst, ◌∙◌, arith}
 use Rattle.std.proofs.lemmas.Bool.{cases_eq}
 use Rattle.elf_table_hash.specs.ChainDepths.{Leads}

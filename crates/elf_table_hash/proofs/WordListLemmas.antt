@@ -1,4 +1,5 @@
--- The words of a section and the names of symbols, by index: as many as whole entries fit, and element j is read at j times the size.
+-- The lists of words and of names have as many entries as whole entries fit, and entry j is `word` or `symbol_name` of j. Both follow from
+-- the law of `map` over a range. `names_are`: the names of a table's symbols are this list of names, by induction on the indexes.
 use Rattle.std.proofs.Common.{◌≡◌, ℕ, ◌/◌, ◌<◌, List, [], ◌∷◌, length, map, get_or, refl, ap, zero-add}
 use Rattle.std.specs.List.{range_with_len}
 use Rattle.std.proofs.lemmas.List.FromFn.{get_or-map-range_with_len, length-map-range_with_len}

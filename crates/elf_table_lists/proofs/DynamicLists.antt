@@ -1,5 +1,6 @@
--- The entries of a dynamic section, by index. The array is the entries before the first DT_NULL, so the lowest entry before that index
--- that breaks a rule is the lowest of the array.
+-- The list of entries has n entries, and entry j is `dynamic_entry` of j. If `end` is the index of the first DT_NULL, or the count without
+-- one, the first `end` entries are the dynamic array (`dynamic_array_is`). The lowest of them with a property is the lowest entry with it
+-- that has no DT_NULL up to it (`lowest_before_end`).
 use Rattle.std.proofs.Common.{◌≡◌, ℕ, ◌<◌, ◌≤◌, true, false, Option, None, Some, List, length, get_or, inl, inr, sym, ◌∙◌, ap, take, arith, zero-add}
 use Rattle.std.specs.List.{position_or_len}
 use Rattle.std.proofs.lemmas.Bool.{cases_lt, false_from_ne_true}

@@ -1,5 +1,5 @@
--- The members of a group, by index: the words after the first one. A group that breaks no rule is whole words long and not empty, so it
--- has its flags and all its members.
+-- The list of a group's members has `member_count` entries, and entry j is `member` of j. A group that breaks no rule has type GROUP, is
+-- whole words long, and is not empty: each is one of its rules (`sound_group`).
 use Rattle.std.proofs.Common.{◌≡◌, ℕ, ◌<◌, None, List, length, get_or, inl, inr, refl, arith, zero-add}
 use Rattle.std.proofs.lemmas.Bool.{cases_eq}
 use Rattle.std.proofs.lemmas.List.FromFn.{get_or-map-range_with_len, length-map-range_with_len}

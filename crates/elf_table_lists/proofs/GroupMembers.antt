@@ -1,5 +1,6 @@
--- The lowest wrong member of a group, and its offset by rule 58. Members that ascend are named once, so only those that can't be in the
--- group are wrong (`ascending_lowest`). Otherwise the search keeps the set of the members so far, none of which is wrong (`AreRight`).
+-- Members that ascend are named once, so the lowest that cannot be in the group is the lowest wrong one (`ascending_lowest`). The lowest
+-- wrong member gives the lowest offset of rule 58, because offsets rise with the index (`wrong_member_row`). `AreNamed` and `AreRight`
+-- state what the search keeps if the members do not ascend.
 use Rattle.std.proofs.Common.{◌≡◌, ℕ, ◌+◌, ◌*◌, ◌<◌, true, Option, None, Some, List, inl, inr, refl, arith}
 use Rattle.std.specs.Ordering.{nat_cmp}
 use Rattle.std.specs.BTreeSet.{BTreeSet}

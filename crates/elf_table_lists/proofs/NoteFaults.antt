@@ -1,6 +1,6 @@
--- The notes of a content tested one by one. All notes so far are whole, and the lowest name of theirs that is not closed is kept. A note
--- that is cut short is the last one; it breaks one of rules 59 to 61, which is the fault, because rule 62 comes after them. If all are
--- whole, the name that was kept is the fault, by rule 62.
+-- Notes are tested one by one: all so far are whole, and the lowest name of theirs that is not closed is kept (`AreJudged`, `judged_more`).
+-- A note that is cut short is the last one and breaks one of rules 59 to 61, which is the fault (`cut_fault`). If all are whole, the kept
+-- name breaks rule 62, or no rule is broken; conversely, rule 61 makes all notes whole.
 use Rattle.std.proofs.Common.{◌≡◌, ℕ, suc, ◌+◌, ◌-◌, ◌<◌, ◌≤◌, Option, None, Some, List, length, inl, inr, refl, sym, ap, subst, ◌∙◌, arith}
 use Rattle.std.specs.Option.{option_map, option_or}
 use Rattle.std.proofs.lemmas.Bool.{cases_eq, cases_lt}

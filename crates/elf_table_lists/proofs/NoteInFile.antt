@@ -1,5 +1,5 @@
--- A note of a content is the one in the file: its words, name and descriptor are stretches of the content, which is a stretch of the file,
--- so they are at the same distance from its start.
+-- If a note ends inside a content, it is the one at its place in the file. Its words, name and descriptor are parts of the content, and the
+-- content is a part of the file; so offsets add up.
 use Rattle.std.proofs.Common.{◌≡◌, ℕ, ◌+◌, ◌-◌, ◌≤◌, List, take, drop, ap, ◌∙◌, arith}
 use Rattle.std.proofs.lemmas.List.{drop-drop, drop-take, take-take}
 use Rattle.elf_extent.specs.declared.extent.Extent.{Extent}

@@ -1,5 +1,6 @@
--- Where the notes of a content begin, and the list of them. Each begins where the earlier one ends, and a note has at least a header, so
--- the offsets rise and the list ends with the content. Entry k of the list is the note at offset k, by induction on k.
+-- Each note begins where the earlier one ends, and has at least a header, so the offsets of notes rise. Entry k of the list is the note at
+-- offset k, if that offset is inside the content; otherwise there is no entry k. By induction on k; more steps than bytes change nothing
+-- (`enough`).
 use Rattle.std.proofs.Common.{◌≡◌, ℕ, zero, suc, ◌+◌, ◌<◌, ◌≤◌, List, [], ◌∷◌, None, Some, length, inl, inr, refl, sym, ap, ◌∙◌, arith}
 use Rattle.std.specs.Prelude.{slice_get}
 use Rattle.std.proofs.lemmas.Bool.{cases_lt, le-ltb, lt-ltb}

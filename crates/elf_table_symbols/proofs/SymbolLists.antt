@@ -1,5 +1,6 @@
--- The symbols of a symbol table, by index: as many as whole entries fit, each read at its place. If the table breaks no rule, the section
--- that it links to is there (rule 44). Each symbol with index 0xffff then has its word in the index table (rules 50 and 51).
+-- The list of symbols has `entry_count` entries, and entry j is `symbol_entry_in` of j. If the table breaks no rule, the section that it
+-- links to is there (rule 44). Each symbol with index 0xffff then has its word (rules 50 and 51), if the index table's words are as long as
+-- its header says.
 use Rattle.std.proofs.Common.{◌≡◌, ℕ, ◌*◌, ◌<◌, Option, None, Some, List, length, get_or, ◌++◌, inl, inr, refl, sym, subst, arith, zero-add}
 use Rattle.std.proofs.lemmas.Bool.{cases_eq}
 use Rattle.std.proofs.lemmas.List.FromFn.{get_or-map-range_with_len, length-map-range_with_len}

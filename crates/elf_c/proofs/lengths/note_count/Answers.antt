@@ -1,5 +1,6 @@
--- Invariant: after n notes the place is where note n begins, and all n begin inside the content. The place grows by each note, so the loop
--- ends.
+-- The result is the number of notes of the content (`length_notes`). After n notes the place is where note n begins, and all n begin inside
+-- the content, so n is the number at its end. If fewer bytes than a header are left, the note there is the last; the place grows by each
+-- note, so the loop ends.
 use Rattle.std.proofs.Common.{◌≡◌, ◌<◌, ◌+◌, ℕ, List, arith, below_more, length, subst, sym, ◌∙◌}
 use Rattle.elf_field.specs.declared.order.Order.{Order}
 use Rattle.elf_table_lists.specs.Notes.{note_offset}

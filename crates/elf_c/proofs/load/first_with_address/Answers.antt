@@ -1,4 +1,5 @@
--- Invariant: no segment before this index has the address. Each segment that is read is the one that the file lists at this index.
+-- By the numbers of a file, the result is the first program header of the file's list that has the address, or none has it. Each segment
+-- that is read is the one that the file lists at this index (`segment_at`). One without the address is passed, so no lower one has it.
 use Rattle.std.proofs.Common.{◌≡◌, ◌<◌, ℕ, ap, arith, below_more, subst, sym, ◌∙◌}
 use Rattle.elf_field.specs.declared.phdr.Phdr.{Phdr}
 use Rattle.elf_image_rules.specs.Tables.{program_header_of}

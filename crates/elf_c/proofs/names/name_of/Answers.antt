@@ -1,5 +1,6 @@
--- Three cases: a NULL section header or no name table, where the name is empty; no section of this index; else the string in the name
--- table. The section headers that are read are those of the file.
+-- By the numbers of a file, a name is found exactly if the index is below the count; it and its place are the definition's. For a NULL
+-- section header, or without a name table, it is empty; else it is a string of the name table. The clause `lies` holds for any bytes and
+-- numbers.
 use Rattle.std.proofs.Common.{◌≢◌, ap, subst, sym, ◌∙◌}
 use Rattle.elf_extent.specs.declared.extent.Extent.{Extent}
 use Rattle.elf_field.specs.declared.shdr.Shdr.{Shdr}

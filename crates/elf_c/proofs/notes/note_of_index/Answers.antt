@@ -1,4 +1,6 @@
--- The offset that is found is where the note of this index begins; where none is found there are fewer notes.
+-- By the numbers of a note section, the offset found is where the note of this index begins (`same_offset`). The note is read there exactly
+-- if the index is below the number of notes, and it is that of the list (`note_there`, `note_by_numbers`). If no offset is found, an
+-- earlier note is cut, so there are fewer notes (`none_behind`).
 use Rattle.std.proofs.Common.{◌≡◌, ◌<◌, ◌≤◌, ◌+◌, ◌↔◌, ℕ, List, ap, length, subst, sym, ◌∙◌}
 use Rattle.elf_field.specs.declared.order.Order.{Order}
 use Rattle.elf_table_symbols.specs.declared.table_kind.TableKind.TheVariants.{NoteSection}

@@ -1,5 +1,5 @@
--- Invariant: the slots so far account for all bytes before the end of the last extent. Each further extent adds a gap, if there is one,
--- and its own part.
+-- The parts that are written account for all bytes of the file. Each member adds the gap up to it, if any, and its own part
+-- (`walk_pushed`); after the last one there is a gap or nothing (`walk_ends`). No end overflows, because the extents lie in the file.
 use Rattle.std.proofs.Common.{◌<◌, ◌≤◌, ◌+◌, ◌∷◌, ◌++◌, ℕ, List, [], ap, arith, get_or, length, map, subst, sym, take, ◌∙◌}
 use Rattle.std.specs.Prelude.{slice_set}
 use Rattle.std.proofs.lemmas.List.{length-map}

@@ -1,5 +1,5 @@
--- The extents that hold a byte, sorted, are the same extents in ascending order (`held_moved`). So the lowest byte that two of them have is
--- the file's fault. If there is none, the extents are disjoint, as their account asks.
+-- The extents that hold a byte, sorted, are the same extents in ascending order (`held_moved`). So the lowest byte that two of them hold is
+-- the file's fault, by rule 33. If there is none, no rule is broken and the extents are disjoint, as `put_account` requires.
 use Rattle.std.proofs.Common.{None, Some, rules}
 use Rattle.std.proofs.lemmas.List.Sorted.{IsNonDecreasingBy-from_sort_by_key}
 use Rattle.elf_extent.proofs.Public.{disjoint_from_never, lowest_sorted, nonempty_sorted}

@@ -1,4 +1,6 @@
--- Invariant: the first slots hold the extents of lower index that hold a byte, each with its index.
+-- The slots in use hold the extents of lower index that hold a byte, each with its index. By cases on whether the next extent holds one: it
+-- is a slot more (`members_more`, `held_then`), or changes nothing (`members_skip`, `held_past`). At the end these are the members of all
+-- extents.
 use Rattle.std.proofs.Common.{◌≤◌, ◌<◌, ◌≡◌, ◌+◌, ℕ, ap, arith, filter, length, map, refl, subst, sym, take, ◌∙◌}
 use Rattle.std.proofs.lemmas.List.{take_all}
 use Rattle.elf_extent.specs.Extent.{holds_any}

@@ -1,4 +1,5 @@
--- Invariant: the first slots hold the extents of lower index that hold a byte.
+-- The slots in use hold the extents of lower index that hold a byte. By cases on whether the next extent holds one: it is a slot more
+-- (`gathered_one`), or changes nothing (`gathered_none`). At the end these are all extents that hold a byte.
 use Rattle.std.proofs.Common.{◌≤◌, ◌<◌, ap, arith, filter, length, refl, sym, ◌∙◌}
 use Rattle.std.proofs.lemmas.List.{take_all}
 use Rattle.elf_extent.specs.Extent.{holds_any}

@@ -1,5 +1,6 @@
--- Invariant: all parts so far have their least places, end within a u64 there, and the last one ends at the cursor. The first part that has
--- no place in a u64, or ends past it, is the overflow. After the last part all parts fit.
+-- The result is the first part that overflows, or all parts fit. A part that has no place in a u64, or ends past it, is the overflow
+-- (`no_place_at`, `overflow_at`). Each other part gets its least place (`placed_more`), and at the end these are least places of all parts
+-- (`placed_all`).
 use Rattle.std.proofs.Common.{◌+◌, ◌++◌, [], ◌∷◌, sym, subst, arith}
 use Rattle.elf_extent.proofs.PlaceLemmas.{ArePlaced, placed_more, overflow_at, no_place_at, placed_all}
 use Rattle.elf_extent.proofs.placement.first_overflow.Goals as goal

@@ -1,5 +1,6 @@
--- Invariant: the extents before `k` share no byte, and none ends after `last`. If the next one begins before that end, the byte at its
--- start is the lowest shared one (`shared_at`). Otherwise it is the new `last` (`swept_more`).
+-- The result is the lowest byte that two extents hold, or there is none; each extent up to the first overlap is looked at once. If the next
+-- extent starts lower than the end of `last`, its start is that byte (`shared_at`). Otherwise it is the new `last` (`swept_more`); after
+-- the last extent no byte is shared (`unshared`).
 use Rattle.std.proofs.Common.{None, Some, ◌∙◌, arith}
 use Rattle.elf_extent.proofs.Sweeps.{shared_at, swept_more, unshared}
 use Rattle.elf_extent.proofs.sweeping.sweep.Goals as goal

@@ -1,5 +1,6 @@
--- Invariant: the parts so far are written. If a part fails, exactly a beginning of its bytes is written, and so a beginning of the whole. A
--- read that fails is at a byte of a part that comes from the source.
+-- Each part that is copied follows the earlier ones (`parts_more`), so at the end all bytes are written (`parts_all`), and these represent
+-- the image. If a part fails, a beginning of all is written (`parts_failed`). A read that failed is at a byte of a part that comes from the
+-- source (`parts_read`).
 use Rattle.std.proofs.Common.{◌∙◌}
 use Rattle.elf_image_outline.proofs.Theorem.{joined_is_image}
 use Rattle.elf_image_outline.proofs.PartsOut.{failed_fits, parts_all, parts_behind, parts_failed, parts_more, parts_read}

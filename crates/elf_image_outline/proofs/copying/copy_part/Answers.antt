@@ -1,5 +1,6 @@
--- By the owner of the part: a record's bytes, or zeros of a gap, come from the outline; any other byte is copied from the source. In each
--- case they are the part's bytes.
+-- By the owner of the part: a record's bytes, or zeros of a gap, come from the outline; other bytes are copied from the source. In each
+-- case they are the part's bytes, or a beginning of them if the call fails. A range that is copied lies in the source's bytes
+-- (`told_within`).
 use Rattle.std.proofs.Common.{[], ◌∷◌, ◌∙◌, sym, true}
 use Rattle.std.specs.Prelude.{replicate}
 use Rattle.std.specs.List.{flat_map}

@@ -1,4 +1,5 @@
--- The bytes that were read are the two ends of the name table in the file; a read that failed is of one of these.
+-- If the source reports its bytes and the tables were read from them, the ends that were read are those of the bytes' names (`names_are`,
+-- `ends_there`). A read that failed is of one of these two ends (`end_read`).
 use Rattle.std.proofs.Common.{◌≡◌, ◌-◌, ◌∙◌, ℕ, inr, min, ap, subst, sym}
 use Rattle.elf_extent.specs.declared.extent.Extent.{Extent}
 use Rattle.elf_image_rules.specs.StringTable.{AreEnds}

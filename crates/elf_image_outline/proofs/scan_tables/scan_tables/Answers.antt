@@ -1,5 +1,6 @@
--- The header and section header 0 that were read are the file's. So a rule of 13 to 21 that is found broken is the first one that the file
--- breaks. The tables that were read by the counts are the file's too.
+-- If the source reports its bytes and the header is theirs, section header 0 that was read is theirs too. So a rule of 13 to 21 that is
+-- found broken is the first that they break. The tables read by the counts are their records (`tables_read`); if reading section headers
+-- fails, the fault is one that may stop a scan.
 use Rattle.std.proofs.Common.{◌≡◌, ◌≤◌, ◌∙◌, length, ap}
 use Rattle.elf_image_rules.specs.declared.tables.Counts.{Counts}
 use Rattle.elf_image_rules.specs.Tables.{sections, shdr_offset}

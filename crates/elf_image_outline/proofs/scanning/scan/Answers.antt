@@ -1,4 +1,6 @@
--- The stages read the file's header, tables and name table ends, so the verdict on what was read is the verdict on the file.
+-- If the source reports its bytes, a rule that the last stage finds broken is the first that they break (`stops_of_tables`). Earlier stages
+-- have their own proofs. If no rule is broken, the outline makes their image (`image_of_tables`), and so it is the outline of these bytes
+-- (`image_is_sound`).
 use Rattle.std.proofs.Common.{◌∙◌, subst, sym}
 use Rattle.elf_image_outline.specs.Image.{IsImage}
 use Rattle.elf_image_outline.specs.Outline.{OutlineValue, image_in}

@@ -1,4 +1,5 @@
--- One rule after the other: the first that is broken is the answer, and those before it are kept.
+-- The result is the first of rules 30 to 32 that is broken, or none is, for all names that have the given ends. The rules are tested in
+-- this order, so those that passed are kept.
 use Rattle.std.proofs.Common.{ℕ, inl, inr, refl, rules, subst}
 use Rattle.elf_field.specs.declared.shdr.Shdr.{Shdr}
 use Rattle.elf_extent.specs.Least.{Never, IsLeast}

@@ -1,4 +1,5 @@
--- A table of one byte has it as both ends. Of a longer one the two bytes are read apart, and some table has them whatever they are.
+-- Some table of bytes has the ends that were read: one byte twice (`one_byte_table`), or two bytes that were read apart (`some_table`). If
+-- the source reports its bytes and the table lies in them, these are the table's ends (`ends_in`).
 use Rattle.std.proofs.Common.{rules, ◌≡◌, ◌<◌, ◌+◌, ◌-◌, ◌∙◌, ℕ, List, ap, drop, refl, subst, sym, take, arith}
 use Rattle.elf_image_rules.specs.StringTable.{AreEnds}
 use Rattle.elf_field.specs.Bytes.{IsBytes}

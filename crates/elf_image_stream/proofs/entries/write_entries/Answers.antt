@@ -1,5 +1,6 @@
--- Invariant: the entries before `next` are written. A block that succeeds adds its entries (`flat_ok`). If one fails, a beginning of its
--- bytes is written, and so a beginning of all (`flat_err`).
+-- A block of entries that succeeds adds its bytes after those of the entries so far (`flat_ok`). If a block fails, a beginning of its bytes
+-- is written, and so a beginning of all (`flat_err`). The count of these bytes does not overflow, because all entries have less than 2^64
+-- bytes.
 use Rattle.std.proofs.Common.{◌*◌, take, arith, ap, ◌∙◌}
 use Rattle.std.proofs.lemmas.List.{length-take-le}
 use Rattle.elf_field.proofs.RecordTableLaws.{length-table}

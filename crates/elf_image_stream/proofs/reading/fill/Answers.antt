@@ -1,5 +1,5 @@
--- Invariant: the front of the buffer is what it held and all that was read since. A read adds its bytes; one of no byte, or one that
--- fails, ends the loop.
+-- The front of the buffer stays what it held, with all that was read after it. A read adds its bytes (`read_more`). A read of no byte, or
+-- one that fails, adds none, and the function returns (`read_none`, `read_failed`).
 use Rattle.std.proofs.Common.{rules}
 use Rattle.elf_image_stream.proofs.Moved.{nothing_read, read_failed, read_more, read_none}
 use Rattle.elf_image_stream.proofs.reading.fill.Goals as goal

@@ -1,5 +1,6 @@
--- Invariant: the offset is at or above the start of the part at hand. If it is also below the part's end, the byte is the part's. The parts
--- account for every offset, so the loop finds such a part.
+-- The result is the byte at the offset of the joined parts. If the offset lies in the part at hand, it is the part's byte (`in_part`);
+-- otherwise the offset is at or above that part's end (`parts_end`). The loop cannot end without such a part, because the offset is below
+-- the length (`in_some_part`).
 use Rattle.std.proofs.Common.{◌≤◌, ap, arith, length, map, take_all, ◌∙◌}
 use Rattle.std.specs.List.{flat_map}
 use Rattle.elf_image_outline.proofs.Written.{bytes_in_parts}

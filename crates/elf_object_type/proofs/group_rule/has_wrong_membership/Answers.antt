@@ -1,5 +1,5 @@
--- Invariant: the members so far are not wrong, and they and the members of earlier groups are marked. The first member that the marks or
--- its section forbid is wrong. After the last member the group is an earlier one (`marked_group`).
+-- A member that the marks or its section forbid is wrong (`wrong_member_found`), and then the result is true. Each other member is not
+-- wrong (`member_passes`), and is marked (`marked_next`). After the last member the group counts as an earlier one (`marked_group`).
 use Rattle.std.proofs.Common.{◌≡◌, ◌<◌, inl, inr, List, length, refl, ap, sym, ◌∙◌, subst, arith}
 use Rattle.std.proofs.lemmas.Bool.{cases_lt}
 use Rattle.elf_object_type.specs.GroupRule.{IsWrongMembership}

@@ -1,4 +1,5 @@
--- Invariant: no group so far has a wrong member, and their members are marked. The first that has one is the least.
+-- The first group that has a wrong member breaks rule 6 at the lowest position, because no lower group has one. Each group without a wrong
+-- member leaves right marks for the next. If the loop ends, no group has one.
 use Rattle.std.proofs.Common.{◌≡◌, length, refl, inl, inr, subst, arith, rules, vec_len}
 use Rattle.std.proofs.lemmas.Bool.{cases_lt}
 use Rattle.std.proofs.lemmas.List.{length-map}

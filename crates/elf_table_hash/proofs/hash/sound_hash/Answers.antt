@@ -1,4 +1,5 @@
--- Of a table that breaks no rule, rules 65 to 69 say what its invariant asks.
+-- If a hash table breaks no rule, the section that it links to is there, and is a symbol table that breaks no rule. Rules 65 to 69 then
+-- give the invariant of the result (`valid_when`).
 use Rattle.std.proofs.Common.{None, sym, subst}
 use Rattle.elf_image_rules.proofs.Public.{FirstIn-behind, FirstIn-front}
 use Rattle.elf_image_rules.specs.Rows.{FirstIn}

@@ -1,4 +1,5 @@
--- Invariant: the symbols from the last one down to here are threaded. The next one goes before the others of its bucket.
+-- A table of zeros has no symbol threaded (`none_threaded`). Each step puts the next lower symbol first on its bucket's chain (`are_put`,
+-- `put_threaded`). When the loop ends, all symbols from 1 on are threaded, so the table is built for its names (`all_threaded`).
 use Rattle.std.proofs.Common.{◌≡◌, ◌≢◌, ℕ, ◌+◌, ◌-◌, ◌<◌, List, [], length, get_or, map, subst, sym, ap, ◌∙◌, arith, refl, Bor}
 use Rattle.std.proofs.Math.Nat.{mod-lt}
 use Rattle.std.proofs.lemmas.List.{get_or-map, length-map}

@@ -1,5 +1,5 @@
--- Invariant: the symbols of the chain so far do not have the name, and are as many as the steps. A chain that ends has fewer symbols than
--- there are, so the walk returns before the loop runs out.
+-- If the chain ends, the result is its first symbol with the name, or none has it (`walk_found`, `walk_ended`). Each symbol that is passed
+-- does not have it (`walk_more`). A chain that ends has fewer symbols than there are, so the loop does not run out (`walk_short`).
 use Rattle.std.proofs.Common.{◌+◌, arith, sym, subst, ◌∙◌}
 use Rattle.std.proofs.lemmas.Bool.{false≢true}
 use Rattle.elf_table_hash.proofs.ProbeLemmas.{IsWalked, walk_begins, walk_ended, walk_found, walk_more, walk_short, walk_shorter}

@@ -1,5 +1,5 @@
--- Rule 68 first: offsets rise with the buckets, so the first bucket whose chain does not end has the lowest offset. Then rule 69, whose
--- search needs chains that end.
+-- Rule 68 first: offsets rise with the buckets, so the first bucket whose chain does not end has the lowest offset. If all chains end, the
+-- result is what the search for rule 69 finds.
 use Rattle.std.proofs.Common.{ℕ, inl, inr, refl, arith}
 use Rattle.elf_extent.specs.Least.{IsLeast, Never}
 use Rattle.elf_table_symbols.specs.Below.{Below}

@@ -1,4 +1,5 @@
--- The array ends at the first DT_NULL: rule 63 where there is none, else rule 64 of the entries before it.
+-- If a DT_NULL ends the array inside the section, rule 63 is kept (`has_null_entry`). Then rule 64 is tested on the entries up to that one
+-- alone, which is enough (`lowest_before_end`).
 use Rattle.std.proofs.Common.{◌≡◌, ℕ, ◌+◌, ◌*◌, ◌<◌, ◌≤◌, List, Option, None, Some, length, inl, inr, refl, arith}
 use Rattle.elf_extent.specs.Least.{IsLowest, Never}
 use Rattle.elf_field.specs.Abi.{D_UN_AT, DYN_SIZE}

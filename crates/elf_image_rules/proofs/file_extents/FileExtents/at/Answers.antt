@@ -1,4 +1,5 @@
--- By the index: header, section table, program table, and from 3 on the content of section header `index - 3`.
+-- The result is the file's extent of this index: by cases on the index. 0 is the header, 1 and 2 are the tables, and from 3 on it is the
+-- content of section header `index - 3`.
 use Rattle.std.proofs.Common.{◌≡◌, ℕ, ◌+◌, ◌-◌, ◌*◌, Some, refl, sym, ap, ap₂, subst, arith}
 use Rattle.std.specs.List.{slice_get}
 use Rattle.elf_field.specs.Abi.{EHDR_SIZE, PHDR_SIZE, SHDR_SIZE}

@@ -1,5 +1,6 @@
--- Invariant: the contents so far ascend, from the start of `first` to the end of `last`. If the next one begins before `last` ends, the
--- contents don't ascend. At the end each byte of a content is between these two offsets.
+-- If a content starts lower than the end of `last`, the contents do not ascend. At the end of the loop they ascend, and each byte of a
+-- content lies from the start of `first` to the end of `last`. Both follow from what the loop keeps (`HasAscended`), because the contents
+-- are the extents from index 3 on.
 use Rattle.std.proofs.Common.{rules, ◌<◌, length, arith}
 use Rattle.std.proofs.lemmas.Option.{slice_get_within}
 use Rattle.elf_image_rules.specs.FileExtents.{file_extents}

@@ -1,6 +1,6 @@
--- Invariant: the chain of `start` leads to `here`, and if `s` is on that chain it is on the chain of `here`. Jumps lead down to the depth
--- of `s`; there `s` is on the chain exactly if it is `here`. A symbol of depth 0 is on no known chain, and one that was first met from
--- `start` is on its chain.
+-- The result is whether `s` is on the known chain of `start`: not at depth 0, and always if it was first met from there. Otherwise the walk
+-- leaps down; if `s` is on the chain, it is on that of `here` (`on_behind`). At its depth, `s` is on the chain exactly if it is `here`
+-- (`on_same`).
 use Rattle.std.proofs.Common.{◌≢◌, get_or, ap, eq-eqb, subst, arith, ◌<◌, inr, refl, sym, ◌∙◌}
 use Rattle.std.proofs.lemmas.Bool.{eqb-true, false≢true}
 use Rattle.elf_table_hash.specs.ChainDepths.{Leads}

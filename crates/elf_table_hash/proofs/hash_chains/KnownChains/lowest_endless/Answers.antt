@@ -1,5 +1,6 @@
--- Invariant: the chains of the buckets below this one are known, so they end. If the next chain comes back to itself, its bucket is the
--- lowest whose chain does not end. Otherwise all that waited are settled, and its chain is known too.
+-- The result is the lowest bucket whose chain does not end, because the chains of lower buckets are known and so end (`known_ends`). If the
+-- walk found a bucket's chain endless, it is this one. Otherwise all symbols that waited are settled (`seen_settled`), and the bucket's
+-- chain is known too.
 use Rattle.std.proofs.Common.{◌≡◌, ◌∙◌, inl, inr, refl, arith}
 use Rattle.std.proofs.lemmas.Bool.{cases_lt}
 use Rattle.elf_table_hash.proofs.ChainDepthLemmas.{known_ends, known_kept, seen_settled}

@@ -1,5 +1,6 @@
--- The chain of a symbol is one longer than that of its chain word, and what a symbol leads to is a symbol. The tables of jumps and of starts
--- change at this symbol alone.
+-- After a call `AreKnownChains` still holds, because the depth, jump and start of this symbol are right (`depths_more`, `jumps_more`,
+-- `starts_more`). The symbol is below the number of symbols, because `start` leads to it, so it is an index of each list (`places`). Its
+-- depth does not overflow, because known chains are short.
 use Rattle.std.proofs.Common.{ℕ, ◌<◌, arith, vec_len}
 use Rattle.elf_table_hash.specs.ChainDepths.{Leads}
 use Rattle.elf_table_hash.specs.HashTable.{chain, nchain}

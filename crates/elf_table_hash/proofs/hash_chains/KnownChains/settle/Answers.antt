@@ -1,5 +1,5 @@
--- Invariant: the stack leads from `start` to `s`, whose chain is known. The chain word of the symbol on top is `s`, so its chain is one
--- longer and becomes known. Each symbol that waited is on the stack still, or known.
+-- The symbol that is popped has `s` as its chain word, whose chain is known, and `start` leads to it (`last_of`). This is what `note`
+-- requires; after it the symbol's chain is known too. Each symbol that was on the stack is still there, or known (`waiting`).
 use Rattle.std.proofs.Common.{◌≡◌, ◌≢◌, ℕ, ◌+◌, ◌<◌, ◌⊎◌, List, [], ◌∷◌, ◌++◌, length, get_or, set, inl, inr, refl, subst, arith, get_or-set_same}
 use Rattle.elf_table_hash.specs.ChainDepths.{IsAmongSymbols}
 use Rattle.elf_table_hash.specs.Chains.{IsPath}

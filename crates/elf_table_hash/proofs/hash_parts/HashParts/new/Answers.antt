@@ -1,4 +1,6 @@
--- The section's own rules give the size of the table, those of the symbol table its names; all lie in the file.
+-- The parts are those of the definition, field by field, because the section that the symbol table links to is there (`sound_link`). There
+-- are as many words as the section's size says, because its type is HASH (`hash_type`). The header and the table lie in the file; so do the
+-- symbols, which bounds the number of names.
 use Rattle.std.proofs.Common.{inl, inr, ℕ, ◌+◌, ◌/◌, ◌<◌, ◌≤◌, List, length, refl, ap, ◌∙◌, arith}
 use Rattle.std.proofs.lemmas.Bool.{cases_lt}
 use Rattle.elf_field.specs.Abi.{WORD_SIZE}
