@@ -1,5 +1,6 @@
--- An executable is an image with its own header and program headers. Its parts are in order, and its records keep the rules: places and
--- addresses are multiples of the page, and addresses ascend. So the laws of written files hold (`IsWritable`).
+-- The executable of a sound link, if it is not too long, is an image with its own header and program headers. Its parts are in order, and
+-- its records keep the rules: places and addresses are multiples of the page, and addresses ascend. So the laws of written files hold
+-- (`IsWritable`).
 use Rattle.std.proofs.Common.{◌≡◌, ◌≢◌, ◌<◌, ◌≤◌, ◌+◌, ◌*◌, ◌%◌, ◌^◌, ℕ, zero, suc, Bool, true, false, List, [], ◌∷◌, length, map, take, drop, get_or, refl, sym, ap, subst, ◌∙◌, inl, inr, arith, length-drop}
 use Rattle.std.specs.Prelude.{if◌then◌else◌, Some, None, slice_get, slice_index}
 use Rattle.std.specs.List.{AllByRecursion, flat_map}

@@ -1,5 +1,6 @@
--- The executable of a link is an image that loads the link's memory, and no other list of bytes is its executable. Its segments are read as
--- they were written (`exec_read`), and they give memory's bytes (`loads_memory`, `memory_loads`).
+-- The executable of a sound link is an image whose entry is the map's and that loads the link's memory. No other list of bytes is its
+-- executable (`one_exec`). Its header and segments are read as they were written (`exec_read`). These give memory's bytes and no others
+-- (`loads_memory`, `memory_loads`).
 use Rattle.std.proofs.Common.{ℕ, List, sym, ap, subst}
 use Rattle.std.specs.Prelude.{◌↔◌}
 use Rattle.elf_field.specs.declared.ehdr.Ehdr.{Ehdr}

@@ -1,4 +1,5 @@
--- Relocated bytes have one executable: its places are the least ones, and each of its bytes is that of memory.
+-- Relocated bytes have an executable, at the least places. Two executables of one link that keeps the rules are equal. Least places are one
+-- list, and each byte of a segment is that of memory, which has one there (`one_byte`).
 use Rattle.std.proofs.Common.{◌≡◌, ◌+◌, ℕ, List, [], get_or, sym, ap₂, ◌∙◌, arith}
 use Rattle.std.specs.Prelude.{None, slice_index}
 use Rattle.std.proofs.lemmas.List.{ext_get_or}

@@ -1,5 +1,6 @@
--- The header of an executable fits its fields and has a sound identification. By induction on the segments: each has its program header,
--- its place is aligned, and bytes of its size fit there. As parts of the file these bytes have no owner.
+-- The header of an executable fits its fields, if its identity does, and has a sound identification. By induction on the segments: each has
+-- its program header, its place is aligned, and bytes of its size fit there. There are also small facts on the parts of the file, in which
+-- the bytes of segments have no owner.
 use Rattle.std.proofs.Common.{◌≡◌, ◌≢◌, ◌<◌, ◌+◌, ◌^◌, ◌%◌, ◌⊎◌, ℕ, zero, suc, Bool, true, false, List, [], ◌∷◌, ◌++◌, length, map, get_or, refl, sym, ap, subst, inl, inr, arith}
 use Rattle.std.specs.Prelude.{◌==◌, if◌then◌else◌}
 use Rattle.std.specs.List.{AllByRecursion}

@@ -1,5 +1,5 @@
--- The number of a symbol's name is the position of its binding in the link map: both lists are in the order of first entries. A search by
--- name finds it too, since each name with an entry is bound.
+-- The number of the name of a symbol, unless it is local, is the position of its binding in the link map. Both lists are in the order of
+-- first entries. A search by name finds it too, since each name with an entry is bound.
 use Rattle.std.proofs.Common.{◌≡◌, ◌≢◌, ℕ, ◌<◌, List, [], get_or, length, refl, sym, ◌∙◌, subst}
 use Rattle.std.specs.Prelude.{None, Option, Some, MatchOption, unwrap_or}
 use Rattle.elf_field.specs.Abi.{STB_LOCAL}

@@ -1,5 +1,6 @@
--- If no rule is broken, the page is a power of two, and each output and the first common begin at a multiple of it. The first part of each
--- has the largest alignment of its parts and the page. That is a power of two no smaller than the page, so a multiple of it.
+-- If no rule is broken and the files are objects, the page is a power of two. Each output and the first common begin at a multiple of it.
+-- The first part of each has the largest alignment of its parts and the page. That is a power of two no smaller than the page, so a
+-- multiple of it.
 use Rattle.std.proofs.Common.{◌≡◌, ◌≢◌, ℕ, ◌+◌, ◌-◌, ◌%◌, ◌^◌, ◌<◌, ◌≤◌, ◌⊎◌, List, [], ◌∷◌, get_or, length, map, take, zero, suc, inl, inr, refl, sym, ◌∙◌, ap, subst, arith}
 use Rattle.std.specs.Prelude.{None, fold, max, slice_index}
 use Rattle.std.specs.Int.{IsPowerOfTwo}

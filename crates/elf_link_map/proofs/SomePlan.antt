@@ -1,5 +1,6 @@
 -- It is absurd that objects and options have no plan, or that no answer is the first rule of their link. A row has a list of its sites, by
--- induction on files and positions. A name has a choice, by cases on its first sites. Nothing need be decided for that.
+-- induction on files and positions. A name that is not unbound has a choice, by cases on its first sites. These are double negations, since
+-- nothing is decided.
 use Rattle.std.proofs.Common.{◌≡◌, ℕ, ◌+◌, ◌<◌, ◌≤◌, ◌⊎◌, zero, suc, false, true, List, [], ◌∷◌, ◌++◌, length, inl, inr, refl, sym, subst, arith, add-one}
 use Rattle.std.specs.Prelude.{Option, None, Some}
 use Rattle.std.specs.Borrow.{Bor}

@@ -1,5 +1,5 @@
--- Names keep their positions as new ones are added, so the rows of numbers noted for earlier symbols and files stay right. A number read
--- from the rows is the position of that symbol's name.
+-- Names keep their positions as new ones are added (`keeps_new`), so the rows of numbers noted for earlier symbols and files remain right.
+-- A number read from the rows is the position of that symbol's name, if the symbol is not local.
 use Rattle.std.proofs.Common.{◌≡◌, ◌≢◌, ℕ, ◌<◌, Bool, true, false, List, [], get_or, length, map, refl, sym, ◌∙◌, ap}
 use Rattle.std.specs.Global.{Vec}
 use Rattle.std.specs.Prelude.{cond, Option, None, Some}

@@ -1,5 +1,5 @@
--- Live sections grouped by key, site by site. A section joins the group whose first section has its key, or opens one if none has. So the
--- groups are the outputs, in the order of their openers, each with its members in order.
+-- Sections in order are grouped by key, site by site. A section joins the group whose first section has its key, or opens one if none has.
+-- The groups of live sections with bytes, and then those without, are the outputs, in the order of their openers (`outputs_all`).
 use mathlib.Core.Bool.{beq}
 use Rattle.std.proofs.Common.{◌≡◌, ℕ, ◌+◌, ◌<◌, ◌⊎◌, ◌&&◌, Bool, true, false, List, [], ◌∷◌, ◌++◌, get_or, length, map, set, zero, suc, inl, inr, refl, sym, ◌∙◌, ap, subst, arith, length-append}
 use Rattle.std.specs.Global.{Vec}

@@ -1,5 +1,5 @@
--- The outputs of a plan have each live section once. By induction each live section has an opener with its key, and two openers have two
--- keys, so it is in exactly one output.
+-- The outputs of a plan have each live section once (`outputs_live`), and no output is empty (`outputs_some`). By induction each live
+-- section has an opener with its key, and two openers have two keys, so it is in exactly one output.
 use Rattle.std.proofs.Common.{◌≡◌, ℕ, ◌<◌, ◌⊎◌, Bool, true, false, List, [], ◌++◌, get_or, length, zero, suc, inl, inr, refl, sym, ◌∙◌, subst, arith}
 use Rattle.std.proofs.lemmas.Bool.{cases_eq, cases_lt}
 use Rattle.elf_object_type.specs.Object.{ObjectValue}

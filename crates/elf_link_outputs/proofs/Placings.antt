@@ -1,5 +1,5 @@
--- Places of the parts of a plan, by position. The parts of an output follow those of the outputs before it, so output k begins after as
--- many parts as these have; places ascend, and each part ends below 2^64.
+-- Places of the parts of a plan, by position (`ArePlaced`): there is one for each part, and they ascend. By induction on the outputs,
+-- output k starts after as many parts as the earlier outputs have. There are also small facts on counts of parts and on cells.
 use Rattle.std.proofs.Common.{◌≡◌, ℕ, ◌+◌, ◌<◌, ◌≤◌, ◌^◌, List, [], ◌∷◌, ◌++◌, get_or, length, map, set, take, zero, suc, inl, inr, refl, sym, ◌∙◌, ap, subst, arith, length-append, add-one}
 use Rattle.std.specs.Global.{Vec}
 use Rattle.std.specs.Prelude.{Option, Some, slice_index}

@@ -1,5 +1,5 @@
--- Small facts on the lists that a plan is made of: what holds of each item of lists holds of the lists joined, and so does what holds of
--- each two items.
+-- Small facts on the lists that a plan is made of, by induction on the lists. What holds of each item of the lists holds of the lists
+-- joined. What holds of each two items, of one list or of two, does too. A site in one of the lists is in the joined one.
 use Rattle.std.proofs.Common.{◌≡◌, ℕ, ◌<◌, List, [], ◌∷◌, ◌++◌, get_or, length, map, zero, suc, sym, ◌∙◌, ap, subst, arith, length-append}
 use Rattle.std.specs.Global.{Vec}
 use Rattle.std.proofs.lemmas.List.{get_or-map, length-map}

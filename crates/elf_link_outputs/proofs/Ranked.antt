@@ -1,5 +1,5 @@
--- Two keys with their hashes compare equal exactly if the keys alone do. A comparison in parts is equal exactly if each part is. Equal
--- names have equal hashes, so the test of the hash adds nothing (`implied`).
+-- Two keys with their hashes compare equal exactly if the keys alone do, provided that equal names have equal hashes. A comparison in parts
+-- is equal exactly if each part is, and the test of the hash follows from that of the name (`implied`).
 use mathlib.Core.Bool.{beq}
 use Rattle.std.proofs.Common.{◌≡◌, ℕ, ◌&&◌, Bool, true, false, refl, ◌∙◌, arith}
 use Rattle.std.specs.Prelude.{◌==◌}

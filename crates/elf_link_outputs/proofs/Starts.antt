@@ -1,5 +1,6 @@
--- Where a part starts at the least places, by a walk with a cursor, the end of the part before. If a part has no place below 2^64, or ends
--- there or later, each later part starts at 2^64 or later. A lost entry symbol has no value, a fixed one its own.
+-- Where a part starts at the least places, by a walk with a cursor, the end of the part passed last. A part without a place below 2^64
+-- starts there or later. So does each part after it, and each part after one that ends at 2^64 or later. A lost entry symbol has no value,
+-- and a fixed one below 2^64 its own.
 use Rattle.std.proofs.Common.{◌≡◌, ℕ, ◌+◌, ◌^◌, ◌<◌, ◌≤◌, List, [], ◌∷◌, ◌++◌, length, get_or, drop, zero, suc, refl, sym, ◌∙◌, ap, subst, arith, append_assoc, add-one, drop-cons, length-append}
 use Rattle.std.specs.Prelude.{slice_index, map, Option, None, Some, MatchOption}
 use Rattle.std.proofs.Math.Seq.{get_or-append_seam}

@@ -1,5 +1,6 @@
--- The list of fields, entry by entry. It has the fields of the applied entries before a site, in order, and each of these entries has a
--- relocation rule. An entry with a field adds it, one without leaves the list. After the last file it has all fields.
+-- The list of fields, entry by entry. It has the fields of the applied entries up to a site, in order, and each of these entries has a
+-- relocation rule. An entry with a field adds it, and one without leaves the list. An entry without a rule is the first that breaks rule
+-- 12. After the last file the list has all fields.
 use Rattle.std.proofs.Common.{◌≡◌, ℕ, ◌+◌, ◌<◌, ◌⊎◌, List, [], ◌∷◌, ◌++◌, length, inl, inr, refl, sym, ◌∙◌, ap, subst, arith, length-append}
 use Rattle.std.proofs.lemmas.Bool.{cases_lt}
 use Rattle.std.proofs.lemmas.List.{get_or_push}

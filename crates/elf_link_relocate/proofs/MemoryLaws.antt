@@ -1,5 +1,6 @@
--- Memory has a byte at each address of an output and of the commons: that of a member's content (`content_byte`), or 0 outside of contents.
--- It has none elsewhere, since fields lie in contents, and contents in outputs.
+-- In a link that breaks no rule, memory has a byte at each address of an output and of the commons. It is that of a member's content
+-- (`content_byte`), or 0 outside of contents. It has none elsewhere, since fields lie in contents, and contents in outputs. If contents are
+-- bytes, each byte is below 256.
 use Rattle.std.proofs.Common.{◌≡◌, ℕ, ◌+◌, ◌-◌, ◌<◌, ◌≤◌, List, length, inl, inr, refl, sym, ap, subst, arith}
 use Rattle.std.specs.Prelude.{None}
 use Rattle.std.proofs.lemmas.Bool.{cases_lt}

@@ -1,5 +1,6 @@
--- Memory has one byte at each address, by cases on what two bytes come from. Fields or contents that have the address are in one section,
--- as sections are apart, and fields share no byte. So both are one field or one content, at one offset.
+-- In the map of a link that keeps rules 14 and 15, memory has at most one byte at each address. By cases on what two bytes come from:
+-- fields or contents that have the address are in one section, as sections are apart. Fields share no byte, so both are one field or one
+-- content, at one offset.
 use Rattle.std.proofs.Common.{◌≡◌, ℕ, ◌+◌, ◌<◌, ℤ, List, length, inl, inr, sym, ◌∙◌, ap, subst, arith}
 use Rattle.std.specs.Prelude.{Option, None, Some, slice_index}
 use Rattle.std.proofs.lemmas.Bool.{cases_lt}

@@ -1,5 +1,6 @@
--- The order of entries: by file, section and position. It is a strict order in which any two entries compare; the entries before the next
--- one are those before this one and this one itself, also across the end of a section or a file.
+-- The order of entries: by file, section and position. No entry is earlier than itself, and of two different entries exactly one is
+-- earlier. The entries up to the next one are those up to this one and itself, also across the end of a section or file. All by cases on
+-- which of the three numbers decides.
 use Rattle.std.proofs.Common.{◌≡◌, ℕ, ◌+◌, ◌<◌, ◌⊎◌, inl, inr, refl, ◌∙◌, ap, arith}
 use Rattle.std.proofs.lemmas.Bool.{cases_lt}
 use Rattle.elf_link_files.specs.declared.site.Site.{Site}

@@ -1,5 +1,5 @@
--- Memory has a byte at each address of a live section's content: that of a field's number, or else the content's own. A search through the
--- entries of the file decides which, since each test of an entry is decided.
+-- Memory has a byte at each address of a live section's content, if rules 13 to 15 are kept. It is that of a field's number, or else the
+-- content's own. A search through the entries of the file decides which, since each test of an entry is decided.
 use Rattle.std.proofs.Common.{◌≡◌, ◌≢◌, ℕ, ◌+◌, ◌-◌, ◌<◌, ◌⊎◌, true, List, [], ◌∷◌, length, zero, suc, inl, inr, refl, sym, ◌∙◌, ap, subst, arith}
 use Rattle.std.specs.Prelude.{slice_index}
 use Rattle.std.proofs.lemmas.Bool.{cases_eq, cases_lt}

@@ -1,5 +1,5 @@
--- The object that a file denotes fits a file. Each of its numbers was read from a field, so it fits that field, and its names and bits are
--- stretches of bytes, so they are bytes.
+-- The object that a sound image denotes fits a file (`denoted_fits`). Each of its numbers was read from a field, or is 0, so it fits that
+-- field. Its names and bits are stretches of bytes, so they are bytes.
 use Rattle.std.proofs.Common.{◌<◌, ◌+◌, ◌*◌, ◌/◌, ◌%◌, ◌^◌, ℕ, zero, suc, Bool, true, false, Option, None, Some, List, [], ◌∷◌, get_or, map, sym, subst, arith}
 use Rattle.std.specs.Prelude.{◌==◌, if◌then◌else◌, bit_and, drop}
 use Rattle.std.specs.List.{AllByRecursion}

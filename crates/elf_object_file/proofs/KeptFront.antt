@@ -1,5 +1,5 @@
--- A section is kept if none of six reasons leaves it out. If a test passes the numbers 1 to n and no other, the numbers that it keeps of a
--- longer range are 1 to n. By induction on n: those that pass come first.
+-- A section is kept if none of six reasons leaves it out (`none_left_out`). It is not kept for any of these but index 0 (`one_left_out`).
+-- If a test passes 1 to n and nothing else of a range from 0, its list is 1 to n. By induction on n: those that pass come first.
 use Rattle.std.proofs.Common.{◌≡◌, ◌<◌, ◌≤◌, ◌+◌, ◌⊎◌, ◌||◌, ℕ, zero, suc, Bool, true, false, List, [], ◌∷◌, inl, inr, refl, ap, ◌∙◌, arith}
 use Rattle.std.specs.Prelude.{not, filter}
 use Rattle.std.specs.List.{range_with_len}

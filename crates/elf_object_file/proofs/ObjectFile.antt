@@ -1,5 +1,6 @@
--- The canonical layout of an object that keeps the rules and fits its fields is the file of the object. It is accepted, denotes this object
--- and no other, and is its only layout: the facts of `WrittenObjects`, put together. So a result that writes the layout writes this file.
+-- A canonical layout of at most 2^30 bytes is the file of its object, if the object keeps the rules and fits its fields. It is accepted,
+-- denotes this object and no other, and is its only layout. These are the facts of `WrittenObjects`, with `one_object` and `one_layout`. So
+-- a result that writes the layout writes this file.
 use Rattle.std.proofs.Common.{◌≡◌, ◌≤◌, ℕ, List, length, sym, subst}
 use Rattle.std.specs.Prelude.{Option, Result, Ok, Err}
 use Rattle.elf_image_type.proofs.Public.{some_image}

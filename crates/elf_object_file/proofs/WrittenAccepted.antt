@@ -1,5 +1,6 @@
--- The canonical layout of an object is a relocatable file that is written from its parts (`IsRelocatableFile`). Its numbers fit, its
--- contents have the sizes of their headers, its alignments are right, and its name table is closed and holds each name.
+-- The canonical layout of an object that is written (`IsWrittenAt`) is a relocatable file made of its parts (`IsRelocatableFile`). Its
+-- numbers fit, its contents have the sizes of their headers, its alignments are right, and its name table is closed and holds each name.
+-- Most facts go by the kind of section (`each_plain`).
 use Rattle.std.proofs.Common.{◌≡◌, ◌≢◌, ◌<◌, ◌≤◌, ◌+◌, ◌-◌, ◌^◌, ◌%◌, ℕ, zero, suc, Bool, true, false, List, [], ◌∷◌, length, map, get_or, refl, sym, ap, subst, ◌∙◌, arith, inl, inr}
 use Rattle.std.specs.Prelude.{◌==◌, if◌then◌else◌, codes, slice_index}
 use Rattle.std.specs.List.{AllByRecursion}

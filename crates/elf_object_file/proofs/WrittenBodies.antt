@@ -1,5 +1,6 @@
--- The bodies of an object that is written: bits, relocations and groups are each read back as what they were made of. An entry is read
--- from its own place in the table, and its index leads back to the position.
+-- The body of a section of an object that is written is read back as itself. This needs an object that breaks no rule and has few sections
+-- and symbols (`IsBody`). By cases on the body (`body_back`): an entry is read from its own place in the table, and its index leads back to
+-- the position.
 use Rattle.std.proofs.Common.{◌≡◌, ◌≢◌, ◌<◌, ◌≤◌, ◌+◌, ◌-◌, ◌^◌, ℕ, Bool, true, false, Option, None, Some, List, length, map, get_or, inl, inr, refl, sym, ap, ap₂, ◌∙◌, arith}
 use Rattle.std.specs.Prelude.{◌==◌, if◌then◌else◌, Any, ℤ, pos, unwrap_or}
 use Rattle.std.specs.List.{range_with_len}

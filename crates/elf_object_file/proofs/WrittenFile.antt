@@ -1,5 +1,6 @@
--- The file that an object is written as, section by section: index 0 is NULL, then come the object's own sections in order, then the
--- symbol table, its index table if one is needed, and the two string tables.
+-- The sections of the file that an object is written as. Own section p has index p + 1; then come the symbol table, its index table if one
+-- is needed, and the string tables. By cases on whether there is an index table. What holds of index 0 and of each of these holds of all
+-- (`by_section`).
 use Rattle.std.proofs.Common.{◌≡◌, ◌<◌, ◌+◌, ◌-◌, ℕ, zero, suc, Bool, true, false, List, get_or, length, refl, ap, subst, ◌∙◌, arith, inl, inr}
 use Rattle.std.specs.Prelude.{codes, if◌then◌else◌}
 use Rattle.std.proofs.lemmas.Bool.{cases_lt}

@@ -1,5 +1,6 @@
--- What an object is written as is accepted, and is read as that object and no other. Two objects with the same bytes are therefore one. The
--- object that a file denotes keeps the rules and fits its fields, so it is written as its canonical layout.
+-- The bytes that an object is written as are accepted, and the image in them denotes that object and breaks no rule of files. Two objects
+-- that are written as the same bytes are one. The object that a file denotes keeps the rules and fits its fields. So it is written as its
+-- canonical layout, if that has at most 2^30 bytes.
 use Rattle.std.proofs.Common.{◌≡◌, ◌≤◌, ℕ, List, length, sym, subst}
 use Rattle.std.specs.Prelude.{None}
 use Rattle.elf_field.specs.Bytes.{IsBytes}

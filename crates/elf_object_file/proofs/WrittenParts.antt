@@ -1,5 +1,6 @@
--- What the file that an object is written as holds: byte order, header fields, the content of each section, and the names. Each is a part
--- of the layout at its place, and a name is read at its offset in the name table.
+-- What the file that an object is written as holds: byte order, header fields, the content of each section, and the names of own sections.
+-- Header fields are computed. Contents go by index, with cases on the index table. A name is read at its offset in the name table, because
+-- it has no zero byte.
 use Rattle.std.proofs.Common.{◌≡◌, ◌<◌, ◌+◌, ℕ, suc, Bool, true, false, List, [], length, get_or, refl, ap, ap₂, subst, ◌∙◌, arith}
 use Rattle.std.specs.Prelude.{◌==◌, if◌then◌else◌, slice_index}
 use Rattle.std.proofs.lemmas.Bool.{ne_eqb}

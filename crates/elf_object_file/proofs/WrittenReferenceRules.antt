@@ -1,5 +1,5 @@
--- The references of the file that an object is written as break none of rules 75 to 79. Each was made of a position that the object's
--- rules say is there, and the section at this position is kept.
+-- The references of the file that an object is written as break none of rules 75 to 79. Each was made of a position that rule 4 or rule 8
+-- of objects says is there, and the section at this position is kept. A member that broke rule 77 would break rule 6 of objects.
 use Rattle.std.proofs.Common.{◌≡◌, ◌≢◌, ◌<◌, ◌≤◌, ◌+◌, ◌⊎◌, ℕ, zero, suc, Bool, true, false, Option, None, Some, List, length, get_or, inl, inr, refl, sym, ap, subst, ◌∙◌, arith}
 use Rattle.std.proofs.lemmas.Bool.{cases_Bool, cases_lt, le-leb, le-ltb, lt-ltb, ne_eqb, true≢false}
 use Rattle.elf_extent.specs.Least.{Never}

@@ -1,5 +1,6 @@
--- The references from section to section of an object that is written. An index is a position plus one, so reading it back gives the
--- position, and index 0 gives none.
+-- The references of an object that is written are read back: to sections, to symbols, and link and info of a section. An index is a
+-- position plus one, so reading it back gives the position, and index 0 gives none. Link and info go by the kind of body and need rule 5 of
+-- objects.
 use Rattle.std.proofs.Common.{◌≡◌, ◌<◌, ◌≤◌, ◌+◌, ◌-◌, ℕ, suc, Option, None, Some, length, inl, inr, refl, ap, ◌∙◌, arith}
 use Rattle.std.specs.Prelude.{bit_and}
 use Rattle.std.proofs.lemmas.Bool.{cases_eq, cases_lt, ne_eqb}

@@ -1,5 +1,6 @@
--- The file that an object is written as breaks none of its rules, neither its tables' own nor 70 to 79: the runs of rules one after the
--- other, each from the file that proves it.
+-- The file that an object is written as breaks none of its rules, neither its tables' own nor 70 to 79. Rules 70 to 74 follow here from its
+-- header and the types of its sections (`type_tells`). The other runs of rules are from the files that prove them; tables go by induction
+-- on the sections.
 use Rattle.std.proofs.Common.{◌≡◌, ◌<◌, ◌≤◌, ◌+◌, ℕ, zero, suc, None, Some, List, length, inl, inr, refl, sym, ap, subst, ◌∙◌, arith}
 use Rattle.std.specs.List.{range_with_len}
 use Rattle.elf_extent.specs.Least.{Never}

@@ -1,5 +1,5 @@
 -- The symbol table of the file that an object is written as breaks none of its rules, 40 to 52. Its sizes and links are those that are
--- written; the entries are proved in `WrittenSymbols`.
+-- written, and rule 49 follows from the types of sections. The rules on entries are proved in `WrittenSymbols`.
 use Rattle.std.proofs.Common.{◌≡◌, ◌+◌, ℕ, Bool, true, false, Option, None, Some, List, inl, inr, refl, sym, ap, subst, ◌∙◌, arith}
 use Rattle.std.specs.Prelude.{◌%◌, if◌then◌else◌}
 use Rattle.std.proofs.lemmas.Bool.{true≢false}

@@ -1,6 +1,6 @@
--- The symbol table of an object as it is written breaks none of the rules on its entries. Local symbols come first, as rule 9 of objects
--- asks, each name begins in the string table, and each place is a section that is there. (gABI chapter 4, Symbol Table; Sections: sh_info,
--- SHT_SYMTAB_SHNDX.)
+-- The symbol table of an object as it is written breaks none of rules 41, 45 to 48, 51 and 52. Each goes by entry: the null symbol, or
+-- entry k + 1 for symbol k (`by_entry`). Local symbols come first by rule 9 of objects, and places are there by rule 8. (gABI chapter 4,
+-- Symbol Table; Sections: sh_info, SHT_SYMTAB_SHNDX.)
 use Rattle.std.proofs.Common.{◌≡◌, ◌≢◌, ◌<◌, ◌≤◌, ◌+◌, ◌^◌, ◌⊎◌, ℕ, zero, suc, Bool, true, false, Option, None, Some, List, [], ◌∷◌, length, map, get_or, replicate, inl, inr, refl, sym, ap, ap₂, subst, ◌∙◌, arith}
 use Rattle.std.specs.Prelude.{◌*◌, ◌-◌, filter, slice_index}
 use Rattle.std.specs.List.{flat_map}

@@ -1,5 +1,6 @@
--- The type of a section of a written file says where the section is. The types of the symbol table and of its index table are there once,
--- after the object's own sections, and no type is there that an object cannot have. (gABI chapter 4, Sections: sh_type.)
+-- In a written file only the symbol table has type SYMTAB, and only its index table, if there is one, has type SYMTAB_SHNDX. No section has
+-- type HASH, DYNAMIC, SHLIB or DYNSYM. By cases on the section: the type of an own section goes with its body by rule 2 of objects. (gABI
+-- chapter 4, Sections: sh_type.)
 use Rattle.std.proofs.Common.{◌≡◌, ◌≢◌, ◌<◌, ◌+◌, ◌⊎◌, ℕ, zero, suc, Bool, true, false, List, length, get_or, inl, inr, refl, sym, ap, subst, arith}
 use Rattle.elf_field.specs.Abi.{SHT_DYNAMIC, SHT_DYNSYM, SHT_GROUP, SHT_HASH, SHT_NOBITS, SHT_NULL, SHT_REL, SHT_RELA, SHT_SHLIB, SHT_STRTAB, SHT_SYMTAB, SHT_SYMTAB_SHNDX}
 use Rattle.elf_field.specs.declared.shdr.Shdr.{Shdr}

@@ -1,5 +1,6 @@
--- Steps of a loop over the sections. Invariant: the first fault in the tables of the kept sections from i on is the first one of all. A
--- section without a fault, or one that is left out, keeps it for i + 1. If section i has a fault, that is the first one of all.
+-- Steps of a loop over the sections. Invariant (`IsFoundByAll`): the first fault in the tables of the kept sections from i on is the first
+-- of all. A section that is left out, or kept without a fault, keeps it for i + 1. If the kept section i has a fault, that is the first one
+-- of all.
 use Rattle.std.proofs.Common.{◌≡◌, ℕ, ◌+◌, ◌-◌, ◌<◌, true, false, Option, None, Some, List, sym, subst}
 use Rattle.std.specs.Prelude.{filter}
 use Rattle.std.specs.List.{range_with_len}

@@ -1,5 +1,6 @@
--- The sections of the object that a file denotes keep rules 3 and 5 of objects. Rule 3 follows from rules 22 and 23 of images. Rule 5 goes
--- by the kind of body: entries have their size by rule 42 of files, and the other fields are right by the definition of the object.
+-- The sections of the object that a file denotes keep rules 3 and 5 of objects. Rule 3 follows from rules 22 and 23, if the image is sound.
+-- Rule 5 goes by the kind of body, if the file breaks no rule. Entries have their size by rule 42 of files, and the other fields are right
+-- by the definition of the object.
 use Rattle.std.proofs.Common.{◌≡◌, ◌≢◌, ℕ, ◌<◌, ◌≤◌, Bool, true, false, Option, None, get_or, length, map, inl, inr, refl, sym, ap, subst, ◌∙◌, arith}
 use Rattle.std.specs.Prelude.{◌==◌, if◌then◌else◌, bit_and, pos, Any, unwrap_or}
 use Rattle.std.proofs.lemmas.Bool.{cases_eq, eqb-true}

@@ -1,5 +1,5 @@
--- The groups of the object that a file denotes keep rule 6 of objects. A member is after its group, named once, in no earlier group, no
--- group itself, and has the flag. Rules 58 and 77 of files give this for indexes, and positions ascend with the indexes of kept sections.
+-- The groups of the object that a file denotes keep rule 6 of objects, if the file breaks no rule. By cases on what makes a member wrong:
+-- rules 58 and 77 of files exclude each case for indexes (`member_sound`). Positions ascend with the indexes of kept sections.
 use Rattle.std.proofs.Common.{◌≡◌, ℕ, ◌<◌, ◌≤◌, ◌⊎◌, Bool, true, false, None, List, length, inl, inr, sym, ap, subst, ◌∙◌, arith}
 use Rattle.std.specs.Prelude.{◌==◌, ◌||◌, if◌then◌else◌, SomeIndex}
 use Rattle.std.proofs.lemmas.Bool.{cases_lt, eqb-true, false_from_ne_true}

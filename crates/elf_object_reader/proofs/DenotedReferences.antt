@@ -1,6 +1,6 @@
--- The sections of the object that a file denotes keep rule 4 of objects, by cases on the kind of body. Links, infos, targets and members
--- are kept sections by rules 76 to 79 of files, so they have a position. Symbols and signatures are symbols of the object by rules 54 and
--- 57.
+-- The sections of the object that a file denotes keep rule 4 of objects, if the file breaks no rule. By cases on the kind of body: links,
+-- infos, targets and members are kept sections by rules 76 to 79, so they have a position. Rules 54 and 57 say that the symbols of
+-- relocations and the signatures are symbols of the table.
 use Rattle.std.proofs.Common.{◌≡◌, ◌≢◌, ℕ, ◌-◌, ◌<◌, ◌≤◌, ◌⊎◌, Bool, true, false, None, Some, get_or, length, map, inl, inr, refl, sym, ap, subst, ◌∙◌, arith}
 use Rattle.std.specs.Prelude.{◌==◌, if◌then◌else◌, Any, bit_and}
 use Rattle.std.proofs.lemmas.Bool.{cases_eq, cases_lt}

@@ -1,5 +1,5 @@
--- The symbols of the object that a file denotes keep rules 7 to 9 of objects: symbol q is entry q + 1, its name is a string, its section
--- is kept by rule 75, and local symbols come first by rule 47.
+-- The symbols of the object that a file denotes keep rules 7 to 9 of objects: symbol q is entry q + 1. Its name is a string. If the file
+-- breaks no rule, the section it is in is kept by rule 75, and local symbols come first by rule 47.
 use Rattle.std.proofs.Common.{◌≡◌, ℕ, ◌+◌, ◌⊎◌, ◌<◌, Bool, Option, None, Some, List, false, true, get_or, length, inl, inr, refl, sym, ap, subst, ◌∙◌, arith}
 use Rattle.std.specs.Prelude.{◌/◌, Contains, drop}
 use Rattle.std.proofs.lemmas.Bool.{cases_lt}

@@ -1,5 +1,6 @@
 -- The symbol table and the groups of a file that breaks none of its rules. By rules 44, 72 and 73 relocation sections and groups link to
--- the one symbol table. The object has its symbols but symbol 0. Rules 58 and 77 give what is needed of each member (`IsMember`).
+-- the one symbol table. The object has one symbol less than this table has entries. Rules 58 and 77 give what is needed of each member
+-- (`IsMember`).
 use Rattle.std.proofs.Common.{◌≡◌, ℕ, ◌-◌, ◌<◌, ◌⊎◌, Bool, true, false, Option, None, Some, List, get_or, length, map, inl, inr, refl, ap, ◌∙◌, arith}
 use Rattle.std.specs.Prelude.{bit_and, drop}
 use Rattle.std.proofs.lemmas.Bool.{cases_eq, cases_lt}

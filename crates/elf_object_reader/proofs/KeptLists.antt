@@ -1,5 +1,6 @@
--- The sections that are kept, one after the other: an index that is kept joins the list and raises the next position by one, any other
--- changes nothing. So a position is at most its index (by induction), and a section that is not there has the last position.
+-- The sections that are kept, one after the other: an index that is kept joins the list and raises the next position by one. Any other
+-- index changes nothing. A position is at most its index, and each index past the sections has the last position, both by induction. There
+-- are also small facts on the symbol table and on mapped lists.
 use Rattle.std.proofs.Common.{◌≡◌, ℕ, ◌+◌, ◌-◌, ◌<◌, ◌≤◌, ◌++◌, [], Bool, true, false, Some, zero, suc, List, ◌∷◌, get_or, length, map, refl, sym, ap, subst, ◌⊎◌, inl, inr, ◌∙◌, arith, length-append, zero-add}
 use Rattle.std.specs.Prelude.{◌==◌, filter}
 use Rattle.std.specs.List.{range_with_len}

@@ -1,5 +1,6 @@
--- The types of the sections that an object keeps. By rules 49 and 72 to 74 the one symbol table and its index table are left out. So a kept
--- section is of another type: rule 2 of objects. Its own table breaks no rule, by induction on the list of kept sections.
+-- The sections that an object keeps of a file that breaks no rule. By rules 49, 73 and 74 the symbol table and index table left out are the
+-- only ones of their types. Rule 72 excludes foreign types, so rule 2 of objects is kept. The own table of a kept section breaks no rule,
+-- by induction on the list of kept sections.
 use Rattle.std.proofs.Common.{◌≡◌, ◌≢◌, ℕ, zero, suc, ◌<◌, ◌||◌, Bool, true, false, Option, None, Some, List, [], ◌∷◌, get_or, length, inl, inr, refl, sym, ap, subst, ◌∙◌, arith}
 use Rattle.std.specs.Prelude.{◌==◌, ◌&&◌, not, Contains}
 use Rattle.std.specs.List.{AllByRecursion}

@@ -1,4 +1,5 @@
--- The object that a file denotes which breaks none of its rules is an object: the nine rules, one by one, from the files that prove them.
+-- The object that a file denotes is an object, if the image is sound and the file breaks no rule. The nine rules are joined one by one,
+-- each from the file that proves it.
 use Rattle.std.proofs.Common.{None}
 use Rattle.elf_image_outline.specs.Image.{ImageValue, IsSoundImage}
 use Rattle.elf_image_rules.specs.Rows.{FirstIn}

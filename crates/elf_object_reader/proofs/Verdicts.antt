@@ -1,5 +1,6 @@
--- Verdicts of runs of rules, joined: a run without a fault passes on to the next, and the first fault is the verdict of all. Memory is
--- taken only after the first run, so a fault there comes before out of memory.
+-- Verdicts of runs of rules, joined, by cases on the result. After a run without a fault, the verdict of the next run is that of both. For
+-- all rules of a file, a fault of the first run or of a later one is the file's. Out of memory is shown to be a right verdict only if the
+-- first run has no fault.
 use Rattle.std.proofs.Common.{◌≡◌, ℕ, List, [], ◌++◌, Option, None, Some, Result, Ok, Err, sym, subst}
 use Rattle.std.specs.Prelude.{IfErr, IfOk}
 use Rattle.std.specs.Result.{IsErrAnd}

@@ -1,5 +1,6 @@
--- Runs of names that end with one name. The run of a name ends at it, and is joined of the runs that end right before it: so from each run
--- met on the way back only its last name is looked at, and the least owner is kept.
+-- Runs of names that end with one name. The run of a name ends at it, and is joined of the runs that end right above it. So from each run
+-- met on the way back only the owner of its last name is needed. The least of these is the owner; if no run is met, the name's own index is
+-- (`owner_found`).
 use Rattle.std.proofs.Common.{◌+◌, ◌∷◌, ◌++◌, set, below_more, get_or-set_other, get_or-set_same, ◌≡◌, ◌<◌, ◌≤◌, ◌⊎◌, ℕ, ◌-◌, min, List, [], get_or, length, refl, sym, ap, subst, ◌∙◌, inl, inr, arith}
 use Rattle.std.specs.Prelude.{◌==◌, if◌then◌else◌}
 use Rattle.std.proofs.lemmas.Bool.{cases_eq, cases_lt}

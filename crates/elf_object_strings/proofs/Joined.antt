@@ -1,5 +1,5 @@
--- A string table that shares tails is right in three ways: each name is at its lowest offset, each name is there, and no list that holds
--- the names is shorter. The names that are held have no suffix among them, which gives the last.
+-- A string table that shares tails holds each name. If no name has a zero, each is at its lowest offset, and no list that holds the names
+-- is shorter. The last holds because none of the names that are held ends with another (`no_shorter_rest`).
 use Rattle.std.proofs.Common.{◌≡◌, ◌≢◌, ◌<◌, ℕ, zero, suc, ◌-◌, Bool, true, false, List, [], ◌∷◌, ◌++◌, length, take, get_or, map, refl, sym, ap, ◌∙◌, arith}
 use Rattle.std.specs.Prelude.{not}
 use Rattle.std.specs.List.{AllByRecursion, flat_map, list_any}

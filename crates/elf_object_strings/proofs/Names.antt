@@ -1,5 +1,6 @@
--- A string table holds its names: it begins and ends with a zero, and what is read at a name's offset, up to the first zero, is the name.
--- A shared tail is read as well as a whole name.
+-- A string table holds its names (`holds_names`). It begins and ends with a zero. A name lies at its offset with a zero after it
+-- (`held_at`), because a name that is held ends with it. So what is read there up to the first zero is the name, if the name has no zero
+-- itself.
 use Rattle.std.proofs.Common.{◌≡◌, ◌≢◌, ◌<◌, ◌+◌, ◌-◌, ℕ, suc, Bool, true, false, List, [], ◌∷◌, ◌++◌, length, take, get_or, refl, sym, ap, ap₂, ◌∙◌, append_assoc, arith}
 use Rattle.std.specs.Prelude.{◌==◌}
 use Rattle.std.specs.List.{AllByRecursion, before_first, flat_map, list_any}

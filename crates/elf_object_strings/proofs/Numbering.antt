@@ -1,5 +1,6 @@
--- Names with their indexes: in the order of their list, in another order, and sorted. Each pair stays a name with its own index under any
--- permutation, so sorting loses none. Pairs that are sorted by their numbers are in the order by ends (`end_decides`).
+-- Names with their indexes: in the order of their list, in another order, and sorted. Each pair has a name and its index in the list, also
+-- after a permutation. Pairs sorted by `numbered_order`, which is a total order, are in the order by ends, if each has the number of its
+-- end (`end_decides`).
 use Rattle.std.proofs.Common.{◌≡◌, ℕ, ◌<◌, List, [], get_or, length, reverse, sym, ap, subst, ◌∙◌, arith}
 use Rattle.std.specs.Cmp.{IsTotalOrder}
 use Rattle.std.specs.List.{All, Contains}

@@ -1,5 +1,6 @@
--- The names that are written, one by one. Exactly the names that own themselves are written, with a zero each; a name whose owner ends at
--- an offset begins as many bytes before it as it has.
+-- The names that are written, one by one. A name is written exactly if it is not empty and is its own owner (`written_is`). A name's offset
+-- is where its owner ends, less its own length (`offset_is`); that of the empty name is 0. A pass of the loop that writes adds one name's
+-- end (`written_more`).
 use Rattle.std.proofs.Common.{◌≡◌, ◌<◌, ◌≤◌, ◌+◌, ◌-◌, ℕ, zero, suc, Bool, true, false, cond, not, ◌&&◌, ◌⊎◌, inl, inr, List, [], ◌∷◌, ◌++◌, length, take, drop, get_or, refl, sym, ap, subst, ◌∙◌, append_assoc, arith, length-append}
 use Rattle.std.specs.Prelude.{◌==◌}
 use Rattle.std.specs.List.{filter, flat_map, list_any}

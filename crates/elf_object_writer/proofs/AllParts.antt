@@ -1,5 +1,6 @@
--- All parts of an object, in order: its own sections, the sections after them, and the section header table. With or without an index
--- table the list that the code makes is that of the definition, with sizes in 64 bits.
+-- All parts of an object, in order: its own sections, the sections after them, and the section header table. If the parts of the own
+-- sections are right, pushing the others one by one gives the list of the definition, with saturated sizes. There is one lemma with an
+-- index table and one without, each by the associativity of append.
 use Rattle.std.proofs.Common.{◌≡◌, ◌<◌, ◌+◌, ◌*◌, ◌^◌, min, ℕ, Bool, true, false, List, [], ◌∷◌, ◌++◌, length, map, refl, sym, ap, ap₂, ◌∙◌, append_assoc, arith, length-append}
 use Rattle.std.specs.Prelude.{if◌then◌else◌, codes}
 use Rattle.std.specs.List.{flat_map}

@@ -1,5 +1,6 @@
--- An object has one canonical layout: its parts have one list of least places, and the bytes are determined by it. The length of the file
--- is the end of the last part, the section header table. So what the code finds for saturated sizes is true of the object's layout.
+-- An object has one canonical layout, because its parts have one list of least places, and these determine the bytes. If the parts are
+-- placed in order, the file is as long as the end of the last part, the section header table. What is found for saturated sizes is true of
+-- the object's layout (`layout_ok`, `layout_err`).
 use Rattle.std.proofs.Common.{◌≡◌, ◌<◌, ◌+◌, ◌-◌, ◌*◌, ℕ, suc, List, [], ◌∷◌, ◌++◌, length, map, get_or, refl, sym, ap, subst, ◌∙◌, arith, ◌⊎◌, zero, inl, inr}
 use Rattle.std.specs.Prelude.{Result, Ok, Err, IfErr, IfOk}
 use Rattle.std.proofs.lemmas.List.{length-map}

@@ -1,5 +1,6 @@
--- The parts of a canonical layout as they are written. Invariant: the header and the first parts are written, with the zeros between them.
--- A part that is written extends them; if it fails, the bytes written are a beginning of the file.
+-- The parts of a canonical layout as they are written. `IsGoing` says that the header and the first parts are written, with the zeros
+-- between them. A part that is written extends them; if that fails, the bytes written are a beginning of the file. The content of a section
+-- ends at 2^30 at most.
 use Rattle.std.proofs.Common.{◌≡◌, ◌<◌, ◌≤◌, ◌+◌, ◌-◌, ◌*◌, ◌^◌, ℕ, Option, List, [], ◌∷◌, ◌++◌, length, map, take, drop, get_or, refl, sym, ap, subst, ◌∙◌, append_assoc, arith, length-append}
 use Rattle.std.specs.Prelude.{replicate, Result, Ok, Err}
 use Rattle.std.specs.Io.KnownBytes.{Appends}

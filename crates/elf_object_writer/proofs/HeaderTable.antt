@@ -1,5 +1,6 @@
--- The section header at position k, by induction on the list of sections: it has the place at k, and the name at k in the list of all
--- names. The code counts as many local symbols as the object's value has, by induction on the symbols.
+-- The section header at position k is made of the section and the place at k, by induction on the list of sections (`header_found`). Its
+-- name is the one at k in the list of all names. The code counts as many local symbols as the object's value has, by induction on the
+-- symbols.
 use Rattle.std.proofs.Common.{◌≡◌, ◌<◌, ◌+◌, ◌-◌, ℕ, zero, suc, Bool, true, false, List, [], ◌∷◌, ◌++◌, length, map, get_or, refl, sym, ap, ap₂, ◌∙◌, arith}
 use Rattle.std.specs.Prelude.{codes, cond, filter}
 use Rattle.std.proofs.lemmas.List.{get_or-map, map-append}

@@ -1,5 +1,6 @@
--- The end of parts at their least places. Places ascend, so no part ends after the last one; a part that ends beyond 2^30, is larger than
--- that or passes 64 bits makes the whole too long. Saturated sizes are as good as the sizes.
+-- The end of parts at their least places. Places ascend, so no part ends after the last one. A part that ends beyond 2^30, is larger than
+-- that, or passes 64 bits makes the whole too long. What places of saturated sizes show, also that they are too long, is true of the sizes
+-- themselves.
 use Rattle.std.proofs.Common.{◌≡◌, ◌<◌, ◌≤◌, ◌+◌, ◌-◌, ◌⊎◌, min, ℕ, zero, suc, List, [], ◌∷◌, length, map, get_or, refl, ap, ap₂, subst, inl, inr, arith}
 use Rattle.std.proofs.lemmas.Bool.{cases_lt}
 use Rattle.std.proofs.Math.Nat.{le-min, min-eq_left}

@@ -1,5 +1,6 @@
--- The names of an object's sections and symbols: the list that the code makes name by name is that of the object's value, with or without
--- the name of the index table. Code and value agree whether there is one. Each is by induction on the list of sections or symbols.
+-- The names of an object's sections and symbols, in the code and in the object's value, are the same. So is the test whether a symbol needs
+-- the index table. These go by induction on the list. The names of the last sections are pushed one by one, with or without that of the
+-- index table.
 use Rattle.std.proofs.Common.{◌≡◌, ℕ, Bool, true, false, List, [], ◌∷◌, ◌++◌, map, refl, sym, ap, ap₂, ◌∙◌, append_assoc}
 use Rattle.std.specs.Prelude.{◌||◌, if◌then◌else◌, codes}
 use Rattle.std.specs.List.{list_any}

@@ -1,5 +1,6 @@
 -- What follows for the numbers of an object from a layout that is not too long. Each part ends at 2^30 or below, so there are few sections
--- and symbols. A name's offset is below the length of its table, so it fits 32 bits.
+-- and symbols. A name's offset is below the length of its table, so it fits 32 bits. There are also small facts on how code reads names and
+-- indexes.
 use Rattle.std.proofs.Common.{◌≡◌, ◌<◌, ◌≤◌, ◌+◌, ◌-◌, ◌*◌, ◌^◌, ℕ, zero, suc, List, [], ◌∷◌, ◌++◌, length, map, get_or, inl, inr, refl, ap, ◌∙◌, arith, length-append}
 use Rattle.std.specs.Prelude.{codes}
 use Rattle.std.proofs.lemmas.List.{get_or-map, length-map}

@@ -1,5 +1,5 @@
--- `link` says one thing of files. They are one list of objects, or one file is refused first. The objects have one link map and one
--- executable, which is too long or not, or one rule is broken first. No two of these come together.
+-- `link` prints at most one thing of files, by cases. They are one list of objects, or one file is refused first. The objects have one link
+-- map and one executable, which is too long or not, or one rule is broken first. No two of these come together.
 use Rattle.std.proofs.Common.{◌≡◌, ◌∙◌, ◌⊎◌, ℕ, List, [], ap, arith, inl, inr, length, refl, sym}
 use Rattle.std.specs.Prelude.{None, Some}
 use Rattle.elf_object_type.specs.Object.{ObjectValue}

@@ -1,5 +1,5 @@
--- `map` says one thing of files. They are one list of objects, or one file is refused first; the objects have one link map, and one value
--- of relocated bytes, or one rule is broken first. No two of these come together.
+-- `map` prints at most one thing of files, by cases. They are one list of objects, or one file is refused first. The objects have one link
+-- map and, with relocation rules, one value of relocated bytes, or one rule is broken first. No two of these come together.
 use Rattle.std.proofs.Common.{◌≡◌, ◌∙◌, ◌⊎◌, ◌++◌, ℕ, List, ap, inl, inr, refl, sym}
 use Rattle.std.specs.Prelude.{Option, None, Some}
 use Rattle.elf_object_type.specs.Object.{ObjectValue}

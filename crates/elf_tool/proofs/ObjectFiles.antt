@@ -1,4 +1,5 @@
--- Files are at most one list of objects, or one file of them is refused first, with one rule and offset, and never both.
+-- Files are at most one list of objects, and at most one file of them is refused first, with one rule and offset. The two never come
+-- together. By induction on the files, from the same facts on one file.
 use Rattle.std.proofs.Common.{◌≡◌, ℕ, zero, suc, List, [], ◌∷◌, ap, ap₂, inl, inr, refl, subst}
 use Rattle.std.specs.Prelude.{Some}
 use Rattle.elf_image_rules.specs.ImageRules.{rules_in}

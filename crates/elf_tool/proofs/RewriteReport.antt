@@ -1,5 +1,5 @@
--- `rewrite` says one thing of bytes. They are one image that denotes one object with one canonical layout, which is too long or not; or one
--- rule is broken first, of images or of objects' files. No two of these come together.
+-- `rewrite` prints at most one thing of bytes, by cases. They are one image that denotes one object with one canonical layout, which is too
+-- long or not. Or one rule is broken first, of images or of objects' files. No two of these come together.
 use Rattle.std.proofs.Common.{◌≡◌, ◌∙◌, ℕ, List, [], ap, arith, refl, sym}
 use Rattle.std.specs.Prelude.{None, Some}
 use Rattle.elf_image_rules.specs.ImageRules.{rules_in}

@@ -1,4 +1,5 @@
--- Each command says something of its input: that it says nothing can't be. So what its rules say need not be decided.
+-- It can't be that a command prints nothing of its input, if that is a list of bytes. For `link` the page must be below 2^64. The fault of
+-- each list of rules, and each value that is printed, is there or it is absurd that it is not. So nothing need be decided.
 use Rattle.std.proofs.Common.{◌<◌, ◌^◌, ℕ, zero, suc, List, [], ◌∷◌, ◌++◌, inl, inr, length, refl, subst}
 use Rattle.std.specs.Prelude.{Option, None, Some}
 use Rattle.std.proofs.lemmas.Bool.{cases_lt}

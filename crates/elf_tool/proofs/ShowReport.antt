@@ -1,5 +1,5 @@
--- `show` says one thing of bytes. They are one image, whose tables have one verdict each, or one rule is broken first; and the text is a
--- function of these.
+-- `show` prints at most one thing of bytes. They are one image, whose tables have one verdict each, or one rule is broken first, and these
+-- two never come together. The text is a function of what it is (`of_answer`).
 use Rattle.std.proofs.Common.{◌≡◌, ◌∙◌, ◌<◌, ◌⊎◌, ℕ, List, ap, ap₂, arith, get_or, inl, inr, length, refl, subst, sym}
 use Rattle.std.specs.Prelude.{Option, None, Some}
 use Rattle.std.proofs.lemmas.List.{ext_get_or}

@@ -1,5 +1,6 @@
--- What is said of a source that was scanned is what `check` says of its bytes: the outline is an image with their contents, or the rule is
--- the first that they break, so the line is the same.
+-- What is printed of a source that was scanned is what `check` prints of its bytes, if the source has known bytes. The outline is an image
+-- with their contents, or the rule is the first that they break, so the line is the same. If the writer fails, the first bytes of that line
+-- are written.
 use Rattle.std.proofs.Common.{◌≡◌, ◌∙◌, ℕ, List, length, Option, Some, Result, Ok, Err, ap, refl}
 use Rattle.std.specs.Io.KnownBytes.{Appends}
 use Rattle.std.proofs.lemmas.List.FromFn.{length-map-range_with_len}

@@ -1,5 +1,6 @@
--- A line that is sent word by word is the line: a blank before each word but the first, and the line feed at its end. Digits that are
--- encoded block by block are the digits of all bytes.
+-- A line that is sent word by word is the line, with a blank between two words and the line feed at its end. Digits that are encoded block
+-- by block are the digits of all bytes; if that stops, a beginning of them was sent. One small fact is on verdicts of other texts
+-- (`said_as`).
 use Rattle.std.proofs.Common.{◌≡◌, ◌∙◌, ℕ, ◌+◌, ◌-◌, ◌≤◌, List, [], ◌∷◌, ◌++◌, Option, Result, Ok, Err, take, drop, sym, ap, subst, arith, refl}
 use Rattle.std.proofs.Math.Seq.{take-add}
 use Rattle.std.proofs.lemmas.List.{take-append-drop}

@@ -1,5 +1,5 @@
--- The subcommand that clap's definition enters. A command that requires a subcommand refuses words without one, and the name that is
--- entered is one of those of the command; so a parse that succeeds has one of the five.
+-- The subcommand that clap's definition enters. A command that requires a subcommand refuses words without one (`enters`), and the name
+-- that is entered is one of those of the command. So a parse that succeeds has a subcommand, and its name is one of the program's.
 use Rattle.std.proofs.Common.{◌≡◌, ◌∙◌, inl, inr, ap, refl, sym, Bool, true, false, not, cond, ◌&&◌, List, [], ◌∷◌, Option, Some, None, is_some}
 use Rattle.std.specs.Box.{box_value}
 use Rattle.std.specs.Prelude.{Box, find, option_map}

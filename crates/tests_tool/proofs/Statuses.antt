@@ -1,5 +1,6 @@
--- What the program's exit status says of a file whose bytes are known, if its words are `check a.o` with or without `--seek`. These words
--- make no other request, so the status is the engine's: 0 means that no rule is broken, 1 that one is. Any other status says nothing.
+-- What the exit status says of known bytes, if the words are `check a.o`, or the same with `--seek`. Without `--seek` the file has at most
+-- 2^30 bytes. These words make no other request, so the status is the engine's: 0 means that no rule is broken, 1 that one is. Nothing is
+-- claimed of any other status.
 use Rattle.std.proofs.Common.{◌≡◌, ◌∙◌, ℕ, ◌^◌, ◌≤◌, inl, inr, true, false, List, [], ◌∷◌, ◌++◌, Option, Some, None, Result, Ok, Err, length, ap, sym, subst, arith, length-append}
 use Rattle.std.proofs.lemmas.List.{append-nil}
 use Rattle.std.specs.Prelude.{codes}

@@ -1,4 +1,4 @@
--- One name more has its run and its owner, and at last all have.
+-- One pass of the loop adds the run and the owner of the next sorted name. After the last one all names have their owners.
 use Rattle.std.proofs.Common.{set, ◌<◌, ◌≤◌, ◌+◌, length, sym, subst, arith}
 use Rattle.elf_object_strings.specs.Runs.{AreRuns, HaveOwners}
 use Rattle.elf_object_strings.specs.Shared.{texts}

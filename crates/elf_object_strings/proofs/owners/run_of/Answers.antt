@@ -1,4 +1,5 @@
--- A run, and the least owner in it: the next run is followed, or none is left.
+-- The walk back from a sorted name finds the start of its run, and its owner (`owner_found`). If the name just above the start ends with
+-- it, the run of that name is joined. Otherwise, or at the first name, the run is complete. Indexes are below the count of owners.
 use Rattle.std.proofs.Common.{◌≡◌, ◌<◌, ◌≤◌, ◌-◌, ℕ, min, List, [], get_or, length, sym, subst, ap, ◌∙◌, arith}
 use Rattle.std.specs.Prelude.{◌==◌, if◌then◌else◌}
 use Rattle.elf_object_strings.specs.declared.sorting.Numbered.{Numbered}

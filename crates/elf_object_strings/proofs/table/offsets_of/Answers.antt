@@ -1,4 +1,5 @@
--- Invariant: the names so far have their offsets. A name's owner ends with it, and is written with a zero after it.
+-- One pass of the loop adds the offset of one more name (`offset_from`). The name's owner ends where `ends` says, and the name is no longer
+-- than that offset (`offset_is`), so `offset_of` may be called.
 use Rattle.std.proofs.Common.{◌≡◌, ◌<◌, ◌++◌, ◌∙◌, Bor, List, [], ◌∷◌, ap, arith, get_or, length, map, subst, sym, take, ℕ}
 use Rattle.std.proofs.lemmas.List.{get_or-map, length-map, map_more}
 use Rattle.elf_object_strings.specs.Owners.{IsOwner}

@@ -1,5 +1,6 @@
--- Invariant: the first `out` bytes of the file are written, up to the end of the last section so far. Header, sections and section header
--- table are the three stages. If one fails, the bytes written are a beginning of the file.
+-- Writing goes in three stages: header, sections, section header table. Each call extends what is written by one part at its place, and
+-- after the table the whole file is written. If a call fails, the bytes written are a beginning of the file. The lemmas are those of
+-- `Going`.
 use Rattle.std.proofs.Common.{◌≡◌, length, arith}
 use Rattle.elf_object_writer.specs.PlainSections.{plain_sections}
 use Rattle.elf_object_writer.proofs.Going.{content_cut, content_place, content_sent, header_bytes, header_cut, header_sent, table_cut, table_place, table_sent}

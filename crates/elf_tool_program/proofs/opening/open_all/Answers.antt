@@ -1,4 +1,5 @@
--- Invariant: the readers so far are of the files so far, in order. The first file that does not open ends the loop.
+-- One pass of the loop adds the reader of the next file to those of the files so far, in order. After the last name, the readers are those
+-- of all files.
 use Rattle.std.proofs.Common.{◌≡◌, ◌∙◌, ◌≤◌, ◌++◌, [], ◌∷◌, Bor, List, ℕ, Option, Some, IfSome, ap, arith, get_or, length, map, rules, subst, sym}
 use Rattle.std.proofs.lemmas.List.{get_or-map, length-map, map-append}
 use Rattle.elf_tool_program.proofs.Opened.{bytes_more}

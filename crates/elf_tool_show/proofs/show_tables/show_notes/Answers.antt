@@ -1,4 +1,5 @@
--- Invariant: the lines of the notes so far are sent, and the rest of the notes is left.
+-- One pass of the loop takes one note from those that are left and adds its line to those sent. If that fails, a beginning of all lines was
+-- sent. If no note is left, all lines are sent.
 use Rattle.std.proofs.Common.{◌+◌, ◌∙◌, ap, refl, sym}
 use Rattle.std.proofs.lemmas.Result.{err_from_is_err_and}
 use Rattle.elf_table_lists.specs.NoteView.{note_value}

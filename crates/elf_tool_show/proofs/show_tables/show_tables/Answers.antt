@@ -1,4 +1,5 @@
--- Invariant: the lines of the tables of the sections so far are sent.
+-- One pass of the loop adds the lines of one more section's table to those sent. If that fails, a beginning of all lines was sent. After
+-- the last section all lines are sent.
 use Rattle.std.proofs.Common.{◌∙◌, List, ℕ, ap, length, refl, subst, sym}
 use Rattle.std.specs.List.{range_with_len}
 use Rattle.std.proofs.lemmas.Result.{err_from_is_err_and}

@@ -1,5 +1,5 @@
--- Invariant: the digits of `rest`, in front of those that are put, are all digits of the number. So a place is left for one more, and
--- `rest` is below a power of two that halves with each step.
+-- One pass of the loop puts one digit. Its invariant: the digits of `rest`, in front of those that are put, are all digits of the number.
+-- So a place is left for one more (`place_left`). `rest` is below a power of two that halves with each step.
 use Rattle.std.proofs.Common.{◌≡◌, ◌∙◌, ◌<◌, ◌+◌, ◌-◌, ◌/◌, ◌^◌, ◌∷◌, ℕ, ap, arith, refl, false, drop, length, set, subst, sym}
 use Rattle.std.specs.Fmt.{digits, digits_onto}
 use Rattle.std.proofs.lemmas.List.{length-append, length-drop, length-set}

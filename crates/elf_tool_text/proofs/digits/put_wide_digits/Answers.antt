@@ -1,4 +1,5 @@
--- Invariant: the digits so far are the last ones of the number, and `rest` has the others.
+-- One pass of the loop puts one digit. Its invariant: the digits so far are the last ones of the number, and `rest` has the others. If
+-- `rest` is 0, the digits are all.
 use Rattle.std.proofs.Common.{◌≡◌, ◌∙◌, ◌-◌, ◌/◌, ℕ, ◌∷◌, false, ap, arith, drop, rules, set, sym}
 use Rattle.std.proofs.lemmas.List.{drop_all, length-set}
 use Rattle.std.specs.Fmt.{digits, digits_onto}

@@ -1,4 +1,5 @@
--- Invariant: the files so far are read whole, and no reader after them was called.
+-- One pass of the loop reads one more file whole and calls no later reader. If a reader fails or its file is too large, it gave some bytes,
+-- and the fault has their count. After the last one all files are read (`Inputs`).
 use Rattle.std.proofs.Common.{◌≡◌, ◌∙◌, ◌≤◌, [], ◌∷◌, ◌++◌, List, ℕ, Vec, Global, ap, arith, length, map, rules, subst, vec_len}
 use Rattle.std.proofs.lemmas.List.{length-map, length-set, map-append}
 use Rattle.std.proofs.lemmas.Result.{err_from_is_err_and}

@@ -1,4 +1,5 @@
--- Invariant: the lines so far are buffered or sent, in order.
+-- One pass of the loop adds one line to those that are buffered or sent, in order. If a line is not allocated or a piece is not sent, a
+-- beginning of all lines was sent. After the last line all are buffered or sent (`Buffered`).
 use Rattle.std.proofs.Common.{refl}
 use Rattle.std.specs.List.{range_with_len}
 use Rattle.std.proofs.lemmas.Result.{err_from_is_err_and}

@@ -1,4 +1,5 @@
--- Outputs ascend without an overlap, so each difference of two neighbours is at least 0 and fits.
+-- Each output ends below 2^64, and the next one begins at that end or after it. So neither the end of an output nor the gap to the next one
+-- overflows.
 use Rattle.std.proofs.Common.{◌<◌, ◌-◌, length, arith}
 use Rattle.tests_link.proofs.Outputs.{address_is, length_is, many_outputs}
 use Rattle.tests_link.proofs.standing.gaps.Goals as goal

@@ -1,4 +1,5 @@
--- The number of a name is the position of its first entry among all, and what is known is in that order.
+-- The number of a name is the position of its first entry in the list of these. What is known is in the order of that list. So the number
+-- is below its count, and the item there is what is known of the name (`whole_at`).
 use Rattle.std.proofs.Common.{ℕ, ◌<◌, List, length, map, sym, subst, arith}
 use Rattle.std.proofs.lemmas.List.{length-map}
 use Rattle.elf_link_files.specs.Files.{symbol_in}

@@ -1,4 +1,5 @@
--- Invariant: the members of the groups so far are marked, and the lowest offset is that of the wrong ones among them.
+-- One pass of the loop keeps its invariant: the members of the groups so far are marked, and the lowest wrong one is found. It goes by
+-- cases on whether the section is a group (`GroupMembers`). After the last section, this is the lowest one of all.
 use Rattle.std.proofs.Common.{◌≡◌, length, arith}
 use Rattle.elf_object_reader.specs.ObjectFile.{sections_of_file}
 use Rattle.elf_object_reader.proofs.GroupMembers.{marks_passed, wrong_next, wrong_passed}

@@ -1,4 +1,5 @@
--- Invariant: the list has the positions of the sections so far, and `kept` is how many of them are kept: the position of the next one.
+-- One pass of the loop adds the position of one more section, which is the number of kept sections so far. That number is at most the index
+-- (`position_le`), so it does not overflow. After the last section the list has all positions.
 use Rattle.std.proofs.Common.{◌≡◌, ◌+◌, ◌++◌, [], ◌∷◌, List, ℕ, length, map, ap, ◌∙◌, sym, arith, zero-add}
 use Rattle.std.specs.List.{range_with_len}
 use Rattle.std.proofs.lemmas.List.FromFn.{length-map-range_with_len, map-range_with_len_more}
