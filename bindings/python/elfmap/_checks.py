@@ -1,9 +1,10 @@
-"""The verdicts on a file: those of images, of tables, and of objects.
+"""The verdicts on a file: those of images, of tables, of objects, and of a link of the file alone.
 
 Of a file that is longer than a few pages not all bytes are read. The rules of images look
 at the header, at the two tables of headers, and at the first and the last byte of the
-section name string table; those of tables and objects also at the contents of sections
-that hold tables. The verdict does not depend on any other byte.
+section name string table; those of tables and objects, and those of the link that need no
+other file, also at the contents of sections that hold tables. The verdict does not depend
+on any other byte.
 
 So that memory is bounded by the largest table, and not by all of them, tables of many bytes
 are checked some at a time: all other tables have another type meanwhile. A table's verdict
@@ -18,6 +19,7 @@ from collections.abc import Iterator
 from typing import NamedTuple, Optional
 
 from elfmap import _library
+from elfmap._link_words import OF_ONE_FILE, Linked
 from elfmap._sources import LONGEST, Room, Source, Unreadable
 from elfmap._words import DYNSYM, SYMTAB, SYMTAB_SHNDX, Words
 
@@ -36,11 +38,12 @@ TOO_LONG_AS_OBJECT = 0
 
 
 class Fault(NamedTuple):
-    """A rule broken at an offset: of the table in a section, or of the file."""
+    """A rule broken at an offset: of the table in a section, or of the file; or a rule of the link."""
 
     rule: int
     at: int
     table: Optional[int] = None
+    is_of_link: bool = False
 
 
 class Table(NamedTuple):
@@ -136,9 +139,10 @@ class Checks:
         if not self._objects:
             return found
         self._read_batch(source, size, whole)
-        fault = self._object_fault(size)
-        is_known = fault and any((it.rule, it.at) == (fault.rule, fault.at) for it in found)
-        return found if not fault or is_known else [*found, fault]
+        fault = self._object_fault(size) or self._link_fault(source, size)
+        if fault and fault not in (it._replace(table=None) for it in found):
+            found.append(fault)
+        return found
 
     def parts(self, source: Source) -> tuple[list[_library.Part], Optional[Fault]]:
         """What each byte of the file belongs to; or the rule of images that it breaks."""
@@ -260,6 +264,27 @@ class Checks:
         if status == _library.NO_MEMORY:
             raise Unreadable("there is no memory for its tables")
         return None
+
+    def _link_fault(self, source: Source, size: int) -> Optional[Fault]:
+        """Which rule of the link the object breaks by itself, by the engine of `elfmap link`.
+
+        The rules before these are kept by any one file with these options. Those after
+        them depend on other files: a name that is undefined here may be defined there.
+
+        No name that is bound is empty, so the link ends at the entry point at the latest.
+        Until then it looks at no content that is not read, and it makes no output. The
+        lines of `elfmap map` could be much longer than a file whose names share bytes.
+        """
+        outcome, output = _library.Outcome(), ctypes.create_string_buffer(1)
+        file, options = (_library.Extent * 1)(_library.Extent(0, size)), _library.LinkOptions(0, 1, 0)
+        entry = rules = _library.nowhere, 0
+        status = self._library.elfmap_link(self._room.address, size, file, 1, options, *entry, *rules, output, 0, outcome)
+        if status == _library.NO_MEMORY:
+            raise Unreadable("there is no memory for its tables")
+        if status != _library.NOT_LINKED or outcome.rule not in OF_ONE_FILE:
+            return None
+        at = Linked("", Words(source)).offset(outcome.rule, outcome.index)
+        return Fault(outcome.rule, at, is_of_link=True)
 
 
 def _order(file: _library.Numbers) -> str:

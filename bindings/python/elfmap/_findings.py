@@ -1,4 +1,4 @@
-"""Findings, and how they are suppressed: by a rule's name, or by a baseline."""
+"""Findings, and how they are suppressed: by a rule's name or number, or by a baseline."""
 
 from __future__ import annotations
 
@@ -7,12 +7,39 @@ import json
 import os
 import re
 from collections import Counter
-from collections.abc import Iterable, Sequence
+from collections.abc import Iterable, Iterator, Sequence
 from pathlib import Path
-from typing import NamedTuple, Optional
+from typing import NamedTuple, Optional, Union
 
-from elfmap._rules import RULES
+from elfmap._link_words import OF_ONE_FILE
+from elfmap._rules import LINK_RULES, RULES
 from elfmap._sources import reason_of
+
+
+class Rule(NamedTuple):
+    """A rule of files, or one of the link. Both are numbered from 1 on.
+
+    So 3 is WRONG_MAGIC of files, and TLS of the link. All that findings are of differ in
+    their names.
+    """
+
+    is_of_link: bool
+    number: int
+
+    @property
+    def words(self) -> str:
+        """Its number, as text has it."""
+        return f"link {self.number}" if self.is_of_link else str(self.number)
+
+    @property
+    def key(self) -> Union[int, str]:
+        """Its number, as JSON and `--ignore` have it."""
+        return f"link-{self.number}" if self.is_of_link else self.number
+
+    @property
+    def table(self) -> dict[int, tuple[str, str, str]]:
+        """All rules that are numbered with it: of each its name, its sentence and its advice."""
+        return LINK_RULES if self.is_of_link else RULES
 
 
 class Finding(NamedTuple):
@@ -23,7 +50,7 @@ class Finding(NamedTuple):
 
     path: bytes
     offset: int
-    rule: int
+    rule: Rule
     name: str
     message: str
     sections: tuple[str, ...]
@@ -106,25 +133,37 @@ def _pattern(globs: Sequence[bytes]) -> Optional[re.Pattern[bytes]]:
     return re.compile(text.encode("latin-1"))
 
 
-_NUMBERS = {name: number for number, (name, *_) in RULES.items()}
+def _words_of_rules() -> Iterator[tuple[str, Rule]]:
+    """Each rule that a finding may be of, by its name and by its number."""
+    for rule in (*(Rule(False, it) for it in RULES), *(Rule(True, it) for it in OF_ONE_FILE)):
+        yield rule.table[rule.number][0], rule
+        yield _plain(str(rule.key)), rule
 
 
-def rule_number(word: str) -> int:
-    """The number of a rule, by its number or its name."""
-    number = int(word) if word.isdecimal() and word.isascii() else _NUMBERS.get(word.upper().replace("-", "_"), 0)
-    if number not in RULES:
+def _plain(word: str) -> str:
+    """A name or a number, however it is written."""
+    return word.lstrip("0") if word.isdecimal() else word.upper().replace("-", "_")
+
+
+_RULES = dict(_words_of_rules())
+
+
+def rule_of(word: str) -> Rule:
+    """A rule by its name or its number, which is `link-3` for rule 3 of the link."""
+    rule = _RULES.get(_plain(word))
+    if not rule:
         raise BadWord(f"there is no rule {word!r}")
-    return number
+    return rule
 
 
 class Ignored:
     """Rules that are suppressed, or suppressed where a glob matches the path."""
 
     def __init__(self, words: Iterable[str]) -> None:
-        globs: dict[int, list[str]] = {}
+        globs: dict[Rule, list[str]] = {}
         for word in words:
             rule, colon, glob = word.partition(":")
-            globs.setdefault(rule_number(rule), []).append(glob if colon else "*")
+            globs.setdefault(rule_of(rule), []).append(glob if colon else "*")
         self._globs = {rule: Globs(it) for rule, it in globs.items()}
 
     def match(self, finding: Finding) -> bool:

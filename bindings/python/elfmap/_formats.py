@@ -8,13 +8,12 @@ from itertools import groupby
 from typing import Any
 from urllib.parse import quote_from_bytes
 
-from elfmap._findings import Finding, Report, Unread
-from elfmap._rules import RULES
+from elfmap._findings import Finding, Report, Rule, Unread
 from elfmap._words import printable
 
 # What ends a record: a line feed, or a zero byte.
 Format = Callable[[Report, bytes], Iterable[bytes]]
-_TOO_SHORT = 2
+_TOO_SHORT = Rule(False, 2)
 
 
 def one_line(path: bytes) -> bytes:
@@ -44,7 +43,7 @@ def summary_words(report: Report) -> str:
 
 
 def sentence(finding: Finding) -> str:
-    return f"offset {finding.offset:#x}: {finding.name} ({finding.rule}): {finding.message}"
+    return f"offset {finding.offset:#x}: {finding.name} ({finding.rule.words}): {finding.message}"
 
 
 # ---- Records, each by itself
@@ -67,7 +66,7 @@ def _path_of(path: bytes) -> dict[str, str]:
 
 def jsonl(report: Report, end: bytes) -> Iterator[bytes]:
     for it in report.findings:
-        numbers = {"offset": it.offset, "rule": it.rule, "name": it.name}
+        numbers = {"offset": it.offset, "rule": it.rule.key, "name": it.name}
         words = {"sections": list(it.sections), "message": it.message}
         yield _json({**_path_of(it.path), **numbers, **words}) + end
     for lost in report.unreadable:
@@ -83,7 +82,7 @@ def github(report: Report, end: bytes) -> Iterator[bytes]:
     """Workflow commands, of which each becomes an annotation."""
     for it in report.findings:
         message = f"{printable(it.path)}: {sentence(it)}"
-        yield _command("error", it.file, f"{it.name} ({it.rule})", message) + end
+        yield _command("error", it.file, f"{it.name} ({it.rule.words})", message) + end
     for lost in report.unreadable:
         message = f"{printable(lost.path)}: {lost.reason}"
         yield _command("error", lost.path, "unreadable", message) + end
@@ -122,14 +121,15 @@ def sarif(report: Report, end: bytes) -> Iterator[bytes]:
     yield b"\n"
 
 
-def _sarif_rule(rule: int, name: str) -> dict[str, Any]:
+def _sarif_rule(rule: Rule, name: str) -> dict[str, Any]:
     words = {"id": name}
-    if rule not in RULES:
+    if rule.number not in rule.table:
         return words
-    _, sentence, advice = RULES[rule]
+    _, sentence, advice = rule.table[rule.number]
+    kind = "link rule" if rule.is_of_link else "rule"
     return {
         **words,
-        "shortDescription": {"text": f"rule {rule}: {sentence}"},
+        "shortDescription": {"text": f"{kind} {rule.number}: {sentence}"},
         "help": {"text": advice},
         "defaultConfiguration": {"level": "error"},
     }

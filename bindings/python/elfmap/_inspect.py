@@ -8,8 +8,8 @@ from typing import NamedTuple
 
 from elfmap._archives import Content, Contents, is_archive, members, printed
 from elfmap._checks import TOO_LONG_AS_OBJECT, Checks, Fault
-from elfmap._findings import Finding, Report, Unread
-from elfmap._rules import RULES
+from elfmap._findings import Finding, Report, Rule, Unread
+from elfmap._link_words import Linked, explain_alone
 from elfmap._sources import Source, Unreadable, opened
 from elfmap._words import Words, explain
 
@@ -93,8 +93,11 @@ class Inspector:
 
 def _finding(content: Content, words: Words, fault: Fault) -> Finding:
     path, file, source = content
+    rule = Rule(fault.is_of_link, fault.rule)
     if fault.rule == TOO_LONG_AS_OBJECT:
-        return Finding(path, 0, fault.rule, *_TOO_LONG, (), file, source.start)
-    told = explain(words, fault.rule, fault.at, fault.table)
-    name = RULES[fault.rule][0]
-    return Finding(path, fault.at, fault.rule, name, told.message, tuple(told.sections), file, source.start)
+        return Finding(path, 0, rule, *_TOO_LONG, (), file, source.start)
+    if fault.is_of_link:
+        told = explain_alone(Linked("", words), fault.rule, fault.at)
+    else:
+        told = explain(words, fault.rule, fault.at, fault.table)
+    return Finding(path, fault.at, rule, rule.table[rule.number][0], told.message, tuple(told.sections), file, source.start)

@@ -1,7 +1,8 @@
 """What a rule of the link is about, in words.
 
 A line of `elfmap map` names a file, a section or symbol in it, and an entry, by their
-positions in the object that the file denotes.
+positions in the object that the file denotes. A finding of elfmap-lint has an offset
+instead, and is of a rule that needs no other file.
 """
 
 from __future__ import annotations
@@ -13,16 +14,19 @@ from itertools import islice
 from typing import Optional
 
 from elfmap._names import machine_words
-from elfmap._words import NULL, RELA, SYMTAB, Words, entry_words
+from elfmap._rules import LINK_RULES
+from elfmap._words import NULL, RELA, SECTION, SYMTAB, Told, Words, entry_words, reason
 
 _GLOBAL, _UNDEFINED, _COMMON = 1, 0, 0xFFF2
-_SYMBOL_SIZE = 24
+_HEADER_SIZE, _SYMBOL_SIZE = 64, 24
 _SYMBOLS_AT_ONCE, _BYTES_AT_ONCE = 1 << 14, 1 << 20
 # A name is looked for at so many places of the string table.
 _MOST_OFFSETS = 1 << 20
 # The rules by what their positions are of.
-_OF_OPTIONS, _OF_SECTIONS, _OF_SYMBOLS = (1, 10, 11), (3, 4, 5), (6, 7, 8, 9)
+_OF_OPTIONS, _OF_SECTIONS = (1, 10, 11), (3, 4, 5)
 _MISMATCH, _EMPTY_SIGNATURE, _BAD_COMMON, _TWO_DEFINITIONS, UNDEFINED_NAME = 2, 5, 7, 8, 9
+# The rules that a file keeps or breaks whatever the options and the other files are.
+OF_ONE_FILE = range(3, 8)
 
 
 class Linked:
@@ -49,6 +53,28 @@ class Linked:
     def section(self, position: int) -> int:
         """The index of the section at a position; the count where there is none."""
         return self._kept[position] if position < len(self._kept) else self.words.count
+
+    def _place(self, rule: int) -> tuple[int, int, int]:
+        """Of the section headers or symbols that a rule is about where they begin, their size, and how many there are."""
+        words = self.words
+        if rule in _OF_SECTIONS:
+            return words.table, _HEADER_SIZE, words.count
+        start, end = words.content(self.symbols)
+        return start, _SYMBOL_SIZE, (end - start) // _SYMBOL_SIZE
+
+    def offset(self, rule: int, position: int) -> int:
+        """Where in the file a rule is broken: the field of the section header, or the entry of the symbol."""
+        start, size, _ = self._place(rule)
+        if rule in _OF_SECTIONS:
+            field, _ = SECTION["sh_info" if rule == _EMPTY_SIGNATURE else "sh_flags"]
+            return start + size * self.section(position) + field
+        return start + size * (position + 1)
+
+    def index_at(self, rule: int, at: int) -> int:
+        """The index of the section or symbol at such an offset; the count where there is none."""
+        start, size, count = self._place(rule)
+        index = (at - start) // size
+        return index if 0 <= index < count else count
 
     def raw_name(self, position: int) -> bytes:
         """The name of the symbol at a position."""
@@ -96,22 +122,26 @@ class Linked:
         flags = self.words.number(48, 4)
         return f"{self.path} has order {order}, machine {machine_words(self.words.machine)}, flags {flags:#x}"
 
-    def section_words(self, rule: int, position: int) -> str:
-        words, index = self.words, self.section(position)
+    def own_words(self, rule: int, index: int) -> str:
+        """The section or symbol of this index, and what of it a rule looks at that needs no other file."""
+        return self._section_words(rule, index) if rule in _OF_SECTIONS else self._symbol_words(rule, index)
+
+    def _section_words(self, rule: int, index: int) -> str:
+        words = self.words
         if rule == _EMPTY_SIGNATURE:
             signature = words.symbol_words(words.section(index, "sh_link"), words.section(index, "sh_info"))
-            return f"{self.path}, {words.section_words(index)}: signed by {signature}"
-        flags = words.section(index, "sh_flags")
-        return f"{self.path}, {words.section_words(index)}: sh_flags, which is {flags:#x}"
+            return f"{words.section_words(index)}: signed by {signature}"
+        return f"{words.section_words(index)}: sh_flags, which is {words.section(index, 'sh_flags'):#x}"
 
-    def symbol_words(self, rule: int, position: int) -> str:
-        words, index = self.words, position + 1
-        symbol = words.symbol_words(self.symbols, index)
-        if rule == UNDEFINED_NAME:
-            return f"undefined name {self.symbol_name(position)}, needed by {self.path} (its {symbol})"
+    def _symbol_words(self, rule: int, index: int) -> str:
+        words = self.words
         info, value = (words.symbol(self.symbols, index, it) for it in ("st_info", "st_value"))
         more = f"st_value {value}" if rule == _BAD_COMMON else f"type {info & 15}"
-        return f"{self.path}, {symbol}: binding {info >> 4}, {more}"
+        return f"{words.symbol_words(self.symbols, index)}: binding {info >> 4}, {more}"
+
+    def undefined_words(self, position: int) -> str:
+        symbol = self.words.symbol_words(self.symbols, position + 1)
+        return f"undefined name {self.symbol_name(position)}, needed by {self.path} (its {symbol})"
 
     def relocation(self, position: int, entry: int) -> int:
         """Where an entry of a section of relocations is; -1 where it isn't."""
@@ -126,6 +156,14 @@ class Linked:
         return f"{self.path}, {self.words.section_words(index)}: {own}"
 
 
+def explain_alone(file: Linked, rule: int, at: int) -> Told:
+    """Why a file breaks a rule of the link by itself, at an offset of it."""
+    words, index = file.words, file.index_at(rule, at)
+    section = index if rule in _OF_SECTIONS else file.symbols
+    message = f"{file.own_words(rule, index)}; {reason(rule, LINK_RULES)}; {LINK_RULES[rule][2]}"
+    return Told(message, [words.section_name(section) or f"section {section}"])
+
+
 def link_words(files: Sequence[Linked], rule: int, file: int, index: int, entry: int) -> str:
     """What a rule of the link is about."""
     if rule in _OF_OPTIONS or file >= len(files):
@@ -133,11 +171,12 @@ def link_words(files: Sequence[Linked], rule: int, file: int, index: int, entry:
     it = files[file]
     if rule == _MISMATCH:
         return f"{it.machine_words()}; {files[0].machine_words()}"
-    if rule in _OF_SECTIONS:
-        return it.section_words(rule, index)
+    if rule in OF_ONE_FILE:
+        own = it.section(index) if rule in _OF_SECTIONS else index + 1
+        return f"{it.path}, {it.own_words(rule, own)}"
     if rule == _TWO_DEFINITIONS:
         return _two_definitions(files, file, index)
-    return it.symbol_words(rule, index) if rule in _OF_SYMBOLS else it.relocation_words(index, entry)
+    return it.undefined_words(index) if rule == UNDEFINED_NAME else it.relocation_words(index, entry)
 
 
 def _two_definitions(files: Sequence[Linked], file: int, index: int) -> str:

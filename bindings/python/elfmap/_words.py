@@ -321,9 +321,9 @@ def _note_words(file: Words, start: int, end: int, at: int) -> str:
     return f"a note after the first {_MOST_NOTES}"
 
 
-def reason(rule: int) -> str:
-    """What a rule refuses, without the words that begin each sentence."""
-    return RULES[rule][1].partition(" because ")[2]
+def reason(rule: int, rules: dict[int, tuple[str, str, str]] = RULES) -> str:
+    """What a rule refuses, of files if no other rules are given, without the words that begin each sentence."""
+    return rules[rule][1].partition(" because ")[2]
 
 
 class Told(NamedTuple):

@@ -28,7 +28,7 @@ import re
 import stat
 import sys
 import textwrap
-from collections.abc import Iterator, Sequence
+from collections.abc import Iterable, Iterator, Sequence
 from contextlib import ExitStack, suppress
 from typing import BinaryIO, NamedTuple, Optional
 
@@ -36,8 +36,9 @@ from elfmap import __version__
 from elfmap._archives import Content, Contents, Member, is_archive, members, printed
 from elfmap._checks import Checks
 from elfmap._commands import USAGE, UNREADABLE, complain, run_script
+from elfmap._findings import Rule
 from elfmap._hints import hints, link_hints
-from elfmap._link_words import Linked, link_words
+from elfmap._link_words import OF_ONE_FILE, Linked, link_words
 from elfmap._rules import LINK_RULES, RULES
 from elfmap._sources import Source, Unreadable, opened, reason_of, whole
 from elfmap._words import MOST_OWNERS, Words, found_at, printable
@@ -45,7 +46,10 @@ from elfmap._words import MOST_OWNERS, Words, found_at, printable
 PROGRAM = "elfmap-explain"
 WIDTH = 130
 _REFUSAL = re.compile(rb"(?:file (\d+) )?refused((?: \d+){2,4})$")
-_FINDING = re.compile(rb"(?P<path>.*?): offset 0x(?P<offset>[0-9a-f]{1,16}): (?P<name>[A-Z_0-9]+) \((?P<rule>\d{1,3})\): ", re.S)
+_FINDING = re.compile(
+    rb"(?P<path>.*?): offset 0x(?P<offset>[0-9a-f]{1,16}): (?P<name>[A-Z_0-9]+) \((?P<link>link )?(?P<rule>\d{1,3})\): ", re.S
+)
+_LINK_RULE = re.compile(r"link-([0-9]{1,3})")
 _CONTROL = re.compile(rb"\\x([01][0-9a-f]|7f)")
 _FIRST_WORD, _WORD = re.compile(r"file|refused"), re.compile(r"refused|\d+")
 # So many files are held open.
@@ -59,7 +63,7 @@ class Finding(NamedTuple):
 
     path: bytes
     offset: int
-    rule: int
+    rule: Rule
     name: str
 
 
@@ -165,7 +169,7 @@ class Explainer:
             return ""
         self.count += 1
         lead = (
-            f"{printable(finding.path)}: offset {finding.offset:#x}: {finding.name} ({finding.rule})"
+            f"{printable(finding.path)}: offset {finding.offset:#x}: {finding.name} ({finding.rule.words})"
             if finding
             else printable(line.strip())
         )
@@ -201,7 +205,11 @@ class Explainer:
     def _finding(self, it: Finding) -> Iterator[str]:
         try:
             words, file = self._files.words(it.path)
-            yield from self._of_file(printable(it.path), words, file, it.rule, it.offset, None)
+            path = printable(it.path)
+            if it.rule.is_of_link:
+                yield from _of_link_alone(Linked(path, words), it.rule.number, it.offset)
+            else:
+                yield from self._of_file(path, words, file, it.rule.number, it.offset, None)
         except Unreadable as fault:
             self.lost = True
             yield f"{printable(it.path)} can't be read: {fault.reason}"
@@ -225,25 +233,44 @@ class Explainer:
         if rule not in LINK_RULES:
             yield f"there is no rule {rule} of the link"
             return
-        name, sentence, advice = LINK_RULES[rule]
-        yield from (f"{name}: {sentence}", link_words(self._named, rule, file, index, entry))
-        yield from (f"likely cause: {it}" for it in link_hints(self._named, rule, file, index, entry))
-        yield from (f"what to do: {advice}", f"docs/RULES.md#link-{rule}")
+        causes = link_hints(self._named, rule, file, index, entry)
+        yield from _link_lines(rule, link_words(self._named, rule, file, index, entry), causes)
+
+
+def _of_link_alone(file: Linked, rule: int, at: int) -> Iterator[str]:
+    if rule in OF_ONE_FILE:
+        place = file.own_words(rule, file.index_at(rule, at))
+        yield from _link_lines(rule, f"{file.path}, offset {at} ({at:#x}): {place}", ())
+    else:
+        yield f"there is no rule {rule} of the link that a file breaks by itself"
+
+
+def _link_lines(rule: int, place: str, causes: Iterable[str]) -> Iterator[str]:
+    name, sentence, advice = LINK_RULES[rule]
+    yield from (f"{name}: {sentence}", place)
+    yield from (f"likely cause: {it}" for it in causes)
+    yield from (f"what to do: {advice}", f"docs/RULES.md#link-{rule}")
 
 
 def finding_in(line: bytes) -> Optional[Finding]:
     """The finding of elfmap-lint in a line of text, or of JSON."""
     found = _FINDING.match(line)
     if found:
-        return Finding(found["path"], int(found["offset"], 16), int(found["rule"]), found["name"].decode())
+        rule = Rule(bool(found["link"]), int(found["rule"]))
+        return Finding(found["path"], int(found["offset"], 16), rule, found["name"].decode())
     if line.lstrip()[:1] != b"{":
         return None
     try:
         it = json.loads(line)
         path = bytes.fromhex(it["path_hex"]) if "path_hex" in it else it["path"].encode("utf-8", "surrogateescape")
-        return Finding(path, _number(it["offset"]), _number(it["rule"]), printable(str(it["name"]).encode("utf-8", "replace")))
+        return Finding(path, _number(it["offset"]), _rule(it["rule"]), printable(str(it["name"]).encode("utf-8", "replace")))
     except (ValueError, KeyError, TypeError, AttributeError, RecursionError):
         return None
+
+
+def _rule(value: object) -> Rule:
+    found = _LINK_RULE.fullmatch(value) if isinstance(value, str) else None
+    return Rule(True, int(found[1])) if found else Rule(False, _number(value))
 
 
 def _number(value: object) -> int:

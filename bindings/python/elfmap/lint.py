@@ -56,8 +56,14 @@ def _parser() -> argparse.ArgumentParser:
     add("--follow-thin", action="store_true", help="read the members of a thin archive also outside of its directory")
     add("--class32", choices=("skip", "fail"), default="skip", help="skip files of class 32, or report them (default: skip)")
     add("--tables", action="store_true", help="check the tables too: symbols, relocations, groups, notes, dynamic arrays, hash tables")
-    add("--object", action="store_true", help="check what `elfmap rewrite` and `link` need of an object")
-    add("--ignore", metavar="RULE[:GLOB]", action="append", default=[], help="suppress this rule, or only where the path matches")
+    add("--object", action="store_true", help="check what `elfmap rewrite` and `link` need of an object by itself")
+    add(
+        "--ignore",
+        metavar="RULE[:GLOB]",
+        action="append",
+        default=[],
+        help="suppress this rule (33, SHARED_BYTE, link-3), or only where the path matches",
+    )
     add("--baseline", metavar="FILE", help="suppress the findings that FILE lists")
     add("--write-baseline", metavar="FILE", help="write the findings to FILE, and suppress all of them")
     add("--format", choices=FORMATS, default="text", help="default: text")

@@ -18,15 +18,19 @@ ENVIRONMENT = {**os.environ, "PYTHONPATH": os.pathsep.join([str(PACKAGE), os.env
 class Made:
     """A relocatable file: its sections, and at its end their names and headers.
 
-    A section is a name, a type, a content, and fields by their names.
+    A section is a name, a type, a content, and fields by their names. The byte order is
+    that of the module struct.
     """
 
     FIELDS = dict(name=0, type=4, flags=8, addr=16, offset=24, size=32, link=40, info=44, align=48, entsize=56)
 
-    def __init__(self, *sections):
+    def __init__(self, *sections, order="<"):
+        # Where the content of each section begins, by its index.
+        self.order, self.starts = order, [0]
         names, self.data, rows = b"\0", bytearray(64), [bytes(64)]
         for name, kind, content, fields in sections:
             self.data += bytes(-len(self.data) % 8)
+            self.starts.append(len(self.data))
             rows.append(self.row(len(names), kind, len(self.data), len(content), fields))
             self.data += content
             names += name + b"\0"
@@ -39,18 +43,23 @@ class Made:
         self.table = len(self.data)
         self.data += b"".join(rows)
         counts = 64, 0, 0, 64, len(rows), len(rows) - 1
-        self.data[:64] = struct.pack("<16sHHIQQQIHHHHHH", b"\x7fELF\2\1\1", 1, 62, 1, 0, 0, self.table, 0, *counts)
+        ident = b"\x7fELF\2\1\1" if order == "<" else b"\x7fELF\2\2\1"
+        self.data[:64] = struct.pack(f"{order}16sHHIQQQIHHHHHH", ident, 1, 62, 1, 0, 0, self.table, 0, *counts)
 
     def row(self, name, kind, offset, size, fields):
         it = dict(flags=0, addr=0, size=size, link=0, info=0, align=1, entsize=0) | fields
         places = it["addr"], offset, it["size"], it["link"], it["info"], it["align"], it["entsize"]
-        return struct.pack("<IIQQQQIIQQ", name, kind, it["flags"], *places)
+        return struct.pack(f"{self.order}IIQQQQIIQQ", name, kind, it["flags"], *places)
+
+    def at(self, index, field):
+        """Where a field of a section header is."""
+        return self.table + 64 * index + self.FIELDS[field]
 
     def with_field(self, index, field, value):
         """Its bytes, with a field of a section header changed."""
-        data, at = bytearray(self.data), self.table + 64 * index + self.FIELDS[field]
+        data, at = bytearray(self.data), self.at(index, field)
         width = 4 if field in ("name", "type", "link", "info") else 8
-        data[at : at + width] = value.to_bytes(width, "little")
+        data[at : at + width] = value.to_bytes(width, "little" if self.order == "<" else "big")
         return bytes(data)
 
     def with_bytes(self, at, content):
@@ -63,9 +72,10 @@ def text(name=b".text", content=b"\x90" * 0x33):
     return name, 1, content, {}
 
 
-def symbols(link, *rows, info=1):
-    """A symbol table: of each symbol its st_name, st_info and st_shndx."""
-    content = bytes(24) + b"".join(struct.pack("<IBBHQQ", *(name, kind, 0, section, 0, 0)) for name, kind, section in rows)
+def symbols(link, *rows, info=1, order="<"):
+    """A symbol table: of each symbol its st_name, st_info and st_shndx, and its st_value if that is not 0."""
+    entries = ((name, kind, 0, section, *(value or [0]), 0) for name, kind, section, *value in rows)
+    content = bytes(24) + b"".join(struct.pack(f"{order}IBBHQQ", *it) for it in entries)
     return b".symtab", 2, content, dict(link=link, info=info, entsize=24)
 
 

@@ -243,6 +243,16 @@ class MemoryTest(FolderCase):
         self.assertLess(one, none + 3 * self.TABLE / 2**20)
         self.assertLess(many, one + self.TABLE / 2**20)
 
+    def test_names_that_share_bytes(self):
+        """Each name of an object is the end of one string: written one after the other they have many GiB."""
+        count, step = 40_000, 16
+        string = random.Random(67).randbytes(count * step).replace(b"\0", b"\1")
+        named = symbols(3, *((1 + step * it, 0x10, 1) for it in range(count)))
+        self.put(names__o=bytes(Made(text(), named, (b".strtab", 3, b"\0" + string + b"\0", {})).data))
+        status, out, err, peak = run("lint", "--object", "-j1", "names.o")
+        self.assertEqual((status, out, err), (0, "0 findings in 0 of 1 ELF file\n", ""))
+        self.assertLess(peak, 200)
+
     def test_contents(self):
         """A file of 1 GiB, of which no table is large."""
         made = Made(text(), (b".filler", 1, b"", {}))

@@ -51,10 +51,11 @@ class ReaderTest(Case):
         os.mkdir("a")
         self.put(**{"a/bad__o": SHARING, "a/lib__a": GNU, "a/good__o": GOOD, "a/symbols__o": BROKEN_SYMBOLS})
         self.put(**{"a/short__o": GOOD[:63], "a/aligned__o": Made(text()).with_field(1, "align", 3)})
+        self.put(**{"a/thread__o": bytes(Made((b".tdata", 1, bytes(4), dict(flags=0x403))).data)})
         Path(os.fsdecode(b"a/\xff<&\"'>\x01%.o")).write_bytes(SHARING)
 
     def report(self, format, *words):
-        status, out, _ = self.lint("--format", format, "--tables", *words)
+        status, out, _ = self.lint("--format", format, "--tables", "--object", *words)
         Path("report").write_bytes(out)
         return status
 
@@ -67,7 +68,7 @@ class SarifTest(ReaderTest):
     def test_findings(self):
         self.assertEqual(self.report("sarif", "a", "none"), 3)
         self.assertEqual(self.faults(), [])
-        self.assertEqual(len(json.loads(Path("report").read_bytes())["runs"][0]["results"]), 6)
+        self.assertEqual(len(json.loads(Path("report").read_bytes())["runs"][0]["results"]), 7)
 
     def test_no_findings(self):
         self.assertEqual(self.report("sarif", "a/good.o"), 0)
@@ -96,13 +97,16 @@ class JunitTest(ReaderTest):
             member,
             "a/short.o",
             "a/symbols.o",
+            "a/thread.o",
             "a/\\xff<&\"'>\\x01%.o",
             "none",
         }
         self.assertEqual((set(cases), found["suites"]), (names, ["elfmap-lint"]))
-        self.assertEqual(found["counts"], [9, 6, 1])
+        self.assertEqual(found["counts"], [10, 7, 1])
         ((kind, rule, message),) = cases["a/bad.o"]
         self.assertEqual((kind, rule, message[:32]), ("Failure", "SHARED_BYTE", "offset 0x72: SHARED_BYTE (33): t"))
+        ((kind, rule, message),) = cases["a/thread.o"]
+        self.assertEqual((kind, rule, message[-34:]), ("Failure", "TLS", "thread-local storage is not linked"))
         self.assertEqual((cases["a/good.o"], cases["none"][0][:2]), ([], ["Error", "unreadable"]))
 
     def test_no_findings(self):
