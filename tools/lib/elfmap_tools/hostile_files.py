@@ -1,7 +1,7 @@
 """`tools/test hostile-files`: the cases of cases/ that have files, tables made to do harm among them (cases/hostile.txt), large objects and
 large files, through the commands of the program. No call takes a second of the processor, or asks for more than a MiB of memory and 128
 times as many bytes as its files have, all growths together; `check --seek` for no more than a MiB and twice as many bytes as the tables
-have. The large files have up to 4 MB, but for sparse ones of up to 2^30 bytes, whose tables are far from the header: there `check` and
+have. Each call has a stack of STACK bytes. The large files have up to 4 MB, but for sparse ones of up to 2^30 bytes, whose tables are far from the header: there `check` and
 `check --seek` have to find them. `failing.c` counts what is asked for. The answers of large objects are the reference implementation's."""
 
 import os, random, resource, struct, tempfile
@@ -22,6 +22,7 @@ from .tree import PROGRAM, read_text, run
 
 MOST_SECONDS = 1.0
 LEAST_MEMORY, MOST_MEMORY, SEEKING_MEMORY = 1 << 20, 128, 2
+STACK = 1 << 20
 LITTLE, GLOBAL, WEAK, IN_GROUP = "little", 0x10, 0x20, 0x206
 # The status, and both outputs.
 Answer = tuple[int, bytes, bytes]
@@ -146,7 +147,7 @@ def run_row(row: Row, library: str) -> tuple[Answer, float, int]:
     with tempfile.TemporaryDirectory(prefix="hostile-") as folder, tempfile.TemporaryDirectory() as beside:
         put_needs(folder, row.needs, row.files)
         before = seconds_of_children()
-        ended = run(PROGRAM, *row.words, folder=folder, env=counting(library, f"{beside}/report"))
+        ended = run("prlimit", f"--stack={STACK}", PROGRAM, *row.words, folder=folder, env=counting(library, f"{beside}/report"))
         return (ended.returncode, ended.stdout, ended.stderr), seconds_of_children() - before, asked(f"{beside}/report")
 
 
@@ -206,11 +207,11 @@ def far_tables(tally: Tally, folder: str, library: str) -> None:
             tally.check(output == right and memory <= most, f"{what}: {output!r}, and not {right!r}; {memory} bytes, and not {most}")
 
 
-ABOUT = "tables made to do harm, and large files: answers, time and memory"
+ABOUT = "tables made to do harm, and large files: answers, time, memory, and a small stack"
 
 
 # It looks at the time of the processor, which other work on it lengthens.
-@Test("hostile-files", ABOUT, commands="cc", crates="elfmap", alone=True, family="fuzz")
+@Test("hostile-files", ABOUT, commands="cc prlimit", crates="elfmap", alone=True, family="fuzz")
 def hostile_files(tally: Tally, options: Namespace) -> None:
     library = failing_library(tally.folder)
     for number, it in enumerate(it for rows in (case_rows, many_rows, large_rows) for it in rows()):

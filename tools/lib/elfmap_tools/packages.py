@@ -18,7 +18,7 @@ COMMANDS = {
     "lld": "ld.lld", "lld-19": "ld.lld-19", "llvm": "llvm-objcopy", "llvm-19": "llvm-mc-19",
     "man-db": "man", "mypy": "mypy", "nodejs": "node", "pkg-config": "pkg-config",
     "pre-commit": "pre-commit", "python3-jsonschema": JSONSCHEMA, "python3-junitparser": JUNITPARSER,
-    "rustc-web": "rustc", "util-linux": "unshare", "valgrind": "valgrind",
+    "rustc-web": "rustc", "util-linux": "prlimit unshare", "valgrind": "valgrind",
 }  # fmt: skip
 PACKAGES = {command: package for package, commands in COMMANDS.items() for command in commands.split()}
 # The machines of rules/, by the names of qemu's program and of the tools; one that qemu has no program for; and those that LLVM alone has,
