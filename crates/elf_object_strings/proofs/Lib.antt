@@ -10,6 +10,7 @@ mod Joined
 mod Kept
 mod Lowest
 mod Minimal
+mod NameTails
 mod Names
 mod Numbering
 pub mod Public
