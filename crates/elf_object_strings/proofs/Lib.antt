@@ -15,4 +15,5 @@ mod Names
 mod Numbering
 pub mod Public
 mod Suffix
+mod TableEnds
 mod Written
