@@ -3,11 +3,12 @@ ghost use Rattle.std.specs.Prelude.{◌≡◌};
 ghost use Rattle.elf_image_outline.specs.Image.{IsImage};
 ghost use Rattle.elf_object_file.specs.ObjectFile.{IsObjectWritten, IsWrittenFile};
 ghost use Rattle.elf_object_reader.specs.Denotes.{Denotes};
+ghost use Rattle.elf_object_writer.specs.NameTables.{AreEndsOf};
 ghost use Rattle.elf_table_symbols.specs.Sections.{sections_of};
 
 use elf_image_type::Image;
 use elf_object_type::Object;
-use elf_object_writer::{ObjectWriteFault, write_layout};
+use elf_object_writer::{NameEnds, ObjectWriteFault, write_layout};
 use std::alloc::Global;
 use std::io::Write;
 
@@ -33,8 +34,26 @@ pub fn write_object<W: Write>(
 ) -> Result<(), ObjectWriteFault>
     ensures { IsObjectWritten object.now (W.contents writer.old) (W.contents writer.new) result }
 {
+    let unknown = NameEnds {
+        symbols: &[],
+        sections: &[],
+    };
+    write_object_at(alloc, object, unknown, writer)
+}
+
+/// The same of an object of whose names it is known where they end in the string tables that they were read from. Names that share their
+/// bytes there are compared by their lengths, however long they are.
+pub fn write_object_at<W: Write>(
+    alloc: Global,
+    object: &Object<'_>,
+    ends: NameEnds<'_>,
+    writer: &mut W,
+) -> Result<(), ObjectWriteFault>
+    requires { AreEndsOf object.now ends }
+    ensures { IsObjectWritten object.now (W.contents writer.old) (W.contents writer.new) result }
+{
     object.prove_rules();
-    write_layout(alloc, object, writer)
+    write_layout(alloc, object, ends, writer)
 }
 
 /// Proves that an object's file is read back as the object: `file` is what [`write_object`] wrote, `image` its image, and `read` the object

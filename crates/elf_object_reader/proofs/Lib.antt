@@ -16,6 +16,7 @@ pub mod FileMembers
 pub mod DenotedRelocations
 pub mod DenotedReferences
 pub mod DenotedGroups
+mod LastStrings
 pub mod ObjectKept
 pub mod OneObject
 pub mod JudgedTables

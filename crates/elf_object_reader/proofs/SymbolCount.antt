@@ -3,6 +3,8 @@
 use Rattle.std.proofs.Common.{◌≡◌, ℕ, ◌+◌, ◌*◌, ◌<◌, ◌≤◌, List, get_or, length, ap, ◌∙◌, arith}
 use Rattle.std.specs.Prelude.{◌/◌, ◌%◌}
 use Rattle.elf_field.specs.Sym.{sym_at}
+use Rattle.elf_field.specs.declared.sym.Sym.{Sym}
+use Rattle.elf_image_type.specs.Strings.{string}
 use Rattle.elf_object_type.specs.Object.{SymbolValue}
 use Rattle.elf_object_type.specs.declared.symbol.Place.{Place}
 use Rattle.elf_table_symbols.specs.Sections.{Sections, content, order}
@@ -32,6 +34,31 @@ symbol_info f t j lt =
     let within : j < entry_count p.table = omega (arith, length_symbols p.order p.table p.names p.words) in
     ap (λ (s : table_symbols.SymbolEntryValue). 16 * s.binding + s.symbol_type) (symbol_get p.order p.table p.names p.words j within) ∙
     halves (sym_at (order f) (content f t) (24 * j)).st_info
+
+-- a symbol is made of its entry
+abbrev IsOf : table_symbols.SymbolEntryValue → Sym → Type 0
+IsOf s e = (s.other ≡ e.st_other) × (s.value ≡ e.st_value) × (s.size ≡ e.st_size)
+
+pub symbol_fields : (f : Sections) (t j : ℕ) → j < length (symbols_of f t) →
+    IsOf (get_or (symbols_of f t) j no_symbol_entry) (sym_at (order f) (content f t) (24 * j))
+unfolding symbols_of symbol_entry_in entry
+symbol_fields f t j lt =
+    let p = symbol_parts f t in
+    let within : j < entry_count p.table = omega (arith, length_symbols p.order p.table p.names p.words) in
+    let is = symbol_get p.order p.table p.names p.words j within in (
+      ap (λ (s : table_symbols.SymbolEntryValue). s.other) is,
+      ap (λ (s : table_symbols.SymbolEntryValue). s.value) is,
+      ap (λ (s : table_symbols.SymbolEntryValue). s.size) is,
+    )
+
+-- the name is a string of the table that the symbol table links to
+pub symbol_name : (f : Sections) (t j : ℕ) → j < length (symbols_of f t) →
+    (get_or (symbols_of f t) j no_symbol_entry).name ≡ string (symbol_parts f t).names (sym_at (order f) (content f t) (24 * j)).st_name
+unfolding symbols_of symbol_entry_in entry
+symbol_name f t j lt =
+    let p = symbol_parts f t in
+    let within : j < entry_count p.table = omega (arith, length_symbols p.order p.table p.names p.words) in
+    ap (λ (s : table_symbols.SymbolEntryValue). s.name) (symbol_get p.order p.table p.names p.words j within)
 
 -- a symbol of these fields
 abbrev made : List ℕ → ℕ → ℕ → Place → ℕ → ℕ → SymbolValue

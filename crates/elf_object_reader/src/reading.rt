@@ -1,9 +1,10 @@
 //! A relocatable file read as an object (gABI chapter 4).
-ghost use Rattle.std.specs.Prelude.{◌≡◌, IfErr, IfOk, None};
+ghost use Rattle.std.specs.Prelude.{◌≡◌, IfErr, IfOk, None, map};
 ghost use Rattle.elf_image_stream.specs.declared.fault.Fault.TheVariants.{OutOfMemory};
 ghost use Rattle.elf_object_reader.specs.Denotes.{Denotes};
 ghost use Rattle.elf_object_reader.specs.FileRules.{file_rules, front_rules};
 ghost use Rattle.elf_object_reader.specs.ObjectFile.{sections_of_file};
+ghost use Rattle.elf_object_strings.specs.NameEnds.{AreTails};
 ghost use Rattle.elf_object_type.specs.ObjectView.{value_of};
 ghost use Rattle.elf_image_rules.specs.Rows.{FirstIn};
 ghost use Rattle.elf_table_symbols.specs.Judged.{IsJudgedBehind};
@@ -34,14 +35,34 @@ pub fn object_of<'a>(alloc: Global, image: &Image<'a>) -> Result<Object<'a>, Fau
         IsJudgedBehind (front_rules f) (file_rules f) (λ o. Denotes f o) result }
 {
     image.prove_stands();
-    let parts = parts_of(alloc, image)?;
+    let (parts, _) = parts_of(alloc, image, false)?;
     Ok(kept_object(parts))
 }
 
-/// The parts of the object that the image denotes.
-fn parts_of<'a>(alloc: Global, image: &Image<'a>) -> Result<ObjectParts<'a>, Fault>
+/// The same object, and for each of its symbols the offset after its name in the string table that it was read from, plus 1. Of two symbols
+/// with one such end the longer name ends with the shorter one. It takes memory for each symbol once more.
+pub fn object_with_ends<'a>(
+    alloc: Global,
+    image: &Image<'a>,
+) -> Result<(Object<'a>, Vec<u32>), Fault>
     ensures { let f = sections_of image.now in
-        IsJudgedBehind (front_rules f) (file_rules f) (λ parts. Denotes f (value_of parts)) result }
+        IsJudgedBehind (front_rules f) (file_rules f)
+        (λ (o, ends). Denotes f o × AreTails (map (λ s. s.name) o.symbols) ends.items) result }
+{
+    image.prove_stands();
+    let (parts, ends) = parts_of(alloc, image, true)?;
+    Ok((kept_object(parts), ends))
+}
+
+/// The parts of the object that the image denotes, and where the names of its symbols end, if that is asked for.
+fn parts_of<'a>(
+    alloc: Global,
+    image: &Image<'a>,
+    with_ends: bool,
+) -> Result<(ObjectParts<'a>, Vec<u32>), Fault>
+    ensures { let f = sections_of image.now in
+        IsJudgedBehind (front_rules f) (file_rules f)
+        (λ (parts, ends). Denotes f (value_of parts) × AreTails (map (λ s. s.name) (value_of parts).symbols) ends.items) result }
 {
     let left = LeftOut::of(image);
     judge_front(image, left.symbol_table)?;
@@ -52,22 +73,27 @@ fn parts_of<'a>(alloc: Global, image: &Image<'a>) -> Result<ObjectParts<'a>, Fau
         tables,
     };
     file.judge(alloc)?;
-    read_parts(alloc, file)
+    read_parts(alloc, file, with_ends)
 }
 
 /// The parts of the object that a file denotes which breaks no rule. [`Fault::OutOfMemory`] is the only error.
-fn read_parts<'a>(alloc: Global, file: ObjectFile<'_, 'a>) -> Result<ObjectParts<'a>, Fault>
+fn read_parts<'a>(
+    alloc: Global,
+    file: ObjectFile<'_, 'a>,
+    with_ends: bool,
+) -> Result<(ObjectParts<'a>, Vec<u32>), Fault>
     requires { FirstIn (file_rules (sections_of_file file)) None }
-    ensures ok { IfOk result (λ parts. Denotes (sections_of_file file.entry) (value_of parts)) }
+    ensures ok { IfOk result (λ (parts, ends).
+        Denotes (sections_of_file file.entry) (value_of parts) × AreTails (map (λ s. s.name) (value_of parts).symbols) ends.items) }
     ensures err { IfErr result (λ fault. fault ≡ OutOfMemory) }
 {
     let positions = file.positions(alloc)?;
     let reader = ObjectReader { file, positions };
     let sections = reader.read_sections(alloc)?;
-    let symbols = reader.read_symbols(alloc)?;
+    let (symbols, ends) = reader.read_symbols(alloc, with_ends)?;
     let image = reader.file.image;
     let header = image.header();
-    Ok(ObjectParts {
+    let parts = ObjectParts {
         order: image.order(),
         osabi: header.e_ident[EI_OSABI],
         abi: header.e_ident[EI_ABIVERSION],
@@ -75,5 +101,6 @@ fn read_parts<'a>(alloc: Global, file: ObjectFile<'_, 'a>) -> Result<ObjectParts
         flags: header.e_flags,
         sections,
         symbols,
-    })
+    };
+    Ok((parts, ends))
 }

@@ -213,12 +213,13 @@ IsBytes-reverse bytes are i = elim (cases_lt i (length bytes)) [
 ]
 
 -- it is that of the names
-pub end_decides : (it other : Numbered) → HasEnd it → HasEnd other →
-    numbered_order it other ≡ ends_order it.name.now it.index other.name.now other.index
-end_decides it other end other_end =
+pub end_decides : (names : List (List ℕ)) (it other : Numbered) → HasEnd it → HasEnd other →
+    get_or names it.index [] ≡ it.name.now → get_or names other.index [] ≡ other.name.now →
+    numbered_order names it other ≡ ends_order it.name.now it.index other.name.now other.index
+end_decides names it other end other_end named other_named =
     let bytes : List ℕ = reverse it.name.now in
     let others : List ℕ = reverse other.name.now in
     let ordered = leading-order 8 others bytes (IsBytes-reverse other.name.now other_end.bytes) (IsBytes-reverse it.name.now end.bytes) in
-    rw (end.number, other_end.number)
+    rw (named, other_named, end.number, other_end.number)
     (then_assoc (nat_cmp (leading 8 others) (leading 8 bytes)) (slice_cmp nat_cmp others bytes) (nat_cmp it.index other.index)
     ∙ ap (λ (o : Ordering). ordering_then o (nat_cmp it.index other.index)) ordered)

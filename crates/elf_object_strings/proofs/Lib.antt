@@ -10,8 +10,10 @@ mod Joined
 mod Kept
 mod Lowest
 mod Minimal
+mod NameTails
 mod Names
 mod Numbering
 pub mod Public
 mod Suffix
+mod TableEnds
 mod Written

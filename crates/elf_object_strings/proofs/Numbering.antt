@@ -48,10 +48,10 @@ numbered_all names numbered are =
 -- ---- another order
 
 -- the name of a list with its index there
-abbrev IsNamedIn : List (List ℕ) → Numbered → Type 0
+abbrev pub IsNamedIn : List (List ℕ) → Numbered → Type 0
 IsNamedIn names it = (it.index < length names) × (get_or names it.index [] ≡ it.name.now)
 
-each_named : (names : List (List ℕ)) (xs : List Numbered) → AreNumbered names (names_by_ends xs) (indexes_in xs) → All (IsNamedIn names) xs
+pub each_named : (names : List (List ℕ)) (xs : List Numbered) → AreNumbered names (names_by_ends xs) (indexes_in xs) → All (IsNamedIn names) xs
 each_named names xs are = λ k d lt.
     let within : k < length (names_by_ends xs) = omega (arith, length-map xs name_of) in
     let index = get_or-map index_of xs k d 0 lt in
@@ -93,25 +93,27 @@ numbered_permuted names xs ys moved are =
 
 -- ---- sorted
 
-abbrev turned : Numbered → List ℕ
-turned it = reverse it.name.now
+abbrev turned : List (List ℕ) → Numbered → List ℕ
+turned names it = reverse (get_or names it.index [])
 
-pub numbered_total : IsTotalOrder numbered_order
-numbered_total =
+pub numbered_total : (names : List (List ℕ)) → IsTotalOrder (numbered_order names)
+numbered_total names =
     let end_of : Numbered → ℕ = λ it. it.end in
     then_total (on_total end_of (back_total nat_cmp_total))
-    (then_total (on_total turned (back_total nat_list_cmp_total)) (on_total index_of nat_cmp_total))
+    (then_total (on_total (turned names) (back_total nat_list_cmp_total)) (on_total index_of nat_cmp_total))
 
-pub numbered_in_order : (sorted : List Numbered) → All HasEnd sorted →
-    IsSortedBy (λ a b. is_lt (numbered_order a b)) sorted → AreInEndsOrder (names_by_ends sorted) (indexes_in sorted)
-numbered_in_order sorted ends up = λ q r le lt.
+pub numbered_in_order : (names : List (List ℕ)) (sorted : List Numbered) → AreNumbered names (names_by_ends sorted) (indexes_in sorted) →
+    All HasEnd sorted → IsSortedBy (λ a b. is_lt (numbered_order names a b)) sorted →
+    AreInEndsOrder (names_by_ends sorted) (indexes_in sorted)
+numbered_in_order names sorted are ends up = λ q r le lt.
     let within : r < length sorted = omega (arith, length-map sorted name_of) in
     let q_within : q < length sorted = omega arith in
-    let far = sorted_far (λ a b. is_lt (numbered_order a b)) (ranks_by numbered_total (λ it. it)) sorted up q r nothing le within in
+    let far = sorted_far (λ a b. is_lt (numbered_order names a b)) (ranks_by (numbered_total names) (λ it. it)) sorted up q r nothing le within in
     let later : Numbered = get_or sorted r nothing in
     let earlier : Numbered = get_or sorted q nothing in
-    let by_names : numbered_order later earlier ≡ ends_order later.name.now later.index earlier.name.now earlier.index =
-    end_decides later earlier (ends r nothing within) (ends q nothing q_within) in
+    let named = each_named names sorted are in
+    let by_names : numbered_order names later earlier ≡ ends_order later.name.now later.index earlier.name.now earlier.index =
+    end_decides names later earlier (ends r nothing within) (ends q nothing q_within) (named r nothing within).1 (named q nothing q_within).1 in
     rw (
       get_or-map name_of sorted r nothing [] within,
       get_or-map index_of sorted r nothing 0 within,

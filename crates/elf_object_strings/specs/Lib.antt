@@ -1,4 +1,5 @@
 -- The words of this crate's contracts.
+pub mod NameEnds
 pub mod Names
 pub mod Owners
 pub mod Runs

@@ -46,10 +46,11 @@ pub record HasEnd (it : Numbered) : Type 0 where
   pub bytes : IsBytes it.name.now
   pub number : it.end ≡ end_number it.name.now
 
--- the order by the numbers first
-abbrev pub numbered_order : Numbered → Numbered → Ordering
-numbered_order it other =
-    ordering_then (nat_cmp other.end it.end) (ends_order it.name.now it.index other.name.now other.index)
+-- the order by the numbers first, and then by the names of a list at the two indexes
+abbrev pub numbered_order : List (List ℕ) → Numbered → Numbered → Ordering
+numbered_order names it other =
+    ordering_then (nat_cmp other.end it.end)
+    (ends_order (get_or names it.index []) it.index (get_or names other.index []) other.index)
 
 -- two names without the last bytes, which they have in common
 pub record AreWithoutEqualEnds (name : List ℕ) (other : List ℕ) (rest : List ℕ) (other_rest : List ℕ) : Type 0 where

@@ -10,9 +10,11 @@
 #![tactic(auto)]
 
 mod laws;
+mod name_list;
 mod owners;
 mod sorting;
 mod table;
+mod tails;
 
 pub use laws::{holds_names, shares_tails};
-pub use table::{Shared, shared_table};
+pub use table::{Shared, shared_table, shared_table_at};

@@ -1,12 +1,11 @@
 //! Names sorted by what they end with.
-ghost use Rattle.std.specs.Cmp.Lexicographic.{slice_cmp};
 ghost use Rattle.std.specs.List.{All};
-ghost use Rattle.std.specs.Ordering.{nat_cmp};
-ghost use Rattle.std.specs.Prelude.{◌≡◌, ◌<◌, length, reverse, IfOk, IfSome};
+ghost use Rattle.std.specs.Prelude.{◌≡◌, [], get_or, IfOk};
 ghost use Rattle.elf_field.specs.Bytes.{IsBytes};
 ghost use Rattle.elf_object_strings.specs.Shared.{texts};
-ghost use Rattle.elf_object_strings.specs.Sorting.{AreInEndsOrder, AreNumbered, AreWithoutEqualEnds, HasEnd, end_number, ends_order, indexes_in, names_by_ends, numbered_order};
+ghost use Rattle.elf_object_strings.specs.Sorting.{AreInEndsOrder, AreNumbered, HasEnd, end_number, ends_order, indexes_in, names_by_ends, numbered_order};
 
+use crate::name_list::NameList;
 use std::alloc::{AllocError, Global};
 use std::cmp::Ordering;
 
@@ -24,13 +23,13 @@ pub(crate) struct Numbered<'a> {
 /// A name follows, with those between, each one that ends with it. Takes n log n comparisons of ends.
 pub(crate) fn sorted_names<'a>(
     alloc: Global,
-    names: &[&'a [u8]],
+    list: &NameList<'_, 'a>,
 ) -> Result<Vec<Numbered<'a>>, AllocError>
-    ensures numbered { IfOk result (λ sorted. AreNumbered (texts names.now) (names_by_ends sorted.items) (indexes_in sorted.items)) }
+    ensures numbered { IfOk result (λ sorted. AreNumbered list.now (names_by_ends sorted.items) (indexes_in sorted.items)) }
     ensures order { IfOk result (λ sorted. AreInEndsOrder (names_by_ends sorted.items) (indexes_in sorted.items)) }
 {
-    let mut sorted = number_names(alloc, names)?;
-    sorted.sort_unstable_by(|a, b| by_end(a, b));
+    let mut sorted = number_names(alloc, list.names())?;
+    sorted.sort_unstable_by(|a, b| by_end(list, a, b));
     Ok(sorted)
 }
 
@@ -61,48 +60,21 @@ fn end_of(name: &[u8]) -> u64
     u64::from_le_bytes(end)
 }
 
-fn by_end(a: &Numbered<'_>, b: &Numbered<'_>) -> Ordering
-    ensures { result ≡ numbered_order a.now b.now }
+fn by_end(list: &NameList<'_, '_>, a: &Numbered<'_>, b: &Numbered<'_>) -> Ordering
+    ensures { result ≡ numbered_order list.now a.now b.now }
 {
     // Where the numbers differ, they are in the order of the names, which need not be looked at.
     match b.end.cmp(&a.end) {
-        Ordering::Equal => by_whole_end(a, b),
+        Ordering::Equal => by_whole_end(list, a.index, b.index),
         order => order,
     }
 }
 
-fn by_whole_end(a: &Numbered<'_>, b: &Numbered<'_>) -> Ordering
-    ensures { result ≡ ends_order a.now.name.now a.now.index b.now.name.now b.now.index }
+fn by_whole_end(list: &NameList<'_, '_>, a: usize, b: usize) -> Ordering
+    ensures { result ≡ ends_order (get_or list.now a []) a (get_or list.now b []) b }
 {
-    match compare_ends(b.name, a.name) {
-        Ordering::Equal => a.index.cmp(&b.index),
+    match list.compare(b, a) {
+        Ordering::Equal => a.cmp(&b),
         order => order,
-    }
-}
-
-/// The order of two names that are read from their last bytes on.
-fn compare_ends(a: &[u8], b: &[u8]) -> Ordering
-    ensures { result ≡ slice_cmp nat_cmp (reverse a.now) (reverse b.now) }
-{
-    let mut left = a;
-    let mut right = b;
-    while let Some((less_left, less_right)) = without_equal_ends(left, right) {
-        left = less_left;
-        right = less_right;
-    }
-    left.iter().rev().cmp(right.iter().rev())
-}
-
-/// Both without their last bytes, where these are equal.
-fn without_equal_ends<'a, 'b>(a: &'a [u8], b: &'b [u8]) -> Option<(&'a [u8], &'b [u8])>
-    ensures shorter { IfSome result (λ rests. length rests.0.now < length a.now) }
-    ensures ends { IfSome result (λ rests. AreWithoutEqualEnds a.now b.now rests.0.now rests.1.now) }
-{
-    let (a_rest, a_end) = a.split_last_chunk::<32>()?;
-    let (b_rest, b_end) = b.split_last_chunk::<32>()?;
-    if a_end == b_end {
-        Some((a_rest, b_rest))
-    } else {
-        None
     }
 }

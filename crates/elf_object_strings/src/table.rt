@@ -1,5 +1,6 @@
 //! The bytes of a string table, and where its names begin.
 ghost use Rattle.std.specs.Prelude.{◌≡◌, ◌≤◌, ◌-◌, true, false, length, map, IfOk};
+ghost use Rattle.elf_object_strings.specs.NameEnds.{AreTails};
 ghost use Rattle.elf_object_strings.specs.Owners.{AreOwners};
 ghost use Rattle.elf_object_strings.specs.Shared.{AreZeroFree, HoldsEach, IsShortest, Shares, texts};
 ghost use Rattle.elf_object_strings.specs.StringTable.{is_named, name_offset, string_table};
@@ -31,19 +32,33 @@ pub fn shared_table(alloc: Global, names: &[&[u8]]) -> Result<Shared, OutOfMemor
     ensures holds { IfOk result (λ shared. HoldsEach shared.bytes.items (texts names.now)) }
     ensures least { IfOk result (λ shared. AreZeroFree (texts names.now) → IsShortest (texts names.now) shared.bytes.items) }
 {
-    match table_of(alloc, names) {
+    shared_table_at(alloc, names, &[])
+}
+
+/// The same of names of which some were read from one string table: for each where it ended there, or 0 if that is not known. So names that
+/// share their bytes are compared by their lengths.
+pub fn shared_table_at(alloc: Global, names: &[&[u8]], ends: &[u32]) -> Result<Shared, OutOfMemory>
+    requires { AreTails (texts names.now) ends.now }
+    ensures bytes { IfOk result (λ shared. shared.bytes.items ≡ string_table (texts names.now)) }
+    ensures offsets { IfOk result (λ shared. shared.offsets.items ≡ map (name_offset (texts names.now)) (texts names.now)) }
+    ensures shares { IfOk result (λ shared. AreZeroFree (texts names.now) → Shares (texts names.now) shared.bytes.items shared.offsets.items) }
+    ensures holds { IfOk result (λ shared. HoldsEach shared.bytes.items (texts names.now)) }
+    ensures least { IfOk result (λ shared. AreZeroFree (texts names.now) → IsShortest (texts names.now) shared.bytes.items) }
+{
+    match table_of(alloc, names, ends) {
         Ok(shared) => Ok(shared),
         Err(AllocError) => Err(OutOfMemory),
     }
 }
 
-fn table_of(alloc: Global, names: &[&[u8]]) -> Result<Shared, AllocError>
+fn table_of(alloc: Global, names: &[&[u8]], ends: &[u32]) -> Result<Shared, AllocError>
+    requires { AreTails (texts names.now) ends.now }
     ensures bytes { IfOk result (λ shared. shared.bytes.items ≡ string_table (texts names.now)) }
     ensures offsets { IfOk result (λ shared. shared.offsets.items ≡ map (name_offset (texts names.now)) (texts names.now)) }
 {
-    let owners = owners_of(alloc, names)?;
-    let (bytes, ends) = write_names(alloc, names, &owners)?;
-    let offsets = offsets_of(alloc, names, &owners, &ends)?;
+    let owners = owners_of(alloc, names, ends)?;
+    let (bytes, zeros) = write_names(alloc, names, &owners)?;
+    let offsets = offsets_of(alloc, names, &owners, &zeros)?;
     Ok(Shared { bytes, offsets })
 }
 

@@ -2,14 +2,24 @@
 ghost use Rattle.std.specs.Prelude.{◌≡◌, IfErr, IfOk, map};
 ghost use Rattle.std.specs.List.{list_any};
 ghost use Rattle.elf_object_writer.specs.PlainSections.{has_index_table, is_far, section_names};
-ghost use Rattle.elf_object_writer.specs.NameTables.{AreNameTables};
+ghost use Rattle.elf_object_writer.specs.NameTables.{AreEndsOf, AreNameTables};
 ghost use Rattle.elf_object_writer.specs.declared.layout.LayoutFault.TheVariants.{OutOfMemory};
 
 use crate::layout::LayoutFault;
 use elf_field::abi::*;
-use elf_object_strings::{Shared, shared_table};
+use elf_object_strings::{Shared, shared_table_at};
 use elf_object_type::{Object, Place, Section, Symbol};
 use std::alloc::{AllocError, Global};
+
+/// Where names of an object end in the string tables that they were read from, by which names that share bytes are told: for each symbol and
+/// each section of the object the offset after its name there, plus 1; 0, or nothing, if that is not known.
+#[derive(Clone, Copy, Debug)]
+pub struct NameEnds<'n> {
+    /// Those of the symbols.
+    pub symbols: &'n [u32],
+    /// Those of the sections.
+    pub sections: &'n [u32],
+}
 
 /// The string table of the symbols, and the section name string table.
 #[derive(Debug, Drop)]
@@ -20,12 +30,21 @@ pub(crate) struct NameTables {
 
 impl NameTables {
     /// The tables of an object.
-    pub(crate) fn new(alloc: Global, object: &Object<'_>) -> Result<NameTables, LayoutFault>
+    pub(crate) fn new(
+        alloc: Global,
+        object: &Object<'_>,
+        ends: NameEnds<'_>,
+    ) -> Result<NameTables, LayoutFault>
+        requires { AreEndsOf object.now ends }
         ensures ok { IfOk result (AreNameTables object.now) }
         ensures err { IfErr result (λ fault. fault ≡ OutOfMemory) }
     {
-        let strings = shared_table(alloc, &symbol_names(alloc, object.symbols())?)?;
-        let names = shared_table(alloc, &section_names(alloc, object)?)?;
+        let strings = shared_table_at(
+            alloc,
+            &symbol_names(alloc, object.symbols())?,
+            ends.symbols,
+        )?;
+        let names = shared_table_at(alloc, &section_names(alloc, object)?, ends.sections)?;
         Ok(NameTables { strings, names })
     }
 }

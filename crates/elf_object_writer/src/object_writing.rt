@@ -1,7 +1,9 @@
 //! An object onto a writer.
+ghost use Rattle.elf_object_writer.specs.NameTables.{AreEndsOf};
 ghost use Rattle.elf_object_writer.specs.ObjectWriting.{IsLayoutWritten};
 
 use crate::layout::LayoutFault;
+use crate::name_tables::NameEnds;
 use crate::placed_object::PlacedObject;
 use crate::placed_writing::write_placed;
 use elf_object_type::Object;
@@ -38,11 +40,13 @@ pub enum ObjectWriteFault {
 pub fn write_layout<W: Write>(
     alloc: Global,
     object: &Object<'_>,
+    ends: NameEnds<'_>,
     writer: &mut W,
 ) -> Result<(), ObjectWriteFault>
+    requires { AreEndsOf object.now ends }
     ensures { IsLayoutWritten object.now (W.contents writer.old) (W.contents writer.new) result }
 {
-    let placed = match PlacedObject::new(alloc, object) {
+    let placed = match PlacedObject::new(alloc, object, ends) {
         Ok(placed) => placed,
         Err(LayoutFault::TooLong) => return Err(ObjectWriteFault::TooLong),
         Err(LayoutFault::OutOfMemory) => return Err(ObjectWriteFault::OutOfMemory),

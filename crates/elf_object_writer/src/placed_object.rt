@@ -1,12 +1,13 @@
 //! An object with all that its canonical layout takes memory for (gABI chapter 4, ELF Header, Sections, String Table).
 ghost use Rattle.std.specs.Prelude.{◌≡◌, ◌<◌, ℕ, ◌+◌, ◌^◌, [], get_or, length, slice_index, IfErr, IfOk};
 ghost use Rattle.elf_object_writer.specs.LayoutView.{IsLayoutFault};
+ghost use Rattle.elf_object_writer.specs.NameTables.{AreEndsOf};
 ghost use Rattle.elf_object_writer.specs.PlacedObject.{IsPlacedObject, IsSectionAt};
 ghost use Rattle.elf_object_writer.specs.PlainSections.{name_table_at, plain_sections, section_names, strings_at, symbol_names, symbol_table_at};
 ghost use Rattle.elf_object_strings.specs.StringTable.{name_offset, string_table};
 
 use crate::layout::{Layout, LayoutFault, lay_out_with};
-use crate::name_tables::NameTables;
+use crate::name_tables::{NameEnds, NameTables};
 use crate::placed_section::PlacedSection;
 use elf_object_type::Object;
 use std::alloc::Global;
@@ -35,12 +36,14 @@ impl<'o, 'a> PlacedObject<'o, 'a> {
     pub(crate) fn new(
         alloc: Global,
         object: &'o Object<'a>,
+        ends: NameEnds<'_>,
     ) -> Result<PlacedObject<'o, 'a>, LayoutFault>
+        requires { AreEndsOf object.now ends }
         ensures ok { IfOk result (λ placed. placed.object ≡ object.now) }
         ensures err { IfErr result (IsLayoutFault object.now) }
     {
         object.prove_rules();
-        let tables = NameTables::new(alloc, object)?;
+        let tables = NameTables::new(alloc, object, ends)?;
         match lay_out_with(alloc, object, &tables) {
             Ok(layout) => Ok(PlacedObject {
                 object,

@@ -1,7 +1,6 @@
 -- One pass of the loop adds the run and the owner of the next sorted name. After the last one all names have their owners.
 use Rattle.std.proofs.Common.{set, ◌<◌, ◌≤◌, ◌+◌, length, sym, subst, arith}
 use Rattle.elf_object_strings.specs.Runs.{AreRuns, HaveOwners}
-use Rattle.elf_object_strings.specs.Shared.{texts}
 use Rattle.elf_object_strings.specs.Sorting.{indexes_in, names_by_ends}
 use Rattle.elf_object_strings.proofs.EndsCode.{index_at, length-names_by_ends}
 use Rattle.elf_object_strings.proofs.EndsRuns.{owners_all, owners_more, runs_more}
@@ -11,7 +10,7 @@ pub loop-position-preserved : goal.loop-position-preserved
 loop-position-preserved c =
     let sorted = c.args.sorted.now in
     let position = c.loop-position.position in
-    let names = texts c.args.names.now in
+    let names = c.args.list.now in
     let owners = c.loop-position.owners.items in
     let (start, owner) = c.run_of-start.result in
     let within : position < length (names_by_ends sorted) = subst (λ n. position < n) (sym (length-names_by_ends sorted)) c.loop-position-test.true in
@@ -33,5 +32,5 @@ returns c =
     let sorted = c.args.sorted.now in
     let position = c.loop-position.position in
     let all : length (names_by_ends sorted) ≤ position = subst (λ n. n ≤ position) (sym (length-names_by_ends sorted)) (omega arith) in
-    owners_all (texts c.args.names.now) (names_by_ends sorted) (indexes_in sorted) c.loop-position.owners.items position c.requires.numbered all
+    owners_all c.args.list.now (names_by_ends sorted) (indexes_in sorted) c.loop-position.owners.items position c.requires.numbered all
     c.loop-position.invariant.owned

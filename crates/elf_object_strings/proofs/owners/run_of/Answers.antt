@@ -8,6 +8,7 @@ use Rattle.elf_object_strings.specs.Runs.{AreBelow, IsLeastOwner, IsRun}
 use Rattle.elf_object_strings.specs.Sorting.{indexes_in, names_by_ends}
 use Rattle.elf_object_strings.proofs.EndsCode.{index_at, length-indexes_in, length-names_by_ends, no_name, no_suffix_at, suffix_at}
 use Rattle.elf_object_strings.proofs.EndsRuns.{follow_one, none_before, owner_found, run_more}
+use Rattle.elf_object_strings.proofs.Numbering.{each_named}
 use Rattle.elf_object_strings.proofs.owners.run_of.Goals as goal
 
 index_below : (sorted : List Numbered) (count : ℕ) → AreBelow (indexes_in sorted) count → (q : ℕ) → q < length sorted →
@@ -24,13 +25,16 @@ offset_bounds-owners-sorted c =
 pub bounds-owners-sorted : goal.bounds-owners-sorted
 bounds-owners-sorted c = index_below c.args.sorted.now (length c.args.owners.now) c.requires.indexes (c.loop-start.start - 1) (omega arith)
 
+pub is_tail-requires-clause-other : goal.is_tail-requires-clause-other
+is_tail-requires-clause-other c = (each_named c.args.list.now c.args.sorted.now c.requires.numbered (c.loop-start.start - 1) _ (omega arith)).1
+
 pub loop-start-preserved : goal.loop-start-preserved
 loop-start-preserved c =
     let sorted = c.args.sorted.now in
     let start = c.loop-start.start in
     let position = c.args.position in
     let before : start - 1 < length sorted = omega arith in
-    let ends = suffix_at sorted position (start - 1) c.requires.within before (sym c.is_suffix.ensures ∙ c.if-is_suffix.true) in
+    let ends = suffix_at sorted position (start - 1) c.requires.within before (sym c.is_tail.ensures ∙ c.if-is_tail.true) in
     let next = get_or c.args.starts.now (start - 1) 0 in
     let met = get_or c.args.owners.now (get_or (indexes_in sorted) (start - 1) 0) 0 in
     let read : met ≡ get_or c.args.owners.now (get_or sorted (start - 1) no_name).index 0 =
@@ -51,14 +55,14 @@ loop-start-preserved c =
           (owned.each (start - 1) (omega arith)) (so_far.met names numbered owned));
     }
 
-pub returns-else-is_suffix-clause-run : goal.returns-else-is_suffix-clause-run
-returns-else-is_suffix-clause-run c =
+pub returns-else-is_tail-clause-run : goal.returns-else-is_tail-clause-run
+returns-else-is_tail-clause-run c =
     let sorted = c.args.sorted.now in
     let start = c.loop-start.start in
     let position = c.args.position in
     let within = subst (λ n. position < n) (sym (length-names_by_ends sorted)) c.requires.within in
     let differs : ¬ IsSuffix (get_or (names_by_ends sorted) position []) (get_or (names_by_ends sorted) (start - 1) []) =
-    no_suffix_at sorted position (start - 1) c.requires.within (omega arith) (sym c.is_suffix.ensures ∙ c.if-is_suffix.false) in
+    no_suffix_at sorted position (start - 1) c.requires.within (omega arith) (sym c.is_tail.ensures ∙ c.if-is_tail.false) in
     let low = c.loop-start.invariant.low in
     record {
       low = low;
@@ -66,13 +70,13 @@ returns-else-is_suffix-clause-run c =
       none = none_before (names_by_ends sorted) (indexes_in sorted) c.requires.order position start low within (λ some. differs);
     }
 
-pub returns-else-is_suffix-clause-owner : goal.returns-else-is_suffix-clause-owner
-returns-else-is_suffix-clause-owner c names numbered owned =
+pub returns-else-is_tail-clause-owner : goal.returns-else-is_tail-clause-owner
+returns-else-is_tail-clause-owner c names numbered owned =
     let sorted = c.args.sorted.now in
     let position = c.args.position in
     let within = subst (λ n. position < n) (sym (length-names_by_ends sorted)) c.requires.within in
     owner_found names (names_by_ends sorted) (indexes_in sorted) numbered c.requires.order position c.loop-start.start c.loop-start.owner
-    within (returns-else-is_suffix-clause-run c) c.loop-start.invariant.own (c.loop-start.invariant.met names numbered owned)
+    within (returns-else-is_tail-clause-run c) c.loop-start.invariant.own (c.loop-start.invariant.met names numbered owned)
 
 pub returns-after-loop-start-clause-owner : goal.returns-after-loop-start-clause-owner
 returns-after-loop-start-clause-owner c names numbered owned =

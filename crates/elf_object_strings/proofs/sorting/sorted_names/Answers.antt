@@ -8,11 +8,12 @@ use Rattle.elf_object_strings.proofs.sorting.sorted_names.Goals as goal
 
 pub returns-clause-numbered : goal.returns-clause-numbered
 returns-clause-numbered c =
-    numbered_permuted _ _ _ c.sort_unstable_by.ensures.permutation c.in_ok-sorted.ensures.numbered
+    numbered_permuted _ _ _ c.sort_unstable_by.ensures.permutation (rw c.names.ensures at c.in_ok-sorted.ensures.numbered)
 
 pub returns-clause-order : goal.returns-clause-order
 returns-clause-order c =
-    numbered_in_order _
+    let list = c.args.list.now in
+    numbered_in_order list _ (returns-clause-numbered c)
     (All-permutation HasEnd _ _ c.sort_unstable_by.ensures.permutation c.in_ok-sorted.ensures.ends)
-    (c.sort_unstable_by.ensures.sorted (λ a b. is_lt (numbered_order a b)) (ranks_by numbered_total (λ it. it))
+    (c.sort_unstable_by.ensures.sorted (λ a b. is_lt (numbered_order list a b)) (ranks_by (numbered_total list) (λ it. it))
     (always_returns_same _ _ _ (λ a r q k. search rules)))

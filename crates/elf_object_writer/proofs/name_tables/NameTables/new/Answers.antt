@@ -1,9 +1,21 @@
-use Rattle.std.proofs.Common.{◌≡◌, ℕ, List, map, ap, ◌∙◌}
+use Rattle.std.proofs.Common.{◌≡◌, ℕ, List, map, ap, sym, subst, ◌∙◌}
 use Rattle.elf_object_type.specs.Object.{SymbolValue}
 use Rattle.elf_object_writer.specs.PlainSections.{section_names, symbol_names}
+use Rattle.elf_object_strings.specs.NameEnds.{AreTails}
 use Rattle.elf_object_strings.specs.StringTable.{name_offset, string_table}
 use Rattle.elf_object_writer.proofs.NamesOf.{names_of_symbols, now_of}
 use Rattle.elf_object_writer.proofs.name_tables.NameTables.new.Goals as goal
+
+pub shared_table_at-requires : goal.shared_table_at-requires
+shared_table_at-requires c =
+    let symbols : map now_of c.deref.result.now ≡ symbol_names c.args.object.now =
+    ap (map now_of) (c.deref.ensures.value ∙ c.in_ok-symbol_names.ensures) ∙ names_of_symbols c.symbols.result.now ∙ ap (map (λ (s : SymbolValue). s.name)) c.symbols.ensures in
+    subst (λ (names : List (List ℕ)). AreTails names c.args.ends.symbols.now) (sym symbols) c.requires.symbols
+
+pub shared_table_at-requires-2 : goal.shared_table_at-requires-2
+shared_table_at-requires-2 c =
+    let sections : map now_of c.deref-2.result.now ≡ section_names c.args.object.now = ap (map now_of) c.deref-2.ensures.value ∙ c.in_ok-section_names.ensures in
+    subst (λ (names : List (List ℕ)). AreTails names c.args.ends.sections.now) (sym sections) c.requires.sections
 
 pub returns-clause-ok : goal.returns-clause-ok
 returns-clause-ok c =

@@ -1,6 +1,6 @@
 use Rattle.elf_object_strings.specs.Shared.{texts}
 use Rattle.elf_object_strings.proofs.Joined.{holds_of, least_of, shares_of}
-use Rattle.elf_object_strings.proofs.table.shared_table.Goals as goal
+use Rattle.elf_object_strings.proofs.table.shared_table_at.Goals as goal
 
 pub returns-in-Ok-clause-shares : goal.returns-in-Ok-clause-shares
 returns-in-Ok-clause-shares c = shares_of (texts c.args.names.now) _ _ c.in-Ok.ensures.bytes c.in-Ok.ensures.offsets

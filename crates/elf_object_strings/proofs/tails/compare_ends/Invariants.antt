@@ -1,7 +1,7 @@
 use Rattle.std.proofs.Common.{◌≡◌, length, reverse}
 use Rattle.std.specs.Cmp.Lexicographic.{slice_cmp}
 use Rattle.std.specs.Ordering.{nat_cmp}
-use Rattle.elf_object_strings.proofs.sorting.compare_ends.Given as goal
+use Rattle.elf_object_strings.proofs.tails.compare_ends.Given as goal
 
 abbrev pub invariant-loop-less_left : goal.invariant-loop-less_left
 invariant-loop-less_left l =

@@ -1,7 +1,7 @@
 use Rattle.std.proofs.Common.{◌≡◌, ℕ, List, ◌++◌, ◌-◌, length, take, drop, refl, ◌∙◌}
 use Rattle.std.specs.Cmp.Lexicographic.{same_text}
 use Rattle.std.proofs.lemmas.List.{take-append-drop}
-use Rattle.elf_object_strings.proofs.sorting.without_equal_ends.Goals as goal
+use Rattle.elf_object_strings.proofs.tails.without_equal_ends.Goals as goal
 
 parts : (n : ℕ) (name rest ending : List ℕ) →
     rest ≡ take (length name - n) name → ending ≡ drop (length name - n) name → name ≡ rest ++ ending

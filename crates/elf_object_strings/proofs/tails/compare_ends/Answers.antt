@@ -3,7 +3,7 @@ use Rattle.std.specs.Ordering.{nat_cmp}
 use Rattle.std.proofs.lemmas.Iterator.Adapters.{YieldsList-from_rev_slice}
 use Rattle.std.proofs.lemmas.Iterator.Search.{cmp_from_yields_List}
 use Rattle.elf_object_strings.proofs.EndNumbers.{without_equal_ends}
-use Rattle.elf_object_strings.proofs.sorting.compare_ends.Goals as goal
+use Rattle.elf_object_strings.proofs.tails.compare_ends.Goals as goal
 
 pub loop-less_left-preserved : goal.loop-less_left-preserved
 loop-less_left-preserved c = without_equal_ends _ _ _ _ c.in-Some.ensures.ends ∙ c.loop-less_left.invariant
