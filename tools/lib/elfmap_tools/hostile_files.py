@@ -4,7 +4,7 @@ times as many bytes as its files have, all growths together; `check --seek` for 
 have. Each call has a stack of STACK bytes. The large files have up to 4 MB, but for sparse ones of up to 2^30 bytes, whose tables are far from the header: there `check` and
 `check --seek` have to find them. `failing.c` counts what is asked for. The answers of large objects are the reference implementation's."""
 
-import os, random, resource, struct, tempfile
+import os, random, resource, struct, sys, tempfile
 from argparse import Namespace
 from collections.abc import Callable, Iterator
 from dataclasses import dataclass, field
@@ -18,7 +18,10 @@ from .reference import (
     section, shown, symbol, text, words,
 )  # fmt: skip
 from .suite import Tally, Test, environment
-from .tree import PROGRAM, read_text, run
+from .tree import PROGRAM, TOP, read_text, run
+
+sys.path.insert(0, f"{TOP}/bench")
+import made  # noqa: E402
 
 MOST_SECONDS = 1.0
 LEAST_MEMORY, MOST_MEMORY, SEEKING_MEMORY = 1 << 20, 128, 2
@@ -110,6 +113,10 @@ def large_rows() -> Iterator[Row]:
     lines = [b"output 0x0 0x0 bits 0x6 f", b"member 0x0 0x0 0 %d" % count]
     lines += [*(b"discarded 0 %d" % k for k in range(count + 1, 2 * count)), b"name 0x0 strong f", b""]
     yield row("map --base 0 --page 1", file, out=b"\n".join(lines))
+    # Symbols of one name as long as half of the file, or of its tails: what is written has the name once.
+    for make in (made.one_long_name, made.tails_of_one_name):
+        file = bytes(make(4000000).bytes())
+        yield row("rewrite", file, out=lambda output: output.count(b"n" * 2000000) == 1 and len(output) < 4001000)
     # 65,535 groups without members, of one signature.
     file = object_file([group([])] * 65535, [symbol(b"f", None, WEAK)])
     yield row("rewrite", file, out=file)
