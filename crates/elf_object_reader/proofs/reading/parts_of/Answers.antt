@@ -1,3 +1,5 @@
+-- The rules are tested in two runs, the front ones before memory is taken. A fault of either run is that of all rules (`front_fault`,
+-- `fault_behind`). Without one no rule is broken, so the parts that are read are those denoted (`found_behind`, `read_judged`).
 use Rattle.std.proofs.Common.{ℕ, Global, Vec, None, map}
 use Rattle.elf_object_reader.specs.Denotes.{Denotes}
 use Rattle.elf_object_strings.specs.NameEnds.{AreTails}

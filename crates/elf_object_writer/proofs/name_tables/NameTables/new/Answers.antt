@@ -1,3 +1,5 @@
+-- The two lists of names that the code collects are those of the object's symbols and of its sections. So the known ends are those of the
+-- names in the lists, and the two tables are the tables of the object's names.
 use Rattle.std.proofs.Common.{◌≡◌, ℕ, List, map, ap, sym, subst, ◌∙◌}
 use Rattle.elf_object_type.specs.Object.{SymbolValue}
 use Rattle.elf_object_writer.specs.PlainSections.{section_names, symbol_names}
