@@ -91,10 +91,10 @@ impl<'i, 'a> ObjectReader<'i, 'a> {
             map symbol_value read.now ≡ map (symbol_denoted file.left (sections_of_file file)) (drop 1 symbols.now.entries) }
         ensures { IfOk result (λ ends. AreTails (map (λ s. s.name) (map symbol_value read.now)) ends.items) }
     {
-        let mut ends = Vec::new(alloc);
         if !are_asked_for {
-            return Ok(ends);
+            return Ok(Vec::new(alloc));
         }
+        let mut ends = Vec::with_capacity(alloc, read.len())?;
         for j in 0..read.len() {
             ends.push(symbols.name_end(j + 1, read[j].name))?;
         }
