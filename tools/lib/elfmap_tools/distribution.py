@@ -10,7 +10,7 @@
     elfmap-VERSION.crate                   the Rust crate with the static library
     SHA256SUMS                             their sums
 
-The same commit makes the same bytes: every file has the time of the commit."""
+The same build makes the same bytes: every file has the time of the commit."""
 
 import argparse, base64, gzip, hashlib, os, re, shutil, tempfile, time, zipfile
 
