@@ -26,6 +26,7 @@ use Rattle.elf_image_outline.specs.Image.{AreRecordsIn, IsImage, part_piece, val
 use Rattle.elf_image_outline.specs.Outline.{image_in, outline_value}
 use Rattle.elf_image_outline.proofs.Parsed.{made_is_image}
 use Rattle.elf_image_outline.specs.Scanning.{BreaksTables, HasTables, IsEndIn, KeepTables, Stops, names_extent, names_place}
+use Rattle.elf_image_outline.proofs.ScanRules.{table_rules_kept}
 use Rattle.elf_image_outline.proofs.Stands.{element_made, first_of_none}
 use Rattle.elf_image_rules.proofs.Public.{Agree, FirstIn-same, same_rules, sections_none}
 
@@ -182,7 +183,9 @@ verdict_of_tables len b h c ss gs found says has records run =
 -- what stops the judging of tables that were read of a file stops the scan
 pub stops_of_tables : (len : ℕ) (b : List ℕ) (h : Ehdr) (c : Counts) (ss : List Shdr) (gs : List Phdr) (fault : Fault) → len ≡ length b →
     HasTables len h c ss gs → AreRecordsIn b h ss gs → BreaksTables len h ss gs (names b h) fault → Stops b fault
-stops_of_tables len b h c ss gs OutOfMemory says has records breaks = tt
+stops_of_tables len b h c ss gs OutOfMemory says has records breaks =
+    table_rules_kept b len h (section_header_of ss 0) says records.header has.head (sym (first_same len b h c ss gs has records))
+    has.section_table has.program_table
 stops_of_tables len b h c ss gs (Io at) says has records breaks = absurd breaks
 stops_of_tables len b h c ss gs (Rule number at) says has records breaks =
     verdict_of_tables len b h c ss gs (Some (number, at)) says has records breaks

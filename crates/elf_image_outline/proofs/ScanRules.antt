@@ -28,7 +28,7 @@ use Rattle.elf_image_stream.specs.Reads.{table_at}
 use Rattle.elf_image_stream.specs.declared.fault.Fault.{Fault}
 use Rattle.elf_image_stream.specs.declared.fault.Fault.TheVariants.{Rule}
 use Rattle.elf_image_outline.specs.Image.{AreRecordsIn}
-use Rattle.elf_image_outline.specs.Scanning.{KeepsHeadRules, Scans, Stops}
+use Rattle.elf_image_outline.specs.Scanning.{KeepsHeadRules, KeepsTableRules, Scans, Stops}
 
 -- the length that a source says is that of what it reports
 pub told_length : (content : Option (List ℕ)) (b : List ℕ) (len : ℕ) → content ≡ Some b → IfSome content (λ c. len ≡ length c) → len ≡ length b
@@ -91,6 +91,17 @@ program_table_broken b len h first fault says is kept read table run =
     from_tables b h (Some fault) is head.lengths head.ident head.header
     (from_program_table b h first (Some fault) read (subst (λ (n : ℕ). FirstIn (section_table_rules n h first) None) says table)
     (FirstIn-sooner (program_table_rules (length b) h first) _ fault (subst (λ (n : ℕ). FirstIn (program_table_rules n h first) (Some fault)) says run)))
+
+-- a file whose header and section header 0 keep rules 1 to 21 keeps them
+pub table_rules_kept : (b : List ℕ) (len : ℕ) (h : Ehdr) (first : Shdr) → len ≡ length b → h ≡ header b → KeepsHeadRules len h → first ≡ sections b h 0 →
+    FirstIn (section_table_rules len h first) None → FirstIn (program_table_rules len h first) None → KeepsTableRules b
+table_rules_kept b len h first says is kept read table segments =
+    let Keeps : ℕ → Ehdr → Shdr → Type 0 = λ n k s.
+    KeepsHeadRules n k × FirstIn (section_table_rules n k s) None × FirstIn (program_table_rules n k s) None in
+    let by_first : Keeps len h (sections b h 0) = subst (Keeps len h) read (kept, table, segments) in
+    let by_header = subst (λ (k : Ehdr). Keeps len k (sections b k 0)) is by_first in
+    let (head, sections_kept, segments_kept) = subst (λ (n : ℕ). Keeps n (header b) (sections b (header b) 0)) says by_header in
+    record { head = head; section_table = sections_kept; program_table = segments_kept }
 
 -- section header 0 is where the table begins
 pub first_at : (b : List ℕ) (h : Ehdr) (first : Shdr) (count : ℕ) → first ≡ sections b h 0 → count ≡ section_header_count h first → 0 < count →

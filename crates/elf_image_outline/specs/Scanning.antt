@@ -49,17 +49,6 @@ IsScanRead b at = let h = header b in
     ⊎ (((h.e_phoff ≤ at) × (at < phdr_offset h (file_counts b).segments))
     ⊎ IsEndIn b (names_place b) at)))
 
--- of a source that reports its bytes b: why there is no outline. A rule that is returned is the first that they break, a failed read lies
--- where a scan reads, and out of memory may come of any bytes
-abbrev pub Stops : List ℕ → Fault → Type 0
-Stops b OutOfMemory = Unit {0}
-Stops b (Io at) = IsScanRead b at
-Stops b (Rule number at) = IsFault b (Some (number, at))
-
-abbrev pub Scans : {T : Type 0} → List ℕ → (T → Type 0) → Result T Fault → Type 0
-Scans b IsAnswer (Ok t) = IsAnswer t
-Scans b IsAnswer (Err fault) = Stops b fault
-
 -- rules 1 to 12: the length and the header
 pub record KeepsHeadRules (len : ℕ) (h : Ehdr) : Type 0 where
   pub lengths : FirstIn (length_rules len) None
@@ -67,6 +56,23 @@ pub record KeepsHeadRules (len : ℕ) (h : Ehdr) : Type 0 where
   pub header : FirstIn (header_rules len h) None
   -- by rule 9
   pub nameless : h.e_shoff ≡ 0 → h.e_shstrndx ≡ 0
+
+-- rules 1 to 21: those, and the rules on the two tables' places and counts
+pub record KeepsTableRules (b : List ℕ) : Type 0 where
+  pub head : KeepsHeadRules (length b) (header b)
+  pub section_table : FirstIn (section_table_rules (length b) (header b) (sections b (header b) 0)) None
+  pub program_table : FirstIn (program_table_rules (length b) (header b) (sections b (header b) 0)) None
+
+-- of a source that reports its bytes b: why there is no outline. A rule that is returned is the first that they break, a failed read lies
+-- where a scan reads, and out of memory comes only of bytes that keep rules 1 to 21
+abbrev pub Stops : List ℕ → Fault → Type 0
+Stops b OutOfMemory = KeepsTableRules b
+Stops b (Io at) = IsScanRead b at
+Stops b (Rule number at) = IsFault b (Some (number, at))
+
+abbrev pub Scans : {T : Type 0} → List ℕ → (T → Type 0) → Result T Fault → Type 0
+Scans b IsAnswer (Ok t) = IsAnswer t
+Scans b IsAnswer (Err fault) = Stops b fault
 
 -- where the section name string table of index k is; 0 is none
 abbrev pub names_extent : List Shdr → ℕ → Extent

@@ -5,7 +5,7 @@ ghost use Rattle.elf_field.specs.Abi.{SHDR_SIZE};
 ghost use Rattle.elf_field.specs.Ehdr.{IsEhdr};
 ghost use Rattle.elf_field.specs.Shdr.{IsShdr, shdr_at};
 ghost use Rattle.elf_image_outline.specs.Image.{AreRecordsIn};
-ghost use Rattle.elf_image_outline.specs.Scanning.{HasTables, KeepsHeadRules, Scans, scan_failure};
+ghost use Rattle.elf_image_outline.specs.Scanning.{HasTables, KeepsHeadRules, KeepsTableRules, Scans, scan_failure};
 ghost use Rattle.elf_image_rules.specs.HeaderRules.{MAX_LEN};
 ghost use Rattle.elf_image_rules.specs.Tables.{file_counts, header as header_in, no_section_header, order_of, section_header_of, sections as sections_in};
 ghost use Rattle.elf_image_stream.specs.Reads.{table_at};
@@ -67,7 +67,7 @@ fn read_sections<S: Source>(
     ensures valid { IfOk result (λ v. AllByRecursion IsShdr v.items) }
     ensures first { IfOk result (λ v. section_header_of v.items 0 ≡ first) }
     ensures told { (b : List ℕ) → S.content source.old ≡ Some b →
-        header.now ≡ header_in b → count ≡ (file_counts b).sections →
+        KeepsTableRules b → header.now ≡ header_in b → count ≡ (file_counts b).sections →
         (0 < count → first ≡ shdr_at (order_of header.now.e_ident) b header.now.e_shoff) →
         Scans b (λ v. v.items ≡ table_at (shdr_at (order_of header.now.e_ident)) SHDR_SIZE b header.now.e_shoff count) result }
 {

@@ -4,7 +4,7 @@
 use Rattle.std.proofs.Common.{◌≡◌, ◌≤◌, ◌∙◌, length, ap}
 use Rattle.elf_image_rules.specs.declared.tables.Counts.{Counts}
 use Rattle.elf_image_rules.specs.Tables.{sections, shdr_offset}
-use Rattle.elf_image_outline.proofs.ScanRules.{counts_are, first_at, program_table_broken, scans_fault, scans_rule, section_table_broken, tables_read}
+use Rattle.elf_image_outline.proofs.ScanRules.{counts_are, first_at, program_table_broken, scans_fault, scans_rule, section_table_broken, table_rules_kept, tables_read}
 use Rattle.elf_image_outline.proofs.scan_tables.scan_tables.Goals as goal
 
 pub returns-in_err-judge_section_table-clause-told : goal.returns-in_err-judge_section_table-clause-told
@@ -37,7 +37,9 @@ returns-in_err-sections-clause-told g c b told says is =
     let counted = ap (λ (k : Counts). k.sections) c.counts_of-counts.ensures.value in
     let inside : shdr_offset h count ≤ length b = rw counted (rw says at c.in_ok-judge_section_table.ensures.inside) in
     scans_fault b _ c.in_err-sections.field-0.0 _
-    (c.in_err-sections.ensures.told b (c.in_ok-first.ensures.kept ∙ told) is (ap (λ (k : Counts). k.sections) (counts_are b h first _ is read c.counts_of-counts.ensures.value)) (λ some. first_at b h first count read counted some))
+    (c.in_err-sections.ensures.told b (c.in_ok-first.ensures.kept ∙ told)
+    (table_rules_kept b c.args.head.now.len h first says is c.requires.kept read c.in_ok-judge_section_table.ensures.fault c.in_ok-judge_program_table.ensures.fault)
+    is (ap (λ (k : Counts). k.sections) (counts_are b h first _ is read c.counts_of-counts.ensures.value)) (λ some. first_at b h first count read counted some))
     c.from_residual-in_err-sections.ensures.1
 
 pub returns-clause-told : goal.returns-clause-told
@@ -49,5 +51,7 @@ returns-clause-told g c b told says is =
     let counted = ap (λ (k : Counts). k.sections) c.counts_of-counts.ensures.value in
     let inside : shdr_offset h counts.sections ≤ length b = rw counted (rw says at c.in_ok-judge_section_table.ensures.inside) in
     tables_read b h first counts c.in_ok-sections.sections.items c.in_ok-segments.segments.items is read c.counts_of-counts.ensures.value
-    (c.in_ok-sections.ensures.told b (c.in_ok-first.ensures.kept ∙ told) is (ap (λ (k : Counts). k.sections) (counts_are b h first _ is read c.counts_of-counts.ensures.value)) (λ some. first_at b h first counts.sections read counted some))
+    (c.in_ok-sections.ensures.told b (c.in_ok-first.ensures.kept ∙ told)
+    (table_rules_kept b c.args.head.now.len h first says is c.requires.kept read c.in_ok-judge_section_table.ensures.fault c.in_ok-judge_program_table.ensures.fault)
+    is (ap (λ (k : Counts). k.sections) (counts_are b h first _ is read c.counts_of-counts.ensures.value)) (λ some. first_at b h first counts.sections read counted some))
     (rw c.order_in-order.ensures at (c.in_ok-segments.ensures.ok.told b (c.in_ok-sections.ensures.kept ∙ c.in_ok-first.ensures.kept ∙ told)))
