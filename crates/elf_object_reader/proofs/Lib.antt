@@ -4,6 +4,7 @@ pub mod GroupMembers
 pub mod Verdicts
 pub mod KeptLists
 pub mod SymbolCount
+pub mod SymbolEnds
 pub mod BodyRuns
 pub mod SymbolRuns
 pub mod FileRuns

@@ -5,7 +5,7 @@ ghost use Rattle.elf_image_type.specs.Strings.{string};
 use elf_image_type::strings::string_at;
 
 /// A string table, and the string that was read last. A string that starts within that one has its end, so no byte of it is looked at: many
-/// names may be one long string, or its tails.
+/// names may be one long string, or its tails. So strings in the order of their offsets take one pass over the table, however they overlap.
 #[derive(Clone, Copy, Drop)]
 pub(crate) struct LastString<'a> {
     /// The table.
@@ -35,7 +35,8 @@ impl<'a> LastString<'a> {
         }
     }
 
-    /// The string at an offset, and what is known after it.
+    /// The string at an offset, and what is known after it. It takes no time if the string starts within the last one, and otherwise time for
+    /// its bytes. No contract can say so: what is answered is the same if each string is read anew.
     pub(crate) fn read(&self, offset: u32) -> (&'a [u8], LastString<'a>)
         ensures name { result.0.now ≡ string self.now.table.now offset }
         ensures table { result.1.table.now ≡ self.now.table.now }
