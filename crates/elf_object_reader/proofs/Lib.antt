@@ -17,7 +17,7 @@ pub mod FileMembers
 pub mod DenotedRelocations
 pub mod DenotedReferences
 pub mod DenotedGroups
-mod LastStrings
+mod StringEnds
 pub mod ObjectKept
 pub mod OneObject
 pub mod JudgedTables

@@ -10,9 +10,9 @@ ghost use Rattle.elf_table_symbols.specs.SymbolParts.{symbol_parts};
 ghost use Rattle.elf_table_symbols.specs.SymbolView.{no_symbol_entry};
 
 use crate::file_symbols::FileSymbols;
-use crate::last_string::LastString;
 use crate::left_out::symbol_table;
 use crate::object_reader::ObjectReader;
+use crate::string_blocks::StringBlocks;
 use elf_field::abi::*;
 use elf_field::{Sym, get_at};
 use elf_image_rules::MAX_LEN;
@@ -62,11 +62,10 @@ impl<'i, 'a> ObjectReader<'i, 'a> {
         ensures { let file = self.now.file in IfOk result (λ read.
             map symbol_value read.items ≡ map (symbol_denoted file.left (sections_of_file file)) (drop 1 symbols.now.entries)) }
     {
+        let blocks = StringBlocks::new(alloc, strings)?;
         let mut read = Vec::new(alloc);
-        let mut last = LastString::new(strings);
         for j in 0..symbols.entries.len().saturating_sub(1) {
-            let (name, after) = last.read(symbols.record(j + 1).st_name);
-            last = after;
+            let name = blocks.string(symbols.record(j + 1).st_name);
             read.push(self.read_symbol(symbols, j + 1, name))?;
         }
         Ok(read)
