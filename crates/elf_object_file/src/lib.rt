@@ -10,5 +10,5 @@ mod object_file;
 mod written_laws;
 
 pub use layout_laws::{laid_objects, one_layout};
-pub use object_file::{prove_read_back, write_object, write_object_at};
+pub use object_file::{prove_read_back, write_object, write_object_with_ends};
 pub use written_laws::{denoted_object, sound_object, written_object};

@@ -3,12 +3,11 @@ ghost use Rattle.std.specs.Prelude.{◌≡◌};
 ghost use Rattle.elf_image_outline.specs.Image.{IsImage};
 ghost use Rattle.elf_object_file.specs.ObjectFile.{IsObjectWritten, IsWrittenFile};
 ghost use Rattle.elf_object_reader.specs.Denotes.{Denotes};
-ghost use Rattle.elf_object_writer.specs.NameTables.{AreEndsOf};
 ghost use Rattle.elf_table_symbols.specs.Sections.{sections_of};
 
 use elf_image_type::Image;
 use elf_object_type::Object;
-use elf_object_writer::{NameEnds, ObjectWriteFault, write_layout};
+use elf_object_writer::{ObjectWithEnds, ObjectWriteFault, write_layout};
 use std::alloc::Global;
 use std::io::Write;
 
@@ -34,26 +33,20 @@ pub fn write_object<W: Write>(
 ) -> Result<(), ObjectWriteFault>
     ensures { IsObjectWritten object.now (W.contents writer.old) (W.contents writer.new) result }
 {
-    let unknown = NameEnds {
-        symbols: &[],
-        sections: &[],
-    };
-    write_object_at(alloc, object, unknown, writer)
+    write_object_with_ends(alloc, &ObjectWithEnds::without_ends(object), writer)
 }
 
-/// The same of an object of whose names it is known where they end in the string tables that they were read from. Names that share their
-/// bytes there are compared by their lengths, however long they are.
-pub fn write_object_at<W: Write>(
+/// The same of an object of whose symbols' names it is known where they end in the string table that they were read from. Names that share
+/// their bytes there are compared by their lengths, however long they are.
+pub fn write_object_with_ends<W: Write>(
     alloc: Global,
-    object: &Object<'_>,
-    ends: NameEnds<'_>,
+    source: &ObjectWithEnds<'_, '_>,
     writer: &mut W,
 ) -> Result<(), ObjectWriteFault>
-    requires { AreEndsOf object.now ends }
-    ensures { IsObjectWritten object.now (W.contents writer.old) (W.contents writer.new) result }
+    ensures { IsObjectWritten source.now.object (W.contents writer.old) (W.contents writer.new) result }
 {
-    object.prove_rules();
-    write_layout(alloc, object, ends, writer)
+    source.object().prove_rules();
+    write_layout(alloc, source, writer)
 }
 
 /// Proves that an object's file is read back as the object: `file` is what [`write_object`] wrote, `image` its image, and `read` the object

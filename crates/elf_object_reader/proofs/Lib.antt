@@ -4,6 +4,7 @@ pub mod GroupMembers
 pub mod Verdicts
 pub mod KeptLists
 pub mod SymbolCount
+pub mod SymbolEnds
 pub mod BodyRuns
 pub mod SymbolRuns
 pub mod FileRuns
@@ -16,7 +17,7 @@ pub mod FileMembers
 pub mod DenotedRelocations
 pub mod DenotedReferences
 pub mod DenotedGroups
-mod LastStrings
+mod StringEnds
 pub mod ObjectKept
 pub mod OneObject
 pub mod JudgedTables

@@ -68,3 +68,9 @@ pub read_judged : {T : Type 0} (f : Sections) (Is : T → Type 0) (result : Resu
 read_judged f Is (Ok value) clean is memory = (clean, is)
 read_judged {T} f Is (Err error) clean is memory =
     subst (λ (e : Fault). IsJudgedBehind {T = T} (front_rules f) (file_rules f) Is (Err e)) (sym memory) (front_sound f clean)
+
+pub memory_wanted : {T : Type 0} (f : Sections) (Is : T → Type 0) (result : Result T Fault) → FirstIn (file_rules f) None →
+    IsErrAnd result (λ error. error ≡ OutOfMemory) → IsJudgedBehind (front_rules f) (file_rules f) Is result
+memory_wanted f Is (Ok value) clean told = absurd told
+memory_wanted {T} f Is (Err error) clean told =
+    subst (λ (e : Fault). IsJudgedBehind {T = T} (front_rules f) (file_rules f) Is (Err e)) (sym told) (front_sound f clean)

@@ -1,12 +1,16 @@
 -- The object that a relocatable file denotes. (gABI chapter 4: ELF Header, Sections, Symbol Table, Relocation, Section Groups.)
-use Rattle.std.specs.Prelude.{◌≡◌, ℕ, ◌+◌, ◌-◌, ◌*◌, ◌==◌, if◌then◌else◌, Option, None, Some, List, [], bit_and, drop, map, pos, slice_index, unwrap_or}
-use Rattle.elf_field.specs.Abi.{EI_ABIVERSION, EI_OSABI, GRP_COMDAT, SHF_INFO_LINK, SHT_NULL}
+use Rattle.std.specs.Prelude.{◌≡◌, ℕ, ◌+◌, ◌-◌, ◌*◌, ◌==◌, nat_lt, if◌then◌else◌, Option, None, Some, List, [], bit_and, drop, length, map, pos, slice_index, unwrap_or}
+use Rattle.std.specs.List.{range_with_len}
+use Rattle.elf_field.specs.Abi.{EI_ABIVERSION, EI_OSABI, GRP_COMDAT, SHF_INFO_LINK, SHT_NULL, SYM_SIZE}
+use Rattle.elf_field.specs.Sym.{sym_at}
 use Rattle.elf_field.specs.declared.shdr.Shdr.{Shdr}
 use Rattle.elf_image_outline.specs.Image.{value_names}
+use Rattle.elf_image_rules.specs.HeaderRules.{MAX_LEN}
 use Rattle.elf_image_type.specs.Strings.{string}
 use Rattle.elf_table_symbols.specs.declared.symbol.Place as table_place
 use Rattle.elf_table_symbols.specs.declared.symbol.Place.TheVariants.{Undefined, Absolute, Common, Reserved, Section}
 use Rattle.elf_table_symbols.specs.Sections.{Sections, content, order, section}
+use Rattle.elf_table_symbols.specs.SymbolParts.{symbol_parts}
 use Rattle.elf_table_symbols.specs.Symbols as table_symbols
 use Rattle.elf_table_symbols.specs.Symbols.{symbols_of}
 use Rattle.elf_table_lists.specs.declared.relocation.Relocation as table_relocation
@@ -119,3 +123,20 @@ pub record Denotes (f : Sections) (o : ObjectValue) : Type 0 where
   pub flags : o.flags ≡ f.header.e_flags
   pub sections : o.sections ≡ map (section_denoted (left_out f) f) (kept (left_out f) f)
   pub symbols : o.symbols ≡ symbols_denoted (left_out f) f (symbol_table f)
+
+-- ---- where the names of the symbols end in the string table
+
+-- the end of a name at an offset of a string table: the offset after it, plus 1; 0 where no file is that long
+abbrev pub name_end : ℕ → List ℕ → ℕ
+name_end offset name = if nat_lt (offset + length name) MAX_LEN then offset + length name + 1 else 0
+
+-- that of symbol j of the symbol table in section t
+abbrev pub symbol_end : Sections → ℕ → ℕ → ℕ
+symbol_end f t j =
+    let offset = (sym_at (order f) (content f t) (SYM_SIZE * j)).st_name in
+    name_end offset (string (symbol_parts f t).names offset)
+
+-- those of the symbols from symbol 1 on; none where there is no symbol table
+abbrev pub symbol_ends : Sections → Option ℕ → List ℕ
+symbol_ends f None = []
+symbol_ends f (Some t) = map (symbol_end f t) (range_with_len 1 (length (symbols_of f t) - 1))

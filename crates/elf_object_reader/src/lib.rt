@@ -13,7 +13,6 @@ mod file_section;
 mod file_symbols;
 mod front_rules;
 mod kept_section;
-mod last_string;
 mod laws;
 mod left_out;
 mod member_rule;
@@ -25,6 +24,7 @@ mod read_symbols;
 mod reading;
 mod reference_rules;
 pub mod rules;
+mod string_blocks;
 
 pub use body_kind::BodyKind;
 pub use laws::{one_file_fault, one_object};

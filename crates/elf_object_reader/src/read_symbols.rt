@@ -1,19 +1,22 @@
 //! The symbols of a file as those of an object (gABI chapter 4, Symbol Table).
-ghost use Rattle.std.specs.Prelude.{◌≡◌, ◌<◌, ◌+◌, ◌*◌, IfOk, drop, get_or, length, map};
+ghost use Rattle.std.specs.Prelude.{◌≡◌, ◌<◌, ◌*◌, IfOk, Some, drop, get_or, length, map};
 ghost use Rattle.elf_field.specs.Sym.{sym_at};
-ghost use Rattle.elf_object_reader.specs.Denotes.{place_denoted, symbol_denoted, symbols_denoted};
+ghost use Rattle.elf_object_reader.specs.Denotes.{name_end, place_denoted, symbol_denoted, symbol_ends, symbols_denoted};
+ghost use Rattle.elf_object_reader.specs.Kept.{left_out, symbol_table};
 ghost use Rattle.elf_object_reader.specs.ObjectFile.{sections_of_file};
-ghost use Rattle.elf_object_strings.specs.NameEnds.{AreTails};
 ghost use Rattle.elf_object_type.specs.ObjectView.{symbol_value};
-ghost use Rattle.elf_table_symbols.specs.Sections.{content, order, section};
+ghost use Rattle.elf_table_symbols.specs.Sections.{content, order, section, sections_of};
 ghost use Rattle.elf_table_symbols.specs.SymbolParts.{symbol_parts};
 ghost use Rattle.elf_table_symbols.specs.SymbolView.{no_symbol_entry};
 
 use crate::file_symbols::FileSymbols;
-use crate::last_string::LastString;
+use crate::left_out::symbol_table;
 use crate::object_reader::ObjectReader;
+use crate::string_blocks::StringBlocks;
 use elf_field::abi::*;
 use elf_field::{Sym, get_at};
+use elf_image_rules::MAX_LEN;
+use elf_image_type::Image;
 use elf_object_type::{Place, Symbol};
 use std::alloc::{AllocError, Global};
 
@@ -59,11 +62,10 @@ impl<'i, 'a> ObjectReader<'i, 'a> {
         ensures { let file = self.now.file in IfOk result (λ read.
             map symbol_value read.items ≡ map (symbol_denoted file.left (sections_of_file file)) (drop 1 symbols.now.entries)) }
     {
+        let blocks = StringBlocks::new(alloc, strings)?;
         let mut read = Vec::new(alloc);
-        let mut last = LastString::new(strings);
         for j in 0..symbols.entries.len().saturating_sub(1) {
-            let (name, after) = last.read(symbols.record(j + 1).st_name);
-            last = after;
+            let name = blocks.string(symbols.record(j + 1).st_name);
             read.push(self.read_symbol(symbols, j + 1, name))?;
         }
         Ok(read)
@@ -79,37 +81,10 @@ impl<'i, 'a> ObjectReader<'i, 'a> {
         image.content(image.section(t).sh_link as usize)
     }
 
-    /// For each of these symbols the offset after its name in the string table, plus 1; none unless they are asked for.
-    fn read_ends(
-        &self,
-        alloc: Global,
-        symbols: &FileSymbols<'_, 'i, 'a>,
-        read: &[Symbol<'a>],
-        are_asked_for: bool,
-    ) -> Result<Vec<u32>, AllocError>
-        requires { let file = self.now.file in
-            map symbol_value read.now ≡ map (symbol_denoted file.left (sections_of_file file)) (drop 1 symbols.now.entries) }
-        ensures { IfOk result (λ ends. AreTails (map (λ s. s.name) (map symbol_value read.now)) ends.items) }
-    {
-        if !are_asked_for {
-            return Ok(Vec::new(alloc));
-        }
-        let mut ends = Vec::with_capacity(alloc, read.len())?;
-        for j in 0..read.len() {
-            ends.push(symbols.name_end(j + 1, read[j].name))?;
-        }
-        Ok(ends)
-    }
-
-    /// The symbols from symbol 1 on, none if there is no symbol table; and where their names end in the string table, if that is asked for.
-    pub(crate) fn read_symbols(
-        &self,
-        alloc: Global,
-        with_ends: bool,
-    ) -> Result<(Vec<Symbol<'a>>, Vec<u32>), AllocError>
-        ensures symbols { let file = self.now.file in IfOk result (λ (read, ends).
+    /// The symbols from symbol 1 on, none if there is no symbol table.
+    pub(crate) fn read_symbols(&self, alloc: Global) -> Result<Vec<Symbol<'a>>, AllocError>
+        ensures { let file = self.now.file in IfOk result (λ read.
             map symbol_value read.items ≡ symbols_denoted file.left (sections_of_file file) file.left.symbol_table) }
-        ensures ends { IfOk result (λ (read, ends). AreTails (map (λ s. s.name) (map symbol_value read.items)) ends.items) }
     {
         match self.file.left.symbol_table {
             Some(t) => {
@@ -118,11 +93,9 @@ impl<'i, 'a> ObjectReader<'i, 'a> {
                     index: t,
                     entries: self.file.tables.symbols(t),
                 };
-                let read = self.read_table(alloc, &symbols, self.strings_of(t))?;
-                let ends = self.read_ends(alloc, &symbols, &read, with_ends)?;
-                Ok((read, ends))
+                self.read_table(alloc, &symbols, self.strings_of(t))
             }
-            None => Ok((Vec::new(alloc), Vec::new(alloc))),
+            None => Ok(Vec::new(alloc)),
         }
     }
 }
@@ -140,23 +113,48 @@ impl<'f, 'i, 'a> FileSymbols<'f, 'i, 'a> {
             SYM_SIZE as usize * j,
         )
     }
+}
 
-    /// The offset after the name of symbol `j` in the string table, plus 1; 0 if that is more than a file has.
-    fn name_end(&self, j: usize, name: &[u8]) -> u32
-        requires { j < length self.now.entries }
-        ensures { let f = sections_of_file self.now.file.now in
-            0 < result → result ≡ (sym_at (order f) (content f self.now.index) (24 * j)).st_name + length name.now + 1 }
-    {
-        end_of(self.record(j).st_name, name.len())
+/// For each symbol that was read of an image, in their order, where its name ends in the string table.
+pub(crate) fn symbol_ends(
+    alloc: Global,
+    image: &Image<'_>,
+    symbols: &[Symbol<'_>],
+) -> Result<Vec<u32>, AllocError>
+    requires { let f = sections_of image.now in map symbol_value symbols.now ≡ symbols_denoted (left_out f) f (symbol_table f) }
+    ensures { let f = sections_of image.now in IfOk result (λ ends. ends.items ≡ symbol_ends f (symbol_table f)) }
+{
+    match symbol_table(image) {
+        Some(t) => table_ends(alloc, image, t, symbols),
+        None => Ok(Vec::new(alloc)),
     }
 }
 
-fn end_of(offset: u32, length: usize) -> u32
-    ensures { 0 < result → result ≡ offset + length + 1 }
+/// The same of the symbol table in section `t`.
+fn table_ends(
+    alloc: Global,
+    image: &Image<'_>,
+    t: usize,
+    symbols: &[Symbol<'_>],
+) -> Result<Vec<u32>, AllocError>
+    requires there { t < length image.now.sections }
+    requires read { let f = sections_of image.now in map symbol_value symbols.now ≡ symbols_denoted (left_out f) f (Some t) }
+    ensures { IfOk result (λ ends. ends.items ≡ symbol_ends (sections_of image.now) (Some t)) }
 {
-    if offset < 1 << 30 && length < 1 << 30 {
-        offset + length as u32 + 1
-    } else {
-        0
+    let order = image.order();
+    let table = image.content(t);
+    let mut ends = Vec::with_capacity(alloc, symbols.len())?;
+    for j in 0..symbols.len() {
+        let entry: Sym = get_at(order, table, SYM_SIZE as usize * (j + 1));
+        ends.push(name_end(entry.st_name, symbols[j].name))?;
     }
+    Ok(ends)
+}
+
+/// Where a name at an offset of a string table ends: the offset after it, plus 1; 0 where no file is that long.
+fn name_end(offset: u32, name: &[u8]) -> u32
+    ensures { result ≡ name_end offset name.now }
+{
+    let after = offset as u64 + name.len() as u64;
+    if after < MAX_LEN { after as u32 + 1 } else { 0 }
 }

@@ -1,8 +1,9 @@
 //! A relocatable file read as an object (gABI chapter 4).
 ghost use Rattle.std.specs.Prelude.{◌≡◌, IfErr, IfOk, None, map};
 ghost use Rattle.elf_image_stream.specs.declared.fault.Fault.TheVariants.{OutOfMemory};
-ghost use Rattle.elf_object_reader.specs.Denotes.{Denotes};
+ghost use Rattle.elf_object_reader.specs.Denotes.{Denotes, symbol_ends};
 ghost use Rattle.elf_object_reader.specs.FileRules.{file_rules, front_rules};
+ghost use Rattle.elf_object_reader.specs.Kept.{symbol_table};
 ghost use Rattle.elf_object_reader.specs.ObjectFile.{sections_of_file};
 ghost use Rattle.elf_object_strings.specs.NameEnds.{AreTails};
 ghost use Rattle.elf_object_type.specs.ObjectView.{value_of};
@@ -14,6 +15,7 @@ use crate::front_rules::judge_front;
 use crate::left_out::LeftOut;
 use crate::object_file::ObjectFile;
 use crate::object_reader::ObjectReader;
+use crate::read_symbols::symbol_ends;
 use elf_field::abi::*;
 use elf_image_stream::Fault;
 use elf_image_type::Image;
@@ -35,34 +37,31 @@ pub fn object_of<'a>(alloc: Global, image: &Image<'a>) -> Result<Object<'a>, Fau
         IsJudgedBehind (front_rules f) (file_rules f) (λ o. Denotes f o) result }
 {
     image.prove_stands();
-    let (parts, _) = parts_of(alloc, image, false)?;
+    let parts = parts_of(alloc, image)?;
     Ok(kept_object(parts))
 }
 
-/// The same object, and for each of its symbols the offset after its name in the string table that it was read from, plus 1. Of two symbols
-/// with one such end the longer name ends with the shorter one. It takes memory for each symbol once more.
+/// The same object, and for each of its symbols, in their order, where its name ends in the string table that it was read from: the offset
+/// after it, plus 1; 0 if that offset is not below 2^30, the length of the longest file. Of two symbols with one such end the longer name
+/// ends with the shorter one. It takes memory for each symbol once more.
 pub fn object_with_ends<'a>(
     alloc: Global,
     image: &Image<'a>,
 ) -> Result<(Object<'a>, Vec<u32>), Fault>
     ensures { let f = sections_of image.now in
         IsJudgedBehind (front_rules f) (file_rules f)
-        (λ (o, ends). Denotes f o × AreTails (map (λ s. s.name) o.symbols) ends.items) result }
+        (λ (o, ends). Denotes f o × (ends.items ≡ symbol_ends f (symbol_table f)) × AreTails (map (λ s. s.name) o.symbols) ends.items)
+        result }
 {
-    image.prove_stands();
-    let (parts, ends) = parts_of(alloc, image, true)?;
-    Ok((kept_object(parts), ends))
+    let object = object_of(alloc, image)?;
+    let ends = symbol_ends(alloc, image, object.symbols())?;
+    Ok((object, ends))
 }
 
-/// The parts of the object that the image denotes, and where the names of its symbols end, if that is asked for.
-fn parts_of<'a>(
-    alloc: Global,
-    image: &Image<'a>,
-    with_ends: bool,
-) -> Result<(ObjectParts<'a>, Vec<u32>), Fault>
+/// The parts of the object that the image denotes.
+fn parts_of<'a>(alloc: Global, image: &Image<'a>) -> Result<ObjectParts<'a>, Fault>
     ensures { let f = sections_of image.now in
-        IsJudgedBehind (front_rules f) (file_rules f)
-        (λ (parts, ends). Denotes f (value_of parts) × AreTails (map (λ s. s.name) (value_of parts).symbols) ends.items) result }
+        IsJudgedBehind (front_rules f) (file_rules f) (λ parts. Denotes f (value_of parts)) result }
 {
     let left = LeftOut::of(image);
     judge_front(image, left.symbol_table)?;
@@ -73,27 +72,22 @@ fn parts_of<'a>(
         tables,
     };
     file.judge(alloc)?;
-    read_parts(alloc, file, with_ends)
+    read_parts(alloc, file)
 }
 
 /// The parts of the object that a file denotes which breaks no rule. [`Fault::OutOfMemory`] is the only error.
-fn read_parts<'a>(
-    alloc: Global,
-    file: ObjectFile<'_, 'a>,
-    with_ends: bool,
-) -> Result<(ObjectParts<'a>, Vec<u32>), Fault>
+fn read_parts<'a>(alloc: Global, file: ObjectFile<'_, 'a>) -> Result<ObjectParts<'a>, Fault>
     requires { FirstIn (file_rules (sections_of_file file)) None }
-    ensures ok { IfOk result (λ (parts, ends).
-        Denotes (sections_of_file file.entry) (value_of parts) × AreTails (map (λ s. s.name) (value_of parts).symbols) ends.items) }
+    ensures ok { IfOk result (λ parts. Denotes (sections_of_file file.entry) (value_of parts)) }
     ensures err { IfErr result (λ fault. fault ≡ OutOfMemory) }
 {
     let positions = file.positions(alloc)?;
     let reader = ObjectReader { file, positions };
     let sections = reader.read_sections(alloc)?;
-    let (symbols, ends) = reader.read_symbols(alloc, with_ends)?;
+    let symbols = reader.read_symbols(alloc)?;
     let image = reader.file.image;
     let header = image.header();
-    let parts = ObjectParts {
+    Ok(ObjectParts {
         order: image.order(),
         osabi: header.e_ident[EI_OSABI],
         abi: header.e_ident[EI_ABIVERSION],
@@ -101,6 +95,5 @@ fn read_parts<'a>(
         flags: header.e_flags,
         sections,
         symbols,
-    };
-    Ok((parts, ends))
+    })
 }

@@ -1,14 +1,12 @@
 -- Names of one string table with the offsets after them. Two strings of a table that end at one offset are the bytes of the table up to
 -- there. So the longer one is those before the shorter one, and then the shorter one (`tails_of_table`).
-use Rattle.std.proofs.Common.{◌≡◌, ◌<◌, ◌≤◌, ◌+◌, ◌-◌, ℕ, List, [], ◌∷◌, ◌++◌, get_or, length, take, drop, min, inl, inr, refl, sym, ap, subst, ◌∙◌, arith, length-append}
+use Rattle.std.proofs.Common.{◌≡◌, ◌+◌, ◌-◌, ℕ, List, [], ◌++◌, get_or, length, take, drop, sym, ap, ◌∙◌, arith}
 use Rattle.std.specs.Prelude.{◌==◌}
 use Rattle.std.specs.List.{position_or_len}
-use Rattle.std.proofs.lemmas.Bool.{cases_order}
 use Rattle.std.proofs.Math.Seq.{take-add}
-use Rattle.std.proofs.lemmas.List.{drop-drop, get_or_append_left, get_or_past, get_or_push, length-take, take_min}
+use Rattle.std.proofs.lemmas.List.{drop-drop, length-take, take_min}
 use Rattle.elf_image_type.specs.Strings.{string}
-use Rattle.elf_object_strings.specs.NameEnds.{AreEndsIn, AreTails, IsEndOf, IsTailOf}
-use Rattle.elf_object_strings.specs.Owners.{IsSuffix}
+use Rattle.elf_object_strings.specs.NameEnds.{AreEndsIn, AreTails}
 
 -- a string is as many bytes of its table as it is long
 string_taken : (table : List ℕ) (s : ℕ) → string table s ≡ take (length (string table s)) (drop s table)
@@ -40,27 +38,6 @@ tails_of_table table names ends are i j some one le =
           ∙ ap (λ (n : ℕ). take d (drop t table) ++ take (length a) (drop n table)) start
           ∙ ap (λ (n : List ℕ). take d (drop t table) ++ n) (sym own),
     )
-
--- one more end
-pub ends_more : (table : List ℕ) (names : List (List ℕ)) (ends : List ℕ) (end : ℕ) → AreEndsIn table names ends →
-    (0 < end → IsEndOf table (get_or names (length ends) []) end) → AreEndsIn table names (ends ++ (end ∷ []))
-ends_more table names ends end are last i some = elim (cases_order i (length ends)) [
-  | inl here ↦
-      let is : get_or (ends ++ (end ∷ [])) i 0 ≡ end = ap (λ (k : ℕ). get_or (ends ++ (end ∷ [])) k 0) here ∙ get_or_push ends end 0 (length ends) refl in
-      subst (λ (e : ℕ). IsEndOf table (get_or names i []) e) (sym is)
-      (subst (λ (k : ℕ). IsEndOf table (get_or names k []) end) (sym here) (last (subst (λ (e : ℕ). 0 < e) is some)))
-  | inr other ↦ elim other [
-    | inl below ↦
-        let is : get_or (ends ++ (end ∷ [])) i 0 ≡ get_or ends i 0 = get_or_append_left ends (end ∷ []) 0 i below in
-        subst (λ (e : ℕ). IsEndOf table (get_or names i []) e) (sym is) (are i (subst (λ (e : ℕ). 0 < e) is some))
-    | inr above ↦
-        let none : get_or (ends ++ (end ∷ [])) i 0 ≡ 0 = get_or_past (ends ++ (end ∷ [])) i 0 (omega (arith, length-append ends (end ∷ []))) in
-        absurd (omega arith)
-  ]
-]
-
-pub ends_none : (table : List ℕ) (names : List (List ℕ)) → AreEndsIn table names []
-ends_none table names i some = absurd (omega arith)
 
 pub tails_none : (names : List (List ℕ)) → AreTails names []
 tails_none names i j some one = absurd (omega arith)

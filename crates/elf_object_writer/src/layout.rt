@@ -5,7 +5,7 @@ ghost use Rattle.elf_object_writer.specs.LayoutView.{ArePartsFault, ArePlacedPar
 ghost use Rattle.elf_object_writer.specs.NameTables.{AreNameTables, HasSharedNames};
 
 use crate::layout_parts::layout_parts;
-use crate::name_tables::{NameEnds, NameTables};
+use crate::name_tables::{NameTables, ObjectWithEnds};
 use elf_extent::{OutOfMemory, PlaceFault, place};
 use elf_field::abi::*;
 use elf_image_rules::MAX_LEN;
@@ -124,11 +124,7 @@ pub fn lay_out(alloc: Global, object: &Object<'_>) -> Result<Layout, LayoutFault
     ensures err { IfErr result (IsLayoutFault object.now) }
 {
     object.prove_rules();
-    let unknown = NameEnds {
-        symbols: &[],
-        sections: &[],
-    };
-    let tables = NameTables::new(alloc, object, unknown)?;
+    let tables = NameTables::new(alloc, &ObjectWithEnds::without_ends(object))?;
     lay_out_with(alloc, object, &tables)
 }
 

@@ -23,5 +23,5 @@ mod section_headers;
 mod symbol_entries;
 
 pub use layout::{Layout, LayoutFault, lay_out};
-pub use name_tables::NameEnds;
+pub use name_tables::ObjectWithEnds;
 pub use object_writing::{ObjectWriteFault, write_layout};

@@ -1,12 +1,10 @@
 //! An object onto a writer.
-ghost use Rattle.elf_object_writer.specs.NameTables.{AreEndsOf};
 ghost use Rattle.elf_object_writer.specs.ObjectWriting.{IsLayoutWritten};
 
 use crate::layout::LayoutFault;
-use crate::name_tables::NameEnds;
+use crate::name_tables::ObjectWithEnds;
 use crate::placed_object::PlacedObject;
 use crate::placed_writing::write_placed;
-use elf_object_type::Object;
 use std::alloc::Global;
 use std::io::Write;
 use thiserror::Error;
@@ -39,14 +37,12 @@ pub enum ObjectWriteFault {
 /// entries of tables are made as they are written. It takes the time of [`lay_out`](crate::lay_out), and is linear in the bytes written.
 pub fn write_layout<W: Write>(
     alloc: Global,
-    object: &Object<'_>,
-    ends: NameEnds<'_>,
+    source: &ObjectWithEnds<'_, '_>,
     writer: &mut W,
 ) -> Result<(), ObjectWriteFault>
-    requires { AreEndsOf object.now ends }
-    ensures { IsLayoutWritten object.now (W.contents writer.old) (W.contents writer.new) result }
+    ensures { IsLayoutWritten source.now.object (W.contents writer.old) (W.contents writer.new) result }
 {
-    let placed = match PlacedObject::new(alloc, object, ends) {
+    let placed = match PlacedObject::new(alloc, source) {
         Ok(placed) => placed,
         Err(LayoutFault::TooLong) => return Err(ObjectWriteFault::TooLong),
         Err(LayoutFault::OutOfMemory) => return Err(ObjectWriteFault::OutOfMemory),

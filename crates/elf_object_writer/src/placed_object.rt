@@ -1,13 +1,12 @@
 //! An object with all that its canonical layout takes memory for (gABI chapter 4, ELF Header, Sections, String Table).
 ghost use Rattle.std.specs.Prelude.{◌≡◌, ◌<◌, ℕ, ◌+◌, ◌^◌, [], get_or, length, slice_index, IfErr, IfOk};
 ghost use Rattle.elf_object_writer.specs.LayoutView.{IsLayoutFault};
-ghost use Rattle.elf_object_writer.specs.NameTables.{AreEndsOf};
 ghost use Rattle.elf_object_writer.specs.PlacedObject.{IsPlacedObject, IsSectionAt};
 ghost use Rattle.elf_object_writer.specs.PlainSections.{name_table_at, plain_sections, section_names, strings_at, symbol_names, symbol_table_at};
 ghost use Rattle.elf_object_strings.specs.StringTable.{name_offset, string_table};
 
 use crate::layout::{Layout, LayoutFault, lay_out_with};
-use crate::name_tables::{NameEnds, NameTables};
+use crate::name_tables::{NameTables, ObjectWithEnds};
 use crate::placed_section::PlacedSection;
 use elf_object_type::Object;
 use std::alloc::Global;
@@ -35,15 +34,14 @@ impl<'o, 'a> PlacedObject<'o, 'a> {
     /// The object in its layout. All the memory that is needed is taken here.
     pub(crate) fn new(
         alloc: Global,
-        object: &'o Object<'a>,
-        ends: NameEnds<'_>,
+        source: &ObjectWithEnds<'o, 'a>,
     ) -> Result<PlacedObject<'o, 'a>, LayoutFault>
-        requires { AreEndsOf object.now ends }
-        ensures ok { IfOk result (λ placed. placed.object ≡ object.now) }
-        ensures err { IfErr result (IsLayoutFault object.now) }
+        ensures ok { IfOk result (λ placed. placed.object ≡ source.now.object) }
+        ensures err { IfErr result (IsLayoutFault source.now.object) }
     {
+        let object = source.object();
         object.prove_rules();
-        let tables = NameTables::new(alloc, object, ends)?;
+        let tables = NameTables::new(alloc, source)?;
         match lay_out_with(alloc, object, &tables) {
             Ok(layout) => Ok(PlacedObject {
                 object,

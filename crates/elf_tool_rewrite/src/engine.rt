@@ -1,6 +1,5 @@
 //! `rewrite`: the object of a file, in canonical layout.
-ghost use Rattle.std.specs.Prelude.{◌≡◌, ℕ, List, map};
-ghost use Rattle.elf_object_strings.specs.NameEnds.{AreTails};
+ghost use Rattle.std.specs.Prelude.{◌≡◌, ℕ, List};
 ghost use Rattle.elf_tool_text.specs.Engine.{Prints};
 ghost use Rattle.elf_tool_rewrite.specs.Rewrite.{IsRewritten, ObjectSays, RewriteSays, SectionsSay};
 ghost use Rattle.elf_table_symbols.specs.Sections.{sections_of};
@@ -8,10 +7,9 @@ ghost use Rattle.elf_tool_text.specs.declared.fault.Verdict.TheVariants.{Done};
 
 use elf_image_stream::Fault;
 use elf_image_type::{Image, parse};
-use elf_object_file::write_object_at;
+use elf_object_file::write_object_with_ends;
 use elf_object_reader::object_with_ends;
-use elf_object_type::Object;
-use elf_object_writer::{NameEnds, ObjectWriteFault};
+use elf_object_writer::{ObjectWithEnds, ObjectWriteFault};
 use elf_tool_text::{Refusal, ToolFault, Verdict, read_input};
 use std::alloc::Global;
 use std::io::{Read, Write};
@@ -68,7 +66,9 @@ fn rewrite_image<W: Write>(
     ensures { Prints (SectionsSay (sections_of image.now)) (W.contents writer.old) (W.contents writer.new) result }
 {
     match object_with_ends(alloc, image) {
-        Ok((object, ends)) => rewrite_object(alloc, &object, &ends, writer),
+        Ok((object, ends)) => {
+            rewrite_object(alloc, &ObjectWithEnds::new(&object, &ends), writer)
+        }
         Err(Fault::Rule { rule, at }) => Ok(refused(rule, at)),
         Err(Fault::OutOfMemory) => Err(ToolFault::OutOfMemory),
         // Nor while an image is read.
@@ -78,18 +78,12 @@ fn rewrite_image<W: Write>(
 
 fn rewrite_object<W: Write>(
     alloc: Global,
-    object: &Object<'_>,
-    ends: &[u32],
+    source: &ObjectWithEnds<'_, '_>,
     writer: &mut W,
 ) -> Result<Verdict, ToolFault>
-    requires { AreTails (map (λ s. s.name) object.now.symbols) ends.now }
-    ensures { Prints (ObjectSays object.now) (W.contents writer.old) (W.contents writer.new) result }
+    ensures { Prints (ObjectSays source.now.object) (W.contents writer.old) (W.contents writer.new) result }
 {
-    let ends = NameEnds {
-        symbols: ends,
-        sections: &[],
-    };
-    match write_object_at(alloc, object, ends, writer) {
+    match write_object_with_ends(alloc, source, writer) {
         Ok(()) => Ok(Verdict::Done),
         Err(ObjectWriteFault::TooLong) => Ok(Verdict::Refused(Refusal::TooLong)),
         Err(ObjectWriteFault::OutOfMemory) => Err(ToolFault::OutOfMemory),

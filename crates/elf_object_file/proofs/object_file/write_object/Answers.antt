@@ -1,5 +1,8 @@
-use Rattle.elf_object_strings.proofs.Public.{tails_none}
+use Rattle.std.proofs.Common.{ap}
+use Rattle.elf_object_writer.specs.NameTables.{ObjectWithEndsValue}
 use Rattle.elf_object_file.proofs.object_file.write_object.Goals as goal
 
-pub write_object_at-requires : goal.write_object_at-requires
-write_object_at-requires g c = record { symbols = tails_none _; sections = tails_none _ }
+pub returns : goal.returns
+returns g c =
+    let same = ap (λ (o : ObjectWithEndsValue). o.object) c.without_ends.ensures in
+    rw same at c.write_object_with_ends.ensures

@@ -7,4 +7,4 @@ pub kept_object-requires : goal.kept_object-requires
 kept_object-requires c =
     let v = c.args.image.now in
     let sound = image_is_sound v c.prove_stands.ensures.0 c.prove_stands.ensures.1 in
-    object_kept v (value_of c.in_ok-parts.parts) sound c.in_ok-parts.ensures.0 c.in_ok-parts.ensures.1.0
+    object_kept v (value_of c.in_ok-parts.parts) sound c.in_ok-parts.ensures.0 c.in_ok-parts.ensures.1

@@ -1,4 +1,4 @@
--- The string read at the symbol's `st_name` is its name, since the last string is one of the table that the symbol table links to. So the
+-- The string read at the symbol's `st_name` is its name, since it is read in the table that the symbol table links to. So the
 -- symbol that is pushed is the one denoted by the next entry.
 use Rattle.std.proofs.Common.{◌≡◌, ℕ, ◌+◌, ◌<◌, ◌-◌, List, [], ◌∷◌, ◌++◌, drop, get_or, length, map, sym, ap, ap₂, ◌∙◌, arith}
 use Rattle.std.proofs.lemmas.List.{get_or-drop, length-drop, map-append, map_more}
@@ -23,8 +23,8 @@ read_symbol-requires-clause-name c =
     let below : j + 1 < length table.entries = omega arith in
     let lt : j + 1 < length (symbols_of f table.index) = rw table.own_entries at below in
     let names = (symbol_parts f table.index).names in
-    c.read.ensures.name
-    ∙ ap₂ (λ (bytes : List ℕ) (entry : Sym). string bytes entry.st_name) (c.loop-j.invariant.table ∙ c.requires) c.record.ensures
+    c.string-name.ensures
+    ∙ ap₂ (λ (bytes : List ℕ) (entry : Sym). string bytes entry.st_name) (c.in_ok-blocks.ensures ∙ c.requires) c.record.ensures
     ∙ sym (symbol_name f table.index (j + 1) lt)
     ∙ ap (λ (es : List SymbolEntryValue). (get_or es (j + 1) no_symbol_entry).name) (sym table.own_entries)
 
@@ -41,10 +41,7 @@ loop-j-preserved c =
     let one : symbol_value c.read_symbol.result ≡ denoted (get_or (drop 1 entries) j no_symbol_entry) =
     c.read_symbol.ensures
     ∙ ap denoted (ap (λ (k : ℕ). get_or entries k no_symbol_entry) (sym next) ∙ sym (get_or-drop 1 entries j no_symbol_entry)) in
-    record {
-      read = ap (map symbol_value) c.in_ok-push.ensures.items
-          ∙ map-append symbol_value c.loop-j.read.items (c.read_symbol.result ∷ [])
-          ∙ ap₂ (λ (ss : List SymbolValue) (s : SymbolValue). ss ++ (s ∷ [])) c.loop-j.invariant.read one
-          ∙ sym (map_more denoted (drop 1 entries) j no_symbol_entry within);
-      table = c.read.ensures.table ∙ c.loop-j.invariant.table;
-    }
+    ap (map symbol_value) c.in_ok-push.ensures.items
+    ∙ map-append symbol_value c.loop-j.read.items (c.read_symbol.result ∷ [])
+    ∙ ap₂ (λ (ss : List SymbolValue) (s : SymbolValue). ss ++ (s ∷ [])) c.loop-j.invariant one
+    ∙ sym (map_more denoted (drop 1 entries) j no_symbol_entry within)

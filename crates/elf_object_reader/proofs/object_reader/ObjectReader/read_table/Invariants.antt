@@ -7,7 +7,4 @@ use Rattle.elf_object_reader.proofs.object_reader.ObjectReader.read_table.Given 
 abbrev pub invariant-loop-j : goal.invariant-loop-j
 invariant-loop-j l =
     let file = l.self.file in
-    record {
-      read : map symbol_value l.read.items ≡ map (symbol_denoted file.left (sections_of_file file)) (take l.j (drop 1 l.symbols.entries));
-      table : l.last.table.now ≡ l.strings;
-    }
+    map symbol_value l.read.items ≡ map (symbol_denoted file.left (sections_of_file file)) (take l.j (drop 1 l.symbols.entries))

@@ -1,5 +1,5 @@
 -- The two lists of names that the code collects are those of the object's symbols and of its sections. So the known ends are those of the
--- names in the lists, and the two tables are the tables of the object's names.
+-- names in the first list, and the two tables are the tables of the object's names.
 use Rattle.std.proofs.Common.{◌≡◌, ℕ, List, map, ap, sym, subst, ◌∙◌}
 use Rattle.elf_object_type.specs.Object.{SymbolValue}
 use Rattle.elf_object_writer.specs.PlainSections.{section_names, symbol_names}
@@ -10,21 +10,19 @@ use Rattle.elf_object_writer.proofs.name_tables.NameTables.new.Goals as goal
 
 pub shared_table_at-requires : goal.shared_table_at-requires
 shared_table_at-requires c =
-    let symbols : map now_of c.deref.result.now ≡ symbol_names c.args.object.now =
-    ap (map now_of) (c.deref.ensures.value ∙ c.in_ok-symbol_names.ensures) ∙ names_of_symbols c.symbols.result.now ∙ ap (map (λ (s : SymbolValue). s.name)) c.symbols.ensures in
-    subst (λ (names : List (List ℕ)). AreTails names c.args.ends.symbols.now) (sym symbols) c.requires.symbols
-
-pub shared_table_at-requires-2 : goal.shared_table_at-requires-2
-shared_table_at-requires-2 c =
-    let sections : map now_of c.deref-2.result.now ≡ section_names c.args.object.now = ap (map now_of) c.deref-2.ensures.value ∙ c.in_ok-section_names.ensures in
-    subst (λ (names : List (List ℕ)). AreTails names c.args.ends.sections.now) (sym sections) c.requires.sections
+    let symbols : map now_of c.deref.result.now ≡ symbol_names c.args.source.now.object =
+    ap (map now_of) (c.deref.ensures.value ∙ c.in_ok-symbol_names.ensures) ∙ names_of_symbols c.symbols.result.now
+    ∙ ap (map (λ (s : SymbolValue). s.name)) c.symbols.ensures ∙ ap symbol_names c.object-object.ensures in
+    subst (λ (names : List (List ℕ)). AreTails names c.symbol_ends.result.now) (sym symbols) c.symbol_ends.ensures.tails
 
 pub returns-clause-ok : goal.returns-clause-ok
 returns-clause-ok c =
-    let o = c.args.object.now in
+    let o = c.args.source.now.object in
     let symbols : map now_of c.deref.result.now ≡ symbol_names o =
-    ap (map now_of) (c.deref.ensures.value ∙ c.in_ok-symbol_names.ensures) ∙ names_of_symbols c.symbols.result.now ∙ ap (map (λ (s : SymbolValue). s.name)) c.symbols.ensures in
-    let sections : map now_of c.deref-2.result.now ≡ section_names o = ap (map now_of) c.deref-2.ensures.value ∙ c.in_ok-section_names.ensures in
+    ap (map now_of) (c.deref.ensures.value ∙ c.in_ok-symbol_names.ensures) ∙ names_of_symbols c.symbols.result.now
+    ∙ ap (map (λ (s : SymbolValue). s.name)) c.symbols.ensures ∙ ap symbol_names c.object-object.ensures in
+    let sections : map now_of c.deref-2.result.now ≡ section_names o =
+    ap (map now_of) c.deref-2.ensures.value ∙ c.in_ok-section_names.ensures ∙ ap section_names c.object-object.ensures in
     record {
       strings = c.in_ok-strings.ensures.bytes ∙ ap string_table symbols;
       string_offsets = c.in_ok-strings.ensures.offsets ∙ ap (λ (names : List (List ℕ)). map (name_offset names) names) symbols;
