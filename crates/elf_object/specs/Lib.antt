@@ -11,6 +11,7 @@ pub use Rattle.elf_object_type.specs.Object
 pub use Rattle.elf_object_type.specs.ObjectRules
 pub use Rattle.elf_object_type.specs.ObjectView
 pub use Rattle.elf_object_type.specs.Positions
+pub use Rattle.elf_object_type.specs.RelocationTable
 pub use Rattle.elf_object_type.specs.SectionRules
 pub use Rattle.elf_object_type.specs.SymbolRules
 pub use Rattle.elf_object_type.specs.Widths

@@ -26,6 +26,6 @@ pub use elf_object_file::{prove_read_back, write_object};
 pub use elf_object_reader::object_of;
 pub use elf_object_strings::{Shared, shared_table};
 pub use elf_object_type::{
-    Body, Info, Object, ObjectFault, ObjectParts, Place, Relocation, Section, Symbol,
+    Body, Info, Object, ObjectFault, ObjectParts, Place, Relocation, Relocations, Section, Symbol,
 };
 pub use elf_object_writer::{Layout, LayoutFault, ObjectWriteFault, lay_out};

@@ -1,5 +1,6 @@
 //! Files by name, of the machine or of a test.
 ghost use Rattle.std.specs.Prelude.{◌≡◌, ℕ, Bool, false, List, None, Option, Some, IfErr, IfOk, IfSome};
+ghost use Rattle.elf_image_stream.specs.Source.{no_failures};
 ghost use Rattle.elf_tool_check.specs.Opener.{IsOpenFault};
 
 use elf_image_stream::{Seeking, Source};
@@ -43,10 +44,12 @@ pub trait Opener {
         ensures kept { holds self.new ≡ holds self.old }
         ensures still { opens self.new ≡ opens self.old };
 
-    /// A source of the file's bytes. It fails as [`reader`](Opener::reader) does, and what is known of the files stays.
+    /// A source of the file's bytes, no call of which has failed. It fails as [`reader`](Opener::reader) does, and what is known of the files
+    /// stays.
     fn source(&mut self, name: &str) -> Result<Self::Seek, OpenFault>
         ensures bytes { IfSome (holds self.old name.now) (λ bytes.
             IfOk result (λ source. Self.Seek.content source ≡ Some bytes)) }
+        ensures unfailed { IfOk result (λ source. Self.Seek.failures source ≡ no_failures) }
         ensures fault { IfErr result (IsOpenFault (opens self.old name.now)) }
         ensures kept { holds self.new ≡ holds self.old }
         ensures still { opens self.new ≡ opens self.old };

@@ -1,5 +1,6 @@
 //! Sources over bytes that give little, or fail at one call alone.
 ghost use Rattle.std.specs.Prelude.{◌≡◌, ◌≤◌, length, IfOk};
+ghost use Rattle.elf_image_stream.specs.Source.{no_failures};
 
 use elf_image_stream::{Bytes, Failed, Failures, Source};
 
@@ -21,7 +22,9 @@ pub struct PartialSource<'a> {
 }
 
 impl<'a> PartialSource<'a> {
-    pub fn new(bytes: &'a [u8], piece: usize) -> PartialSource<'a> {
+    pub fn new(bytes: &'a [u8], piece: usize) -> PartialSource<'a>
+        ensures { result.failures ≡ no_failures }
+    {
         PartialSource {
             bytes,
             len: bytes.len() as u64,

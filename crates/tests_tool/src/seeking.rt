@@ -1,5 +1,8 @@
 //! `check --seek` over sources of which one call fails, or which have fewer bytes than they say: each has its exact answer. Files that it
 //! rejects are in `cases/`.
+ghost use Rattle.std.specs.Prelude.{◌≡◌};
+ghost use Rattle.elf_image_stream.specs.Source.{no_failures};
+
 use crate::program::{HEADER, LimitedWriter, Outcome, ROOM, assert_ran};
 use elf_field::Order;
 use elf_tool_program::{OpenFault, Opener, ToolFault, Verdict, check_source, run};
@@ -12,7 +15,9 @@ use tests_files::{PartialSource, Sink, one_section};
 const ASKED: [u64; 6] = [0, 0, 136, 136, 97, 129];
 
 /// A source whose call of number `failing` alone fails, counted from 1, which asks for its length.
-fn failing_source(bytes: &[u8], failing: u64) -> PartialSource<'_> {
+fn failing_source(bytes: &[u8], failing: u64) -> PartialSource<'_>
+    ensures { result.failures ≡ no_failures }
+{
     let mut source = PartialSource::new(bytes, usize::MAX);
     source.has_no_length = failing == 1;
     source.failing = failing.saturating_sub(1);
