@@ -61,7 +61,7 @@ class Release:
         names = {it[len(self.folder) + 1 :] for it in files_below(self.folder)}
         # What git has in these folders; of the crate and the package without their tests.
         listed = ran("git", "ls-files", "[A-Z]*.md", "docs", "rules", "bindings", "examples", folder=TOP).stdout.split()
-        texts = {it for it in listed if not re.search(r"^bindings/(rust|python)/(tests/|\.gitignore)|^bindings/[^/]*$", it)}
+        texts = {it for it in listed if not re.search(r"^bindings/(rust|python)/tests/|^bindings/[^/]*$", it)}
         wanted = {*FILES, *texts}
         self.check(names == wanted, f"the archive lacks {sorted(wanted - names)}, and has beyond that {sorted(names - wanted)}")
         self.check(self.text("VERSION") == f"{VERSION}\n", "the file VERSION has not the version")
