@@ -1,13 +1,20 @@
 -- The numbers of a file that its accessors need, and what they say about it.
-use Rattle.std.specs.Prelude.{◌≡◌, ◌≢◌, ◌<◌, ◌≤◌, ◌+◌, ◌*◌, ◌==◌, if◌then◌else◌, ℕ, List, [], length, slice_index}
-use Rattle.elf_field.specs.Abi.{EHDR_SIZE, EI_DATA, ELFDATA2MSB, SHDR_SIZE, SHT_NULL}
-use Rattle.elf_field.specs.Shdr.{shdr_at}
-use Rattle.elf_field.specs.declared.order.Order.{Order}
-use Rattle.elf_field.specs.declared.order.Order.TheVariants.{Little, Big}
-use Rattle.elf_image_rules.specs.ImageRules.{KeepsRecordRules}
-use Rattle.elf_image_rules.specs.Tables.{file_counts, header, names, sections}
-use Rattle.elf_image_type.specs.Strings.{string}
+use Rattle.std.specs.Prelude.{◌≡◌, ◌≢◌, ◌<◌, ◌≤◌, ◌+◌, ◌*◌, ◌==◌, if◌then◌else◌, ℕ, List, [], length, slice_index, map}
+use Rattle.std.specs.List.{range_with_len}
 use Rattle.elf_c.specs.declared.shapes.File.{File}
+use Rattle.elf_c.specs.declared.shapes.Header.{Header}
+use Rattle.elf_c.specs.declared.shapes.Section.{Section}
+use Rattle.elf_c.specs.declared.shapes.Segment.{Segment}
+use Rattle.elf_field.specs.Abi.{EHDR_SIZE, EI_DATA, ELFDATA2MSB, SHDR_SIZE, SHT_NULL}
+use Rattle.elf_field.specs.Headers.{shdr_at}
+use Rattle.elf_field.specs.declared.ehdr.Ehdr.{Ehdr}
+use Rattle.elf_field.specs.declared.number.Order.TheVariants.{Little, Big}
+use Rattle.elf_field.specs.declared.number.Order.{Order}
+use Rattle.elf_field.specs.declared.phdr.Phdr.{Phdr}
+use Rattle.elf_field.specs.declared.shdr.Shdr.{Shdr}
+use Rattle.elf_image_rules.specs.Rules.{KeepsRecordRules}
+use Rattle.elf_image_rules.specs.Tables.{file_counts, header, names, sections, segments}
+use Rattle.elf_image_type.specs.ImageView.{string}
 
 -- the header lies in the file, and section header 0 does, where there is a section table: they have the counts
 abbrev pub HasCounts : List ℕ → Type 0
@@ -61,3 +68,63 @@ name_of_section b i =
     let h = header b in
     let s = sections b h i in
     if s.sh_type == SHT_NULL then [] else string (names b h) s.sh_name
+
+-- Records in the shapes that C has: field by field.
+
+-- the ELF header
+abbrev pub header_shape : Ehdr → Header
+header_shape h = record {
+  e_ident = h.e_ident;
+  e_type = h.e_type;
+  e_machine = h.e_machine;
+  e_version = h.e_version;
+  e_entry = h.e_entry;
+  e_phoff = h.e_phoff;
+  e_shoff = h.e_shoff;
+  e_flags = h.e_flags;
+  e_ehsize = h.e_ehsize;
+  e_phentsize = h.e_phentsize;
+  e_phnum = h.e_phnum;
+  e_shentsize = h.e_shentsize;
+  e_shnum = h.e_shnum;
+  e_shstrndx = h.e_shstrndx;
+}
+
+-- a section header
+abbrev pub section_shape : Shdr → Section
+section_shape s = record {
+  sh_name = s.sh_name;
+  sh_type = s.sh_type;
+  sh_flags = s.sh_flags;
+  sh_addr = s.sh_addr;
+  sh_offset = s.sh_offset;
+  sh_size = s.sh_size;
+  sh_link = s.sh_link;
+  sh_info = s.sh_info;
+  sh_addralign = s.sh_addralign;
+  sh_entsize = s.sh_entsize;
+}
+
+-- a program header
+abbrev pub segment_shape : Phdr → Segment
+segment_shape p = record {
+  p_type = p.p_type;
+  p_flags = p.p_flags;
+  p_offset = p.p_offset;
+  p_vaddr = p.p_vaddr;
+  p_paddr = p.p_paddr;
+  p_filesz = p.p_filesz;
+  p_memsz = p.p_memsz;
+  p_align = p.p_align;
+}
+
+-- The program headers of a file, as a list.
+
+abbrev pub segments_listed : List ℕ → List Phdr
+segments_listed b = map (segments b (header b)) (range_with_len 0 (file_counts b).segments)
+
+-- What is returned if a buffer is too small for the verdict.
+
+-- what is in place of a rule's number if the buffer is too small
+abbrev pub SHORT_ROOM : ℕ
+SHORT_ROOM = 0

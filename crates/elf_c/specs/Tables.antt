@@ -1,24 +1,34 @@
 -- The numbers of a table that the accessors of its entries need, and what they say about it. (gABI chapter 4, Sections, Symbol Table,
 -- Relocation; chapter 5, Note Section, Dynamic Section, Hash Table.)
-use Rattle.std.specs.Prelude.{◌≡◌, ℕ, ◌<◌, List, Option, None, Some, length, slice_index}
-use Rattle.elf_field.specs.Abi.{EI_DATA}
-use Rattle.elf_image_rules.specs.ImageRules.{KeepsRecordRules}
-use Rattle.elf_image_rules.specs.Rows.{FirstIn}
-use Rattle.elf_image_rules.specs.Tables.{bytes_in, content_extent}
-use Rattle.elf_table_all.specs.TableRules.{table_rules}
-use Rattle.elf_table_symbols.specs.declared.table_kind.TableKind.{TableKind}
-use Rattle.elf_table_symbols.specs.declared.table_kind.TableKind.TheVariants.{SymbolTable, RelocationTable, NoteSection, DynamicArray, HashTable}
-use Rattle.elf_table_symbols.specs.Sections.{Sections, content, count, order, section, sections_in}
-use Rattle.elf_table_symbols.specs.TableKind.{kind_of}
-use Rattle.elf_table_hash.specs.WordLists.{words_in}
-use Rattle.elf_table_lists.specs.DynamicArray.{dynamic_array_of}
-use Rattle.elf_table_lists.specs.Notes.{notes_of}
-use Rattle.elf_table_lists.specs.Relocations.{relocations_of}
-use Rattle.elf_table_symbols.specs.IndexTable.{index_table}
-use Rattle.elf_table_symbols.specs.Symbols.{symbols_of}
-use Rattle.elf_c_parts.specs.Room.{extent_in}
-use Rattle.elf_c_parts.specs.declared.room.Slot.{Slot}
+use Rattle.std.specs.Prelude.{◌≡◌, ℕ, ◌<◌, List, Option, None, Some, length, slice_index, ◌/◌, ◌+◌, ◌-◌, ◌==◌, ◌||◌, if◌then◌else◌, ◌*◌, ◌%◌, ◌≤◌, [], pos, unwrap_or}
+use Rattle.std.specs.List.{before_first}
+use Rattle.elf_c.specs.Files.{order_named}
+use Rattle.elf_c.specs.declared.shapes.DynamicEntry.{DynamicEntry}
+use Rattle.elf_c.specs.declared.shapes.Note.{Note}
+use Rattle.elf_c.specs.declared.shapes.Relocation.{Relocation}
+use Rattle.elf_c.specs.declared.shapes.Symbol.{Symbol}
 use Rattle.elf_c.specs.declared.shapes.Table.{Table}
+use Rattle.elf_c_parts.specs.Slots.{extent_in}
+use Rattle.elf_c_parts.specs.declared.room.Slot.{Slot}
+use Rattle.elf_extent.specs.declared.extent.Extent.{Extent}
+use Rattle.elf_field.specs.Abi.{EI_DATA, WORD_SIZE, SHT_NULL, SHN_XINDEX}
+use Rattle.elf_field.specs.declared.dynamic.Dyn.{Dyn}
+use Rattle.elf_field.specs.declared.number.Order.{Order}
+use Rattle.elf_field.specs.declared.sym.Sym.{Sym}
+use Rattle.elf_image_rules.specs.Rows.{FirstIn}
+use Rattle.elf_image_rules.specs.Rules.{KeepsRecordRules}
+use Rattle.elf_image_rules.specs.Tables.{bytes_in, content_extent, file_counts, header, sections}
+use Rattle.elf_image_type.specs.ImageView.{string}
+use Rattle.elf_table_all.specs.Tables.{table_rules}
+use Rattle.elf_table_hash.specs.HashTable.{words_in}
+use Rattle.elf_table_lists.specs.Dynamic.{dynamic_array_of, dynamic_entries, dynamic_entry_count, is_null_entry}
+use Rattle.elf_table_lists.specs.Notes.{notes_of, notes_in, desc_start, descsz, name_start, namesz, NoteValue, note_end}
+use Rattle.elf_table_lists.specs.Relocations.{relocations_of, has_addends, relocation_count}
+use Rattle.elf_table_symbols.specs.Sections.{Sections, content, count, order, section, sections_in, kind_of}
+use Rattle.elf_table_symbols.specs.Symbols.{index_table, symbols_of, entry_count, entry, word, SymbolEntryValue, place_of}
+use Rattle.elf_table_symbols.specs.declared.table_section.TableKind.TheVariants.{SymbolTable, RelocationTable, NoteSection, DynamicArray, HashTable, SectionGroup}
+use Rattle.elf_table_symbols.specs.declared.table_section.TableKind.{TableKind}
+use Rattle.elf_table_lists.specs.declared.relocations.Relocation as listed
 
 -- the bytes that are in a place, as far as they lie in the file
 abbrev pub slot_bytes : List ℕ → Slot → List ℕ
@@ -104,3 +114,113 @@ pub record IsTableOf (kind : TableKind) (table : Table) (b : List ℕ) (i : ℕ)
   pub typed : kind_of (section (sections_in b) i).sh_type ≡ Some kind
   pub sound : FirstIn (table_rules (sections_in b) i) None
   pub numbers : table ≡ table_in b i
+
+-- How many entries a table has, by its content.
+
+-- the entries of a dynamic section's content before the first one that ends the array
+abbrev pub entries_before_null : Order → List ℕ → ℕ
+entries_before_null o table = length (before_first is_null_entry (dynamic_entries o table (dynamic_entry_count table)))
+
+-- of a table of this kind in a section of this type: no accessor reads the members of a group
+abbrev pub length_in : TableKind → ℕ → Order → List ℕ → ℕ
+length_in SymbolTable type o table = entry_count table
+length_in RelocationTable type o table = relocation_count (has_addends type) table
+length_in SectionGroup type o table = 0
+length_in NoteSection type o table = length (notes_in o table 0)
+length_in DynamicArray type o table = entries_before_null o table
+length_in HashTable type o table = length table / WORD_SIZE
+
+-- Where strings, the names of sections and what notes hold are in a file. (gABI chapter 4, Sections, String Table; chapter 5, Note
+-- Section.)
+
+-- the string at offset x of the table in this extent; one of no bytes nowhere
+abbrev pub string_place : List ℕ → Extent → ℕ → Slot
+string_place b table x =
+    let len = length (string (bytes_in b table) x) in
+    if len == 0 then no_place else record { start = table.start + x; len = len }
+
+-- the name of section i; nowhere for an entry of type NULL, and where there is no section name string table
+abbrev pub name_place : List ℕ → ℕ → Slot
+name_place b i =
+    let h = header b in
+    let s = sections b h i in
+    let k = (file_counts b).name_table in
+    if (s.sh_type == SHT_NULL) || (k == 0) then no_place else string_place b (content_extent (sections b h k)) s.sh_name
+
+-- the name, without its closing zero, and the descriptor of the note at offset x of a content that begins at offset `start` of the file
+abbrev pub note_name_place : Order → List ℕ → ℕ → ℕ → Slot
+note_name_place o content start x = record { start = start + name_start x; len = namesz o content x - 1 }
+
+abbrev pub note_desc_place : Order → List ℕ → ℕ → ℕ → Slot
+note_desc_place o content start x = record { start = start + desc_start o content x; len = descsz o content x }
+
+abbrev pub NoteStandsAt : Note → Order → List ℕ → ℕ → ℕ → Type 0
+NoteStandsAt n o content start x = (n.name ≡ note_name_place o content start x) × (n.desc ≡ note_desc_place o content start x)
+
+-- The entries of tables in the shapes that C has.
+-- (gABI chapter 4, Symbol Table, Relocation; chapter 5, Note Section, Dynamic Section.)
+
+-- the symbol that the struct reports, of a file with these bytes
+abbrev pub symbol_told : List ℕ → Symbol → SymbolEntryValue
+symbol_told b s = record {
+  name = slot_bytes b s.name;
+  binding = s.st_info / 16;
+  symbol_type = s.st_info % 16;
+  other = s.st_other;
+  place = place_of s.st_shndx s.section;
+  value = s.st_value;
+  size = s.st_size;
+}
+
+-- and its entry of the symbol table
+abbrev pub symbol_record : Symbol → Sym
+symbol_record s = record {
+  st_name = s.st_name;
+  st_info = s.st_info;
+  st_other = s.st_other;
+  st_shndx = s.st_shndx;
+  st_value = s.st_value;
+  st_size = s.st_size;
+}
+
+-- the index of the section of symbol j, of this st_shndx, in a table with these words of its index table
+abbrev pub section_index : Order → List ℕ → ℕ → ℕ → ℕ
+section_index o words st_shndx j = if st_shndx == SHN_XINDEX then word o words j else st_shndx
+
+-- a symbol table has an entry j, and where this needs a word of the index table, that word
+abbrev pub HasSymbol : Table → List ℕ → ℕ → Type 0
+HasSymbol t b j =
+    let symbols = slot_bytes b t.content in
+    IsTableOfKind SymbolTable t × (j < entry_count symbols) ×
+    ((entry (order_named t.ei_data) symbols j).st_shndx ≡ SHN_XINDEX → WORD_SIZE * j + WORD_SIZE ≤ length (slot_bytes b t.linked))
+
+-- a relocation: without an addend it is 0
+abbrev pub relocation_shape : listed.Relocation → Relocation
+relocation_shape r = record {
+  r_offset = r.offset;
+  r_addend = unwrap_or r.addend (pos 0);
+  symbol = r.symbol;
+  relocation_type = r.relocation_type;
+}
+
+-- an entry of a dynamic array
+abbrev pub dynamic_shape : Dyn → DynamicEntry
+dynamic_shape e = record { d_tag = e.d_tag; d_un = e.d_un }
+
+-- the note that the struct reports, of a file with these bytes
+abbrev pub note_told : List ℕ → Note → NoteValue
+note_told b n = record { note_type = n.n_type; name = slot_bytes b n.name; desc = slot_bytes b n.desc }
+
+-- the note used for one that isn't there
+abbrev pub no_note_value : NoteValue
+no_note_value = record { note_type = 0; name = []; desc = [] }
+
+-- a note section has a note at offset x that is whole
+abbrev pub HasNoteAt : Table → List ℕ → ℕ → Type 0
+HasNoteAt t b x =
+    let notes = slot_bytes b t.content in
+    IsTableOfKind NoteSection t × (note_end (order_named t.ei_data) notes x ≤ length notes)
+
+-- its name and its descriptor lie in a file of len bytes
+abbrev pub LiesInFile : Note → ℕ → Type 0
+LiesInFile n len = (n.name.start + n.name.len ≤ len) × (n.desc.start + n.desc.len ≤ len)

@@ -1,30 +1,30 @@
 //! The entries of symbol tables, relocation sections and dynamic arrays, and their strings (gABI chapter 4, Symbol Table, Relocation,
 //! String Table; chapter 5, Dynamic Section).
-ghost use Rattle.std.specs.Prelude.{◌≡◌, ◌≢◌, ℕ, ◌*◌, ◌+◌, ◌^◌, ◌<◌, ◌≤◌, ◌↔◌, IfSome, IsSome, IsTrue, Some, SomeIff, get_or, length};
+ghost use Rattle.std.specs.Prelude.{◌≡◌, ◌≢◌, ℕ, ◌*◌, ◌+◌, ◌^◌, ◌<◌, ◌≤◌, ◌↔◌, IfSome, IsSome, IsTrue, Some, SomeIff, get_or, length, None};
 ghost use Rattle.std.specs.Bool.{OnFalse, OnTrue};
 ghost use Rattle.elf_field.specs.Abi.{SHN_XINDEX as shn_xindex, WORD_SIZE as word_size};
-ghost use Rattle.elf_image_type.specs.Strings.{string};
-ghost use Rattle.elf_table_all.specs.DynamicStrings.{dynamic_strings};
+ghost use Rattle.elf_image_type.specs.ImageView.{string};
+ghost use Rattle.elf_table_all.specs.Tables.{dynamic_strings};
 ghost use Rattle.elf_table_symbols.specs.Sections.{content, order, sections_in};
-ghost use Rattle.elf_table_symbols.specs.declared.table_kind.TableKind.TheVariants.{DynamicArray, RelocationTable, SymbolTable};
-ghost use Rattle.elf_table_lists.specs.DynamicArray.{dynamic_array_of, no_dynamic_entry};
+ghost use Rattle.elf_table_symbols.specs.declared.table_section.TableKind.TheVariants.{DynamicArray, RelocationTable, SymbolTable, HashTable};
+ghost use Rattle.elf_table_lists.specs.Dynamic.{dynamic_array_of, no_dynamic_entry};
 ghost use Rattle.elf_table_lists.specs.Relocations.{no_relocation_entry, relocations_of};
-ghost use Rattle.elf_table_symbols.specs.SymbolRules.{entry as entry_of};
-ghost use Rattle.elf_table_symbols.specs.Symbols.{symbol_entry_in, symbols_of};
+ghost use Rattle.elf_table_symbols.specs.Symbols.{entry as entry_of, symbol_entry_in, symbols_of};
 ghost use Rattle.elf_table_symbols.specs.SymbolView.{no_symbol_entry};
-ghost use Rattle.elf_c_parts.specs.Room.{extent_in};
-ghost use Rattle.elf_c.specs.Entries.{HasSymbol, dynamic_shape, relocation_shape, section_index, symbol_record, symbol_told};
+ghost use Rattle.elf_c_parts.specs.Slots.{extent_in};
+ghost use Rattle.elf_c.specs.Tables.{HasSymbol, dynamic_shape, relocation_shape, section_index, symbol_record, symbol_told, string_place, IsTableOfKind, IsTableOf, slot_bytes};
 ghost use Rattle.elf_c.specs.Files.{order_named};
-ghost use Rattle.elf_c.specs.Places.{string_place};
-ghost use Rattle.elf_c.specs.Tables.{IsTableOfKind, IsTableOf, slot_bytes};
+ghost use Rattle.elf_table_hash.specs.HashView.{hash_of_section};
+ghost use Rattle.elf_table_hash.specs.HashTable.{HasSymbolNamed, IsProbed};
 
-use crate::names::place_of_string;
+use crate::file::place_of_string;
 use crate::places::{bytes_of, order_of};
 use crate::shapes::{DynamicEntry, Relocation, Symbol, Table, put};
 use crate::tables::is_of_kind;
 use elf_c_parts::Slot;
 use elf_field::Order;
 use elf_field::abi::{SHN_XINDEX, SHT_RELA, SYM_SIZE, WORD_SIZE};
+use elf_table_hash::find_in;
 use elf_table_lists::{dynamic_entry, dynamic_entry_count, relocation_at, relocation_count};
 use elf_table_symbols::{TableKind, entry, word};
 
@@ -174,4 +174,46 @@ pub extern "C" fn elfmap_string(table: &Table, bytes: &[u8], offset: u64, place:
     }
     *place = place_of_string(bytes, table.strings, offset);
     true
+}
+
+// Finding a symbol by its name (gABI chapter 5, Hash Table).
+
+/// The index of the first symbol of this name on the chain of the name's bucket of a hash table that breaks no rule; false if no symbol
+/// from 1 on has the name, and for a table of another kind.
+#[unsafe(no_mangle)]
+pub extern "C" fn elfmap_find(table: &Table, bytes: &[u8], name: &[u8], symbol: &mut u32) -> bool
+    ensures there { (i : ℕ) → IsTableOf HashTable table.now bytes.now i →
+        IsTrue result ↔ HasSymbolNamed (hash_of_section (sections_in bytes.now) i) name.now }
+    ensures value { (i : ℕ) → IsTableOf HashTable table.now bytes.now i →
+        OnTrue result ((steps : ℕ) × IsProbed (hash_of_section (sections_in bytes.now) i) name.now (Some symbol.new) steps) }
+    ensures typed { OnTrue result (IsTableOfKind HashTable table.now) }
+    ensures unchanged { OnFalse result (symbol.new ≡ symbol.old) }
+{
+    match found_in(table, bytes, name) {
+        Some(found) => {
+            *symbol = found;
+            true
+        }
+        None => false,
+    }
+}
+
+/// The index of the first symbol of this name on the chain of the name's bucket; None if there is none, or it is no hash table.
+fn found_in(table: &Table, bytes: &[u8], name: &[u8]) -> Option<u32>
+    ensures there { (i : ℕ) → IsTableOf HashTable table.now bytes.now i →
+        IsSome result ↔ HasSymbolNamed (hash_of_section (sections_in bytes.now) i) name.now }
+    ensures value { (i : ℕ) → IsTableOf HashTable table.now bytes.now i →
+        (steps : ℕ) × IsProbed (hash_of_section (sections_in bytes.now) i) name.now result steps }
+    ensures typed { IfSome result (λ found. IsTableOfKind HashTable table.now) }
+{
+    if !is_of_kind(table, TableKind::HashTable) {
+        return None;
+    }
+    find_in(
+        order_of(table.ei_data),
+        bytes_of(bytes, table.content),
+        bytes_of(bytes, table.linked),
+        bytes_of(bytes, table.strings),
+        name,
+    )
 }

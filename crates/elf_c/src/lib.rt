@@ -8,14 +8,8 @@
 
 mod entries;
 mod file;
-mod find;
-mod lengths;
-mod load;
-mod names;
 mod notes;
-mod parts;
 mod places;
-mod records;
 mod shapes;
 mod tables;
 mod verdicts;

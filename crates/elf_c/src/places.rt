@@ -1,11 +1,10 @@
 //! Where the records and the contents of a file are, by numbers that may be any.
 ghost use Rattle.std.specs.Prelude.{◌≡◌, ◌<◌, ◌≤◌, ◌+◌, ◌*◌, SomeIff, length};
 ghost use Rattle.elf_field.specs.Abi.{PHDR_SIZE as phdr_size, SHDR_SIZE as shdr_size};
-ghost use Rattle.elf_field.specs.Phdr.{phdr_at};
-ghost use Rattle.elf_field.specs.Shdr.{shdr_at};
+ghost use Rattle.elf_field.specs.Headers.{phdr_at, shdr_at};
 ghost use Rattle.elf_image_rules.specs.Tables.{content_extent};
 ghost use Rattle.elf_table_symbols.specs.Sections.{count, section, sections_in};
-ghost use Rattle.elf_c_parts.specs.Room.{extent_in};
+ghost use Rattle.elf_c_parts.specs.Slots.{extent_in};
 ghost use Rattle.elf_c.specs.Files.{HasEntry, IsFileOf, file_order, order_named};
 ghost use Rattle.elf_c.specs.Tables.{slot_bytes};
 
@@ -13,7 +12,7 @@ use crate::shapes::File;
 use elf_c_parts::Slot;
 use elf_field::abi::{ELFDATA2MSB, PHDR_SIZE, SHDR_SIZE};
 use elf_field::{Order, Phdr, Shdr, get_at};
-use elf_image_rules::content::extent_of_content;
+use elf_image_rules::tables::extent_of_content;
 
 /// A place of no bytes.
 pub const NOWHERE: Slot = Slot { start: 0, len: 0 };

@@ -1,8 +1,8 @@
 //! The structs that C shares, by the names that the gABI gives their fields.
 ghost use Rattle.std.specs.Prelude.{◌≡◌, ◌↔◌, IfSome, IsSome, IsTrue};
 ghost use Rattle.std.specs.Bool.{OnFalse};
-ghost use Rattle.elf_c.specs.Entries.{dynamic_shape, relocation_shape};
-ghost use Rattle.elf_c.specs.Shapes.{header_shape, section_shape, segment_shape};
+ghost use Rattle.elf_c.specs.Tables.{dynamic_shape, relocation_shape};
+ghost use Rattle.elf_c.specs.Files.{header_shape, section_shape, segment_shape};
 
 use elf_c_parts::Slot;
 use elf_field::abi::EI_NIDENT;

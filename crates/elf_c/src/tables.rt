@@ -1,17 +1,58 @@
 //! The tables that sections hold (gABI chapters 4 and 5).
-ghost use Rattle.std.specs.Prelude.{◌≡◌, ◌↔◌, IsTrue, Some, SomeIff};
+ghost use Rattle.std.specs.Prelude.{◌≡◌, ℕ, length, ◌↔◌, IsTrue, Some, SomeIff};
 ghost use Rattle.std.specs.Bool.{OnFalse, OnTrue};
+ghost use Rattle.elf_table_lists.specs.Notes.{notes_in};
+ghost use Rattle.elf_c.specs.Tables.{length_in, HoldsTable, IsLinkThere, IsTableOfKind, index_place, linked_place, strings_place, table_in};
 ghost use Rattle.elf_table_symbols.specs.Sections.{sections_in};
-ghost use Rattle.elf_table_symbols.specs.IndexTable.{index_table};
+ghost use Rattle.elf_table_symbols.specs.Symbols.{index_table};
 ghost use Rattle.elf_c.specs.Files.{IsFileOf};
-ghost use Rattle.elf_c.specs.Tables.{HoldsTable, IsLinkThere, IsTableOfKind, index_place, linked_place, strings_place, table_in};
 
-use crate::lengths::length_of;
 use crate::places::{NOWHERE, bytes_of, order_of, place_of_content, section_of};
 use crate::shapes::{File, Table, put};
 use elf_c_parts::Slot;
-use elf_field::abi::SHT_SYMTAB_SHNDX;
+use elf_field::Order;
+use elf_field::abi::{NHDR_SIZE, SHT_RELA, SHT_SYMTAB_SHNDX, SYM_SIZE, WORD_SIZE};
+use elf_table_lists::{NoteHeader, first_null_entry, relocation_count};
 use elf_table_symbols::TableKind;
+
+// How many entries a table has (gABI chapters 4 and 5).
+
+/// How many entries a table of this kind has in a section of this type: of a dynamic array those before the first of tag `DT_NULL`, of a
+/// hash table its words.
+pub fn length_of(order: Order, content: &[u8], kind: TableKind, section_type: u32) -> usize
+    ensures { result ≡ length_in kind section_type order content.now }
+{
+    match kind {
+        TableKind::SymbolTable => content.len() / SYM_SIZE as usize,
+        TableKind::RelocationTable => relocation_count(section_type == SHT_RELA, content),
+        // No accessor reads a group: elfmap_table refuses it.
+        TableKind::SectionGroup => 0,
+        TableKind::NoteSection => note_count(order, content),
+        TableKind::DynamicArray => first_null_entry(order, content),
+        TableKind::HashTable => content.len() / WORD_SIZE as usize,
+    }
+}
+
+/// How many notes a content has: one that is cut is the last.
+fn note_count(order: Order, content: &[u8]) -> usize
+    ensures { result ≡ length (notes_in order content.now 0) }
+{
+    let mut count = 0;
+    let mut at = 0;
+    while at < content.len() {
+        if content.len() - at < NHDR_SIZE as usize {
+            return count + 1;
+        }
+        let header = NoteHeader {
+            order,
+            table: content,
+            at,
+        };
+        at = header.note_end();
+        count += 1;
+    }
+    count
+}
 
 /// The numbers of the table in section `index`; false if there is no section of this index, or it holds no table that the accessors
 /// read, or a section that it links to is not there.

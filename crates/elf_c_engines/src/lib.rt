@@ -5,7 +5,5 @@
 //! that it takes before it returns, and no state is kept between two calls. Begin with `reports`, then `answer`.
 #![tactic(auto)]
 
-mod answer;
-mod files;
-mod links;
-mod reports;
+mod calls;
+mod exports;

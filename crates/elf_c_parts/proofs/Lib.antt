@@ -1,4 +1,2 @@
 -- The lemmas of this crate.
-mod FileExtents
-mod PartSlots
 mod Slots

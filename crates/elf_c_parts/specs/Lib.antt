@@ -1,4 +1,2 @@
 -- The words of this crate's contracts.
-pub mod PartRow
-pub mod Parts
-pub mod Room
+pub mod Slots

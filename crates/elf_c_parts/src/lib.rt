@@ -17,12 +17,8 @@
 //! ```
 #![tactic(auto)]
 
-mod accounting;
-mod filing;
-mod members;
+mod parts;
 mod room;
-mod shapes;
 
-pub use filing::parts_in;
+pub use parts::{GAP, Part, PartsFault, parts_in};
 pub use room::{ShortRoom, Slot, verdict_in};
-pub use shapes::{GAP, Part, PartsFault};

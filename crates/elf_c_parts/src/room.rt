@@ -1,11 +1,10 @@
 //! The verdict on a file, with a buffer for its extents.
 ghost use Rattle.std.specs.Prelude.{◌≡◌, ◌≤◌, ◌<◌, IfErr, IfOk, OnOk, Some, filter, length, map, take};
 ghost use Rattle.std.specs.List.{All};
-ghost use Rattle.elf_extent.specs.Extent.{Doubly, holds_any};
-ghost use Rattle.elf_extent.specs.Least.{IsLowest};
-ghost use Rattle.elf_image_rules.specs.FileExtents.{file_extents};
-ghost use Rattle.elf_image_rules.specs.ImageRules.{IsFault};
-ghost use Rattle.elf_c_parts.specs.Room.{HasSlotsFor, IsShortRoom, extent_in};
+ghost use Rattle.elf_extent.specs.Extent.{Doubly, holds_any, IsLowest};
+ghost use Rattle.elf_image_rules.specs.JudgedRecords.{file_extents};
+ghost use Rattle.elf_image_rules.specs.Rules.{IsFault};
+ghost use Rattle.elf_c_parts.specs.Slots.{HasSlotsFor, IsShortRoom, extent_in};
 
 use elf_extent::{Extent, Row, sweep};
 use elf_image_rules::rules::SHARED_BYTE;
@@ -100,7 +99,7 @@ pub(crate) struct SlotRow<'a> {
 }
 
 impl<'a> Row for SlotRow<'a> {
-    ghost use Rattle.elf_c_parts.specs.Room.{slot_extents, slot_looks};
+    ghost use Rattle.elf_c_parts.specs.Slots.{slot_extents, slot_looks};
 
     ghost extents = { slot_extents };
 

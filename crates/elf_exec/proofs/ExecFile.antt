@@ -1,50 +1,273 @@
 -- The executable of a sound link, if it is not too long, is an image with its own header and program headers. Its parts are in order, and
 -- its records keep the rules: places and addresses are multiples of the page, and addresses ascend. So the laws of written files hold
 -- (`IsWritable`).
-use Rattle.std.proofs.Common.{◌≡◌, ◌≢◌, ◌<◌, ◌≤◌, ◌+◌, ◌*◌, ◌%◌, ◌^◌, ℕ, zero, suc, Bool, true, false, List, [], ◌∷◌, length, map, take, drop, get_or, refl, sym, ap, subst, ◌∙◌, inl, inr, arith, length-drop}
-use Rattle.std.specs.Prelude.{if◌then◌else◌, Some, None, slice_get, slice_index}
+use Rattle.std.proofs.Common.{◌≡◌, ◌≢◌, ◌<◌, ◌+◌, ◌^◌, ◌%◌, ◌⊎◌, ℕ, zero, suc, Bool, true, false, List, [], ◌∷◌, ◌++◌, length, map, get_or, refl, sym, ap, subst, inl, inr, arith, ◌≤◌, ◌*◌, take, drop, ◌∙◌, length-drop}
+use Rattle.std.specs.Prelude.{◌==◌, if◌then◌else◌, Some, None, slice_get, slice_index}
 use Rattle.std.specs.List.{AllByRecursion, flat_map}
+use Rattle.std.proofs.lemmas.Bool.{ne_eqb, cases_lt, cases_eq}
+use Rattle.std.proofs.lemmas.List.{get_or_past, get_or-drop, get_or-take, length-map, length-take}
 use Rattle.std.proofs.Math.Nat.{zero-mod}
-use Rattle.std.proofs.lemmas.Bool.{cases_eq, cases_lt, ne_eqb}
 use Rattle.std.proofs.lemmas.Nat.{pow_pos}
-use Rattle.std.proofs.lemmas.List.{get_or-drop, get_or-take, get_or_past, length-map, length-take}
-use Rattle.elf_field.specs.Abi.{EHDR_SIZE, PHDR_SIZE, PN_XNUM, PT_NULL}
-use Rattle.elf_field.specs.declared.ehdr.Ehdr.{Ehdr}
-use Rattle.elf_field.specs.declared.order.Order.{Order}
-use Rattle.elf_field.specs.declared.phdr.Phdr.{Phdr}
-use Rattle.elf_field.specs.Bytes.{IsBytes}
-use Rattle.elf_field.specs.Ehdr.{IsEhdr, ehdr_bytes}
-use Rattle.elf_field.specs.EhdrLaws.{ehdr_laws}
-use Rattle.elf_field.specs.Phdr.{IsPhdr, phdr_bytes, phdr_laws}
-use Rattle.elf_field.proofs.RecordTableLaws.{IsBytes-table, length-table}
-use Rattle.elf_extent.specs.Place.{Fits, alignment}
+use Rattle.elf_exec.proofs.LoadSegments.{load_some, load_stands, loads_ascend}
+use Rattle.elf_exec.specs.Executable.{encoding_of, exec_header, file_size, identification_of, load_part, program_header, program_headers, no_load, bytes_from, exec_bytes, header_bytes, load_parts, table_bytes, load_in, loads, IsExecFile, IsSoundLink}
+use Rattle.elf_exec.specs.declared.load.Load.{Load}
 use Rattle.elf_extent.proofs.Public.{fits_length}
-use Rattle.elf_image_rules.specs.ImageRules.{IsFault}
-use Rattle.elf_image_rules.specs.KeepsRules.{IsAlignment, KeepsEachRecordRule, KeepsProgramTableRules, KeepsSegmentRules}
-use Rattle.elf_image_rules.specs.SegmentRules.{IsLoad}
-use Rattle.elf_image_rules.specs.Tables.{order_of, program_header_count, program_header_of, section_header_of}
-use Rattle.elf_image_outline.specs.declared.part.Owner.{Owner}
-use Rattle.elf_image_outline.specs.declared.part.Owner.TheVariants.{Content, Gap, Header, ProgramTable, SectionTable}
-use Rattle.elf_image_outline.specs.Image.{ImageValue, Stands, value_names}
+use Rattle.elf_extent.specs.Place.{Fits, alignment}
+use Rattle.elf_field.proofs.RecordTableLaws.{IsBytes-table, length-table}
+use Rattle.elf_field.specs.Abi.{EHDR_SIZE, ELFDATA2LSB, ELFDATA2MSB, MAGIC, PHDR_SIZE, PN_XNUM, PT_NULL}
+use Rattle.elf_field.specs.Bytes.{IsBytes, IsBytes-cons, IsBytes-nil}
+use Rattle.elf_field.specs.Headers.{IsEhdr, ehdr_bytes, ehdr_laws, IsPhdr, phdr_bytes, phdr_laws}
+use Rattle.elf_field.specs.declared.ehdr.Ehdr.{Ehdr}
+use Rattle.elf_field.specs.declared.number.Order.TheVariants.{Little, Big}
+use Rattle.elf_field.specs.declared.number.Order.{Order}
+use Rattle.elf_field.specs.declared.phdr.Phdr.{Phdr}
 use Rattle.elf_image_outline.proofs.Standing.{mapped_at}
-use Rattle.elf_image_type.specs.FileParts.{AreFileParts, FileContents, HasContents, IsPartOf, IsWritable, WrittenPart, owner_bytes, owner_start, spread, unaligned, written}
+use Rattle.elf_image_outline.specs.Image.{ImageValue, Stands, value_names}
+use Rattle.elf_image_outline.specs.declared.outline.Owner.TheVariants.{Gap, Header, ProgramTable, Content, SectionTable}
+use Rattle.elf_image_outline.specs.declared.outline.Owner.{Owner}
+use Rattle.elf_image_rules.specs.KeepsRules.{KeepsIdentRules, IsAlignment, KeepsEachRecordRule, KeepsProgramTableRules, KeepsSegmentRules}
+use Rattle.elf_image_rules.specs.Rules.{IsFault, IsLoad}
+use Rattle.elf_image_rules.specs.Tables.{order_of, program_header_of, program_header_count, section_header_of}
 use Rattle.elf_image_type.proofs.Public.{in_spread, written_accepted, written_is_bytes, written_read}
-use Rattle.elf_object_type.specs.Object.{ObjectValue}
+use Rattle.elf_image_type.specs.RelocatableFile.{WrittenPart, unaligned, AreFileParts, FileContents, HasContents, IsPartOf, IsWritable, owner_bytes, owner_start, spread, written}
 use Rattle.elf_link_field.specs.declared.rule.RelocRule.{RelocRule}
-use Rattle.elf_link_map.specs.LinkMap.{LinkMapValue}
-use Rattle.elf_link_map.specs.Standing.{ArePaged, OutputsStand}
-use Rattle.elf_link_map.specs.Apart.{StandApart}
+use Rattle.elf_link_files.specs.Files.{no_object, object_at}
 use Rattle.elf_link_map.proofs.Public.{are_paged, outputs_stand, parts_apart}
-use Rattle.elf_link_relocate.specs.declared.linked.Identity.{Identity}
-use Rattle.elf_link_relocate.specs.Linked.{identity_of}
+use Rattle.elf_link_map.specs.LinkMap.{LinkMapValue}
+use Rattle.elf_link_map.specs.Standing.{ObjectsFit, ArePaged, OutputsStand, StandApart}
 use Rattle.elf_link_relocate.proofs.Public.{memory_bytes}
-use Rattle.elf_exec.specs.ExecLaid.{bytes_from, exec_bytes, exec_header, file_size, header_bytes, load_part, load_parts, program_header, program_headers, table_bytes}
-use Rattle.elf_exec.specs.Loads.{load_in, loads}
-use Rattle.elf_exec.proofs.Segments.{load_some}
-use Rattle.elf_exec.specs.Executable.{IsExecFile, IsSoundLink}
-use Rattle.elf_exec.proofs.Places.{load_stands, loads_ascend}
-use Rattle.elf_exec.proofs.Records.{bytes_of_gaps, contents_fit, each_program_header, entry_size, exec_parts, gap_part, gaps_are_bytes, header_fits, identification_kept, length-program_headers, no_table, order_identified, place_multiple, program_header_is, sizes_of_gaps, table_offset, table_owned, table_owner, table_unowned}
-use Rattle.elf_exec.proofs.Widths.{have_bytes, identity_fits}
+use Rattle.elf_link_relocate.specs.Fields.{content_of}
+use Rattle.elf_link_relocate.specs.Linked.{identity_of, HaveBytes}
+use Rattle.elf_link_relocate.specs.declared.linked.Identity.{Identity}
+use Rattle.elf_object_type.specs.Object.{BodyValue, ObjectValue, SectionValue, bits, group, no_bits, no_section, relocs, BodyFits, ObjectFits, SectionFits}
+
+-- The header of an executable fits its fields, if its identity does, and has a sound identification. By induction on the segments: each has
+-- its program header, its place is aligned, and bytes of its size fit there. There are also small facts on the parts of the file, in which
+-- the bytes of segments have no owner.
+
+-- ---- the header
+
+pub record IdentityFits (i : Identity) : Type 0 where
+  pub osabi : i.osabi < 2 ^ 8
+  pub abi : i.abi < 2 ^ 8
+  pub machine : i.machine < 2 ^ 16
+  pub flags : i.flags < 2 ^ 32
+
+order_encoded : (order : Order) (rest : List ℕ) → order_of (MAGIC ++ (2 ∷ encoding_of order ∷ rest)) ≡ order
+unfolding order_of
+order_encoded Little rest = refl
+order_encoded Big rest = refl
+
+pub order_identified : (i : Identity) → order_of (identification_of i) ≡ i.order
+order_identified i = order_encoded i.order _
+
+identification_magic : (i : Identity) (k : ℕ) → k < length MAGIC → get_or (identification_of i) k 0 ≡ get_or MAGIC k 0
+identification_magic i zero lt = refl
+identification_magic i (suc zero) lt = refl
+identification_magic i (suc (suc zero)) lt = refl
+identification_magic i (suc (suc (suc zero))) lt = refl
+identification_magic i (suc (suc (suc (suc k)))) lt = absurd (omega arith)
+
+known_encoding : (order : Order) → (encoding_of order ≡ ELFDATA2LSB) ⊎ (encoding_of order ≡ ELFDATA2MSB)
+known_encoding Little = inl refl
+known_encoding Big = inr refl
+
+pub identification_kept : (i : Identity) → KeepsIdentRules (identification_of i)
+identification_kept i = record {
+  magic = identification_magic i;
+  class = refl;
+  encoding = known_encoding i.order;
+  ident_version = refl;
+}
+
+all_are_bytes : (b : List ℕ) → AllByRecursion (λ x. x < 256) b → IsBytes b
+all_are_bytes [] all = IsBytes-nil
+all_are_bytes (x ∷ b) all = IsBytes-cons x b all.0 (all_are_bytes b all.1)
+
+identification_bytes : (i : Identity) → IdentityFits i → IsBytes (identification_of i)
+identification_bytes i fits =
+    let encoded : encoding_of i.order < 256 = elim (known_encoding i.order) [ inl little ↦ omega arith | inr big ↦ omega arith ] in
+    let osabi = fits.osabi in
+    let abi = fits.abi in
+    all_are_bytes (identification_of i) (
+      omega arith,
+      (
+        omega arith,
+        (
+          omega arith,
+          (
+            omega arith,
+            (
+              omega arith,
+              (
+                encoded,
+                (
+                  omega arith,
+                  (
+                    omega arith,
+                    (
+                      omega arith,
+                      (omega arith, (omega arith, (omega arith, (omega arith, (omega arith, (omega arith, (omega arith, tt))))))),
+                    ),
+                  ),
+                ),
+              ),
+            ),
+          ),
+        ),
+      ),
+    )
+
+if_zero_fits : (b : Bool) (x n : ℕ) → x < n → (if b then 0 else x) < n
+if_zero_fits true x n lt = omega arith
+if_zero_fits false x n lt = lt
+
+pub header_fits : (i : Identity) (entry count : ℕ) → IdentityFits i → entry < 2 ^ 64 → count < 2 ^ 16 → IsEhdr (exec_header i entry count)
+header_fits i entry count fits entry_fits few = record {
+  e_ident = refl;
+  e_ident_bytes = identification_bytes i fits;
+  e_type = omega arith;
+  e_machine = fits.machine;
+  e_version = omega arith;
+  e_entry = entry_fits;
+  e_phoff = if_zero_fits (count == 0) EHDR_SIZE (2 ^ 64) (omega arith);
+  e_shoff = omega arith;
+  e_flags = fits.flags;
+  e_ehsize = omega arith;
+  e_phentsize = if_zero_fits (count == 0) PHDR_SIZE (2 ^ 16) (omega arith);
+  e_phnum = few;
+  e_shentsize = omega arith;
+  e_shnum = omega arith;
+  e_shstrndx = omega arith;
+}
+
+-- the program header table is after the header, where there is one
+pub table_offset : (i : Identity) (entry count : ℕ) → 0 < count → (exec_header i entry count).e_phoff ≡ EHDR_SIZE
+table_offset i entry count some = rw (ne_eqb count 0 (λ none. omega arith)) refl
+
+pub entry_size : (i : Identity) (entry count : ℕ) → count ≢ 0 → (exec_header i entry count).e_phentsize ≡ PHDR_SIZE
+entry_size i entry count some = rw (ne_eqb count 0 some) refl
+
+pub no_table : (i : Identity) (entry count : ℕ) → count ≡ 0 → (exec_header i entry count).e_phoff ≡ 0
+no_table i entry count none = rw none refl
+
+-- ---- the program headers
+
+pub length-program_headers : (page : ℕ) (ls : List Load) (places : List ℕ) → length places ≡ length ls → length (program_headers page ls places) ≡ length ls
+length-program_headers page [] places long = refl
+length-program_headers page (load ∷ ls) [] long = absurd (omega arith)
+length-program_headers page (load ∷ ls) (place ∷ places) long = ap suc (length-program_headers page ls places (omega arith))
+
+pub program_header_is : (page : ℕ) (ls : List Load) (places : List ℕ) (j : ℕ) → length places ≡ length ls → j < length ls →
+    program_header_of (program_headers page ls places) j ≡ program_header page (get_or ls j no_load) (get_or places j 0)
+program_header_is page [] places j long lt = absurd (omega arith)
+program_header_is page (load ∷ ls) [] j long lt = absurd (omega arith)
+program_header_is page (load ∷ ls) (place ∷ places) zero long lt = refl
+program_header_is page (load ∷ ls) (place ∷ places) (suc j) long lt = program_header_is page ls places j (omega arith) (omega arith)
+
+-- something said of each program header
+pub each_program_header : (P : Phdr → Type 0) (page : ℕ) (ls : List Load) (places : List ℕ) → length places ≡ length ls →
+    ((j : ℕ) → j < length ls → P (program_header page (get_or ls j no_load) (get_or places j 0))) → AllByRecursion P (program_headers page ls places)
+each_program_header P page [] places long each = tt
+each_program_header P page (load ∷ ls) [] long each = absurd (omega arith)
+each_program_header P page (load ∷ ls) (place ∷ places) long each =
+    (each 0 (omega arith), each_program_header P page ls places (omega arith) (λ j lt. each (suc j) (omega arith)))
+
+-- ---- the bytes of the segments
+
+-- bytes of the segments' sizes fit where the segments do
+pub contents_fit : (page : ℕ) (ls : List Load) (contents : List (List ℕ)) (from : ℕ) (places : List ℕ) → length contents ≡ length ls →
+    ((j : ℕ) → j < length ls → length (get_or contents j []) ≡ file_size (get_or ls j no_load)) →
+    Fits (map (load_part page) ls) from places → Fits (map unaligned contents) from places
+contents_fit page [] [] from places long sizes fits = fits
+contents_fit page [] (c ∷ contents) from places long sizes fits = absurd (omega arith)
+contents_fit page (load ∷ ls) [] from places long sizes fits = absurd (omega arith)
+contents_fit page (load ∷ ls) (c ∷ contents) from [] long sizes fits = absurd fits
+contents_fit page (load ∷ ls) (c ∷ contents) from (place ∷ places) long sizes (multiple, le, rest) =
+    let size : length c ≡ file_size load = sizes 0 (omega arith) in
+    let later = contents_fit page ls contents (place + file_size load) places (omega arith) (λ j lt. sizes (suc j) (omega arith)) rest in
+    (omega arith, le, subst (λ (n : ℕ). Fits (map unaligned contents) (place + n) places) (sym size) later)
+
+-- each place is a multiple of the part's alignment
+pub place_multiple : (page : ℕ) (ls : List Load) (from : ℕ) (places : List ℕ) (j : ℕ) → Fits (map (load_part page) ls) from places → j < length ls →
+    get_or places j 0 % alignment (load_part page (get_or ls j no_load)).1 ≡ 0
+place_multiple page [] from places j fits lt = absurd (omega arith)
+place_multiple page (load ∷ ls) from [] j fits lt = absurd fits
+place_multiple page (load ∷ ls) from (place ∷ places) zero (multiple, le, rest) lt = multiple
+place_multiple page (load ∷ ls) from (place ∷ places) (suc j) (multiple, le, rest) lt = place_multiple page ls (place + file_size load) places j rest (omega arith)
+
+-- ---- the parts of the file
+
+-- a program header table without entries is none
+pub table_owner : ℕ → Owner
+table_owner count = if count == 0 then Gap else ProgramTable
+
+pub table_owned : (count : ℕ) → 0 < count → table_owner count ≡ ProgramTable
+unfolding table_owner
+table_owned count some = rw (ne_eqb count 0 (λ none. omega arith)) refl
+
+pub table_unowned : (count : ℕ) → count ≡ 0 → table_owner count ≡ Gap
+unfolding table_owner
+table_unowned count none = rw none refl
+
+-- no owner is known of the bytes of a segment
+abbrev pub gap_part : List ℕ → WrittenPart
+gap_part content = record { owner = Gap; bytes = content }
+
+abbrev pub exec_parts : List ℕ → Owner → List ℕ → List (List ℕ) → List WrittenPart
+exec_parts header owner table contents =
+    record { owner = Header; bytes = header } ∷ record { owner = owner; bytes = table } ∷ map gap_part contents
+
+pub bytes_of_gaps : (contents : List (List ℕ)) → map (λ p. p.bytes) (map gap_part contents) ≡ contents
+bytes_of_gaps [] = refl
+bytes_of_gaps (c ∷ contents) = ap (λ (cs : List (List ℕ)). c ∷ cs) (bytes_of_gaps contents)
+
+pub sizes_of_gaps : (contents : List (List ℕ)) → map (λ p. unaligned p.bytes) (map gap_part contents) ≡ map unaligned contents
+sizes_of_gaps [] = refl
+sizes_of_gaps (c ∷ contents) = ap (λ (sizes : List (ℕ × ℕ)). unaligned c ∷ sizes) (sizes_of_gaps contents)
+
+pub gaps_are_bytes : (contents : List (List ℕ)) → ((j : ℕ) → j < length contents → IsBytes (get_or contents j [])) →
+    AllByRecursion (λ p. IsBytes p.bytes) (map gap_part contents)
+gaps_are_bytes [] are = tt
+gaps_are_bytes (c ∷ contents) are = (are 0 (omega arith), gaps_are_bytes contents (λ j lt. are (suc j) (omega arith)))
+
+-- The identity of the first object fits a header, and the contents of all sections are bytes: each object fits a file. The object and the
+-- section read where there is none fit too.
+
+section_fits : (ss : List SectionValue) (s : ℕ) → AllByRecursion SectionFits ss → s < length ss → SectionFits (get_or ss s no_section)
+section_fits [] s fit lt = absurd (omega arith)
+section_fits (x ∷ ss) zero fit lt = fit.0
+section_fits (x ∷ ss) (suc s) fit lt = section_fits ss s fit.1 (omega arith)
+
+body_bytes : (body : BodyValue) → BodyFits body → IsBytes (content_of body)
+body_bytes (bits type content) fits = fits.1
+body_bytes (no_bits size) fits = IsBytes-nil
+body_bytes (relocs rela target entries) fits = IsBytes-nil
+body_bytes (group comdat signature members) fits = IsBytes-nil
+
+object_bytes : (o : ObjectValue) (s : ℕ) → ObjectFits o → IsBytes (content_of (get_or o.sections s no_section).body)
+object_bytes o s fits = elim (cases_lt s (length o.sections)) [
+  | inl lt ↦ body_bytes (get_or o.sections s no_section).body (section_fits o.sections s fits.sections lt).body
+  | inr past ↦ subst (λ (x : SectionValue). IsBytes (content_of x.body)) (sym (get_or_past o.sections s no_section past)) IsBytes-nil
+]
+
+no_object_fits : ObjectFits no_object
+no_object_fits = record { osabi = omega arith; abi = omega arith; machine = omega arith; flags = omega arith; sections = tt; symbols = tt }
+
+-- also that which represents a file that isn't there
+object_fits : (fs : List ObjectValue) (f : ℕ) → ObjectsFit fs → ObjectFits (object_at fs f)
+object_fits fs f fit = elim (cases_lt f (length fs)) [
+  | inl lt ↦ fit f lt
+  | inr past ↦ subst ObjectFits (sym (get_or_past fs f no_object past)) no_object_fits
+]
+
+pub have_bytes : (fs : List ObjectValue) → ObjectsFit fs → HaveBytes fs
+have_bytes fs fit f s = object_bytes (object_at fs f) s (object_fits fs f fit)
+
+pub identity_fits : (fs : List ObjectValue) → ObjectsFit fs → IdentityFits (identity_of fs)
+identity_fits fs fit =
+    let o = object_fits fs 0 fit in
+    record { osabi = o.osabi; abi = o.abi; machine = o.machine; flags = o.flags }
 
 -- ---- one segment, with bits or without
 

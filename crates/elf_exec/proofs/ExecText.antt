@@ -1,34 +1,304 @@
 -- The executable as it is written: the header, the program header table, and each segment's bytes after zeros. These bytes are memory's, by
 -- cases: commons, an output without bits, an output with bits. The length is the end of the last part.
-use Rattle.std.proofs.Common.{◌≡◌, ◌<◌, ◌+◌, ◌-◌, ◌*◌, ◌⊎◌, ℕ, zero, suc, Bool, true, false, List, [], ◌∷◌, ◌++◌, length, map, get_or, replicate, refl, sym, ap, subst, ◌∙◌, inl, inr, arith, length-append}
-use Rattle.std.specs.Prelude.{slice_index}
+use Rattle.std.proofs.Common.{◌≡◌, ◌<◌, ◌≤◌, ◌-◌, ℕ, List, length, refl, ap, inl, inr, arith, ◌+◌, ◌⊎◌, zero, suc, [], ◌∷◌, ◌++◌, map, get_or, slice_index, replicate, sym, ap₂, ◌∙◌, append_assoc, length-append, true, false, subst, ◌*◌, Bool, Result, Ok, Err}
+use Rattle.std.proofs.lemmas.Bool.{cases_lt, eq-eqb, ne_eqb}
 use Rattle.std.specs.List.{flat_map, range_with_len}
-use Rattle.std.proofs.lemmas.Bool.{cases_lt}
-use Rattle.std.proofs.lemmas.List.{get_or-map, length-map}
-use Rattle.elf_field.specs.EhdrLaws.{ehdr_laws}
-use Rattle.elf_field.specs.Phdr.{phdr_laws}
-use Rattle.elf_field.specs.declared.phdr.Phdr.{Phdr}
-use Rattle.elf_field.proofs.RecordTableLaws.{length-table}
-use Rattle.elf_extent.specs.Place.{Fits, Least}
-use Rattle.elf_extent.proofs.Public.{fits_length}
-use Rattle.elf_image_type.specs.FileParts.{spread, unaligned}
-use Rattle.elf_image_type.proofs.Public.{length-spread}
-use Rattle.elf_object_type.specs.Object.{ObjectValue}
-use Rattle.elf_link_files.specs.Items.{AreEach}
-use Rattle.elf_link_map.specs.LinkMap.{LinkMapValue}
-use Rattle.elf_link_map.specs.Standing.{output_at}
-use Rattle.elf_link_relocate.specs.Linked.{LinkedValue, identity_of}
+use Rattle.std.proofs.lemmas.List.{get_or-append_right, get_or-replicate, get_or_append_left, length-replicate, get_or-map, length-map}
+use Rattle.std.specs.Prelude.{MatchOption, Option, None, Some, unwrap_or, IfErr}
+use Rattle.std.proofs.lemmas.Simd.{map-map}
+use Rattle.elf_exec.proofs.LoadSegments.{load_of}
+use Rattle.elf_exec.specs.ExecWriting.{EndTooFar, file_end, piece, member_content, output_content, IsExec, IsTooLong, exec_text, load_content, load_contents, loads_text, placed_header, placed_table, IsPlacedExec, PlacedExecValue, exec_end, member_piece, IsPartsFault, IsPlacingFault}
+use Rattle.elf_exec.specs.Executable.{AreLoadBytes, bytes_from, exec_bytes, exec_header, file_size, header_bytes, load_part, load_parts, program_header, program_headers, table_bytes, commons_load, load_in, loads, no_load, output_load, EndInTime}
+use Rattle.elf_exec.specs.declared.exec_writing.ExecFault.TheVariants.{TooLong, OutOfMemory, Io}
+use Rattle.elf_exec.specs.declared.exec_writing.ExecFault.{ExecFault}
 use Rattle.elf_exec.specs.declared.load.Load.{Load}
-use Rattle.elf_exec.specs.ExecLaid.{AreLoadBytes, bytes_from, exec_bytes, exec_header, file_size, header_bytes, load_part, load_parts, program_header, program_headers, table_bytes}
-use Rattle.elf_exec.specs.ExecWriting.{IsExec, IsTooLong}
-use Rattle.elf_link_relocate.specs.ReadyLink.{IsReadyLink}
-use Rattle.elf_exec.specs.Loads.{commons_load, load_in, loads, no_load, output_load}
-use Rattle.elf_exec.specs.Pieces.{exec_text, load_content, load_contents, loads_text, output_content, piece, placed_header, placed_table}
-use Rattle.elf_exec.specs.PlacedExec.{EndTooFar, IsPlacedExec, PlacedExecValue, exec_end}
-use Rattle.elf_exec.proofs.Ends.{end_none, end_some}
-use Rattle.elf_exec.proofs.OutputBytes.{length-output, output_memory}
-use Rattle.elf_exec.proofs.Rows.{same_pieces, spread_pieces}
-use Rattle.elf_exec.proofs.Segments.{load_of}
+use Rattle.elf_extent.proofs.Public.{above_earlier, above_from, fits_length}
+use Rattle.elf_extent.specs.Place.{Fits, IsOverflowAt, end_of, Least}
+use Rattle.elf_field.proofs.RecordTableLaws.{length-table}
+use Rattle.elf_field.specs.Headers.{ehdr_laws, phdr_laws}
+use Rattle.elf_field.specs.declared.phdr.Phdr.{Phdr}
+use Rattle.elf_image_stream.proofs.Public.{sends_behind}
+use Rattle.elf_image_stream.specs.Output.{Sends, WentOut}
+use Rattle.elf_image_stream.specs.declared.fault.WriteFault.{WriteFault}
+use Rattle.elf_image_type.proofs.Public.{length-unaligned, length-spread}
+use Rattle.elf_image_type.specs.RelocatableFile.{spread, unaligned}
+use Rattle.elf_link_field.specs.declared.rule.RelocRule.{RelocRule}
+use Rattle.elf_link_files.specs.Files.{section_in, is_loadable}
+use Rattle.elf_link_files.specs.Rows.{AreEach}
+use Rattle.elf_link_map.proofs.Public.{outputs_stand, parts_apart}
+use Rattle.elf_link_map.specs.LinkMap.{LinkMapValue}
+use Rattle.elf_link_map.specs.Standing.{size_in, MembersStand, address_in, member_address, member_at, member_part, no_member, or_zero, output_at}
+use Rattle.elf_link_outputs.specs.Outputs.{is_no_bits, memory_size}
+use Rattle.elf_link_outputs.specs.Placed.{OutputValue}
+use Rattle.elf_link_outputs.specs.declared.placing.Member.{Member}
+use Rattle.elf_link_relocate.proofs.Public.{any_options, memory_zero}
+use Rattle.elf_link_relocate.specs.Fields.{content_of}
+use Rattle.elf_link_relocate.specs.Linked.{AreBytesOf, HasLiveBits, LinkedValue, bytes_at, IsInNoMember, IsMemory, IsReadyLink, identity_of}
+use Rattle.elf_object_type.specs.Object.{BodyValue, bits, no_bits, relocs, group, ObjectValue, is_bits}
+
+-- The end of the file is the end of its last part: places ascend, so no part ends after it. A part whose end does not fit 64 bits
+-- therefore makes the whole too long.
+
+pub end_none : (parts : List (ℕ × ℕ)) (from : ℕ) (places : List ℕ) → length parts ≡ 0 → file_end parts from places ≡ from
+end_none parts from places none = rw (eq-eqb (length parts) 0 none) refl
+
+pub end_some : (parts : List (ℕ × ℕ)) (from : ℕ) (places : List ℕ) → 0 < length parts → file_end parts from places ≡ end_of parts places (length parts - 1)
+end_some parts from places some = rw (ne_eqb (length parts) 0 (λ none. omega arith)) refl
+
+-- no part ends after the last one
+end_last : (parts : List (ℕ × ℕ)) (from : ℕ) (places : List ℕ) (k : ℕ) → Fits parts from places → k < length parts →
+    end_of parts places k ≤ end_of parts places (length parts - 1)
+end_last parts from places k fits lt = elim (cases_lt k (length parts - 1)) [
+  | inl earlier ↦ (let above = above_earlier parts from places k (length parts - 1) fits earlier (omega arith) in omega arith)
+  | inr late ↦ (
+      let same : k ≡ length parts - 1 = omega arith in
+      let equal = ap (end_of parts places) same in
+      omega arith)
+]
+
+-- a part that passes a u64 makes the whole too long
+pub overflow_far : (parts : List (ℕ × ℕ)) (from k : ℕ) → ((places : List ℕ) × IsOverflowAt parts from k places) → EndTooFar parts from
+overflow_far parts from k (places, over) =
+    let within = over.within in
+    let far = over.past in
+    let last = end_last parts from places k over.least.fits within in
+    let end = end_some parts from places (omega arith) in
+    (places, over.least, omega arith)
+
+-- Parts in a row, each at its place. The bytes that they make are their pieces one after the other, and each byte is a part's, or 0. Both
+-- by induction on the parts.
+
+-- ---- pieces
+
+same_from : (g h : ℕ → List ℕ) (a b n : ℕ) → ((k : ℕ) → k < n → g (a + k) ≡ h (b + k)) → flat_map g (range_with_len a n) ≡ flat_map h (range_with_len b n)
+same_from g h a b zero same = refl
+same_from g h a b (suc n) same =
+    let left : a ≡ a + 0 = omega arith in
+    let right : b + 0 ≡ b = omega arith in
+    ap₂ (λ (s t : List ℕ). s ++ t) (ap g left ∙ same 0 (omega arith) ∙ ap h right)
+    (same_from g h (a + 1) (b + 1) n (λ k lt.
+    let left : a + 1 + k ≡ a + suc k = omega arith in
+    let right : b + suc k ≡ b + 1 + k = omega arith in
+    ap g left ∙ same (suc k) (omega arith) ∙ ap h right))
+
+same_piece : (from : ℕ) (place p size z : ℕ → ℕ) (content c : ℕ → List ℕ) (n : ℕ) → ((k : ℕ) → k < n → place k ≡ p k) → ((k : ℕ) → k < n → size k ≡ z k) →
+    ((k : ℕ) → k < n → content k ≡ c k) → (k : ℕ) → k < n → piece from place size content k ≡ piece from p z c k
+same_piece from place p size z content c n places sizes contents zero lt =
+    ap₂ (λ (x : ℕ) (s : List ℕ). replicate (x - from) 0 ++ s) (places 0 lt) (contents 0 lt)
+same_piece from place p size z content c n places sizes contents (suc k) lt =
+    let end : place k + size k ≡ p k + z k = ap₂ (λ (x y : ℕ). x + y) (places k (omega arith)) (sizes k (omega arith)) in
+    ap₂ (λ (x : ℕ) (s : List ℕ). replicate x 0 ++ s) (ap₂ (λ (x y : ℕ). x - y) (places (suc k) lt) end) (contents (suc k) lt)
+
+pub same_pieces : (from : ℕ) (place p size z : ℕ → ℕ) (content c : ℕ → List ℕ) (n : ℕ) → ((k : ℕ) → k < n → place k ≡ p k) → ((k : ℕ) → k < n → size k ≡ z k) →
+    ((k : ℕ) → k < n → content k ≡ c k) → flat_map (piece from place size content) (range_with_len 0 n) ≡ flat_map (piece from p z c) (range_with_len 0 n)
+same_pieces from place p size z content c n places sizes contents =
+    same_from (piece from place size content) (piece from p z c) 0 0 n (λ k lt. same_piece from place p size z content c n places sizes contents (0 + k) (omega arith))
+
+-- the piece of a part in a list
+part_piece : ℕ → List ℕ → List (List ℕ) → ℕ → List ℕ
+part_piece from q ps = piece from (slice_index q) (λ k. length (get_or ps k [])) (λ k. get_or ps k [])
+
+later_piece : (from x : ℕ) (q : List ℕ) (p : List ℕ) (ps : List (List ℕ)) (k : ℕ) → part_piece (x + length p) q ps k ≡ part_piece from (x ∷ q) (p ∷ ps) (suc k)
+unfolding part_piece
+later_piece from x q p ps zero = refl
+later_piece from x q p ps (suc k) = refl
+
+spread_by_pieces : (from : ℕ) (q : List ℕ) (ps : List (List ℕ)) → length q ≡ length ps → spread from q ps ≡ flat_map (part_piece from q ps) (range_with_len 0 (length ps))
+unfolding part_piece
+spread_by_pieces from [] [] many = refl
+spread_by_pieces from (x ∷ q) [] many = absurd (omega arith)
+spread_by_pieces from [] (p ∷ ps) many = absurd (omega arith)
+spread_by_pieces from (x ∷ q) (p ∷ ps) many =
+    let zeros : List ℕ = replicate (x - from) 0 in
+    let rest = spread_by_pieces (x + length p) q ps (omega arith) in
+    let moved = same_from (part_piece (x + length p) q ps) (part_piece from (x ∷ q) (p ∷ ps)) 0 1 (length ps) (λ k lt.
+    let left : 0 + k ≡ k = omega arith in
+    let right : suc k ≡ 1 + k = omega arith in
+    ap (part_piece (x + length p) q ps) left ∙ later_piece from x q p ps k ∙ ap (part_piece from (x ∷ q) (p ∷ ps)) right) in
+    sym (append_assoc zeros p (spread (x + length p) q ps)) ∙ ap (λ (s : List ℕ). (zeros ++ p) ++ s) (rest ∙ moved)
+
+pub spread_pieces : (from : ℕ) (q : List ℕ) (ps : List (List ℕ)) → length q ≡ length ps →
+    spread from q ps ≡ flat_map (piece from (slice_index q) (λ k. length (get_or ps k [])) (λ k. get_or ps k [])) (range_with_len 0 (length ps))
+unfolding part_piece
+spread_pieces from q ps many = spread_by_pieces from q ps many
+
+-- ---- bytes
+
+-- offset x is so far in part j
+abbrev pub IsInPart : List ℕ → List (List ℕ) → ℕ → ℕ → ℕ → Type 0
+IsInPart q ps x j i = (j < length ps) × (i < length (get_or ps j [])) × (x ≡ get_or q j 0 + i)
+
+-- a byte is a part's, or no part has it and it is 0
+abbrev pub IsPartByte : List ℕ → List (List ℕ) → ℕ → ℕ → Type 0
+IsPartByte q ps x v =
+    ((j i : ℕ) × IsInPart q ps x j i × (v ≡ slice_index (get_or ps j []) i)) ⊎
+    (((j i : ℕ) → IsInPart q ps x j i → ⊥) × (v ≡ 0))
+
+pub byte_of_spread : (from : ℕ) (q : List ℕ) (ps : List (List ℕ)) → Fits (map unaligned ps) from q → (k : ℕ) → k < length (spread from q ps) →
+    IsPartByte q ps (from + k) (slice_index (spread from q ps) k)
+byte_of_spread from [] [] fits k lt = absurd (omega arith)
+byte_of_spread from (x ∷ q) [] fits k lt = absurd fits
+byte_of_spread from [] (p ∷ ps) fits k lt = absurd fits
+byte_of_spread from (x ∷ q) (p ∷ ps) (multiple, le, rest) k lt =
+    let zeros : List ℕ = replicate (x - from) 0 in
+    let behind : List ℕ = spread (x + length p) q ps in
+    let pad : length zeros ≡ x - from = length-replicate (x - from) 0 in
+    let whole = length-append zeros (p ++ behind) in
+    let part = length-append p behind in
+    let later : (j : ℕ) → j < length ps → x + length p ≤ get_or q j 0 =
+    (λ j lt. let many = length-unaligned ps in above_from (map unaligned ps) (x + length p) q j rest (omega arith)) in
+    elim (cases_lt k (x - from)) [
+      | inl gap ↦ inr (
+        in_gap q ps x p from k le gap later,
+        get_or_append_left zeros (p ++ behind) 0 k (omega arith) ∙ get_or-replicate (x - from) k 0 0 gap,
+      )
+      | inr past ↦
+          (let first : get_or (zeros ++ (p ++ behind)) k 0 ≡ get_or (p ++ behind) (k - (x - from)) 0 = get_or-append_right zeros (p ++ behind) (x - from) k 0 pad past in
+          elim (cases_lt (k - (x - from)) (length p)) [
+            | inl here ↦ inl (0, k - (x - from), (omega arith, here, omega arith), first ∙ get_or_append_left p behind 0 (k - (x - from)) here)
+            | inr far ↦
+                (let m = k - (x - from) - length p in
+                let second : get_or (p ++ behind) (k - (x - from)) 0 ≡ get_or behind m 0 = get_or-append_right p behind (length p) (k - (x - from)) 0 refl far in
+                let same : x + length p + m ≡ from + k = omega arith in
+                behind_part q ps x p (from + k) (x + length p + m) (get_or (zeros ++ (p ++ behind)) k 0) (get_or behind m 0) same (omega arith) (first ∙ second)
+                (byte_of_spread (x + length p) q ps rest m (omega arith)))
+          ])
+    ]
+  where
+    in_gap : (q : List ℕ) (ps : List (List ℕ)) (x : ℕ) (p : List ℕ) (from k : ℕ) → from ≤ x → k < x - from → ((j : ℕ) → j < length ps → x + length p ≤ get_or q j 0) →
+        (j i : ℕ) → IsInPart (x ∷ q) (p ∷ ps) (from + k) j i → ⊥
+    in_gap q ps x p from k le gap later zero i (lt, i_in, at) = omega arith
+    in_gap q ps x p from k le gap later (suc j) i (lt, i_in, at) = (let above = later j (omega arith) in omega arith)
+
+    behind_part : (q : List ℕ) (ps : List (List ℕ)) (x : ℕ) (p : List ℕ) (y z v w : ℕ) → z ≡ y → x + length p ≤ y → v ≡ w →
+        IsPartByte q ps z w → IsPartByte (x ∷ q) (p ∷ ps) y v
+    behind_part q ps x p y z v w same above equal (inl (j, i, (lt, i_in, at), is)) = inl (suc j, i, (omega arith, i_in, omega arith), equal ∙ is)
+    behind_part q ps x p y z v w same above equal (inr (none, is)) = inr (none_there, equal ∙ is)
+      where
+        none_there : (j i : ℕ) → IsInPart (x ∷ q) (p ∷ ps) y j i → ⊥
+        none_there zero i (lt, i_in, at) = omega arith
+        none_there (suc j) i (lt, i_in, at) = none j i (omega arith, i_in, omega arith)
+
+-- ---- the items of a list, one by one
+
+pub same_map : {A B : Type 0} (f g : A → B) (none : A) (xs : List A) → ((i : ℕ) → i < length xs → f (get_or xs i none) ≡ g (get_or xs i none)) → map f xs ≡ map g xs
+same_map f g none [] same = refl
+same_map f g none (x ∷ xs) same = ap₂ (λ (y : _) (ys : List _). y ∷ ys) (same 0 (omega arith)) (same_map f g none xs (λ i lt. same (suc i) (omega arith)))
+
+pub size_at : (ps : List (List ℕ)) (k : ℕ) → get_or (map (λ (p : ℕ × ℕ). p.0) (map unaligned ps)) k 0 ≡ length (get_or ps k [])
+size_at [] k = refl
+size_at (p ∷ ps) zero = refl
+size_at (p ∷ ps) (suc k) = size_at ps k
+
+-- The bytes of an output with bits, as they are sent, are those of memory: its members' at their addresses, and zeros between.
+
+-- ---- a body that takes memory, and not without bits
+
+has_bits : (b : BodyValue) → is_loadable b ≡ true → is_no_bits b ≡ false → is_bits b ≡ true
+has_bits (bits type content) loads with = refl
+has_bits (no_bits size) loads with = absurd (let never : true ≡ false = with in cc)
+has_bits (relocs rela target entries) loads with = absurd (let never : false ≡ true = loads in cc)
+has_bits (group comdat signature members) loads with = absurd (let never : false ≡ true = loads in cc)
+
+content_size : (b : BodyValue) → is_no_bits b ≡ false → memory_size b ≡ length (content_of b)
+content_size (bits type content) with = refl
+content_size (no_bits size) with = absurd (let never : true ≡ false = with in cc)
+content_size (relocs rela target entries) with = refl
+content_size (group comdat signature members) with = refl
+
+copy_of : (fs : List ObjectValue) (m : LinkMapValue) (rules : List RelocRule) (f s : ℕ) (copy : Option (List ℕ)) →
+    MatchOption copy (HasLiveBits fs f s → ⊥) (AreBytesOf fs m rules f s) → HasLiveBits fs f s → AreBytesOf fs m rules f s (unwrap_or copy [])
+copy_of fs m rules f s None none has = absurd (none has)
+copy_of fs m rules f s (Some bytes) are has = are
+
+module _ (l : LinkedValue) (ready : IsReadyLink l) (k : ℕ) (k_in : k < length l.map.outputs) (with : (output_at l.map k).no_bits ≡ false) where
+  abbrev fs : List ObjectValue
+  fs = l.objects
+
+  abbrev m : LinkMapValue
+  m = l.map
+
+  abbrev o : OutputValue
+  o = output_at l.map k
+
+  abbrev addresses : List ℕ
+  addresses = map (member_address l.map) (output_at l.map k).members
+
+  abbrev parts : List (List ℕ)
+  parts = map (member_content l) (output_at l.map k).members
+
+  stand : MembersStand fs m o
+  stand = (let (opt, is, sound) = ready.map in (outputs_stand opt fs m is).members k k_in)
+
+  member_in : (i : ℕ) → i < length o.members → HasLiveBits fs (member_at o i).file (member_at o i).section
+  member_in i lt =
+      let alive = stand.live i lt in
+      ((alive.0, alive.1), alive.2, has_bits (section_in fs (member_at o i).file (member_at o i).section).body alive.2.1 (stand.kind i lt ∙ with))
+
+  copy_at : (i : ℕ) → i < length o.members → AreBytesOf fs m l.rules (member_at o i).file (member_at o i).section (member_content l (member_at o i))
+  copy_at i lt =
+      let p = member_at o i in
+      copy_of fs m l.rules p.file p.section (bytes_at l p.file p.section) (ready.linked.bytes p.file p.section) (member_in i lt)
+
+  member_size : (i : ℕ) → i < length o.members → length (member_content l (member_at o i)) ≡ size_in fs (member_at o i).file (member_at o i).section
+  member_size i lt =
+      let p = member_at o i in
+      (copy_at i lt).long ∙ sym (content_size (section_in fs p.file p.section).body (stand.kind i lt ∙ with))
+
+  part_is : (i : ℕ) → i < length o.members → get_or parts i [] ≡ member_content l (member_at o i)
+  part_is i lt = get_or-map (member_content l) o.members i no_member [] lt
+
+  address_is : (i : ℕ) → i < length o.members → get_or addresses i 0 ≡ member_address m (member_at o i)
+  address_is i lt = get_or-map (member_address m) o.members i no_member 0 lt
+
+  same_parts : map (member_part fs) o.members ≡ map unaligned parts
+  same_parts =
+      same_map (member_part fs) (λ (p : Member). unaligned (member_content l p)) no_member o.members
+      (λ i lt. ap (λ (n : ℕ). let q : ℕ × ℕ = (n, 1) in q) (sym (member_size i lt)))
+      ∙ sym (map-map unaligned (member_content l) o.members)
+
+  fits : Fits (map unaligned parts) o.address addresses
+  fits = subst (λ (ps : List (ℕ × ℕ)). Fits ps o.address addresses) same_parts stand.order
+
+  pub length-output : length (output_content l o) ≡ o.length
+  length-output =
+      let n = length o.members - 1 in
+      let some = stand.some in
+      let many = length-map o.members (member_content l) in
+      let whole = length-spread o.address addresses parts n fits (omega arith) in
+      let last : o.address + o.length ≡ end_of (map unaligned parts) addresses n = subst (λ (ps : List (ℕ × ℕ)). o.address + o.length ≡ end_of ps addresses n) same_parts stand.last in
+      let size = size_at parts n in
+      omega arith
+
+  pub output_memory : (i : ℕ) → i < length (output_content l o) → IsMemory fs m l.rules (o.address + i) (slice_index (output_content l o) i)
+  output_memory i lt = elim (byte_of_spread o.address addresses parts fits i lt) [
+    | inl (j, n, (j_in, n_in, at), is) ↦ (
+        let within : j < length o.members = (let many = length-map o.members (member_content l) in omega arith) in
+        let p = member_at o j in
+        let copy = copy_at j within in
+        let (a, begins, bytes) = copy.memory in
+        let here : address_in m p.file p.section ≡ a = ap or_zero begins in
+        let address = address_is j within in
+        let part = part_is j within in
+        let long = ap (λ (s : List ℕ). length s) part in
+        let x : a + n ≡ o.address + i = omega arith in
+        let v : slice_index (member_content l p) n ≡ slice_index (output_content l o) i = ap (λ (s : List ℕ). slice_index s n) (sym part) ∙ sym is in
+        subst (λ (y : ℕ). IsMemory fs m l.rules y (slice_index (output_content l o) i)) x
+        (subst (λ (w : ℕ). IsMemory fs m l.rules (a + n) w) v (bytes n (omega arith))))
+    | inr (none, is) ↦ (
+        let long = length-output in
+        subst (λ (w : ℕ). IsMemory fs m l.rules (o.address + i) w) (sym is)
+        (memory_zero fs m l.rules (any_options fs m ready.map) ready.linked.sound (o.address + i) k k_in (omega arith, omega arith) (in_none i none)))
+  ]
+    where
+      in_none : (i : ℕ) → ((j n : ℕ) → IsInPart addresses parts (o.address + i) j n → ⊥) → IsInNoMember fs m k (o.address + i)
+      in_none i none j j_in (from, to) =
+          let p = member_at o j in
+          let address = address_is j j_in in
+          let long = ap (λ (s : List ℕ). length s) (part_is j j_in) in
+          let size = (copy_at j j_in).long in
+          let many = length-map o.members (member_content l) in
+          none j (o.address + i - member_address m p) (omega arith, omega arith, omega arith)
 
 -- ---- the bytes of each segment are memory's
 
@@ -244,3 +514,52 @@ pub too_long : (l : LinkedValue) → IsReadyLink l → EndTooFar (load_parts l.m
 too_long l ready (places, least, far) =
     let long = length-exec l places ready least in
     inr (exec_bytes l.objects l.map places (load_contents l), exec_laid l places ready least, omega arith)
+
+-- Facts for placing and sending an executable. The bytes of an output are the pieces of its members, each after zeros up to its address.
+-- The parts that are placed, and their start, are those of the map, so a fault of placing is the link's.
+
+-- zeros, and what is after them
+pub padded_sent : (a b c : Option (List ℕ)) (out mid n k : ℕ) (s t : List ℕ) (result : Result ℕ WriteFault) → WentOut a b out (replicate n 0) mid → n ≡ k → s ≡ t →
+    Sends b c mid s result → Sends a c out (replicate k 0 ++ t) result
+padded_sent a b c out mid n k s t result zeros padding same sends =
+    subst (λ (j : ℕ). Sends a c out (replicate j 0 ++ t) result) padding
+    (subst (λ (u : List ℕ). Sends a c out (replicate n 0 ++ u) result) same
+    (sends_behind a b c out mid (replicate n 0) s result zeros sends))
+
+-- the bytes of an output, member by member
+pub output_text : (l : LinkedValue) (o : OutputValue) → output_content l o ≡ flat_map (member_piece l o) (range_with_len 0 (length o.members))
+output_text l o =
+    let q : List ℕ = map (member_address l.map) o.members in
+    let ps : List (List ℕ) = map (member_content l) o.members in
+    let n = length o.members in
+    let places = length-map o.members (member_address l.map) in
+    let contents = length-map o.members (member_content l) in
+    let content_at : (k : ℕ) → k < n → get_or ps k [] ≡ member_content l (member_at o k) = (λ k lt. get_or-map (member_content l) o.members k no_member [] lt) in
+    spread_pieces o.address q ps (omega arith)
+    ∙ ap (λ (c : ℕ). flat_map (piece o.address (λ k. get_or q k 0) (λ k. length (get_or ps k [])) (λ k. get_or ps k [])) (range_with_len 0 c)) contents
+    ∙ same_pieces o.address (λ k. get_or q k 0) (λ k. member_address l.map (member_at o k)) (λ k. length (get_or ps k [])) (λ k. length (member_content l (member_at o k)))
+    (λ k. get_or ps k []) (λ k. member_content l (member_at o k)) n
+    (λ k lt. get_or-map (member_address l.map) o.members k no_member 0 lt)
+    (λ k lt. ap (λ (s : List ℕ). length s) (content_at k lt))
+    content_at
+
+-- ---- where the segments are
+
+pub commons_end : (l : LinkedValue) → IsReadyLink l → EndInTime l.map.commons
+commons_end l ready = (let (opt, is, sound) = ready.map in (parts_apart opt l.objects l.map is).commons_within)
+
+pub parts_are : (m : LinkMapValue) (page : ℕ) (ls : List Load) → page ≡ m.page → ls ≡ loads m → map (load_part page) ls ≡ load_parts m
+unfolding load_parts
+parts_are m page ls paged are = ap (λ (n : ℕ). map (load_part n) ls) paged ∙ ap (map (load_part m.page)) are
+
+pub from_is : (m : LinkMapValue) (ls : List Load) (n : ℕ) → ls ≡ loads m → n ≡ length ls → 64 + 56 * n ≡ bytes_from m
+from_is m ls n are count = (let long = ap (λ (xs : List Load). length xs) are in omega arith)
+
+placing_fault : (l : LinkedValue) (fault : ExecFault) → IsReadyLink l → IsPartsFault (load_parts l.map) (bytes_from l.map) fault → IsPlacingFault l fault
+placing_fault l TooLong ready far = too_long l ready far
+placing_fault l OutOfMemory ready is = tt
+placing_fault l (Io written) ready never = never
+
+pub if_fault : {T : Type 0} (l : LinkedValue) (r : Result T ExecFault) → IsReadyLink l → IfErr r (IsPartsFault (load_parts l.map) (bytes_from l.map)) → IfErr r (IsPlacingFault l)
+if_fault l (Ok x) ready is = is
+if_fault l (Err fault) ready is = placing_fault l fault ready is

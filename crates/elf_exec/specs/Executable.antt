@@ -1,21 +1,166 @@
 -- What the executable of a link is, as a file: an image whose loadable segments give each address the byte that memory has there.
 -- (gABI chapter 4, ELF Header; chapter 5, Program Header.)
-use Rattle.std.specs.Prelude.{◌≡◌, ◌↔◌, ◌<◌, ◌≤◌, ◌^◌, ℕ, MatchOption, Option, None, List, length}
-use Rattle.elf_field.specs.Abi.{PN_XNUM}
-use Rattle.elf_image_rules.specs.HeaderRules.{MAX_LEN}
-use Rattle.elf_image_rules.specs.ImageRules.{IsFault}
+use Rattle.std.specs.Prelude.{ℕ, ◌+◌, ◌-◌, ◌^◌, ◌<◌, ◌==◌, nat_lt, if◌then◌else◌, Bool, true, List, bit_and, get_or, length, map, ◌≡◌, ◌*◌, [], ◌∷◌, ◌++◌, replicate, slice_index, ◌↔◌, ◌≤◌, MatchOption, Option, None}
+use Rattle.std.specs.List.{filter, range_with_len, flat_map}
+use Rattle.elf_exec.specs.declared.load.Load.{Load}
+use Rattle.elf_extent.specs.Place.{Least}
+use Rattle.elf_field.specs.Abi.{PF_R, PF_W, PF_X, SHF_EXECINSTR, SHF_WRITE, EHDR_SIZE, EI_NIDENT, EI_PAD, ELFCLASS64, ELFDATA2LSB, ELFDATA2MSB, ET_EXEC, EV_CURRENT, MAGIC, PHDR_SIZE, PT_LOAD, PN_XNUM}
+use Rattle.elf_field.specs.Headers.{ehdr_bytes, phdr_bytes}
+use Rattle.elf_field.specs.declared.ehdr.Ehdr.{Ehdr}
+use Rattle.elf_field.specs.declared.number.Order.TheVariants.{Little, Big}
+use Rattle.elf_field.specs.declared.number.Order.{Order}
+use Rattle.elf_field.specs.declared.phdr.Phdr.{Phdr}
 use Rattle.elf_image_outline.specs.Image.{ImageValue, IsImage, Stands}
-use Rattle.elf_image_type.specs.Loads.{Loads, LoadsFirst}
-use Rattle.elf_object_type.specs.Object.{ObjectValue}
+use Rattle.elf_image_rules.specs.Rules.{MAX_LEN, IsFault}
+use Rattle.elf_image_type.specs.ImageView.{Loads, LoadsFirst}
+use Rattle.elf_image_type.specs.RelocatableFile.{spread}
 use Rattle.elf_link_field.specs.declared.rule.RelocRule.{RelocRule}
-use Rattle.elf_link_files.specs.Rows.{FirstAmong}
+use Rattle.elf_link_files.specs.Rows.{AreEach, FirstAmong}
 use Rattle.elf_link_map.specs.LinkMap.{LinkMapValue}
-use Rattle.elf_link_map.specs.Standing.{AreObjects, ObjectsFit}
-use Rattle.elf_link_relocate.specs.MapFacts.{IsMapOfSome}
-use Rattle.elf_link_relocate.specs.Memory.{IsMemory}
-use Rattle.elf_link_relocate.specs.RelocationRules.{applied_entry_rules}
-use Rattle.elf_exec.specs.ExecLaid.{ExecLaid}
-use Rattle.elf_exec.specs.Loads.{loads}
+use Rattle.elf_link_map.specs.Standing.{output_at, AreObjects, ObjectsFit}
+use Rattle.elf_link_outputs.specs.Placed.{CommonValue, OutputValue, common_at}
+use Rattle.elf_link_relocate.specs.Fields.{applied_entry_rules}
+use Rattle.elf_link_relocate.specs.Linked.{identity_of, IsMemory, IsMapOfSome}
+use Rattle.elf_link_relocate.specs.declared.linked.Identity.{Identity}
+use Rattle.elf_object_type.specs.Object.{ObjectValue}
+
+-- The segments of an executable: one of type PT_LOAD for each output section that takes memory, and one for the commons if they do, in
+-- order of address. (gABI chapter 5, Program Header: Segment Types, Segment Permissions; which there are is this project's profile.)
+
+-- the permissions of a segment of sections with these flags: it is readable; writable and executable where they are
+abbrev pub segment_flags : ℕ → ℕ
+segment_flags flags =
+    PF_R + (if bit_and flags SHF_WRITE == 0 then 0 else PF_W) + (if bit_and flags SHF_EXECINSTR == 0 then 0 else PF_X)
+
+-- the output at position k: all of it
+abbrev pub output_load : ℕ → OutputValue → Load
+output_load k o = record { position = k; address = o.address; size = o.length; flags = segment_flags o.flags; no_bits = o.no_bits }
+
+-- so many zeros at an address, which is writable
+abbrev pub zeros_load : ℕ → ℕ → ℕ → Load
+zeros_load k address size = record { position = k; address = address; size = size; flags = PF_R + PF_W; no_bits = true }
+
+-- the commons, after so many outputs: from where the first one begins to where the last one ends; without commons nothing
+abbrev pub commons_load : ℕ → List CommonValue → Load
+commons_load k cs =
+    let first = common_at cs 0 in
+    let last = common_at cs (length cs - 1) in
+    zeros_load k first.address (last.address + last.size - first.address)
+
+abbrev pub load_at : LinkMapValue → ℕ → Load
+load_at m k = if nat_lt k (length m.outputs) then output_load k (output_at m k) else commons_load k m.commons
+
+abbrev pub has_memory : Load → Bool
+has_memory load = nat_lt 0 load.size
+
+-- all that take memory
+unfoldable pub loads : LinkMapValue → List Load
+loads m = filter has_memory (map (load_at m) (range_with_len 0 (length m.outputs + 1)))
+
+-- the one used for one that isn't there
+abbrev pub no_load : Load
+no_load = record { position = 0; address = 0; size = 0; flags = 0; no_bits = true }
+
+abbrev pub load_in : LinkMapValue → ℕ → Load
+load_in m j = get_or (loads m) j no_load
+
+-- each common ends below 2^64
+abbrev pub EndInTime : List CommonValue → Type 0
+EndInTime cs = (k : ℕ) → k < length cs → (common_at cs k).address + (common_at cs k).size < 2 ^ 64
+
+-- The executable of a link: the one list of bytes that it is written as.
+-- (gABI chapter 4, ELF Header; chapter 5, Program Header; where they leave a place open, the layout is this project's profile.)
+
+-- ---- the parts after the header and the program header table: the bytes of each segment
+
+-- p_filesz: a segment without bits has none in the file
+abbrev pub file_size : Load → ℕ
+file_size load = if load.no_bits then 0 else load.size
+
+-- the bytes as (size, alignment): those of a segment with bits begin at a multiple of the page
+abbrev pub load_part : ℕ → Load → ℕ × ℕ
+load_part page load = (file_size load, if load.no_bits then 1 else page)
+
+unfoldable pub load_parts : LinkMapValue → List (ℕ × ℕ)
+load_parts m = map (load_part m.page) (loads m)
+
+-- where they may begin: at the end of the program header table
+abbrev pub bytes_from : LinkMapValue → ℕ
+bytes_from m = EHDR_SIZE + PHDR_SIZE * length (loads m)
+
+-- a segment's bytes are those of memory from its address on
+pub record AreLoadBytes (fs : List ObjectValue) (m : LinkMapValue) (rules : List RelocRule) (load : Load) (bytes : List ℕ) : Type 0 where
+  pub long : length bytes ≡ file_size load
+  pub memory : (k : ℕ) → k < length bytes → IsMemory fs m rules (load.address + k) (slice_index bytes k)
+
+-- ---- the records
+
+-- of segments whose bytes are at these places
+abbrev pub program_header : ℕ → Load → ℕ → Phdr
+program_header page load place = record {
+  p_type = PT_LOAD;
+  p_flags = load.flags;
+  p_offset = if load.no_bits then 0 else place;
+  p_vaddr = load.address;
+  p_paddr = load.address;
+  p_filesz = file_size load;
+  p_memsz = load.size;
+  p_align = page;
+}
+
+abbrev pub program_headers : ℕ → List Load → List ℕ → List Phdr
+program_headers page [] places = []
+program_headers page (load ∷ ls) [] = []
+program_headers page (load ∷ ls) (place ∷ places) = program_header page load place ∷ program_headers page ls places
+
+abbrev pub encoding_of : Order → ℕ
+encoding_of Little = ELFDATA2LSB
+encoding_of Big = ELFDATA2MSB
+
+abbrev pub identification_of : Identity → List ℕ
+identification_of i = MAGIC ++ (ELFCLASS64 ∷ encoding_of i.order ∷ EV_CURRENT ∷ i.osabi ∷ i.abi ∷ replicate (EI_NIDENT - EI_PAD) 0)
+
+-- the header of a file with this entry and so many segments, whose program header table is after it; a table without entries is none; there
+-- is no section header table
+abbrev pub exec_header : Identity → ℕ → ℕ → Ehdr
+exec_header i entry count = record {
+  e_ident = identification_of i;
+  e_type = ET_EXEC;
+  e_machine = i.machine;
+  e_version = EV_CURRENT;
+  e_entry = entry;
+  e_phoff = if count == 0 then 0 else EHDR_SIZE;
+  e_shoff = 0;
+  e_flags = i.flags;
+  e_ehsize = EHDR_SIZE;
+  e_phentsize = if count == 0 then 0 else PHDR_SIZE;
+  e_phnum = count;
+  e_shentsize = 0;
+  e_shnum = 0;
+  e_shstrndx = 0;
+}
+
+-- ---- the file
+
+unfoldable pub header_bytes : List ObjectValue → LinkMapValue → List ℕ
+header_bytes fs m = let i = identity_of fs in ehdr_bytes i.order (exec_header i m.entry (length (loads m)))
+
+unfoldable pub table_bytes : List ObjectValue → LinkMapValue → List ℕ → List ℕ
+table_bytes fs m places = flat_map (phdr_bytes (identity_of fs).order) (program_headers m.page (loads m) places)
+
+-- the header, the program header table, and the bytes of the segments at these places, with zeros between
+unfoldable pub exec_bytes : List ObjectValue → LinkMapValue → List ℕ → List (List ℕ) → List ℕ
+exec_bytes fs m places contents =
+    spread 0 (0 ∷ EHDR_SIZE ∷ places) (header_bytes fs m ∷ table_bytes fs m places ∷ contents)
+
+-- b is the executable of these objects, their map and relocation rules: the bytes of each segment are memory's, and its parts are as
+-- low as they can be
+pub record ExecLaid (fs : List ObjectValue) (m : LinkMapValue) (rules : List RelocRule) (b : List ℕ) : Type 0 where
+  pub places : List ℕ
+  pub contents : List (List ℕ)
+  pub least : Least (load_parts m) (bytes_from m) places
+  pub memory : AreEach [] (λ j. AreLoadBytes fs m rules (load_in m j)) (length (loads m)) contents
+  pub bytes : b ≡ exec_bytes fs m places contents
 
 -- ---- the link
 

@@ -1,13 +1,107 @@
 //! The executable of relocated bytes onto a writer.
-ghost use Rattle.elf_exec.specs.ExecWriting.{IsExecWritten};
-ghost use Rattle.elf_link_relocate.specs.ReadyLink.{IsReadyLink};
+ghost use Rattle.std.specs.Prelude.{◌≡◌, ◌++◌};
+ghost use Rattle.elf_exec.specs.declared.exec_writing.ExecFault.TheVariants.{OutOfMemory};
+ghost use Rattle.elf_image_stream.specs.Output.{Sends, Writes};
+ghost use Rattle.elf_field.specs.Abi.{EHDR_SIZE};
+ghost use Rattle.elf_exec.specs.ExecWriting.{loads_text, placed_header, placed_table, IsExecWritten};
+ghost use Rattle.elf_link_relocate.specs.Linked.{IsReadyLink};
 
-use crate::fault::ExecFault;
-use crate::placed_exec::PlacedExec;
-use crate::placed_writing::send_exec;
+use crate::headers::{ProgramHeaders, exec_header};
+use crate::pieces::send_loads;
+use crate::placed_exec::{PlacedExec, table_end};
+use elf_field::abi::*;
+use elf_image_stream::WriteFault;
+use elf_image_stream::output::{write_entries, write_records};
 use elf_link_relocate::Linked;
-use std::alloc::Global;
+use std::alloc::{AllocError, AllocFailed, Global};
 use std::io::Write;
+use thiserror::Error;
+
+// What can stop an executable from being written.
+
+/// Why an executable is not written.
+#[derive(Clone, Copy, Debug, PartialEq, Eq, Error)]
+pub enum ExecFault {
+    /// It has 0xffff segments or more, or is longer than the longest file, 2^30 bytes. Nothing is written.
+    #[error("longer than 2^30 bytes, or too many segments")]
+    TooLong,
+    /// An allocation failed. Nothing is written.
+    #[error("out of memory")]
+    OutOfMemory,
+    /// A call of the writer failed, or took none of the bytes that it was offered, after exactly the first `written` bytes
+    /// of the executable.
+    #[error("write failed after {written}")]
+    Io { written: u64 },
+}
+
+impl From<AllocError> for ExecFault {
+    ghost from_gives = { λ _ fault. fault ≡ OutOfMemory };
+
+    fn from(_refused: AllocError) -> ExecFault {
+        ExecFault::OutOfMemory
+    }
+}
+
+impl<T: Drop> From<AllocFailed<T>> for ExecFault {
+    ghost from_gives = { λ _ fault. fault ≡ OutOfMemory };
+
+    fn from(_refused: AllocFailed<T>) -> ExecFault {
+        ExecFault::OutOfMemory
+    }
+}
+
+// The parts of an executable onto a writer: the header, the program header table, and the bytes of the segments.
+
+/// Sends the whole file.
+pub(crate) fn send_exec<W: Write>(
+    writer: &mut W,
+    placed: &PlacedExec<'_, '_, '_>,
+) -> Result<u64, WriteFault>
+    ensures { Sends (W.contents writer.old) (W.contents writer.new) 0
+        (placed_header placed.now ++ (placed_table placed.now ++ loads_text placed.now)) result }
+{
+    write_header(writer, placed)?;
+    send_behind_header(writer, placed)
+}
+
+#[tactic(auto, unfolding(crate::specs::Executable::header_bytes))]
+fn write_header<W: Write>(writer: &mut W, placed: &PlacedExec<'_, '_, '_>) -> Result<(), WriteFault>
+    ensures { Writes (W.contents writer.old) (W.contents writer.new) (placed_header placed.now) result }
+{
+    let linked = placed.linked();
+    let header = exec_header(linked, placed.count());
+    write_records(writer, linked.identity().order, &[header])
+}
+
+/// Sends what is after the header.
+fn send_behind_header<W: Write>(
+    writer: &mut W,
+    placed: &PlacedExec<'_, '_, '_>,
+) -> Result<u64, WriteFault>
+    ensures { Sends (W.contents writer.old) (W.contents writer.new) EHDR_SIZE (placed_table placed.now ++ loads_text placed.now) result }
+{
+    let out = send_table(writer, placed)?;
+    send_loads(writer, out, placed)
+}
+
+/// Sends the program header table.
+fn send_table<W: Write>(writer: &mut W, placed: &PlacedExec<'_, '_, '_>) -> Result<u64, WriteFault>
+    ensures { Sends (W.contents writer.old) (W.contents writer.new) EHDR_SIZE (placed_table placed.now) result }
+{
+    let end = table_end(placed.count());
+    match write_table(writer, placed) {
+        Ok(()) => Ok(end),
+        Err(fault) => Err(fault.after(EHDR_SIZE)),
+    }
+}
+
+#[tactic(auto, unfolding(crate::specs::Executable::table_bytes))]
+fn write_table<W: Write>(writer: &mut W, placed: &PlacedExec<'_, '_, '_>) -> Result<(), WriteFault>
+    ensures { Writes (W.contents writer.old) (W.contents writer.new) (placed_table placed.now) result }
+{
+    let order = placed.linked().identity().order;
+    write_entries(writer, order, &ProgramHeaders { placed })
+}
 
 /// Writes the executable of relocated bytes (gABI chapters 4 and 5): the header, the program header table, and the bytes of each segment
 /// with bits at the least place that is a multiple of the page; with zeros between. Each output section that takes memory is a segment of

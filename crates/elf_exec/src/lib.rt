@@ -12,19 +12,13 @@
 //! ```
 #![tactic(auto)]
 
-mod exec_header;
 mod exec_writing;
-mod fault;
+mod headers;
 mod laws;
 mod load;
-mod load_pieces;
-mod member_pieces;
+mod pieces;
 mod placed_exec;
-mod placed_writing;
-mod placing;
-mod program_headers;
 
-pub use exec_writing::write_exec;
-pub use fault::ExecFault;
+pub use exec_writing::{ExecFault, write_exec};
 pub use laws::{executable, one_exec, prove_loaded, some_exec};
 pub use load::Load;

@@ -1,8 +1,7 @@
 //! The segments of an executable (gABI chapter 5, Program Header).
 ghost use Rattle.std.specs.Prelude.{◌≡◌, IfOk, map as map_list};
-ghost use Rattle.elf_link_outputs.specs.PlacedView.{common_value, output_value};
-ghost use Rattle.elf_exec.specs.ExecLaid.{file_size};
-ghost use Rattle.elf_exec.specs.Loads.{EndInTime, commons_load, load_at, loads, output_load, segment_flags, zeros_load};
+ghost use Rattle.elf_link_outputs.specs.Placed.{common_value, output_value};
+ghost use Rattle.elf_exec.specs.Executable.{file_size, EndInTime, commons_load, load_at, loads, output_load, segment_flags, zeros_load};
 
 use elf_field::abi::*;
 use elf_link_map::{Common, LinkMap, Output};

@@ -1,17 +1,107 @@
 //! Relocated bytes with all that their executable takes memory for (gABI chapter 5, Program Header).
-ghost use Rattle.std.specs.Prelude.{◌≡◌, ◌<◌, IfErr, IfOk, length, slice_index};
-ghost use Rattle.elf_field.specs.Abi.{PN_XNUM};
-ghost use Rattle.elf_link_relocate.specs.ReadyLink.{IsReadyLink};
-ghost use Rattle.elf_exec.specs.Loads.{load_in, loads};
-ghost use Rattle.elf_exec.specs.PlacedExec.{IsPlacedExec, IsPlacingFault};
+ghost use Rattle.std.specs.Prelude.{◌≡◌, ◌+◌, ◌*◌, ◌<◌, ◌≤◌, IfErr, IfOk, length, map as map_list, slice_index};
+ghost use Rattle.elf_extent.specs.Place.{EndsFit, Least};
+ghost use Rattle.elf_field.specs.Abi.{EHDR_SIZE, PHDR_SIZE, PN_XNUM};
+ghost use Rattle.elf_image_rules.specs.Rules.{MAX_LEN};
+ghost use Rattle.elf_exec.specs.Executable.{bytes_from, load_part, load_parts, loads as all_loads, load_in, loads};
+ghost use Rattle.elf_link_relocate.specs.Linked.{IsReadyLink};
+ghost use Rattle.elf_exec.specs.ExecWriting.{IsPartsFault, IsPlacingFault, exec_end, file_end, IsPlacedExec};
 
-use crate::fault::ExecFault;
-use crate::load::{Load, loads};
-use crate::placing::place_loads;
+use crate::exec_writing::ExecFault;
+use crate::load::{Load, file_size, loads};
+use elf_extent::{PlaceFault, place};
 use elf_field::abi::*;
+use elf_image_rules::MAX_LEN;
 use elf_link_relocate::Linked;
-use std::alloc::Global;
+use std::alloc::{AllocError, Global};
 use std::marker::Model;
+
+// Where the bytes of the segments are in an executable: each at the least place that its alignment allows.
+
+/// The least places of the bytes of these segments, where the file that they make is not too long.
+pub(crate) fn place_loads(
+    alloc: Global,
+    linked: &Linked<'_, '_>,
+    loads: &[Load],
+) -> Result<Vec<u64>, ExecFault>
+    requires ready { IsReadyLink linked.now }
+    requires are { loads.now ≡ all_loads linked.now.map }
+    requires few { length loads.now < PN_XNUM }
+    ensures least { IfOk result (λ places. Least (load_parts linked.now.map) (bytes_from linked.now.map) places.items) }
+    ensures short { IfOk result (λ places. exec_end linked.now.map places.items ≤ MAX_LEN) }
+    ensures err { IfErr result (IsPlacingFault linked.now) }
+{
+    let parts = load_parts(alloc, linked.map().page(), loads)?;
+    let from = table_end(loads.len());
+    place_parts(alloc, &parts, from)
+}
+
+/// Where the program header table of so many segments ends.
+pub(crate) fn table_end(count: usize) -> u64
+    requires { count < PN_XNUM }
+    ensures { result ≡ EHDR_SIZE + PHDR_SIZE * count }
+{
+    EHDR_SIZE + PHDR_SIZE * count as u64
+}
+
+/// The bytes of each segment in the file, as parts (size, alignment).
+fn load_parts(alloc: Global, page: u64, loads: &[Load]) -> Result<Vec<(u64, u64)>, AllocError>
+    ensures { IfOk result (λ parts. parts.items ≡ map_list (load_part page) loads.now) }
+{
+    let mut parts = Vec::new(alloc);
+    for load in loads {
+        parts.push(load_part(page, *load))?;
+    }
+    Ok(parts)
+}
+
+fn load_part(page: u64, load: Load) -> (u64, u64)
+    ensures { result ≡ load_part page load }
+{
+    (file_size(load), if load.no_bits { 1 } else { page })
+}
+
+/// The least places of parts after `from` bytes, where they end in time.
+fn place_parts(alloc: Global, parts: &[(u64, u64)], from: u64) -> Result<Vec<u64>, ExecFault>
+    requires { from ≤ MAX_LEN }
+    ensures least { IfOk result (λ places. Least parts.now from places.items) }
+    ensures short { IfOk result (λ places. file_end parts.now from places.items ≤ MAX_LEN) }
+    ensures err { IfErr result (IsPartsFault parts.now from) }
+{
+    match place(alloc, parts, from) {
+        Ok(places) => if_short(parts, from, places),
+        Err(PlaceFault::Overflow { .. }) => Err(ExecFault::TooLong),
+        Err(PlaceFault::OutOfMemory) => Err(ExecFault::OutOfMemory),
+    }
+}
+
+/// These places, where the parts end in time.
+fn if_short(parts: &[(u64, u64)], from: u64, places: Vec<u64>) -> Result<Vec<u64>, ExecFault>
+    requires from { from ≤ MAX_LEN }
+    requires least { Least parts.now from places.items }
+    requires fit { EndsFit parts.now places.items (length parts.now) }
+    ensures least { IfOk result (λ places. Least parts.now from places.items) }
+    ensures short { IfOk result (λ places. file_end parts.now from places.items ≤ MAX_LEN) }
+    ensures err { IfErr result (IsPartsFault parts.now from) }
+{
+    if file_end(parts, from, &places) > MAX_LEN {
+        return Err(ExecFault::TooLong);
+    }
+    Ok(places)
+}
+
+/// Where the last of the parts ends; without parts, where the first might begin.
+fn file_end(parts: &[(u64, u64)], from: u64, places: &[u64]) -> u64
+    requires many { length places.now ≡ length parts.now }
+    requires fit { EndsFit parts.now places.now (length parts.now) }
+    ensures { result ≡ file_end parts.now from places.now }
+{
+    let count = parts.len();
+    if count == 0 {
+        return from;
+    }
+    places[count - 1] + parts[count - 1].0
+}
 
 /// Relocated bytes with the segments of their executable, and where the bytes of each segment begin in the file.
 #[derive(Debug, Drop)]
@@ -22,7 +112,7 @@ pub(crate) struct PlacedExec<'l, 'm, 'a> {
 }
 
 impl<'l, 'm, 'a> Model for PlacedExec<'l, 'm, 'a> {
-    ghost use Rattle.elf_exec.specs.PlacedExec.{HasLoads, PlacedExecValue};
+    ghost use Rattle.elf_exec.specs.ExecWriting.{HasLoads, PlacedExecValue};
 
     ghost Value = { PlacedExecValue };
 

@@ -1,11 +1,5 @@
 -- What the proofs of the crates above may cite: the laws of src/laws.rt, each under its name there, and the lemmas by
 -- which accounts, least places and lowest offsets are put together, and what is held doubly does not depend on an order.
-pub use Rattle.elf_extent.proofs.AccountLemmas.{AccountsBelow, gap_cases, member_end, member_piece, member_start, walk_begins, walk_ends, walk_on, walk_pushed}
-pub use Rattle.elf_extent.proofs.AccountLaws.{IsPiece, accounts_le, in_piece, one_account, piece_at, piece_for, pieces_ascend}
-pub use Rattle.elf_extent.proofs.Holders.{held_nonempty, lowest_held, lowest_moved, lowest_sorted, nonempty_sorted}
-pub use Rattle.elf_extent.proofs.Least.{IsLowest-lower, IsLowest-same, one_lowest}
-pub use Rattle.elf_extent.proofs.MembersLemmas.{ascending_extents, members_more, members_none, members_permuted, members_skip}
-pub use Rattle.elf_extent.proofs.Overlaps.{disjoint_from_never, never_from_disjoint}
-pub use Rattle.elf_extent.proofs.PlaceLaws.{above_earlier, above_from, fits_length, same_least}
-pub use Rattle.elf_extent.proofs.PlaceLemmas.{least_cons, least_nil, least_places}
-pub use Rattle.elf_extent.proofs.SomeAccount.{some_account}
+pub use Rattle.elf_extent.proofs.AccountLemmas.{AccountsBelow, gap_cases, member_end, member_piece, member_start, walk_begins, walk_ends, walk_on, walk_pushed, IsPiece, accounts_le, in_piece, one_account, piece_at, piece_for, pieces_ascend, some_account}
+pub use Rattle.elf_extent.proofs.ExtentLists.{held_nonempty, lowest_held, lowest_moved, lowest_sorted, nonempty_sorted, IsLowest-lower, IsLowest-same, one_lowest, ascending_extents, members_more, members_none, members_permuted, members_skip, disjoint_from_never, never_from_disjoint}
+pub use Rattle.elf_extent.proofs.PlaceLemmas.{above_earlier, above_from, fits_length, same_least, least_cons, least_nil, least_places}

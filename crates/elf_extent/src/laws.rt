@@ -4,8 +4,7 @@ ghost use Rattle.std.specs.Prelude.{ℕ, ◌≡◌, ◌<◌, ◌≤◌, List, So
 ghost use Rattle.elf_extent.specs.declared.extent.Extent.{Extent};
 ghost use Rattle.elf_extent.specs.declared.extent.Piece.{Piece};
 ghost use Rattle.elf_extent.specs.Account.{Accounts, IsOnlyPieceAt};
-ghost use Rattle.elf_extent.specs.Extent.{AreDisjoint, AreWithin, Doubly};
-ghost use Rattle.elf_extent.specs.Least.{Never};
+ghost use Rattle.elf_extent.specs.Extent.{AreDisjoint, AreWithin, Doubly, Never};
 ghost use Rattle.elf_extent.specs.Place.{Fits, Least, end_of};
 
 /// Extents are disjoint exactly if no byte is held by two of them.

@@ -14,23 +14,16 @@
 #![tactic(auto)]
 
 pub use accounting::account;
-pub use double::first_double;
-pub use extent::{Extent, OutOfMemory, Piece};
+pub use extent::{Counted, Extent, OutOfMemory, Piece, Row, first_double, sweep};
 pub use laws::{
     above_earlier, above_from, disjoint, fits_length, in_piece, one_account, piece_for, same_least,
     some_account,
 };
 pub use placement::{PlaceFault, next_place, place};
-pub use row::{Counted, Row};
 pub use sorted::SortedExtents;
-pub use sweeping::sweep;
 
 mod accounting;
-mod double;
 mod extent;
 mod laws;
-mod members;
 mod placement;
-mod row;
 mod sorted;
-mod sweeping;

@@ -1,11 +1,10 @@
 //! Entries of a dynamic array (gABI chapter 5, Dynamic Section).
 ghost use Rattle.std.specs.Prelude.{◌≡◌, length};
-ghost use Rattle.elf_field.specs.Dyn.{IsDyn, IsDynAt, dyn_at, dyn_bytes, dyn_fields_at, dyn_laws};
+ghost use Rattle.elf_field.specs.Entries.{IsDyn, IsDynAt, dyn_at, dyn_bytes, dyn_fields_at, dyn_laws};
 ghost use Rattle.elf_field.specs.Abi.{DYN_SIZE};
 
 use crate::abi::{D_TAG_AT, D_UN_AT, DYN_SIZE};
-use crate::number::{i64_at, put_i64, put_u64, u64_at};
-use crate::order::Order;
+use crate::number::{Order, i64_at, put_i64, put_u64, u64_at};
 use crate::record::Record;
 
 /// An entry of the dynamic array.

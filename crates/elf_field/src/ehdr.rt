@@ -1,8 +1,7 @@
 //! The header of a file (gABI chapter 4, ELF Header).
 ghost use Rattle.std.specs.Prelude.{◌≡◌, length, ◌≤◌, take};
 ghost use Rattle.elf_field.specs.Bytes.{first_bytes};
-ghost use Rattle.elf_field.specs.Ehdr.{IsEhdr, IsEhdrAt, ehdr_at, ehdr_bytes};
-ghost use Rattle.elf_field.specs.EhdrLaws.{ehdr_fields_at, ehdr_laws};
+ghost use Rattle.elf_field.specs.Headers.{IsEhdr, IsEhdrAt, ehdr_at, ehdr_bytes, ehdr_fields_at, ehdr_laws};
 ghost use Rattle.elf_field.specs.Abi.{EHDR_SIZE};
 
 use crate::abi::{
@@ -10,8 +9,7 @@ use crate::abi::{
     E_SHENTSIZE_AT, E_SHNUM_AT, E_SHOFF_AT, E_SHSTRNDX_AT, E_TYPE_AT, E_VERSION_AT, EHDR_SIZE,
     EI_NIDENT,
 };
-use crate::number::{put_u16, put_u32, put_u64, u16_at, u32_at, u64_at};
-use crate::order::Order;
+use crate::number::{Order, put_u16, put_u32, put_u64, u16_at, u32_at, u64_at};
 use crate::record::Record;
 
 /// The ELF header: a road map of the file, at its beginning.

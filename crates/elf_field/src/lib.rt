@@ -15,7 +15,6 @@ pub mod abi;
 mod dynamic;
 mod ehdr;
 mod number;
-mod order;
 mod phdr;
 mod record;
 mod rel;
@@ -26,7 +25,7 @@ mod word;
 
 pub use dynamic::Dyn;
 pub use ehdr::Ehdr;
-pub use order::Order;
+pub use number::Order;
 pub use phdr::Phdr;
 pub use record::{Record, get_at};
 pub use rel::Rel;

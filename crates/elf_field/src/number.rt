@@ -1,11 +1,20 @@
 //! Numbers at offsets of a slice, in either byte order.
-
 ghost use Rattle.std.specs.Prelude.{◌≡◌, ◌+◌, ◌≤◌, ◌++◌, length, take};
 ghost use Rattle.std.specs.Int.{w64, cast_signed, cast_unsigned};
 ghost use Rattle.elf_field.specs.Bytes.{bytes_of, field};
 
-use crate::order::Order;
 use byteorder::{BigEndian, ByteOrder, LittleEndian};
+
+// The byte order of a file (gABI chapter 4, Data Encoding).
+
+/// The order of a number's bytes in a file (gABI chapter 4, Data Encoding): identification byte 5.
+#[derive(Clone, Copy, Debug, PartialEq, Eq)]
+pub enum Order {
+    /// Least significant byte first (`ELFDATA2LSB`).
+    Little,
+    /// Most significant byte first (`ELFDATA2MSB`).
+    Big,
+}
 
 #[tactic(auto, unfolding(crate::specs::Bytes::num))]
 pub fn u8_at(order: Order, b: &[u8], offset: u64) -> u8

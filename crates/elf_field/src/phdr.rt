@@ -1,14 +1,13 @@
 //! Program headers (gABI chapter 5, Program Header).
 ghost use Rattle.std.specs.Prelude.{◌≡◌, length};
-ghost use Rattle.elf_field.specs.Phdr.{IsPhdr, IsPhdrAt, phdr_at, phdr_bytes, phdr_fields_at, phdr_laws};
+ghost use Rattle.elf_field.specs.Headers.{IsPhdr, IsPhdrAt, phdr_at, phdr_bytes, phdr_fields_at, phdr_laws};
 ghost use Rattle.elf_field.specs.Abi.{PHDR_SIZE};
 
 use crate::abi::{
     P_ALIGN_AT, P_FILESZ_AT, P_FLAGS_AT, P_MEMSZ_AT, P_OFFSET_AT, P_PADDR_AT, P_TYPE_AT,
     P_VADDR_AT, PHDR_SIZE,
 };
-use crate::number::{put_u32, put_u64, u32_at, u64_at};
-use crate::order::Order;
+use crate::number::{Order, put_u32, put_u64, u32_at, u64_at};
 use crate::record::Record;
 
 /// A program header: one entry of the program header table, a segment.

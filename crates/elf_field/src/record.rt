@@ -3,11 +3,11 @@ ghost use Rattle.std.specs.Prelude.{◌≡◌, ◌+◌, ◌≤◌, ℕ, List, le
 ghost use Rattle.elf_field.specs.Bytes.{IsBytes};
 ghost use Rattle.elf_field.specs.Record.{IsRecord};
 
-use crate::order::Order;
+use crate::number::Order;
 
 /// A record of fixed size: its fields at fixed offsets, in either byte order.
 pub trait Record {
-    ghost use Rattle.elf_field.specs.declared.order.Order.{Order};
+    ghost use Rattle.elf_field.specs.declared.number.Order.{Order};
 
     ghost SIZE: { ℕ };
 

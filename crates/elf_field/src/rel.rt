@@ -1,11 +1,10 @@
 //! Relocations without addends (gABI chapter 4, Relocation).
 ghost use Rattle.std.specs.Prelude.{◌≡◌, ◌/◌, ◌%◌, ◌^◌, length};
-ghost use Rattle.elf_field.specs.Rel.{IsRel, IsRelAt, rel_at, rel_bytes, rel_fields_at, rel_laws};
+ghost use Rattle.elf_field.specs.Entries.{IsRel, IsRelAt, rel_at, rel_bytes, rel_fields_at, rel_laws};
 ghost use Rattle.elf_field.specs.Abi.{REL_SIZE};
 
 use crate::abi::{R_INFO_AT, R_OFFSET_AT, REL_SIZE};
-use crate::number::{put_u64, u64_at};
-use crate::order::Order;
+use crate::number::{Order, put_u64, u64_at};
 use crate::record::Record;
 
 /// A relocation without addend: one entry of a section of type REL.

@@ -1,11 +1,10 @@
 //! Relocations with addends (gABI chapter 4, Relocation).
 ghost use Rattle.std.specs.Prelude.{◌≡◌, ◌/◌, ◌%◌, ◌^◌, length};
-ghost use Rattle.elf_field.specs.Rela.{IsRela, IsRelaAt, rela_at, rela_bytes, rela_fields_at, rela_laws};
+ghost use Rattle.elf_field.specs.Entries.{IsRela, IsRelaAt, rela_at, rela_bytes, rela_fields_at, rela_laws};
 ghost use Rattle.elf_field.specs.Abi.{RELA_SIZE};
 
 use crate::abi::{R_ADDEND_AT, R_INFO_AT, R_OFFSET_AT, RELA_SIZE};
-use crate::number::{i64_at, put_i64, put_u64, u64_at};
-use crate::order::Order;
+use crate::number::{Order, i64_at, put_i64, put_u64, u64_at};
 use crate::record::Record;
 
 /// A relocation with addend: one entry of a section of type RELA.

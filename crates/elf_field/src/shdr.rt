@@ -1,14 +1,13 @@
 //! Section headers (gABI chapter 4, Sections).
 ghost use Rattle.std.specs.Prelude.{◌≡◌, length};
-ghost use Rattle.elf_field.specs.Shdr.{IsShdr, IsShdrAt, shdr_at, shdr_bytes, shdr_fields_at, shdr_laws};
+ghost use Rattle.elf_field.specs.Headers.{IsShdr, IsShdrAt, shdr_at, shdr_bytes, shdr_fields_at, shdr_laws};
 ghost use Rattle.elf_field.specs.Abi.{SHDR_SIZE};
 
 use crate::abi::{
     SH_ADDR_AT, SH_ADDRALIGN_AT, SH_ENTSIZE_AT, SH_FLAGS_AT, SH_INFO_AT, SH_LINK_AT, SH_NAME_AT,
     SH_OFFSET_AT, SH_SIZE_AT, SH_TYPE_AT, SHDR_SIZE,
 };
-use crate::number::{put_u32, put_u64, u32_at, u64_at};
-use crate::order::Order;
+use crate::number::{Order, put_u32, put_u64, u32_at, u64_at};
 use crate::record::Record;
 
 /// A section header: one entry of the section header table.

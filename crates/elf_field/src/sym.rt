@@ -1,13 +1,12 @@
 //! Symbols (gABI chapter 4, Symbol Table).
 ghost use Rattle.std.specs.Prelude.{◌≡◌, ◌/◌, ◌%◌, length};
-ghost use Rattle.elf_field.specs.Sym.{IsSym, IsSymAt, sym_at, sym_bytes, sym_fields_at, sym_laws};
+ghost use Rattle.elf_field.specs.Entries.{IsSym, IsSymAt, sym_at, sym_bytes, sym_fields_at, sym_laws};
 ghost use Rattle.elf_field.specs.Abi.{SYM_SIZE};
 
 use crate::abi::{
     ST_INFO_AT, ST_NAME_AT, ST_OTHER_AT, ST_SHNDX_AT, ST_SIZE_AT, ST_VALUE_AT, SYM_SIZE,
 };
-use crate::number::{put_u8, put_u16, put_u32, put_u64, u8_at, u16_at, u32_at, u64_at};
-use crate::order::Order;
+use crate::number::{Order, put_u8, put_u16, put_u32, put_u64, u8_at, u16_at, u32_at, u64_at};
 use crate::record::Record;
 
 /// A symbol: one entry of a symbol table.

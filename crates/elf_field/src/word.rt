@@ -1,9 +1,8 @@
 //! Words of four bytes, as index tables, section groups and hash tables hold (gABI chapter 4, Data Representation).
-ghost use Rattle.elf_field.specs.Word.{IsWord, IsWordAt, word_at, word_bytes};
-ghost use Rattle.elf_field.specs.WordLaws.{word_fields_at, word_laws};
+ghost use Rattle.elf_field.specs.Entries.{IsWord, IsWordAt, word_at, word_bytes, word_fields_at, word_laws};
 
 use crate::abi::WORD_SIZE;
-use crate::order::Order;
+use crate::number::Order;
 use crate::record::Record;
 use byteorder::{BigEndian, ByteOrder, LittleEndian};
 

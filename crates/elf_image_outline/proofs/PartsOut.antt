@@ -1,34 +1,200 @@
 -- The parts of an outline are written one after the other: records and zeros of the outline, and bytes of its source at their offsets. Each
 -- part has the bytes that the image has there, so after k parts exactly the first k are written. A part that fails adds a beginning of its
 -- bytes, and a read that fails is at one of its bytes.
-use Rattle.std.proofs.Common.{◌≡◌, ◌≤◌, ◌<◌, ◌+◌, ◌^◌, ℕ, suc, Bool, true, false, Option, Some, List, [], ◌∷◌, ◌++◌, length, take, drop, map, get_or, refl, sym, ap, ap₂, subst, ◌∙◌, arith, drop-cons, length-append, length-drop, take_all, zero-add, Err}
-use Rattle.std.specs.Prelude.{replicate, slice_get}
+use Rattle.std.proofs.Common.{◌≡◌, ◌≤◌, ◌<◌, ◌+◌, ◌-◌, ℕ, List, ◌++◌, length, take, drop, Option, Some, Result, Ok, Err, sym, ap, ap₂, subst, ◌∙◌, arith, length-append, take-add, zero, suc, Bool, [], ◌∷◌, map, get_or, ◌^◌, true, false, refl, drop-cons, length-drop, take_all, zero-add}
+use Rattle.std.specs.Result.{IsErrAnd}
+use Rattle.std.specs.Io.KnownBytes.{Appends}
+use Rattle.std.proofs.KnownBytes.{Appends-trans}
+use Rattle.std.proofs.lemmas.List.{drop-drop, drop_at, length-take, length-take-le, take-append-le, take_at, append-nil, take-append-drop, take_more}
 use Rattle.std.specs.List.{flat_map}
+use Rattle.std.proofs.lemmas.List.Folds.{flat_map-map}
+use Rattle.std.specs.Prelude.{replicate, slice_get}
 use Rattle.std.proofs.lemmas.Grind.{flat_map-append}
-use Rattle.std.proofs.lemmas.List.{append-nil, length-take, take-append-drop, take_more}
 use Rattle.std.proofs.lemmas.Option.{slice_get-get_or}
-use Rattle.elf_field.specs.Ehdr.{ehdr_bytes}
-use Rattle.elf_field.specs.Phdr.{phdr_bytes}
-use Rattle.elf_field.specs.Shdr.{shdr_bytes}
-use Rattle.elf_image_rules.specs.HeaderRules.{MAX_LEN}
+use Rattle.elf_extent.specs.Account.{Accounts}
+use Rattle.elf_extent.specs.declared.extent.Extent.{Extent}
+use Rattle.elf_field.specs.Headers.{ehdr_bytes, phdr_bytes, shdr_bytes}
+use Rattle.elf_image_outline.proofs.Edited.{parts-placed, len_short}
+use Rattle.elf_image_outline.proofs.Standing.{HaveLengths, clean_of, counted_of, length-joined, lengths_of, are_parts, get_or_at, within_list, content_is}
+use Rattle.elf_image_outline.specs.Image.{ImageValue, IsSoundImage, PlacedPart, joined, part_bytes, piece_of, owned_bytes, IsExtentOf}
+use Rattle.elf_image_outline.specs.Outline.{Copies, CopiedOut, ReadsBehind, bytes_out, copy_failure, later, OutlineValue, image_of, placed_part, IsOutlineOf, IsSoundOutline, blank_image, bytes_of_outline, contents_in, image_in, IsOfSource, ReadsOfSource, ReadsPart}
+use Rattle.elf_image_outline.specs.declared.copying.CopyFault.TheVariants.{Read, Write}
+use Rattle.elf_image_outline.specs.declared.copying.CopyFault.{CopyFault}
+use Rattle.elf_image_outline.specs.declared.outline.Owner.TheVariants.{Header, ProgramTable, SectionTable, Content, Gap}
+use Rattle.elf_image_outline.specs.declared.outline.Owner.{Owner}
+use Rattle.elf_image_outline.specs.declared.outline.Part.{Part}
+use Rattle.elf_image_rules.specs.Rules.{MAX_LEN}
 use Rattle.elf_image_rules.specs.Tables.{content_extent, order_of}
-use Rattle.elf_image_outline.specs.declared.part.Owner.{Owner}
-use Rattle.elf_image_outline.specs.declared.part.Owner.TheVariants.{Header, ProgramTable, SectionTable, Content, Gap}
-use Rattle.elf_image_outline.specs.declared.part.Part.{Part}
-use Rattle.elf_image_outline.specs.Image.{ImageValue, PlacedPart, owned_bytes, part_bytes}
-use Rattle.elf_image_outline.specs.Outline.{IsOutlineOf, IsSoundOutline, OutlineValue, blank_image, bytes_of_outline, contents_in, image_in, placed_part}
-use Rattle.elf_image_outline.specs.Parts.{IsExtentOf}
-use Rattle.elf_image_outline.proofs.Edited.{parts-placed}
-use Rattle.elf_image_outline.proofs.Holds.{length-joined}
-use Rattle.elf_image_outline.proofs.Named.{len_short}
-use Rattle.elf_image_outline.proofs.PartsOfImage.{are_parts}
-use Rattle.elf_image_outline.proofs.Standing.{get_or_at, within_list}
-use Rattle.elf_image_outline.proofs.Stands.{content_is}
-use Rattle.elf_image_outline.proofs.Written.{IsPartAt, joined_parts, part_in}
-use Rattle.elf_image_outline.specs.declared.copy_fault.CopyFault.{CopyFault}
-use Rattle.elf_image_outline.specs.declared.copy_fault.CopyFault.TheVariants.{Read, Write}
-use Rattle.elf_image_outline.specs.Copying.{CopiedOut, Copies, IsOfSource, ReadsBehind, ReadsOfSource, ReadsPart, bytes_out, later}
-use Rattle.elf_image_outline.proofs.Out.{behind_after, copies_after, out_count, out_more}
+use Rattle.elf_image_stream.proofs.Public.{failed_within, flat_err}
+use Rattle.elf_image_stream.specs.Source.{HasFailed, Reaches, Remembers}
+use Rattle.elf_image_stream.specs.declared.source.Failures.{Failures}
+
+-- Bytes that are copied piece by piece: a copied piece follows the earlier ones (`out_more`), and of a piece that fails its first bytes do
+-- (`copies_after`). So a beginning of the whole is written, and the counts add up. A read that failed in a piece failed in the whole
+-- (`behind_after`); small facts on ranges follow from `take` and `drop`.
+
+-- m bytes went out, and n more after them
+pub out_more : (content now a b c : Option (List ℕ)) (m n : ℕ) (f g h : List ℕ → List ℕ) → now ≡ content → CopiedOut content a b m f → CopiedOut now b c n g →
+    ((x : List ℕ) → f x ++ g x ≡ h x) → CopiedOut content a c (m + n) h
+out_more content now a b c m n f g h same before went joins = record {
+  out = before.out ++ went.out;
+  many = length-append before.out went.out ∙ ap₂ (λ (i j : ℕ). i + j) before.many went.many;
+  appends = Appends-trans a b c before.out went.out before.appends went.appends;
+  are = λ x told. ap₂ (λ (s t : List ℕ). s ++ t) (before.are x told) (went.are x (same ∙ told)) ∙ joins x;
+}
+
+-- m bytes went out, and n of the next piece, which has more
+out_some : (content now a b c : Option (List ℕ)) (m n : ℕ) (f g rest h : List ℕ → List ℕ) → now ≡ content → CopiedOut content a b m f →
+    CopiedOut now b c n (λ x. take n (g x)) → ((x : List ℕ) → content ≡ Some x → n ≤ length (g x)) → ((x : List ℕ) → h x ≡ f x ++ (g x ++ rest x)) →
+    CopiedOut content a c (m + n) (λ x. take (m + n) (h x))
+out_some content now a b c m n f g rest h same before failed long splits = record {
+  out = before.out ++ failed.out;
+  many = length-append before.out failed.out ∙ ap₂ (λ (i j : ℕ). i + j) before.many failed.many;
+  appends = Appends-trans a b c before.out failed.out before.appends failed.appends;
+  are = λ x told.
+      let first : before.out ≡ f x = before.are x told in
+      let next : failed.out ≡ take n (g x) = failed.are x (same ∙ told) in
+      let count : length (f x) ≡ m = ap (λ (s : List ℕ). length s) (sym first) ∙ before.many in
+      ap₂ (λ (s t : List ℕ). s ++ t) first next
+      ∙ sym (ap (take (m + n)) (splits x) ∙ take-add m n (f x ++ (g x ++ rest x))
+      ∙ ap₂ (λ (s t : List ℕ). s ++ t) (take_at (f x) (g x ++ rest x) m count)
+      (ap (take n) (drop_at (f x) (g x ++ rest x) m count) ∙ take-append-le n (g x) (rest x) (long x told)));
+}
+
+-- the first n of some bytes are n, so there are as many
+long_enough : (n : ℕ) (xs ys : List ℕ) → length xs ≡ n → xs ≡ take n ys → n ≤ length ys
+long_enough n xs ys many are =
+    let count = length-take n ys in
+    let same : length (take n ys) ≡ n = ap (λ (s : List ℕ). length s) (sym are) ∙ many in
+    omega arith
+
+-- a piece of the bytes failed after others
+pub copies_after : (content now a b c : Option (List ℕ)) (m len total : ℕ) (f g rest h : List ℕ → List ℕ) (fault : CopyFault) → now ≡ content → m + len ≤ total →
+    CopiedOut content a b m f → Copies now b c len g (Err fault) → ((x : List ℕ) → h x ≡ f x ++ (g x ++ rest x)) → Copies content a c total h (Err (later m fault))
+copies_after content now a b c m len total f g rest h (Read at n) same within before (below, failed) splits = (
+  omega arith,
+  out_some content now a b c m n f g rest h same before failed (λ x told. long_enough n failed.out (g x) failed.many (failed.are x (same ∙ told))) splits,
+)
+copies_after content now a b c m len total f g rest h (Write n) same within before (below, failed) splits = (
+  omega arith,
+  out_some content now a b c m n f g rest h same before failed (λ x told. long_enough n failed.out (g x) failed.many (failed.are x (same ∙ told))) splits,
+)
+
+pub behind_after : (block start m size len : ℕ) (fault : CopyFault) → m + size ≤ len → ReadsBehind block (start + m) size (Err fault) → ReadsBehind block start len (Err (later m fault))
+behind_after block start m size len (Read at n) within (above, near, below) = (omega arith, omega arith, omega arith)
+behind_after block start m size len (Write n) within is = tt
+
+-- the part of a list from start on: what was written of it, the next piece, and the rest
+pub range_more : (b : List ℕ) (start m n : ℕ) → take m (drop start b) ++ take n (drop (start + m) b) ≡ take (m + n) (drop start b)
+range_more b start m n = ap (λ (s : List ℕ). take m (drop start b) ++ take n s) (sym (drop-drop m start b)) ∙ sym (take-add m n (drop start b))
+
+pub range_splits : (b : List ℕ) (start m n len : ℕ) → m + n ≤ len →
+    take len (drop start b) ≡ take m (drop start b) ++ (take n (drop (start + m) b) ++ take (len - (m + n)) (drop (start + (m + n)) b))
+range_splits b start m n len within =
+    ap (λ (k : ℕ). take k (drop start b)) (let e : len ≡ m + (n + (len - (m + n))) = omega arith in e)
+    ∙ sym (range_more b start m (n + (len - (m + n))))
+    ∙ ap (λ (s : List ℕ). take m (drop start b) ++ s)
+    (sym (range_more b (start + m) n (len - (m + n)))
+    ∙ ap (λ (k : ℕ). take n (drop (start + m) b) ++ take (len - (m + n)) (drop k b)) (let e : start + m + n ≡ start + (m + n) = omega arith in e))
+
+-- a read of bytes that the source has failed before anything went out
+pub read_failed : (content : Option (List ℕ)) (old new : Failures) (at n x : ℕ) (result : Result (Unit {0}) CopyFault) → Reaches content (at + n) →
+    HasFailed content old new at n x → IsErrAnd result (λ fault. fault ≡ Read x 0) → Remembers (copy_failure result) old new
+read_failed content old new at n x (Ok u) reaches failed is = absurd is
+read_failed content old new at n x (Err fault) reaches failed is =
+    subst (λ (f : CopyFault). Remembers (copy_failure (Err f)) old new) (sym is) (failed_within content old new at n x reaches failed)
+
+-- records or zeros that the source has no part in
+pub out_own : (content a b : Option (List ℕ)) (len : ℕ) (own : List ℕ) (bytes : List ℕ → List ℕ) → length own ≡ len → ((x : List ℕ) → own ≡ bytes x) → Appends a b own →
+    CopiedOut content a b len bytes
+out_own content a b len own bytes long same went = record { out = own; many = long; appends = went; are = λ x told. same x }
+
+pub copies_own : (content a b : Option (List ℕ)) (len n : ℕ) (own : List ℕ) (bytes : List ℕ → List ℕ) (result : Result (Unit {0}) CopyFault) → length own ≡ len →
+    ((x : List ℕ) → own ≡ bytes x) → (n < length own) × Appends a b (take n own) → IsErrAnd result (λ fault. fault ≡ Write n) → Copies content a b len bytes result
+copies_own content a b len n own bytes (Ok u) long same failed is = absurd is
+copies_own content a b len n own bytes (Err fault) long same (below, went) is =
+    let out : Copies content a b len bytes (Err (Write n)) = (
+      omega arith,
+      record {
+        out = take n own;
+        many = length-take-le n own (omega arith);
+        appends = went;
+        are = λ x told. ap (take n) (same x);
+      },
+    ) in
+    subst (λ (f : CopyFault). Copies content a b len bytes (Err f)) (sym is) out
+
+-- the same bytes, as another function of those of the source
+pub copies_as : (content a b : Option (List ℕ)) (len : ℕ) (f g : List ℕ → List ℕ) (result : Result (Unit {0}) CopyFault) → ((x : List ℕ) → content ≡ Some x → f x ≡ g x) →
+    Copies content a b len f result → Copies content a b len g result
+copies_as content a b len f g (Ok u) same went = record { out = went.out; many = went.many; appends = went.appends; are = λ x told. went.are x told ∙ same x told }
+copies_as content a b len f g (Err fault) same (below, went) =
+    (below, record { out = went.out; many = went.many; appends = went.appends; are = λ x told. went.are x told ∙ ap (take (bytes_out fault)) (same x told) })
+
+pub out_count : (content a b : Option (List ℕ)) (m n : ℕ) (bytes : List ℕ → List ℕ) → m ≡ n → CopiedOut content a b m bytes → CopiedOut content a b n bytes
+out_count content a b m n bytes same went = subst (λ (k : ℕ). CopiedOut content a b k bytes) same went
+
+-- The parts of an image are written one after the other. By induction on the account, part k begins where the parts before it end. So if
+-- part k fails after n bytes, exactly the first `start + n` bytes of the image are written (`parts_err`).
+
+-- a part begins where the ones before it end, and has as many bytes as its length says, and some
+pub record IsPartAt (f : PlacedPart → List ℕ) (z : Bool) (file : List ℕ) (ps : List Part) (at k : ℕ) (p : Part) : Type 0 where
+  pub start : at + length (flat_map (λ q. f (placed_part z file q)) (take k ps)) ≡ p.start
+  pub some : 0 < p.len
+  pub whole : length (f (placed_part z file p)) ≡ p.len
+
+pub part_at : (f : PlacedPart → List ℕ) (z : Bool) (file : List ℕ) (es : List Extent) (total at : ℕ) (ps : List Part) (k : ℕ) (d : Part) →
+    Accounts es total at (map piece_of (map (placed_part z file) ps)) → HaveLengths f (map (placed_part z file) ps) → k < length ps → IsPartAt f z file ps at k (get_or ps k d)
+part_at f z file es total at [] k d accounts lengths within = absurd (omega arith)
+part_at f z file es total at (p ∷ ps) zero d accounts lengths within = record { start = omega (arith, accounts.0); some = accounts.1; whole = lengths.0 }
+part_at f z file es total at (p ∷ ps) (suc k) d accounts lengths within =
+    let rest = part_at f z file es total (at + p.len) ps k d accounts.3 lengths.1 (omega arith) in
+    let more = length-append (f (placed_part z file p)) (flat_map (λ q. f (placed_part z file q)) (take k ps)) in
+    let here = lengths.0 in
+    let later = rest.start in
+    record { start = omega arith; some = rest.some; whole = rest.whole }
+
+-- an image is not longer than a file may be
+not_long : (v : ImageValue) → IsSoundImage v → v.len ≤ MAX_LEN
+not_long v sound = (clean_of v (counted_of v sound)).short
+
+-- ---- the parts of an image
+
+abbrev pub bytes_in_parts : OutlineValue → List (List ℕ) → List ℕ → Part → List ℕ
+bytes_in_parts o cs file p = part_bytes (image_of o cs file) (placed_part o.zeroed file p)
+
+pub part_in : (o : OutlineValue) (cs : List (List ℕ)) (file : List ℕ) (ps : List Part) (k : ℕ) (d : Part) → IsSoundImage (image_of o cs file) → ps ≡ o.parts → k < length ps →
+    IsPartAt (part_bytes (image_of o cs file)) o.zeroed file ps 0 k (get_or ps k d)
+part_in o cs file ps k d sound same within =
+    let f = part_bytes (image_of o cs file) in
+    let P : List Part → Type 0 = λ qs. k < length qs → IsPartAt f o.zeroed file qs 0 k (get_or qs k d) in
+    subst P (sym same) (part_at f o.zeroed file _ o.len 0 o.parts k d sound.accounts (lengths_of (image_of o cs file) sound)) within
+
+pub joined_parts : (o : OutlineValue) (cs : List (List ℕ)) (file : List ℕ) (ps : List Part) → ps ≡ o.parts → flat_map (bytes_in_parts o cs file) ps ≡ joined (image_of o cs file)
+unfolding joined
+joined_parts o cs file ps same = ap (flat_map (bytes_in_parts o cs file)) same ∙ sym (flat_map-map (part_bytes (image_of o cs file)) (placed_part o.zeroed file) o.parts)
+
+one_at : {A : Type 0} (f : A → List ℕ) (rs : List A) (k : ℕ) (d : A) → k < length rs → f (get_or rs k d) ≡ flat_map f (take 1 (drop k rs))
+one_at f [] k d within = absurd (omega arith)
+one_at f (r ∷ rs) zero d within = sym (append-nil (f r))
+one_at f (r ∷ rs) (suc k) d within = one_at f rs k d (omega arith)
+
+-- part k failed after the ones before it
+pub parts_err : (o : OutlineValue) (cs : List (List ℕ)) (file : List ℕ) (ps : List Part) (k n : ℕ) (d : Part) (a b c : Option (List ℕ)) → IsSoundImage (image_of o cs file) → ps ≡ o.parts →
+    k < length ps → Appends a b (flat_map (bytes_in_parts o cs file) (take k ps)) →
+    (n < length (bytes_in_parts o cs file (get_or ps k d))) × Appends b c (take n (bytes_in_parts o cs file (get_or ps k d))) →
+    ((get_or ps k d).start + n < length (joined (image_of o cs file))) × Appends a c (take ((get_or ps k d).start + n) (joined (image_of o cs file)))
+parts_err o cs file ps k n d a b c sound same within before failed =
+    let f = bytes_in_parts o cs file in
+    let part = part_in o cs file ps k d sound same within in
+    let start = part.start in
+    let P : List ℕ → Type 0 = λ s. ((get_or ps k d).start + n < length s) × Appends a c (take ((get_or ps k d).start + n) s) in
+    subst P (joined_parts o cs file ps same)
+    (flat_err f ps k 1 (get_or ps k d).start n a b c (f (get_or ps k d)) (omega arith) (one_at f ps k d within) before failed)
+
+-- the number of bytes that are out fits
+pub out_fits : (v : ImageValue) (n : ℕ) → IsSoundImage v → n < length (joined v) → n < 2 ^ 64
+out_fits v n sound below = let all = length-joined v sound in let short = not_long v sound in omega arith
 
 -- the bytes of a part with zeros for contents and gaps, and with those of the source
 abbrev pub blank_bytes : OutlineValue → Part → List ℕ

@@ -1,24 +1,24 @@
 -- An image: a file as a value, and the byte list that represents it. (gABI chapter 4, ELF Header, Sections; chapter 5, Program Header.)
-use Rattle.std.specs.Prelude.{◌≡◌, ◌<◌, ◌≤◌, ℕ, suc, ◌+◌, ◌*◌, ◌==◌, if◌then◌else◌, List, [], ◌∷◌, length, map, get_or, take, drop, Option, None, Some}
+use Rattle.std.specs.Prelude.{◌≡◌, ◌<◌, ◌≤◌, ℕ, suc, ◌+◌, ◌*◌, ◌==◌, if◌then◌else◌, List, [], ◌∷◌, length, map, get_or, take, drop, Option, None, Some, ◌≢◌, replicate, set, slice_get}
 use Rattle.std.specs.List.{AllByRecursion, flat_map, range_with_len}
-use Rattle.elf_field.specs.declared.ehdr.Ehdr.{Ehdr}
-use Rattle.elf_field.specs.declared.shdr.Shdr.{Shdr}
-use Rattle.elf_field.specs.declared.phdr.Phdr.{Phdr}
-use Rattle.elf_field.specs.Abi.{EHDR_SIZE, PHDR_SIZE, SHDR_SIZE}
-use Rattle.elf_field.specs.Bytes.{IsBytes}
-use Rattle.elf_field.specs.Ehdr.{IsEhdr, ehdr_bytes}
-use Rattle.elf_field.specs.Shdr.{IsShdr, shdr_bytes}
-use Rattle.elf_field.specs.Phdr.{IsPhdr, phdr_bytes}
+pub use Rattle.elf_image_rules.specs.Tables.{no_program_header, no_section_header, program_header_of, section_header_of}
+use Rattle.elf_extent.specs.Account.{Accounts, IsGap}
 use Rattle.elf_extent.specs.declared.extent.Extent.{Extent}
 use Rattle.elf_extent.specs.declared.extent.Piece.{Piece}
-use Rattle.elf_extent.specs.Account.{Accounts}
+use Rattle.elf_field.specs.Abi.{EHDR_SIZE, PHDR_SIZE, SHDR_SIZE, SHT_NOBITS, SHT_NULL}
+use Rattle.elf_field.specs.Bytes.{IsBytes}
+use Rattle.elf_field.specs.Headers.{IsEhdr, ehdr_bytes, IsShdr, shdr_bytes, IsPhdr, phdr_bytes}
+use Rattle.elf_field.specs.declared.ehdr.Ehdr.{Ehdr}
+use Rattle.elf_field.specs.declared.phdr.Phdr.{Phdr}
+use Rattle.elf_field.specs.declared.shdr.Shdr.{Shdr}
+use Rattle.elf_image_outline.specs.declared.outline.Owner.TheVariants.{Header, ProgramTable, SectionTable, Content, Gap}
+use Rattle.elf_image_outline.specs.declared.outline.Owner.{Owner}
+use Rattle.elf_image_outline.specs.declared.outline.Part.{Part}
+use Rattle.elf_image_outline.specs.declared.outline.ReplaceFault.TheVariants.{NoSection, WrongLength, NameTable}
+use Rattle.elf_image_outline.specs.declared.outline.ReplaceFault.{ReplaceFault}
 use Rattle.elf_image_rules.specs.Rows.{Ruled, FirstIn}
+use Rattle.elf_image_rules.specs.Rules.{image_rules, rules_in}
 use Rattle.elf_image_rules.specs.Tables.{bytes_in, content_extent, header, name_table, order_of, phdr_offset, program_header_count, section_header_count, sections, segments, shdr_offset}
-pub use Rattle.elf_image_rules.specs.Tables.{no_program_header, no_section_header, program_header_of, section_header_of}
-use Rattle.elf_image_rules.specs.ImageRules.{image_rules, rules_in}
-use Rattle.elf_image_outline.specs.declared.part.Owner.{Owner}
-use Rattle.elf_image_outline.specs.declared.part.Owner.TheVariants.{Header, ProgramTable, SectionTable, Content, Gap}
-use Rattle.elf_image_outline.specs.declared.part.Part.{Part}
 
 -- a part of the file, and its own bytes where it is a gap (none where it has an owner)
 pub record PlacedPart : Type 0 where
@@ -147,3 +147,82 @@ part_bytes v p = owned_bytes v p.gap p.part.owner
 -- the parts' bytes, one part after the other
 unfoldable pub joined : ImageValue → List ℕ
 joined v = flat_map (part_bytes v) v.parts
+
+-- The edits of an image: each changes just its own field, content or gaps.
+-- (gABI chapter 4, ELF Header: e_entry; Sections: sh_flags, contents, and the space that no section covers.)
+
+-- with another e_entry
+abbrev pub with_entry : ImageValue → ℕ → ImageValue
+with_entry v entry = let h = v.header in record v { header = record h { e_entry = entry } }
+
+-- section headers with other sh_flags in number i
+abbrev pub flagged : List Shdr → ℕ → ℕ → List Shdr
+flagged ss i flags = let s = section_header_of ss i in set ss i (record s { sh_flags = flags })
+
+abbrev pub with_flags : ImageValue → ℕ → ℕ → ImageValue
+with_flags v i flags = record v { sections = flagged v.sections i flags }
+
+-- with another content of section i
+abbrev pub with_content : ImageValue → ℕ → List ℕ → ImageValue
+with_content v i content = record v { contents = set v.contents i content }
+
+-- with zeros in every gap
+abbrev pub zeroed : PlacedPart → PlacedPart
+zeroed p = record p { gap = replicate (gap_len p.part) 0 }
+
+abbrev pub with_zero_gaps : ImageValue → ImageValue
+with_zero_gaps v = record v { parts = map zeroed v.parts }
+
+-- i is the index of a section: section header 0 is of none
+abbrev pub IsSectionIndex : ImageValue → ℕ → Type 0
+IsSectionIndex v i = (0 < i) × (i < length v.sections)
+
+-- section i has bytes of its own in the file, be they none: it is neither NULL nor NOBITS
+abbrev pub HasContent : ImageValue → ℕ → Type 0
+HasContent v i =
+    IsSectionIndex v i × ((section_header_of v.sections i).sh_type ≢ SHT_NULL) × ((section_header_of v.sections i).sh_type ≢ SHT_NOBITS)
+
+abbrev pub IsNameTable : ImageValue → ℕ → Type 0
+IsNameTable v i = i ≡ name_table v.header (section_header_of v.sections 0)
+
+-- the content of section i can be replaced by bytes of its length, unless the sections' names are in it
+pub record IsReplaceable (v : ImageValue) (i : ℕ) (content : List ℕ) : Type 0 where
+  pub section : HasContent v i
+  pub size : length content ≡ (section_header_of v.sections i).sh_size
+  pub no_names : ¬ IsNameTable v i
+
+-- when each refusal comes
+abbrev pub IsReplaceFault : ImageValue → ℕ → List ℕ → ReplaceFault → Type 0
+IsReplaceFault v i content NoSection = ¬ HasContent v i
+IsReplaceFault v i content WrongLength = HasContent v i × (length content ≢ (section_header_of v.sections i).sh_size)
+IsReplaceFault v i content NameTable =
+    HasContent v i × (length content ≡ (section_header_of v.sections i).sh_size) × IsNameTable v i
+
+-- What the parts of an image are: each byte lies in just one of them.
+
+-- part k is p and holds the offset x, and no other part does
+pub record IsOnlyPartAt (ps : List Part) (x k : ℕ) (p : Part) : Type 0 where
+  pub here : slice_get ps k ≡ Some p
+  pub from : p.start ≤ x
+  pub below : x < p.start + p.len
+  pub only : (j : ℕ) (q : Part) → slice_get ps j ≡ Some q →
+      q.start ≤ x → x < q.start + q.len → j ≡ k
+
+-- where an owner's part starts, and how long it is; a gap holds no byte of an owner, and is as long as it can be
+abbrev pub IsExtentOf : ImageValue → Owner → ℕ → ℕ → Type 0
+IsExtentOf v Header start len = (start ≡ 0) × (len ≡ EHDR_SIZE)
+IsExtentOf v SectionTable start len = (start ≡ v.header.e_shoff) × (len ≡ SHDR_SIZE * length v.sections)
+IsExtentOf v ProgramTable start len = (start ≡ v.header.e_phoff) × (len ≡ PHDR_SIZE * length v.segments)
+IsExtentOf v (Content i) start len =
+    (i < length v.sections) × (start ≡ (section_header_of v.sections i).sh_offset) ×
+    (len ≡ (content_extent (section_header_of v.sections i)).len)
+IsExtentOf v Gap start len = IsGap (value_extents v.header v.sections v.segments) v.len start len
+
+pub record AreParts (v : ImageValue) (ps : List Part) : Type 0 where
+  -- each offset below the length lies in one part, and in no other
+  pub each_offset : (x : ℕ) → x < v.len → (k : ℕ) × (p : Part) × IsOnlyPartAt ps x k p
+  pub owners : (k : ℕ) (p : Part) → slice_get ps k ≡ Some p → IsExtentOf v p.owner p.start p.len
+  pub nonempty : (k : ℕ) (p : Part) → slice_get ps k ≡ Some p → 0 < p.len
+  pub ascending : (j k : ℕ) (p q : Part) → j < k → slice_get ps j ≡ Some p → slice_get ps k ≡ Some q →
+      p.start + p.len ≤ q.start
+  pub within : (k : ℕ) (p : Part) → slice_get ps k ≡ Some p → p.start + p.len ≤ v.len

@@ -1,17 +1,16 @@
 //! What each byte of a file belongs to, by its records.
 ghost use Rattle.std.specs.Prelude.{◌≡◌, ◌*◌, ◌<◌, ◌^◌, None, IfErr, IfOk, OnOk, length, map};
 ghost use Rattle.elf_extent.specs.Account.{Accounts};
-ghost use Rattle.elf_extent.specs.Extent.{AreDisjoint, AreWithin, Doubly};
-ghost use Rattle.elf_extent.specs.Least.{IsLowest};
+ghost use Rattle.elf_extent.specs.Extent.{AreDisjoint, AreWithin, Doubly, IsLowest};
 ghost use Rattle.elf_image_outline.specs.Image.{owner_index, part_piece, value_extents};
 ghost use Rattle.elf_image_outline.specs.Scanning.{IsSharedFault};
 
-use crate::part::{Owner, Part};
+use crate::outline::{Owner, Part};
 use elf_extent::{Extent, OutOfMemory, Piece, SortedExtents};
 use elf_field::abi::{EHDR_SIZE, PHDR_SIZE, SHDR_SIZE};
 use elf_field::{Ehdr, Phdr, Shdr};
-use elf_image_rules::content::extent_of_content;
 use elf_image_rules::rules::SHARED_BYTE;
+use elf_image_rules::tables::extent_of_content;
 use elf_image_stream::Fault;
 use std::alloc::{AllocError, Global};
 

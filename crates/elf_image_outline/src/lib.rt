@@ -13,24 +13,13 @@
 //! ```
 #![tactic(auto)]
 
-mod copy_fault;
-mod copy_range;
 mod copying;
-mod edit_fault;
 mod extents;
 mod judged;
-mod judged_file;
 mod outline;
-mod part;
-mod scan_head;
-mod scan_names;
-mod scan_tables;
 mod scanning;
 
-pub use copy_fault::CopyFault;
-pub use copying::copy_image;
-pub use edit_fault::{NoSection, ReplaceFault};
-pub use judged_file::outline_of;
-pub use outline::Outline;
-pub use part::{Owner, Part};
+pub use copying::{CopyFault, copy_image};
+pub use judged::outline_of;
+pub use outline::{NoSection, Outline, Owner, Part, ReplaceFault};
 pub use scanning::scan;

@@ -1,18 +1,65 @@
 //! The records and the parts of a file, without its contents.
 ghost use Rattle.std.specs.Prelude.{◌≡◌, ◌<◌, ◌≤◌, ℕ, List, true, OnErr, OnOk, length, set, vec_capacity};
-ghost use Rattle.elf_image_rules.specs.HeaderRules.{MAX_LEN};
+ghost use Rattle.elf_image_rules.specs.Rules.{MAX_LEN};
 ghost use Rattle.elf_image_rules.specs.Tables.{name_table, order_of};
-ghost use Rattle.elf_image_outline.specs.Edits.{flagged};
-ghost use Rattle.elf_image_outline.specs.Image.{program_header_of, section_header_of};
+ghost use Rattle.elf_image_outline.specs.Image.{flagged, program_header_of, section_header_of, AreParts};
 ghost use Rattle.elf_image_outline.specs.Outline.{IsOutlineOf, IsSoundOutline, blank_image, outline_value};
-ghost use Rattle.elf_image_outline.specs.Parts.{AreParts};
 
-use crate::edit_fault::NoSection;
-use crate::part::Part;
 use elf_field::abi::SHN_XINDEX;
 use elf_field::{Ehdr, Order, Phdr, Shdr};
 use elf_image_rules::tables::order_in;
 use std::marker::Model;
+use thiserror::Error;
+
+// The parts of a file: what each of its bytes belongs to.
+
+/// What a part of a file is: each byte of an image lies in just one part.
+#[derive(Clone, Copy, Debug, PartialEq, Eq)]
+pub enum Owner {
+    /// The ELF header.
+    Header,
+    /// The program header table.
+    ProgramTable,
+    /// The section header table.
+    SectionTable,
+    /// The content of the section of this index.
+    Content(usize),
+    /// Bytes that lie in none of these.
+    Gap,
+}
+
+/// A part of a file, by its offset and length in bytes; the length is above 0.
+#[derive(Clone, Copy, Debug, PartialEq, Eq)]
+pub struct Part {
+    /// What the bytes belong to.
+    pub owner: Owner,
+    /// The offset in the file at which it begins.
+    pub start: u64,
+    /// How many bytes it has.
+    pub len: u64,
+}
+
+// What can stop an edit of an image.
+
+/// No section has the index: it is 0, or not below the number of section headers.
+#[derive(Clone, Copy, Debug, PartialEq, Eq, Error)]
+#[error("no such section")]
+pub struct NoSection;
+
+/// Why a section's content can't be replaced; where several hold, the first of them.
+#[derive(Clone, Copy, Debug, PartialEq, Eq, Error)]
+pub enum ReplaceFault {
+    /// The index is 0 or not below the number of section headers, or the section is of type `SHT_NULL`
+    /// or `SHT_NOBITS` and has no content.
+    #[error("no such section, or one without content")]
+    NoSection,
+    /// The new content is not `sh_size` bytes long.
+    #[error("the content has another length than the section")]
+    WrongLength,
+    /// The section is the section name string table, which every section's name depends on.
+    #[error("the section name string table is not replaced")]
+    NameTable,
+}
 
 /// An ELF-64 file that breaks no rule, without its contents and gaps: its header, its section headers and program headers, and what each of
 /// its bytes belongs to. It is what [`scan`](crate::scan) reads of a source.
@@ -33,7 +80,7 @@ impl Model for Outline {
 
     ghost Value = { OutlineValue };
 
-    ghost use Rattle.elf_image_outline.specs.OutlineView.{outline_view};
+    ghost use Rattle.elf_image_outline.specs.Outline.{outline_view};
 
     ghost view = { outline_view };
 

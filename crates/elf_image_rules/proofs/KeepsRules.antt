@@ -1,26 +1,102 @@
 -- No rule is broken exactly if each rule's positive fact holds, run by run: a rule says that something is wrong, its fact that it is
 -- right, and each test of numbers is decidable.
-use Rattle.std.proofs.Common.{◌≡◌, ◌≢◌, ℕ, ◌+◌, ◌-◌, ◌<◌, ◌≤◌, inl, inr, None, List, ◌∷◌, length, refl, arith}
-use Rattle.std.specs.Prelude.{slice_index}
+use Rattle.std.proofs.Common.{◌≡◌, ◌≢◌, ℕ, Bool, true, false, zero, suc, ◌+◌, ◌*◌, ◌/◌, ◌%◌, ◌^◌, ◌≤◌, ◌⊎◌, inl, inr, refl, sym, ◌∙◌, ap, arith, ◌<◌, ◌-◌, None, List, ◌∷◌, length}
+use Rattle.std.specs.Int.{IsPowerOfTwo}
+use Rattle.std.specs.Int.Count.{ones, ones_step}
+use Rattle.std.proofs.Math.Nat.{pow-suc}
+use Rattle.std.proofs.lemmas.Nat.{zero_from_ones, ones_cat, ones_le_self, pow_pos}
+use Rattle.std.specs.Prelude.{◌==◌, IsTrue, not, ◌↔◌, slice_index}
+use Rattle.std.proofs.lemmas.Bool.{cases_lt, eq-eqb, eqb-true, cases_eq}
+use Rattle.elf_extent.proofs.Public.{disjoint_from_never, never_from_disjoint}
+use Rattle.elf_extent.specs.Extent.{Never}
 use Rattle.elf_field.specs.Abi.{EHDR_SIZE, SHT_NULL}
 use Rattle.elf_field.specs.declared.ehdr.Ehdr.{Ehdr}
-use Rattle.elf_field.specs.declared.shdr.Shdr.{Shdr}
 use Rattle.elf_field.specs.declared.phdr.Phdr.{Phdr}
-use Rattle.elf_extent.specs.Least.{Never}
-use Rattle.elf_extent.proofs.Public.{disjoint_from_never, never_from_disjoint}
+use Rattle.elf_field.specs.declared.shdr.Shdr.{Shdr}
+use Rattle.elf_image_rules.proofs.ImageRules.{FirstIn-behind, FirstIn-front, FirstIn-later}
+use Rattle.elf_image_rules.specs.KeepsRules.{IsAlignment, IsNullHeader, KeepsEachRecordRule, KeepsHeaderRules, KeepsIdentRules, KeepsLengthRules, KeepsNameRules, KeepsProgramTableRules, KeepsRules, KeepsSectionRules, KeepsSectionTableRules, KeepsSegmentRules}
 use Rattle.elf_image_rules.specs.Rows.{AtEntry, FirstIn}
-use Rattle.elf_image_rules.specs.HeaderRules.{MAX_LEN, count_without_section_table, header_rules, ident_rules, length_rules}
-use Rattle.elf_image_rules.specs.ImageRules.{header_entry_rules, header_table_rules, image_rules, record_rules}
-use Rattle.elf_image_rules.specs.KeepsRules.{IsNullHeader, KeepsEachRecordRule, KeepsHeaderRules, KeepsIdentRules, KeepsLengthRules, KeepsNameRules, KeepsProgramTableRules, KeepsRules, KeepsSectionRules, KeepsSectionTableRules, KeepsSegmentRules}
-use Rattle.elf_image_rules.specs.NameRules.{section_name_rules}
-use Rattle.elf_image_rules.specs.ProgramTableRules.{program_table_rules, wrong_extended_segment_count, wrong_segment_count}
-use Rattle.elf_image_rules.specs.SectionRules.{IsMisalignedSection, IsNamePastEnd, HasWrongSectionAlignment, IsContentPastEnd, SomeSectionHeader, section_header_rules}
-use Rattle.elf_image_rules.specs.SectionTableRules.{first_section_header_not_null, section_table_rules, wrong_extended_name_table_index, wrong_extended_section_count, wrong_name_table_index}
-use Rattle.elf_image_rules.specs.SegmentRules.{IsIncongruentSegment, HasFileSizeAboveMemorySize, HasWrongSegmentAlignment, IsSegmentPastEnd, SomeSegment, segment_rules}
-use Rattle.elf_image_rules.specs.StringTable.{UnclosedAt}
+use Rattle.elf_image_rules.specs.Rules.{IsWrongAlignment, MAX_LEN, count_without_section_table, header_rules, ident_rules, length_rules, header_entry_rules, header_table_rules, image_rules, record_rules, section_name_rules, program_table_rules, wrong_extended_segment_count, wrong_segment_count, IsMisalignedSection, IsNamePastEnd, HasWrongSectionAlignment, IsContentPastEnd, SomeSectionHeader, section_header_rules, first_section_header_not_null, section_table_rules, wrong_extended_name_table_index, wrong_extended_section_count, wrong_name_table_index, IsIncongruentSegment, HasFileSizeAboveMemorySize, HasWrongSegmentAlignment, IsSegmentPastEnd, SomeSegment, segment_rules, UnclosedAt}
 use Rattle.elf_image_rules.specs.Tables.{phdr_offset, program_header_count, section_header_count, shdr_offset}
-use Rattle.elf_image_rules.proofs.Decided.{above, at_most, equal, equal_to_either, is_alignment, not_wrong}
-use Rattle.elf_image_rules.proofs.Rows.{FirstIn-behind, FirstIn-front, FirstIn-later}
+
+-- A number is a power of two exactly if one bit of it is set. From one bit to a power: by induction on a bound, an even number is twice its
+-- half, and an odd one is 1. From 2^k to one bit, its bits are counted (`ones_cat`); so the count decides whether an alignment that is not
+-- 0 is wrong.
+
+-- the lowest bit is set or not
+low_bit : (n : ℕ) → (n % 2 ≡ 0) ⊎ (n % 2 ≡ 1)
+low_bit n = elim (cases_lt (n % 2) 1) [ inl h ↦ inl (omega arith) | inr h ↦ inr (omega arith) ]
+
+-- the power is that of half the number, doubled
+double : (n k : ℕ) → n % 2 ≡ 0 → n / 2 ≡ 2 ^ k → n ≡ 2 ^ suc k
+double n k even half = let e = pow-suc 2 k in omega arith
+
+-- with one bit set a number is a power, by recursion on a number above it
+one_bit : (limit n : ℕ) → n ≤ limit → ones n ≡ 1 → IsPowerOfTwo n
+one_bit zero n le one = let le_self = ones_le_self n in absurd (omega arith)
+one_bit (suc limit) n le one = elim (low_bit n) [
+  | inl even ↦ (
+      let step = ones_step n in
+      let half : ones (n / 2) ≡ 1 = omega arith in
+      let (k, e) = one_bit limit (n / 2) (omega arith) half in
+      (suc k, double n k even e))
+  | inr odd ↦ (
+      let step = ones_step n in
+      let rest = zero_from_ones (n / 2) (omega arith) in
+      let is_one : n ≡ 1 = omega arith in
+      (0, is_one))
+]
+
+pub is_power_of_two : (n : ℕ) → ones n ≡ 1 → IsPowerOfTwo n
+is_power_of_two n one = one_bit n n (omega arith) one
+
+pub ones-power : (n : ℕ) → IsPowerOfTwo n → ones n ≡ 1
+ones-power n (k, e) =
+    let cat = ones_cat k 1 0 (pow_pos k) in
+    let none = ones_le_self 0 in
+    let one = ones_step 1 in
+    let same : 1 * 2 ^ k + 0 ≡ n = omega arith in
+    let whole = sym (ap ones same) ∙ cat in
+    omega arith
+
+-- the test of one bit decides whether an alignment that isn't 0 is wrong
+pub wrong_alignment : (align : ℕ) (one : Bool) → one ≡ (ones align == 1) → align ≢ 0 →
+    IsTrue (not one) ↔ IsWrongAlignment align
+wrong_alignment align true e some =
+    (λ no. (let never : ⊥ = cc in absurd never), λ wrong. absurd (wrong.1 (is_power_of_two align (eqb-true (ones align) 1 (sym e)))))
+wrong_alignment align false e some =
+    (λ yes. (some, λ power. (let one = eq-eqb (ones align) 1 (ones-power align power) in absurd (cc))), λ wrong. refl)
+
+-- If a comparison of numbers cannot hold, its opposite does: by cases, because two numbers can be compared. An alignment is 0 or a power of
+-- two exactly if it is not wrong; for that its bits are counted.
+
+pub at_most : (m n : ℕ) → (n < m → ⊥) → m ≤ n
+at_most m n never = elim (cases_lt n m) [ inl lt ↦ absurd (never lt) | inr le ↦ le ]
+
+pub above : (m n : ℕ) → (n ≤ m → ⊥) → m < n
+above m n never = elim (cases_lt m n) [ inl lt ↦ lt | inr le ↦ absurd (never le) ]
+
+pub equal : (m n : ℕ) → (m ≢ n → ⊥) → m ≡ n
+equal m n never = elim (cases_eq m n) [ inl same ↦ same | inr other ↦ absurd (never other) ]
+
+pub equal_to_either : (m a b : ℕ) → ((m ≢ a) × (m ≢ b) → ⊥) → (m ≡ a) ⊎ (m ≡ b)
+equal_to_either m a b never = elim (cases_eq m a) [
+  | inl same ↦ inl same
+  | inr other ↦ inr (equal m b (λ different. never (other, different)))
+]
+
+pub is_alignment : (align : ℕ) → (IsWrongAlignment align → ⊥) → IsAlignment align
+is_alignment align never = elim (cases_eq align 0) [
+  | inl none ↦ inl none
+  | inr some ↦ elim (cases_eq (ones align) 1) [
+    | inl one ↦ inr (is_power_of_two align one)
+    | inr more ↦ absurd (never (some, λ power. more (ones-power align power)))
+  ]
+]
+
+pub not_wrong : (align : ℕ) → IsAlignment align → IsWrongAlignment align → ⊥
+not_wrong align (inl none) (some, no_power) = some none
+not_wrong align (inr power) (some, no_power) = no_power power
 
 -- ---- a rule of each entry: it is broken nowhere exactly if what breaks it holds for no entry
 

@@ -1,16 +1,35 @@
 -- What a file has that keeps the rules: one fact for each rule, in the standard's words.
 -- (gABI chapter 4, ELF Header with ELF Identification, Sections, String Table; chapter 5, Program Header.)
-use Rattle.std.specs.Prelude.{◌≡◌, ◌≢◌, ℕ, ◌+◌, ◌-◌, ◌%◌, ◌<◌, ◌≤◌, ◌⊎◌, List, length, slice_index}
+use Rattle.std.specs.Prelude.{◌≡◌, ◌≢◌, ◌<◌, ◌≤◌, ◌+◌, ℕ, ◌-◌, ◌%◌, ◌⊎◌, List, length, slice_index, None, [], ◌∷◌}
 use Rattle.std.specs.Int.{IsPowerOfTwo}
-use Rattle.elf_field.specs.Abi.{EHDR_SIZE, EI_CLASS, EI_DATA, EI_VERSION, ELFCLASS64, ELFDATA2LSB, ELFDATA2MSB, EV_CURRENT, MAGIC, PHDR_SIZE, PN_XNUM, PT_NULL, SHDR_SIZE, SHN_LORESERVE, SHN_XINDEX, SHT_NOBITS, SHT_NULL, SHT_STRTAB}
-use Rattle.elf_field.specs.declared.ehdr.Ehdr.{Ehdr}
-use Rattle.elf_field.specs.declared.shdr.Shdr.{Shdr}
-use Rattle.elf_field.specs.declared.phdr.Phdr.{Phdr}
 use Rattle.elf_extent.specs.Extent.{AreDisjoint}
-use Rattle.elf_image_rules.specs.HeaderRules.{MAX_LEN}
-use Rattle.elf_image_rules.specs.OverlapRule.{extents}
-use Rattle.elf_image_rules.specs.SegmentRules.{IsLoad, IsLoadBefore}
+use Rattle.elf_field.specs.Abi.{EHDR_SIZE, PN_XNUM, SHT_NOBITS, SHT_NULL, EI_CLASS, EI_DATA, EI_VERSION, ELFCLASS64, ELFDATA2LSB, ELFDATA2MSB, EV_CURRENT, MAGIC, PHDR_SIZE, PT_NULL, SHDR_SIZE, SHN_LORESERVE, SHN_XINDEX, SHT_STRTAB}
+use Rattle.elf_field.specs.declared.ehdr.Ehdr.{Ehdr}
+use Rattle.elf_field.specs.declared.phdr.Phdr.{Phdr}
+use Rattle.elf_field.specs.declared.shdr.Shdr.{Shdr}
+use Rattle.elf_image_rules.specs.Rows.{FirstIn, Ruled}
+use Rattle.elf_image_rules.specs.Rules.{MAX_LEN, extents, IsLoad, IsLoadBefore, KeepsRecordRules}
 use Rattle.elf_image_rules.specs.Tables.{name_table, phdr_offset, program_header_count, section_header_count, shdr_offset}
+
+-- What follows from rules 1 to 32 for reading: the header, the two tables and each content lie in the file.
+-- (gABI chapter 4, ELF Header and Sections; chapter 5, Program Header.)
+
+pub record HasSoundTables (len : ℕ) (h : Ehdr) (s : ℕ → Shdr) : Type 0 where
+  -- the header lies in a file that is not too long
+  pub header : EHDR_SIZE ≤ len
+  pub short : len ≤ MAX_LEN
+  -- without a section table there is no name table, and the count of segments is in the header
+  pub no_names : h.e_shoff ≡ 0 → h.e_shstrndx ≡ 0
+  pub few_segments : h.e_shoff ≡ 0 → h.e_phnum ≢ PN_XNUM
+  -- with one, section header 0 is there and of type NULL, and the table and the name table are
+  pub null : h.e_shoff ≢ 0 → (s 0).sh_type ≡ SHT_NULL
+  pub some : h.e_shoff ≢ 0 → 0 < section_header_count h (s 0)
+  pub section_table : h.e_shoff ≢ 0 → shdr_offset h (section_header_count h (s 0)) ≤ len
+  pub name_table : h.e_shoff ≢ 0 → name_table h (s 0) < section_header_count h (s 0)
+  -- the program table lies in the file, and so does each content that is not empty
+  pub program_table : 0 < program_header_count h (s 0) → phdr_offset h (program_header_count h (s 0)) ≤ len
+  pub content : (i : ℕ) → 0 < i → i < section_header_count h (s 0) → (s i).sh_type ≢ SHT_NULL → (s i).sh_type ≢ SHT_NOBITS → 0 < (s i).sh_size →
+      (s i).sh_offset + (s i).sh_size ≤ len
 
 -- rules 1 and 2: the file has a header, and is not longer than the longest
 pub record KeepsLengthRules (len : ℕ) : Type 0 where
@@ -144,3 +163,12 @@ pub record KeepsRules (len : ℕ) (h : Ehdr) (s : ℕ → Shdr) (g : ℕ → Phd
   pub records : KeepsEachRecordRule len h s g names
   -- 33, shared_byte
   pub disjoint : AreDisjoint (extents h (section_header_count h (s 0)) (program_header_count h (s 0)) s)
+
+-- That no rule is broken has no content beside that it holds: a type can have it as an invariant.
+
+pub unbroken_prop : (rules : List {1} (Ruled ℕ)) → IsProp (FirstIn rules None)
+unbroken_prop [] = hlevel
+unbroken_prop (r ∷ rules) = hlevel (unbroken_prop rules)
+
+pub kept_prop : (b : List ℕ) → IsProp (KeepsRecordRules b)
+kept_prop b = unbroken_prop _

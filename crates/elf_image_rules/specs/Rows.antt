@@ -1,8 +1,9 @@
 -- Lists of rules: where a rule is broken, and the first rule broken with the first place where it is. These words know no rule of any file:
 -- a rule is a number and a row, and a list of rules is tested in its order. They serve rules at an offset of a file, of which the lowest is
 -- reported, and rules of a link, at a file, index and entry, of which the first is.
-use Rattle.std.specs.Prelude.{◌≡◌, ℕ, ◌<◌, ◌⊎◌, Option, None, Some, List, [], ◌∷◌}
-use Rattle.elf_extent.specs.Least.{Never, IsLeast}
+use Rattle.std.specs.Prelude.{◌≡◌, ℕ, ◌<◌, ◌⊎◌, Option, None, Some, List, [], ◌∷◌, Result, Ok, Err}
+use Rattle.elf_extent.specs.Extent.{Never, IsLeast}
+use Rattle.elf_image_rules.specs.declared.image_rules.Broken.{Broken}
 
 -- the row of a rule: where it is broken
 abbrev pub Row : Type 0 → Type 1
@@ -46,3 +47,10 @@ FirstBy IsFirst (r ∷ rules) (Some fault) =
 -- of rules at offsets: with its lowest offset
 abbrev pub FirstIn : List {1} (Ruled ℕ) → Option (ℕ × ℕ) → Type 0
 FirstIn = FirstBy IsLeast
+
+-- A broken rule as what is found in a list of rules.
+
+-- the rule that a test of rules returns, and where it is broken; None if all of them hold
+abbrev pub fault_of : {T At : Type 0} → Result T (Broken At) → Option (ℕ × At)
+fault_of (Ok _) = None
+fault_of (Err broken) = Some (broken.rule, broken.at)

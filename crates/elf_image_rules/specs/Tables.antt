@@ -2,14 +2,12 @@
 -- (gABI chapter 4, ELF Header with ELF Identification, Sections, String Table; chapter 5, Program Header.)
 use Rattle.std.specs.Prelude.{ℕ, ◌+◌, ◌*◌, ◌==◌, ◌||◌, if◌then◌else◌, List, [], get_or, take, drop, slice_index}
 use Rattle.elf_field.specs.Abi.{EI_DATA, EI_NIDENT, ELFDATA2MSB, PHDR_SIZE, PN_XNUM, SHDR_SIZE, SHN_XINDEX, SHT_NOBITS, SHT_NULL}
-use Rattle.elf_field.specs.declared.order.Order.{Order}
-use Rattle.elf_field.specs.declared.order.Order.TheVariants.{Little, Big}
+use Rattle.elf_field.specs.declared.number.Order.{Order}
+use Rattle.elf_field.specs.declared.number.Order.TheVariants.{Little, Big}
 use Rattle.elf_field.specs.declared.ehdr.Ehdr.{Ehdr}
 use Rattle.elf_field.specs.declared.shdr.Shdr.{Shdr}
 use Rattle.elf_field.specs.declared.phdr.Phdr.{Phdr}
-use Rattle.elf_field.specs.Ehdr.{ehdr_at}
-use Rattle.elf_field.specs.Shdr.{shdr_at}
-use Rattle.elf_field.specs.Phdr.{phdr_at}
+use Rattle.elf_field.specs.Headers.{ehdr_at, shdr_at, phdr_at}
 use Rattle.elf_extent.specs.declared.extent.Extent.{Extent}
 use Rattle.elf_image_rules.specs.declared.tables.Counts.{Counts}
 

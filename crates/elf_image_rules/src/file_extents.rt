@@ -1,13 +1,11 @@
 //! The extents of a file, read as they are asked for: no memory is taken.
 ghost use Rattle.std.specs.Prelude.{◌≡◌, ◌≤◌, ◌<◌, ◌+◌, ◌↔◌, IsFalse, IsTrue, IfOk, OnErr, Some, length, slice_get};
-ghost use Rattle.elf_extent.specs.Extent.{Doubly, Has};
-ghost use Rattle.elf_extent.specs.Least.{IsLowest, lower_of};
-ghost use Rattle.elf_image_rules.specs.ImageRules.{extents_of_file};
+ghost use Rattle.elf_extent.specs.Extent.{Doubly, Has, IsLowest, lower_of};
+ghost use Rattle.elf_image_rules.specs.Rules.{extents_of_file, DoublyBelow, ExtentsAscend, IsOutside, LieBetween, LieOutside, SharedBelow, IsFault, shared_fault};
 ghost use Rattle.elf_image_rules.specs.JudgedRecords.{file_of};
-ghost use Rattle.elf_image_rules.specs.OverlapRule.{DoublyBelow, ExtentsAscend, IsOutside, LieBetween, LieOutside, SharedBelow};
 
-use crate::content::extent_of_content;
 use crate::judged_records::JudgedRecords;
+use crate::tables::extent_of_content;
 use elf_extent::{Extent, OutOfMemory, first_double};
 use elf_field::abi::{EHDR_SIZE, PHDR_SIZE, SHDR_SIZE};
 use std::alloc::{AllocError, Global};
@@ -19,7 +17,7 @@ pub struct FileExtents<'a> {
 }
 
 impl<'a> FileExtents<'a> {
-    ghost use Rattle.elf_image_rules.specs.FileExtents.{file_extents};
+    ghost use Rattle.elf_image_rules.specs.JudgedRecords.{file_extents};
 
     /// How many extents are before the contents.
     const BEFORE_CONTENTS: u64 = 3;
@@ -248,5 +246,26 @@ fn lower(a: Option<u64>, b: Option<u64>) -> Option<u64>
         (Some(x), Some(y)) => Some(x.min(y)),
         (None, b) => b,
         (a, None) => a,
+    }
+}
+
+// Rule 33: no byte of the file belongs to two of its parts (gABI chapter 4, Sections).
+
+impl<'a> JudgedRecords<'a> {
+    /// The lowest byte that two parts of the file hold, which breaks rule 33; None if there is none, and the file is an image. It takes
+    /// no memory: where the contents are not in the order of their section headers it compares every two of them, which takes the square of
+    /// their number.
+    pub fn shared_byte(&self) -> Option<u64>
+        ensures { IsFault (file_of self.now) (shared_fault result) }
+    {
+        FileExtents::new(self).lowest_shared_byte()
+    }
+
+    /// The lowest byte that two parts of the file hold, as [`shared_byte`](JudgedRecords::shared_byte), in n log n: where the contents are
+    /// not in the order of their section headers they are sorted. That allocation may fail.
+    pub fn shared_byte_by_sorting(&self, alloc: Global) -> Result<Option<u64>, OutOfMemory>
+        ensures { IfOk result (λ found. IsFault (file_of self.now) (shared_fault found)) }
+    {
+        FileExtents::new(self).lowest_shared_byte_by_sorting(alloc)
     }
 }

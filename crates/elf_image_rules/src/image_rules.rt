@@ -1,28 +1,43 @@
 //! The first rule that a file breaks.
 ghost use Rattle.std.specs.Prelude.{◌≡◌, ◌+◌, ◌<◌, ◌≤◌, ◌^◌, ℕ, List, Some, IfErr, IfOk, OnErr, OnOk, length};
-ghost use Rattle.elf_image_rules.specs.Broken.{fault_of};
-ghost use Rattle.elf_image_rules.specs.ImageRules.{IsFault, KeepsRecordRules, header_entry_rules, header_table_rules};
+ghost use Rattle.elf_image_rules.specs.Rows.{fault_of, FirstIn};
+ghost use Rattle.elf_image_rules.specs.Rules.{IsFault, KeepsRecordRules, header_entry_rules, header_table_rules, AreEnds};
 ghost use Rattle.elf_image_rules.specs.JudgedRecords.{file_of};
-ghost use Rattle.elf_image_rules.specs.StringTable.{AreEnds};
-ghost use Rattle.elf_image_rules.specs.Rows.{FirstIn};
 ghost use Rattle.elf_image_rules.specs.Tables.{counts_in, names, names_at, phdr_offset, sections, segments, shdr_offset};
 
-use crate::broken::Broken;
-use crate::header_rules::{judge_header, judge_ident, judge_length};
+use crate::entry_rules::{judge_sections, judge_segments};
+use crate::header_rules::{
+    judge_header, judge_ident, judge_length, judge_program_table, judge_section_table,
+};
 use crate::judged_records::JudgedRecords;
-use crate::name_rules::{judge_names, names_of};
-use crate::program_table_rules::judge_program_table;
+use crate::name_rules::{TableEnds, ends_of, judge_names, names_of};
 use crate::records::{FileRecords, Records};
 use crate::rules::SHARED_BYTE;
-use crate::section_rules::judge_sections;
-use crate::section_table_rules::judge_section_table;
-use crate::segment_rules::judge_segments;
-use crate::string_table::{TableEnds, ends_of};
 use crate::tables::{Counts, counts_of, header_of, section_at};
 use elf_extent::OutOfMemory;
 use elf_field::Ehdr;
 use elf_field::abi::SHDR_SIZE;
 use std::alloc::Global;
+
+// A rule that is broken.
+
+/// A rule by its number, and where it is broken: at an offset in a file, in bytes, or at a file, index and entry of a link.
+#[derive(Clone, Copy, Debug, PartialEq, Eq)]
+pub struct Broken<At> {
+    /// The number of the rule; those of the rules of images are in [`rules`](crate::rules).
+    pub rule: u16,
+    /// The first place where it is broken: the lowest offset.
+    pub at: At,
+}
+
+impl<At> Broken<At> {
+    /// The rule of this number, broken here.
+    pub fn new(rule: u16, at: At) -> Broken<At>
+        ensures { result ≡ record { rule = rule; at = at } }
+    {
+        Broken { rule, at }
+    }
+}
 
 /// The first rule of 1 to 33 that the file breaks, and its lowest offset in bytes; None if it breaks none. It takes no memory. It is
 /// linear in the records if the contents are in the order of their section headers; otherwise it takes the square of their number.

@@ -1,7 +1,7 @@
 //! A file whose records were validated.
 ghost use Rattle.std.specs.Prelude.{◌≡◌, ◌<◌, ◌≤◌, length};
-ghost use Rattle.elf_image_rules.specs.Kept.{kept_prop};
-ghost use Rattle.elf_image_rules.specs.ImageRules.{KeepsRecordRules};
+ghost use Rattle.elf_image_rules.specs.KeepsRules.{kept_prop};
+ghost use Rattle.elf_image_rules.specs.Rules.{KeepsRecordRules};
 ghost use Rattle.elf_image_rules.specs.Tables.{file_counts, header as file_header, phdr_offset, sections, segments, shdr_offset};
 
 use crate::header_rules::MAX_LEN;

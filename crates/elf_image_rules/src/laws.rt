@@ -3,11 +3,9 @@ ghost use Rattle.std.specs.Prelude.{◌≡◌, ◌<◌, ◌⊎◌, ℕ, List, Op
 ghost use Rattle.elf_field.specs.declared.ehdr.Ehdr.{Ehdr};
 ghost use Rattle.elf_field.specs.declared.phdr.Phdr.{Phdr};
 ghost use Rattle.elf_field.specs.declared.shdr.Shdr.{Shdr};
-ghost use Rattle.elf_image_rules.specs.ImageRules.{IsFault, KeepsRecordRules, extents_of_file, image_rules, record_rules};
-ghost use Rattle.elf_extent.specs.Extent.{AreDisjoint, AreWithin, Doubly};
-ghost use Rattle.elf_extent.specs.Least.{IsLowest};
+ghost use Rattle.elf_image_rules.specs.Rules.{IsFault, KeepsRecordRules, extents_of_file, image_rules, record_rules, extents, shared_fault};
+ghost use Rattle.elf_extent.specs.Extent.{AreDisjoint, AreWithin, Doubly, IsLowest};
 ghost use Rattle.elf_image_rules.specs.KeepsRules.{KeepsEachRecordRule, KeepsRules};
-ghost use Rattle.elf_image_rules.specs.OverlapRule.{extents, shared_fault};
 ghost use Rattle.elf_image_rules.specs.Rows.{FirstIn};
 ghost use Rattle.elf_image_rules.specs.Tables.{name_table, program_header_count, section_header_count};
 

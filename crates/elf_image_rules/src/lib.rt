@@ -14,36 +14,26 @@
 //! [`judge_records`] returns a file that breaks none of rules 1 to 32, with its header and counts.
 #![tactic(auto)]
 
-mod alignment;
-mod broken;
-pub mod content;
+mod entry_rules;
 mod file_extents;
 mod header_rules;
 mod image_rules;
 mod judged_records;
 mod laws;
 mod name_rules;
-mod overlap_rule;
-mod program_table_rules;
 mod records;
 mod rule_names;
 pub mod rules;
-mod section_rules;
-mod section_table_rules;
-mod segment_rules;
-mod string_table;
-mod sums;
 pub mod tables;
 
-pub use alignment::is_wrong_alignment;
-pub use broken::Broken;
+pub use entry_rules::is_wrong_alignment;
 pub use file_extents::FileExtents;
-pub use header_rules::{MAX_LEN, judge_header, judge_ident, judge_length};
-pub use image_rules::{judge_by_sorting, judge_entries, judge_records, verdict};
+pub use header_rules::{
+    MAX_LEN, judge_header, judge_ident, judge_length, judge_program_table, judge_section_table,
+};
+pub use image_rules::{Broken, judge_by_sorting, judge_entries, judge_records, verdict};
 pub use judged_records::JudgedRecords;
 pub use laws::{extents_of_image, fault_of_extents, kept_rules, one_fault};
-pub use program_table_rules::judge_program_table;
+pub use name_rules::{TableEnds, ends_of, unclosed_at};
 pub use records::{FileRecords, Records, TableRecords};
 pub use rule_names::rule_name;
-pub use section_table_rules::judge_section_table;
-pub use string_table::{TableEnds, ends_of, unclosed_at};

@@ -1,8 +1,9 @@
 //! A file's header, section headers and program headers, and what they say of the file
 //! (gABI chapter 4, ELF Header and Sections; chapter 5, Program Header).
 ghost use Rattle.std.specs.Prelude.{◌≡◌, ◌≢◌, ◌≤◌, ◌<◌, ◌+◌, ◌^◌, length};
-ghost use Rattle.elf_image_rules.specs.Tables.{counts_in, order_of, shdr_offset, phdr_offset, header, sections, segments, section_header_count, program_header_count, name_table};
+ghost use Rattle.elf_image_rules.specs.Tables.{counts_in, order_of, shdr_offset, phdr_offset, header, sections, segments, section_header_count, program_header_count, name_table, bytes_in, content_extent};
 
+use elf_extent::Extent;
 use elf_field::abi::*;
 use elf_field::{Ehdr, Order, Phdr, Shdr, get_at};
 
@@ -141,4 +142,37 @@ pub(crate) fn name_table_of(header: &Ehdr, first: &Shdr) -> u64
     } else {
         header.e_shstrndx as u64
     }
+}
+
+// The bytes that a section holds in the file (gABI chapter 4, Sections).
+
+/// The offsets that a section's content has in the file: none of type NULL or NOBITS.
+pub fn extent_of_content(entry: &Shdr) -> Extent
+    ensures { result ≡ content_extent entry.now }
+{
+    let len = if entry.sh_type == SHT_NULL || entry.sh_type == SHT_NOBITS {
+        0
+    } else {
+        entry.sh_size
+    };
+    Extent {
+        start: entry.sh_offset,
+        len,
+    }
+}
+
+/// A section's content: as much of it as lies in the file.
+pub fn content_of<'a>(bytes: &'a [u8], entry: &Shdr) -> &'a [u8]
+    ensures content { result.now ≡ bytes_in bytes.now (content_extent entry.now) }
+    ensures inside { 0 < length result.now → entry.now.sh_offset + length result.now ≤ length bytes.now }
+{
+    let extent = extent_of_content(entry);
+    if extent.start >= bytes.len() as u64 {
+        return &[];
+    }
+    let rest = &bytes[extent.start as usize..];
+    if extent.len >= rest.len() as u64 {
+        return rest;
+    }
+    &rest[..extent.len as usize]
 }

@@ -1,10 +1,10 @@
 //! Chunks one after the other.
-ghost use Rattle.std.specs.Prelude.{◌≡◌, ◌<◌};
+ghost use Rattle.std.specs.Prelude.{◌≡◌, ◌<◌, replicate};
 ghost use Rattle.std.specs.List.{flat_map, range_with_len};
-ghost use Rattle.elf_image_stream.specs.Chunks.{Sends};
+ghost use Rattle.elf_image_stream.specs.Output.{Sends};
 
 use crate::fault::WriteFault;
-use crate::output::write_whole;
+use crate::output::{write_whole, write_zeros};
 use std::io::Write;
 
 /// Sends these bytes after `out` others, and returns how many are written then: [`u64::MAX`] if there are more.
@@ -25,7 +25,7 @@ pub fn send<W: Write>(writer: &mut W, out: u64, bytes: &[u8]) -> Result<u64, Wri
 /// Texts by their indexes.
 pub trait Chunks {
     ghost use Rattle.std.specs.Prelude.{ℕ, List};
-    ghost use Rattle.elf_image_stream.specs.Chunks.{Sends};
+    ghost use Rattle.elf_image_stream.specs.Output.{Sends};
 
     // how many there are
     ghost count: { Self → ℕ };
@@ -58,4 +58,19 @@ pub fn send_all<P: Chunks, W: Write>(
         all = chunks.send(writer, all, j)?;
     }
     Ok(all)
+}
+
+// Zeros, as those between two parts of a file.
+
+/// Sends so many zeros after `out` bytes, a block at a time, and returns how many bytes are written then. It counts and fails as
+/// [`send`](crate::send) does.
+pub fn send_zeros<W: Write>(writer: &mut W, out: u64, count: u64) -> Result<u64, WriteFault>
+    ensures { Sends (W.contents writer.old) (W.contents writer.new) out (replicate count 0) result }
+{
+    match write_zeros(writer, count) {
+        Ok(()) => Ok(out.saturating_add(count)),
+        Err(fault) => Err(WriteFault {
+            written: out.saturating_add(fault.written),
+        }),
+    }
 }

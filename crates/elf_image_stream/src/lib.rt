@@ -13,30 +13,17 @@
 //! [`Fault`], [`ReadFault`] and [`WriteFault`] say what can stop them.
 #![tactic(auto)]
 
-mod bytes;
 mod chunks;
-mod ends;
-pub mod entries;
-mod failures;
 mod fault;
 pub mod laws;
 pub mod output;
 mod reading;
 mod records;
-mod seeking;
 mod source;
-mod whole;
-mod zeros;
 
-pub use bytes::Bytes;
-pub use chunks::{Chunks, send, send_all};
-pub use ends::read_ends;
-pub use failures::Failures;
+pub use chunks::{Chunks, send, send_all, send_zeros};
 pub use fault::{Fault, WriteFault};
 pub use output::write_whole;
 pub use reading::{read_to_end, resume};
-pub use records::{RecordsFault, read_record, read_records};
-pub use seeking::Seeking;
-pub use source::{Failed, Source};
-pub use whole::{ReadFault, read_exactly};
-pub use zeros::send_zeros;
+pub use records::{RecordsFault, read_ends, read_record, read_records};
+pub use source::{Bytes, Failed, Failures, ReadFault, Seeking, Source, read_exactly};

@@ -1,7 +1,7 @@
 //! All bytes of a reader, however its reads are cut.
 ghost use Rattle.std.specs.Prelude.{◌≡◌, ◌+◌, ◌-◌, ◌<◌, ◌≤◌, ◌⊎◌, [], ◌++◌, length, take, drop, vec_len, IfErr, IfOk, IfSome, OnErr, OnOk};
 ghost use Rattle.std.specs.Io.KnownBytes.{Consumes, IsAtEnd, Keeps};
-ghost use Rattle.elf_image_rules.specs.HeaderRules.{MAX_LEN};
+ghost use Rattle.elf_image_rules.specs.Rules.{MAX_LEN};
 ghost use Rattle.elf_image_stream.specs.Reading.{IsReadBehind, IsReadFault};
 
 use crate::fault::Fault;

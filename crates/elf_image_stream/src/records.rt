@@ -1,13 +1,54 @@
 //! Records of a source: one, or a table of them (gABI chapter 4, Data Representation).
-ghost use Rattle.std.specs.Prelude.{◌≡◌, ◌<◌, ◌≤◌, ◌+◌, ◌*◌, ◌^◌, ℕ, List, Some, length, IfErr, IfOk, OnOk};
+ghost use Rattle.std.specs.Prelude.{◌≡◌, ◌<◌, ◌+◌, ◌^◌, ◌≤◌, ◌*◌, ℕ, List, Some, length, IfErr, IfOk, OnOk};
 ghost use Rattle.std.specs.List.{AllByRecursion};
-ghost use Rattle.elf_image_stream.specs.Reads.{Extends, HasTable, IsRecordsFault, ReadsRecord, table_at};
+ghost use Rattle.elf_image_stream.specs.Source.{ReadsByte, ReadsEnds, Extends, HasTable, IsRecordsFault, ReadsRecord, table_at};
 
 use crate::fault::Fault;
-use crate::source::Source;
-use crate::whole::{ReadFault, read_exactly};
+use crate::source::{ReadFault, Source, read_exactly};
 use elf_field::{Order, Record, get_at};
+use elf_image_rules::TableEnds;
 use std::alloc::{AllocError, AllocFailed, Global};
+
+// The first and the last byte of a string table of a source (gABI chapter 4, String Table).
+
+/// The byte at an offset.
+fn read_byte<S: Source>(source: &mut S, at: u64) -> Result<u8, ReadFault>
+    requires { at + 1 < 2 ^ 64 }
+    ensures kept { S.content source.new ≡ S.content source.old }
+    ensures reads { ReadsByte (S.content source.old) (S.failures source.old) (S.failures source.new) at result }
+{
+    let mut byte = [0; 1];
+    read_exactly(source, at, &mut byte)?;
+    Ok(byte[0])
+}
+
+/// The length and the ends of a table of `len` bytes from an offset on.
+///
+/// It reads two bytes, but one where the table has one: so some table has these ends, even if the source gives other bytes each time.
+/// The fault is that of [`read_exactly`], of the one or the other byte.
+pub fn read_ends<S: Source>(source: &mut S, start: u64, len: u64) -> Result<TableEnds, ReadFault>
+    requires { start + len < 2 ^ 64 }
+    ensures kept { S.content source.new ≡ S.content source.old }
+    ensures reads { ReadsEnds (S.content source.old) (S.failures source.old) (S.failures source.new) start len result }
+{
+    if len == 0 {
+        return Ok(TableEnds {
+            len,
+            first: 0,
+            last: 0,
+        });
+    }
+    let first = read_byte(source, start)?;
+    if len == 1 {
+        return Ok(TableEnds {
+            len,
+            first,
+            last: first,
+        });
+    }
+    let last = read_byte(source, start + len - 1)?;
+    Ok(TableEnds { len, first, last })
+}
 
 /// No record of the format is longer, in bytes.
 pub const LONGEST_RECORD: usize = 64;
@@ -55,7 +96,7 @@ impl<T: Drop> From<AllocFailed<T>> for RecordsFault {
 }
 
 impl From<RecordsFault> for Fault {
-    ghost use Rattle.elf_image_stream.specs.Reads.{records_fault};
+    ghost use Rattle.elf_image_stream.specs.Source.{records_fault};
 
     ghost from_gives = { λ refused fault. fault ≡ records_fault refused };
 

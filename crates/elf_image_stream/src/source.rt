@@ -1,7 +1,9 @@
 //! Bytes that are read at any place, as those of a file on a disk.
-ghost use Rattle.std.specs.Prelude.{◌≡◌, ◌≤◌, length, IfOk};
-ghost use Rattle.elf_image_stream.specs.Source.{GivesFrom, RemembersCall, RemembersRead, SaysLength};
+ghost use Rattle.std.specs.Prelude.{◌≡◌, ◌≤◌, length, IfOk, None, ◌-◌, ◌++◌, Ok, drop, min, take, ◌<◌, ◌+◌, ◌^◌};
+ghost use Rattle.elf_image_stream.specs.Source.{GivesFrom, RemembersCall, RemembersRead, SaysLength, Fails, no_failures, Reads};
 
+use crate::fault::Fault;
+use std::io::{Read, Seek, SeekFrom};
 use thiserror::Error;
 
 /// A call of a source failed.
@@ -16,7 +18,7 @@ pub struct Failed;
 /// `and_one_at(0)` after a length that failed, and `and_read` after each read.
 pub trait Source {
     ghost use Rattle.std.specs.Prelude.{ℕ, List, None, Option};
-    ghost use Rattle.elf_image_stream.specs.declared.failures.Failures.{Failures};
+    ghost use Rattle.elf_image_stream.specs.declared.source.Failures.{Failures};
 
     // The bytes, where the source reports them.
     ghost content: { Self → Option (List ℕ) } = { λ _. None };
@@ -39,4 +41,202 @@ pub trait Source {
         ensures bound { IfOk result (λ k. k ≤ length buf.new) }
         ensures same { length buf.new ≡ length buf.old }
         ensures bytes { GivesFrom (content self.old) at result buf.new };
+}
+
+// What a source remembers of its calls that failed.
+
+/// The calls of a source that failed: how many, modulo 2^64, and the offset that the last of them was asked for.
+#[derive(Clone, Copy, Debug, PartialEq, Eq)]
+pub struct Failures {
+    /// How many calls failed, modulo 2^64.
+    pub count: u64,
+    /// The offset in bytes that the last of them was asked for: 0 for a length.
+    pub last: u64,
+}
+
+impl Failures {
+    /// No call failed.
+    pub const NONE: Failures = Failures { count: 0, last: 0 };
+
+    /// These, and a call more that failed, which was asked for this offset.
+    pub fn and_one_at(self, at: u64) -> Failures
+        ensures { Fails self result at }
+    {
+        Failures {
+            count: self.count.wrapping_add(1),
+            last: at,
+        }
+    }
+
+    /// These, and a read from this offset into `room` bytes, of a source that does not report its bytes. The read failed if it returned an
+    /// error, or no byte though `room` is not 0.
+    pub fn and_read(self, at: u64, room: usize, read: &Result<usize, Failed>) -> Failures
+        ensures { RemembersRead None at room self result read.now }
+    {
+        match *read {
+            Ok(count) if count > 0 || room == 0 => self,
+            _ => self.and_one_at(at),
+        }
+    }
+}
+
+// Bytes in memory as a source.
+
+/// Bytes in memory. It reports them, gives all of them that a read asks for and that are there, and never fails.
+#[derive(Clone, Copy, Debug)]
+pub struct Bytes<'a>(pub &'a [u8]);
+
+impl<'a> Source for Bytes<'a> {
+    ghost use Rattle.std.specs.Prelude.{Some};
+    ghost use Rattle.elf_image_stream.specs.Source.{GivesFrom, RemembersRead, no_failures};
+
+    ghost content = { λ s. Some s.0.now };
+
+    ghost failures = { λ _. no_failures };
+
+    fn length(&mut self) -> Result<u64, Failed> {
+        Ok(self.0.len() as u64)
+    }
+
+    fn read_at(&mut self, at: u64, buf: &mut [u8]) -> Result<usize, Failed>
+        ensures kept { Some self.new.0.now ≡ Some self.old.0.now }
+        ensures failures { RemembersRead (Some self.old.0.now) at (length buf.old) no_failures no_failures result }
+        ensures bound { IfOk result (λ k. k ≤ length buf.new) }
+        ensures same { length buf.new ≡ length buf.old }
+        ensures bytes { GivesFrom (Some self.old.0.now) at result buf.new }
+        ensures all { result ≡ Ok (min (length self.old.0.now - at) (length buf.old)) }
+    {
+        Ok(self.copy_at(at, buf))
+    }
+}
+
+impl Bytes<'_> {
+    /// Copies the bytes from offset `at` on to the front of `buf`, as many as are there and as `buf` can hold, and returns how many.
+    pub fn copy_at(&self, at: u64, buf: &mut [u8]) -> usize
+        ensures all { result ≡ min (length self.now.0.now - at) (length buf.old) }
+        ensures bytes { buf.new ≡ take result (drop at self.now.0.now) ++ drop result buf.old }
+    {
+        if at >= self.0.len() as u64 {
+            return 0;
+        }
+        let rest = &self.0[at as usize..];
+        let count = rest.len().min(buf.len());
+        buf[..count].copy_from_slice(&rest[..count]);
+        count
+    }
+}
+
+// What seeks and reads, as an open file, as a source.
+
+/// Seeks to each offset and reads there. It does not report its bytes. A seek that fails counts as a failed call, an interruption too, and
+/// so does a read that returns no byte though the buffer is not empty.
+#[derive(Debug, Drop)]
+pub struct Seeking<F> {
+    inner: F,
+    failures: Failures,
+}
+
+impl<F> Seeking<F> {
+    /// A source over this file, no call of which has failed.
+    pub fn new(inner: F) -> Seeking<F>
+        ensures { result.failures ≡ no_failures }
+    {
+        Seeking {
+            inner,
+            failures: Failures::NONE,
+        }
+    }
+}
+
+/// One seek to the offset, and one read there.
+fn read_there<F: Read + Seek>(file: &mut F, at: u64, buf: &mut [u8]) -> Result<usize, Failed>
+    ensures bound { IfOk result (λ k. k ≤ length buf.new) }
+    ensures same { length buf.new ≡ length buf.old }
+{
+    let Ok(_) = file.seek(SeekFrom::Start(at)) else {
+        return Err(Failed);
+    };
+    match file.read(buf) {
+        Ok(count) => Ok(count),
+        Err(_) => Err(Failed),
+    }
+}
+
+impl<F: Read + Seek> Source for Seeking<F> {
+    ghost failures = { λ s. s.failures };
+
+    fn length(&mut self) -> Result<u64, Failed> {
+        match self.inner.seek(SeekFrom::End(0)) {
+            Ok(length) => Ok(length),
+            Err(_) => {
+                self.failures = self.failures.and_one_at(0);
+                Err(Failed)
+            }
+        }
+    }
+
+    fn read_at(&mut self, at: u64, buf: &mut [u8]) -> Result<usize, Failed> {
+        let room = buf.len();
+        let read = read_there(&mut self.inner, at, buf);
+        self.failures = self.failures.and_read(at, room, &read);
+        read
+    }
+}
+
+// Whole reads: as many bytes as are asked for, however the source's reads are cut.
+
+/// A call of a source failed, or gave no byte where more were to come.
+#[derive(Clone, Copy, Debug, PartialEq, Eq)]
+pub struct ReadFault {
+    /// The offset, in bytes, that the call was asked for.
+    pub at: u64,
+}
+
+impl From<ReadFault> for Fault {
+    ghost use Rattle.elf_image_stream.specs.declared.fault.Fault.TheVariants.{Io};
+
+    ghost from_gives = { λ failed fault. fault ≡ Io failed.at };
+
+    fn from(failed: ReadFault) -> Fault {
+        Fault::Io { at: failed.at }
+    }
+}
+
+/// One read at an offset into `buf` after its first `filled` bytes, which stay.
+fn read_more<S: Source>(
+    source: &mut S,
+    at: u64,
+    buf: &mut [u8],
+    filled: usize,
+) -> Result<usize, Failed>
+    requires { filled < length buf.old }
+    ensures kept { S.content source.new ≡ S.content source.old }
+    ensures failures { RemembersRead (S.content source.old) at (length buf.old - filled) (S.failures source.old) (S.failures source.new) result }
+    ensures bound { IfOk result (λ k. filled + k ≤ length buf.new) }
+    ensures same { length buf.new ≡ length buf.old }
+    ensures front { take filled buf.new ≡ take filled buf.old }
+    ensures bytes { GivesFrom (S.content source.old) at result (drop filled buf.new) }
+{
+    source.read_at(at, &mut buf[filled..])
+}
+
+/// Reads all of `buf` from offset `at` on.
+///
+/// [`ReadFault`] if a call of the source fails, or returns no byte though the buffer is not full. It has the offset that this call was
+/// asked for. Nothing is tried again.
+pub fn read_exactly<S: Source>(source: &mut S, at: u64, buf: &mut [u8]) -> Result<(), ReadFault>
+    requires { at + length buf.old < 2 ^ 64 }
+    ensures kept { S.content source.new ≡ S.content source.old }
+    ensures same { length buf.new ≡ length buf.old }
+    ensures reads { Reads (S.content source.old) (S.failures source.old) (S.failures source.new) at buf.new result }
+{
+    let mut filled = 0;
+    while filled < buf.len() {
+        let from = at + filled as u64;
+        match read_more(source, from, buf, filled) {
+            Ok(count) if count > 0 => filled += count,
+            _ => return Err(ReadFault { at: from }),
+        }
+    }
+    Ok(())
 }

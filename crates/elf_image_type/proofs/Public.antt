@@ -1,11 +1,7 @@
 -- What the proofs of the crates above may cite: the laws of src/laws.rt, each under its name there, and the lemmas by
 -- which bytes are read as records and contents, and are shown to break no rule.
-pub use Rattle.elf_image_type.proofs.Fields.{header_fields, section_fields, segment_fields}
-pub use Rattle.elf_image_type.proofs.FileParts.{written_accepted, written_is_bytes, written_read}
-pub use Rattle.elf_image_type.proofs.OneImage.{one_image, owner_from}
-pub use Rattle.elf_image_outline.proofs.PartsOfImage.{are_parts}
+pub use Rattle.elf_image_type.proofs.ImageLemmas.{header_fields, section_fields, segment_fields, one_image, owner_from, some_image}
+pub use Rattle.elf_image_type.proofs.FileParts.{written_accepted, written_is_bytes, written_read, in_spread, length-spread, length-unaligned, parts_ascend}
+pub use Rattle.elf_image_outline.proofs.Standing.{are_parts, contents_read, element_made, header_read, sections_read, segments_read}
 pub use Rattle.elf_image_type.proofs.RelocatableFile.{length-relocatable_bytes, length-relocatable_file, relocatable_accepted, relocatable_is_bytes, relocatable_names, relocatable_read}
-pub use Rattle.elf_image_type.proofs.SomeImage.{some_image}
-pub use Rattle.elf_image_type.proofs.Spread.{in_spread, length-spread, length-unaligned, parts_ascend}
-pub use Rattle.elf_image_outline.proofs.Stands.{contents_read, element_made, header_read, sections_read, segments_read}
 pub use Rattle.elf_image_outline.proofs.Theorem.{HasTablesOf, Reads, clean_bytes, has_tables_of, image_is_sound, one_list, sound_stands, stands_is_image}

@@ -9,22 +9,18 @@ use Rattle.elf_field.specs.Abi.{EHDR_SIZE, SHDR_SIZE, SHN_LORESERVE, SHN_XINDEX}
 use Rattle.elf_field.specs.declared.ehdr.Ehdr.{Ehdr}
 use Rattle.elf_field.specs.declared.shdr.Shdr.{Shdr}
 use Rattle.elf_field.specs.Bytes.{IsBytes}
-use Rattle.elf_field.specs.Ehdr.{ehdr_bytes}
-use Rattle.elf_field.specs.Shdr.{IsShdr, shdr_laws}
-use Rattle.elf_field.specs.EhdrLaws.{ehdr_laws}
+use Rattle.elf_field.specs.Headers.{ehdr_bytes, IsShdr, shdr_laws, ehdr_laws}
 use Rattle.elf_field.proofs.RecordTableLaws.{IsBytes-table, length-table}
 use Rattle.elf_extent.specs.Place.{Fits}
 use Rattle.elf_extent.proofs.Public.{above_from}
-use Rattle.elf_image_rules.specs.ImageRules.{IsFault}
+use Rattle.elf_image_rules.specs.Rules.{IsFault}
 use Rattle.elf_image_rules.specs.KeepsRules.{KeepsEachRecordRule, KeepsHeaderRules, KeepsNameRules, KeepsProgramTableRules, KeepsSectionRules, KeepsSectionTableRules, KeepsSegmentRules}
 use Rattle.elf_image_rules.specs.Tables.{content_extent, name_table, no_section_header, order_of, program_header_count, program_header_of, section_header_count, section_header_of}
-use Rattle.elf_image_outline.specs.declared.part.Owner.{Owner}
-use Rattle.elf_image_outline.specs.declared.part.Owner.TheVariants.{Header, ProgramTable, SectionTable, Content, Gap}
+use Rattle.elf_image_outline.specs.declared.outline.Owner.{Owner}
+use Rattle.elf_image_outline.specs.declared.outline.Owner.TheVariants.{Header, ProgramTable, SectionTable, Content, Gap}
 use Rattle.elf_image_outline.specs.Image.{ImageValue, Stands, value_names}
-use Rattle.elf_image_type.specs.FileParts.{AreFileParts, HasContents, IsPartOf, IsWritable, WrittenPart, owner_bytes, owner_start, spread, unaligned, written}
-use Rattle.elf_image_type.specs.RelocatableFile.{IsRelocatableFile, all_headers, behind_header, content_parts, short_count, first_header, long_number, short_index, offsets, relocatable_bytes, relocatable_file, relocatable_parts, section_table}
-use Rattle.elf_image_type.proofs.FileParts.{written_accepted, written_is_bytes, written_read}
-use Rattle.elf_image_type.proofs.Spread.{length-spread, length-unaligned, parts_ascend}
+use Rattle.elf_image_type.specs.RelocatableFile.{AreFileParts, HasContents, IsPartOf, IsWritable, WrittenPart, owner_bytes, owner_start, spread, unaligned, written, IsRelocatableFile, all_headers, behind_header, content_parts, short_count, first_header, long_number, short_index, offsets, relocatable_bytes, relocatable_file, relocatable_parts, section_table}
+use Rattle.elf_image_type.proofs.FileParts.{written_accepted, written_is_bytes, written_read, length-spread, length-unaligned, parts_ascend}
 
 -- ---- the parts of contents and a last one
 

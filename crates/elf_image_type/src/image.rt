@@ -1,18 +1,16 @@
 //! A file as a value: its records, contents and parts.
-ghost use Rattle.std.specs.Prelude.{◌≡◌, ◌<◌, ◌≤◌, ◌+◌, ℕ, [], List, get_or, length, map};
-ghost use Rattle.elf_image_rules.specs.HeaderRules.{MAX_LEN};
+ghost use Rattle.std.specs.Prelude.{◌≡◌, ◌<◌, ◌≤◌, ◌+◌, ℕ, [], List, get_or, length, map, MatchResult, OnErr, OnOk};
+ghost use Rattle.elf_image_rules.specs.Rules.{MAX_LEN};
 ghost use Rattle.elf_image_rules.specs.Tables.{content_extent, name_table, order_of, shdr_offset};
-ghost use Rattle.elf_image_outline.specs.Image.{IsImage, IsSoundImage, program_header_of, section_header_of, value_names};
+ghost use Rattle.elf_image_outline.specs.Image.{IsImage, IsSoundImage, program_header_of, section_header_of, value_names, AreParts, IsReplaceFault, IsReplaceable, IsSectionIndex, with_content, with_entry, with_flags, with_zero_gaps};
 ghost use Rattle.elf_image_outline.specs.Outline.{image_of};
-ghost use Rattle.elf_image_outline.specs.Parts.{AreParts};
-ghost use Rattle.elf_image_type.specs.Loads.{LoadsFirst};
-ghost use Rattle.elf_image_type.specs.Strings.{section_name};
+ghost use Rattle.elf_image_type.specs.ImageView.{LoadsFirst, section_name};
 
 use crate::loading::load;
 use crate::strings::string_at;
-use elf_field::abi::{SHDR_SIZE, SHT_NULL};
+use elf_field::abi::{SHDR_SIZE, SHT_NOBITS, SHT_NULL};
 use elf_field::{Ehdr, Order, Phdr, Shdr};
-use elf_image_outline::{Outline, Part};
+use elf_image_outline::{NoSection, Outline, Part, ReplaceFault};
 use std::marker::Model;
 
 /// An ELF-64 file that breaks no rule, as a value: what [`parse`](crate::parse) makes of the file's
@@ -34,7 +32,7 @@ impl<'a> Model for Image<'a> {
 
     ghost Value = { ImageValue };
 
-    ghost use Rattle.elf_image_type.specs.View.{view_of};
+    ghost use Rattle.elf_image_type.specs.ImageView.{view_of};
 
     ghost view = { view_of };
 
@@ -225,5 +223,70 @@ impl<'a> Image<'a> {
         ensures parts { AreParts self.now result.now }
     {
         self.outline.parts()
+    }
+}
+
+// The edits of an image (gABI chapter 4, ELF Header, Sections). Each changes just its own field, content or gaps, and leaves an
+// image again.
+
+impl<'a> Image<'a> {
+    /// Sets `e_entry`.
+    pub fn set_entry(&mut self, entry: u64)
+        ensures { self.new ≡ with_entry self.old entry }
+    {
+        self.outline.set_entry(entry);
+    }
+
+    /// Sets `sh_flags` of section `i`. Returns [`NoSection`], and changes nothing, if `i` is 0 or not below
+    /// [`section_count`](Image::section_count).
+    pub fn set_flags(&mut self, i: usize, flags: u64) -> Result<(), NoSection>
+        ensures ok { OnOk result (IsSectionIndex self.old i × (self.new ≡ with_flags self.old i flags)) }
+        ensures err { OnErr result ((¬ IsSectionIndex self.old i) × (self.new ≡ self.old)) }
+    {
+        self.outline.set_flags(i, flags)
+    }
+
+    /// Replaces the content of section `i` by as many other bytes, which are borrowed. A fault changes
+    /// nothing. It is [`ReplaceFault::NoSection`] if `i` is 0 or not below
+    /// [`section_count`](Image::section_count), or the section is of type `SHT_NULL` or `SHT_NOBITS`; otherwise
+    /// [`ReplaceFault::WrongLength`] if these are not `sh_size` bytes; otherwise
+    /// [`ReplaceFault::NameTable`] if `i` is [`name_table`](Image::name_table).
+    pub fn replace(&mut self, i: usize, content: &'a [u8]) -> Result<(), ReplaceFault>
+        ensures ok { OnOk result (IsReplaceable self.old i content.now ×
+            (self.new ≡ with_content self.old i content.now)) }
+        ensures err { MatchResult result (λ _. Unit {0}) (λ fault.
+            IsReplaceFault self.old i content.now fault × (self.new ≡ self.old)) }
+    {
+        self.check_replaceable(i, content)?;
+        self.contents[i] = content;
+        Ok(())
+    }
+
+    // Why the content of section `i` can't be replaced by this one.
+    fn check_replaceable(&self, i: usize, content: &[u8]) -> Result<(), ReplaceFault>
+        ensures { MatchResult result (λ _. IsReplaceable self.now i content.now)
+            (IsReplaceFault self.now i content.now) }
+    {
+        if i == 0 || i >= self.section_count() {
+            return Err(ReplaceFault::NoSection);
+        }
+        let section = self.section(i);
+        if section.sh_type == SHT_NULL || section.sh_type == SHT_NOBITS {
+            return Err(ReplaceFault::NoSection);
+        }
+        if content.len() as u64 != section.sh_size {
+            return Err(ReplaceFault::WrongLength);
+        }
+        if i == self.name_table() as usize {
+            return Err(ReplaceFault::NameTable);
+        }
+        Ok(())
+    }
+
+    /// Sets every byte of every gap to 0.
+    pub fn zero_gaps(&mut self)
+        ensures { self.new ≡ with_zero_gaps self.old }
+    {
+        self.outline.zero_gaps();
     }
 }

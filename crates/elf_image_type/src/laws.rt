@@ -4,14 +4,11 @@ ghost use Rattle.elf_field.specs.Abi.{SHDR_SIZE};
 ghost use Rattle.elf_field.specs.Bytes.{IsBytes};
 ghost use Rattle.elf_field.specs.declared.ehdr.Ehdr.{Ehdr};
 ghost use Rattle.elf_field.specs.declared.shdr.Shdr.{Shdr};
-ghost use Rattle.elf_field.specs.Ehdr.{IsEhdrAt};
-ghost use Rattle.elf_field.specs.Phdr.{IsPhdrAt};
-ghost use Rattle.elf_field.specs.Shdr.{IsShdrAt};
-ghost use Rattle.elf_image_rules.specs.ImageRules.{IsFault};
+ghost use Rattle.elf_field.specs.Headers.{IsEhdrAt, IsPhdrAt, IsShdrAt};
+ghost use Rattle.elf_image_rules.specs.Rules.{IsFault};
 ghost use Rattle.elf_image_rules.specs.Tables.{order_of, phdr_offset, shdr_offset};
-ghost use Rattle.elf_image_type.specs.FileParts.{FileContents, HasContents, IsWritable, WrittenPart, written};
+ghost use Rattle.elf_image_type.specs.RelocatableFile.{FileContents, HasContents, IsWritable, WrittenPart, written, IsRelocatableFile, relocatable_bytes, relocatable_file};
 ghost use Rattle.elf_image_outline.specs.Image.{ImageValue, IsImage, IsSoundImage, Stands, program_header_of, section_header_of};
-ghost use Rattle.elf_image_type.specs.RelocatableFile.{IsRelocatableFile, relocatable_bytes, relocatable_file};
 
 /// An image is represented by one list of bytes, and by no other, be it with a fault or without.
 pub fn one_list()

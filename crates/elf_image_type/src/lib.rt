@@ -13,15 +13,12 @@
 //! ```
 #![tactic(auto)]
 
-mod edits;
+mod files;
 mod image;
 pub mod laws;
 mod loading;
-mod parsing;
 pub mod strings;
-mod writing;
 
 pub use elf_image_rules::verdict;
+pub use files::{parse, write};
 pub use image::Image;
-pub use parsing::parse;
-pub use writing::write;

@@ -3,7 +3,7 @@ ghost use Rattle.std.specs.Prelude.{◌≡◌, ◌<◌, ◌≤◌, ◌*◌, ◌�
 ghost use Rattle.std.specs.List.{flat_map};
 ghost use Rattle.elf_image_outline.specs.Image.{IsSoundImage, joined, part_bytes};
 ghost use Rattle.elf_image_outline.specs.Outline.{image_of, placed_part};
-ghost use Rattle.elf_image_type.specs.Loads.{HasAddress, HaveNoAddress, IsFirstWithAddress, LoadsFirst};
+ghost use Rattle.elf_image_type.specs.ImageView.{HasAddress, HaveNoAddress, IsFirstWithAddress, LoadsFirst};
 
 use elf_field::abi::PT_LOAD;
 use elf_field::{Order, Phdr, Record};

@@ -1,6 +1,6 @@
 //! Strings in a table of strings (gABI chapter 4, String Table).
 ghost use Rattle.std.specs.Prelude.{◌≡◌};
-ghost use Rattle.elf_image_type.specs.Strings.{string};
+ghost use Rattle.elf_image_type.specs.ImageView.{string};
 
 use memchr::memchr;
 

@@ -1,3 +1,1 @@
-mod Between
-mod Fields
 mod Patched

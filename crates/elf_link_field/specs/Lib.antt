@@ -1,5 +1,2 @@
 -- The words of this crate's contracts.
-pub mod Marks
-pub mod Number
-pub mod Patch
-pub mod Rule
+pub mod Field

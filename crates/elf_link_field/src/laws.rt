@@ -1,7 +1,7 @@
 //! What the layers above may know of a field that was patched.
 ghost use Rattle.std.specs.Prelude.{ℕ, ◌+◌, ◌≤◌, ℤ, List, length};
-ghost use Rattle.elf_field.specs.declared.order.Order.{Order};
-ghost use Rattle.elf_link_field.specs.Patch.{IsPatched, patched};
+ghost use Rattle.elf_field.specs.declared.number.Order.{Order};
+ghost use Rattle.elf_link_field.specs.Field.{IsPatched, patched};
 
 /// The bytes of a field that was patched are those of its number, and all others are as before.
 pub fn patched_field()

@@ -13,15 +13,12 @@
 //! ```
 #![tactic(auto)]
 
-mod bytes_field;
+mod field;
 mod laws;
-mod marking;
 mod number;
-mod patching;
 mod rule;
 
+pub use field::{mark, patch};
 pub use laws::patched_field;
-pub use marking::mark;
 pub use number::addend_in;
-pub use patching::patch;
 pub use rule::{Form, Range, RelocRule, Width, rule_of};

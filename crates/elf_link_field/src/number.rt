@@ -2,10 +2,9 @@
 ghost use Rattle.std.specs.Prelude.{◌≡◌, ◌+◌, ◌*◌, ◌^◌, ◌<◌, ◌≤◌, ℤ, pos, neg_ℤ, ◌<ℤ◌, ◌≤ℤ◌, MatchBool, length};
 ghost use Rattle.byteorder.specs.Endian.{twos_complement};
 ghost use Rattle.elf_field.specs.Bytes.{from};
-ghost use Rattle.elf_link_field.specs.Number.{Admits, addend_at, addend_from, modulo as modulo_of, relocation_number};
-ghost use Rattle.elf_link_field.specs.Rule.{size_of};
+ghost use Rattle.elf_link_field.specs.Field.{Admits, addend_at, addend_from, modulo as modulo_of, relocation_number, size_of};
 
-use crate::bytes_field::BytesField;
+use crate::field::BytesField;
 use crate::rule::{Form, Range, Width};
 use byteorder::{BigEndian, ByteOrder, LittleEndian};
 use elf_field::Order;

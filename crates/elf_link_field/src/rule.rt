@@ -1,6 +1,6 @@
 //! Relocation rules: what the relocations of a kind are.
 ghost use Rattle.std.specs.Prelude.{◌≡◌, MatchOption};
-ghost use Rattle.elf_link_field.specs.Rule.{HasNoRelocationRule, IsFirstRelocationRule, size_of};
+ghost use Rattle.elf_link_field.specs.Field.{HasNoRelocationRule, IsFirstRelocationRule, size_of};
 
 /// What an entry's number is made of.
 #[derive(Clone, Copy, Debug, PartialEq, Eq)]

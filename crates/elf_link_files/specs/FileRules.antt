@@ -2,17 +2,15 @@
 -- (gABI chapter 4: e_machine, e_flags; sh_flags; section groups; st_info, st_shndx, st_value.)
 use Rattle.std.specs.Prelude.{◌≡◌, ◌≢◌, ℕ, ◌%◌, ◌<◌, ◌⊎◌, true, List, [], ◌∷◌}
 use Rattle.elf_field.specs.Abi.{SHF_LINK_ORDER, SHF_TLS, STB_GLOBAL, STB_LOCAL, STB_WEAK, STT_TLS}
-use Rattle.elf_object_type.specs.Object.{ObjectValue, SymbolValue, binding, symbol_type}
-use Rattle.elf_object_type.specs.Positions.{HasFlag}
-use Rattle.elf_image_rules.specs.SectionRules.{IsWrongAlignment}
-use Rattle.elf_link_files.specs.declared.options.Options.{Options}
-use Rattle.elf_link_files.specs.Discarded.{IsComdat, signature}
-use Rattle.elf_link_files.specs.Files.{object_at, section_in, symbol_in}
-use Rattle.elf_link_files.specs.Live.{Live}
 use Rattle.elf_image_rules.specs.Rows.{Row, Ruled, rule}
-use Rattle.elf_link_files.specs.Rows.{AtFile, AtSection, AtSymbol, Once}
+use Rattle.elf_image_rules.specs.Rules.{IsWrongAlignment}
+use Rattle.elf_link_files.specs.Files.{IsComdat, signature, object_at, section_in, symbol_in, Live, is_common}
+use Rattle.elf_link_files.specs.Rows.{AtFile, AtSection, AtSymbol, Once, AtEach, section_count, symbol_count}
+use Rattle.elf_link_files.specs.declared.fault.Options.{Options}
 use Rattle.elf_link_files.specs.declared.site.Site.{Site}
-use Rattle.elf_link_files.specs.Symbols.{is_common}
+use Rattle.elf_link_files.specs.declared.site.SiteTest.TheVariants.{Tls, LinkOrder, EmptySignature, BadSymbol, BadCommon}
+use Rattle.elf_link_files.specs.declared.site.SiteTest.{SiteTest}
+use Rattle.elf_object_type.specs.Object.{ObjectValue, SymbolValue, binding, symbol_type, HasFlag}
 
 -- a number is no power of two: it is 0, or wrong as an alignment
 abbrev pub IsNoPower : ℕ → Type 0
@@ -71,3 +69,32 @@ link_section_rules fs = rule 3 (tls fs) ∷ rule 4 (link_order fs) ∷ rule 5 (e
 
 abbrev pub link_symbol_rules : List ObjectValue → List {1} (Ruled Site)
 link_symbol_rules fs = rule 6 (bad_symbol fs) ∷ rule 7 (bad_common fs) ∷ []
+
+-- The tests that one search serves: rules 3 to 7.
+
+-- what is tested: each section of a file, or each symbol
+abbrev pub counted : SiteTest → ObjectValue → ℕ
+counted Tls = section_count
+counted LinkOrder = section_count
+counted EmptySignature = section_count
+counted BadSymbol = symbol_count
+counted BadCommon = symbol_count
+
+-- what breaks the rule of a test
+abbrev pub BreaksSiteTest : List ObjectValue → SiteTest → ℕ → ℕ → Type 0
+BreaksSiteTest fs Tls f i = IsLiveWith SHF_TLS fs f i
+BreaksSiteTest fs LinkOrder f i = IsLiveWith SHF_LINK_ORDER fs f i
+BreaksSiteTest fs EmptySignature f i = HasEmptySignature fs f i
+BreaksSiteTest fs BadSymbol f i = IsBadSymbol (symbol_in fs f i)
+BreaksSiteTest fs BadCommon f i = IsBadCommon (symbol_in fs f i)
+
+abbrev pub row_of : List ObjectValue → SiteTest → Row Site
+row_of fs test = AtEach (counted test) fs (BreaksSiteTest fs test)
+
+-- i is the first position of file f that breaks it
+abbrev pub IsFirstIn : List ObjectValue → SiteTest → ℕ → ℕ → Type 0
+IsFirstIn fs test f i =
+    (i < counted test (object_at fs f)) × BreaksSiteTest fs test f i × ((k : ℕ) → k < i → BreaksSiteTest fs test f k → ⊥)
+
+abbrev pub HasNoneIn : List ObjectValue → SiteTest → ℕ → Type 0
+HasNoneIn fs test f = (k : ℕ) → k < counted test (object_at fs f) → BreaksSiteTest fs test f k → ⊥

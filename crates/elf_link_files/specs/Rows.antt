@@ -1,9 +1,10 @@
 -- Where a rule of the link is broken, and the first rule of a list that is broken, at its first site: by file, index and entry.
-use Rattle.std.specs.Prelude.{◌≡◌, ℕ, ◌<◌, ◌⊎◌, Option, List, length}
+use Rattle.std.specs.Prelude.{◌≡◌, ℕ, ◌<◌, ◌⊎◌, Option, List, length, get_or}
 use Rattle.elf_image_rules.specs.Rows.{FirstBy, Row, Ruled}
-use Rattle.elf_object_type.specs.Object.{ObjectValue}
+use Rattle.elf_link_files.specs.Files.{object_at, IsEarlier, symbol_in}
+use Rattle.elf_link_files.specs.declared.site.Chosen.{Chosen}
 use Rattle.elf_link_files.specs.declared.site.Site.{Site}
-use Rattle.elf_link_files.specs.Files.{object_at}
+use Rattle.elf_object_type.specs.Object.{ObjectValue}
 
 abbrev pub Before : Site → Site → Type 0
 Before p q = (p.file < q.file) ⊎ ((p.file ≡ q.file) × ((p.index < q.index) ⊎ ((p.index ≡ q.index) × (p.entry < q.entry))))
@@ -39,3 +40,61 @@ AtSymbol = AtEach symbol_count
 -- what was found is the first rule of the list that is broken, with its first site, and None if none is broken
 abbrev pub FirstAmong : List {1} (Ruled Site) → Option (ℕ × Site) → Type 0
 FirstAmong = FirstBy IsFirstAt
+
+-- Lists of sites: all that a row holds, in order.
+
+abbrev pub site : ℕ → ℕ → Site
+site file index = record { file = file; index = index; entry = 0 }
+
+abbrev pub site_at : List Site → ℕ → Site
+site_at ps k = get_or ps k (site 0 0)
+
+-- the list has each site of the row, no other, and in order
+pub record Lists (row : Row Site) (ps : List Site) : Type 0 where
+  pub each : (k : ℕ) → k < length ps → row (site_at ps k)
+  pub all : (p : Site) → row p → (k : ℕ) × (k < length ps) × (site_at ps k ≡ p)
+  pub order : (j k : ℕ) → j < k → k < length ps → Before (site_at ps j) (site_at ps k)
+
+-- the sites of a row before position i of file f
+abbrev pub UpTo : Row Site → ℕ → ℕ → Row Site
+UpTo row f i = λ p. row p × IsEarlier p.file p.index f i
+
+-- each site of the list is a section of its file
+abbrev pub AreIn : List ObjectValue → List Site → Type 0
+AreIn fs ps = (k : ℕ) → k < length ps →
+    ((site_at ps k).file < length fs) × ((site_at ps k).index < length (object_at fs (site_at ps k).file).sections)
+
+-- the name of the symbol at a site
+abbrev pub name_at : List ObjectValue → Site → List ℕ
+name_at fs p = (symbol_in fs p.file p.index).name
+
+-- Lists by position: something said of each item, or of each two.
+
+-- a list of n items, with something said of each by its position
+pub record AreEach {A : Type 0} (none : A) (P : ℕ → A → Type 0) (n : ℕ) (items : List A) : Type 0 where
+  pub count : length items ≡ n
+  pub each : (k : ℕ) → k < n → P k (get_or items k none)
+
+-- a list of sites has this one; no site is in it twice
+abbrev pub IsSiteIn : List Site → Site → Type 0
+IsSiteIn ps p = (k : ℕ) × (k < length ps) × (site_at ps k ≡ p)
+
+-- each two sites of a list, the earlier one first
+abbrev pub Pairs : (Site → Site → Type 0) → List Site → Type 0
+Pairs R ps = (j k : ℕ) → j < k → k < length ps → R (site_at ps j) (site_at ps k)
+
+abbrev pub AreOnce : List Site → Type 0
+AreOnce = Pairs (λ p q. p ≡ q → ⊥)
+
+-- The commons that are placed, by position.
+
+abbrev pub no_common : Chosen
+no_common = record { site = site 0 0; size = 0; align = 0 }
+
+abbrev pub chosen_at : List Chosen → ℕ → Chosen
+chosen_at cs k = get_or cs k no_common
+
+-- each chosen common is a symbol of its file
+abbrev pub AreSymbols : List ObjectValue → List Chosen → Type 0
+AreSymbols fs cs = (k : ℕ) → k < length cs →
+    ((chosen_at cs k).site.file < length fs) × ((chosen_at cs k).site.index < length (object_at fs (chosen_at cs k).site.file).symbols)

@@ -7,6 +7,19 @@ use elf_image_rules::Broken;
 use std::alloc::{AllocError, AllocFailed};
 use thiserror::Error;
 
+// What a link is asked for.
+
+/// Where the link places sections, and which name it starts at.
+#[derive(Clone, Copy, Debug, PartialEq, Eq)]
+pub struct Options<'e> {
+    /// The address that placement begins at: a multiple of `page`.
+    pub base: u64,
+    /// What each output section begins at a multiple of: a power of two.
+    pub page: u64,
+    /// The name of the entry symbol; None for none.
+    pub entry: Option<&'e [u8]>,
+}
+
 /// The first of the link's rules ([`rules`](crate::rules)) that is broken, or out of memory.
 #[derive(Clone, Copy, Debug, PartialEq, Eq, Error)]
 pub enum LinkFault {

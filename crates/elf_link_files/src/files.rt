@@ -1,12 +1,11 @@
 //! The sections and symbols of the files, by position.
 ghost use Rattle.std.specs.Prelude.{◌≡◌, ◌<◌, length};
-ghost use Rattle.elf_link_files.specs.Files.{object_at, section_in};
-ghost use Rattle.elf_link_files.specs.Ids.{IsSymbolIn, symbol_with};
+ghost use Rattle.elf_link_files.specs.Files.{object_at, section_in, IsSymbolIn, symbol_with};
 ghost use Rattle.elf_object_type.specs.Object.{section_at as section};
 ghost use Rattle.elf_object_type.specs.ObjectRules.{IsObject};
 ghost use Rattle.elf_object_type.specs.ObjectView.{section_value, symbol_value};
 
-use crate::ids::SymbolId;
+use crate::inputs::SymbolId;
 use elf_object_type::{Object, Section, Symbol};
 
 /// Promises that a file breaks none of the object rules. It does nothing.

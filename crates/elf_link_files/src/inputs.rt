@@ -1,16 +1,55 @@
 //! The files of a link, with the sections of them that it discards.
 ghost use Rattle.std.specs.Prelude.{◌≡◌, ◌↔◌, ◌<◌, IfOk, IsTrue, length, map};
-ghost use Rattle.elf_link_files.specs.Discarded.{AreDiscardMarks, Discarded};
-ghost use Rattle.elf_link_files.specs.Files.{object_at};
-ghost use Rattle.elf_link_files.specs.Ids.{IsSectionIn, IsSymbolIn};
+ghost use Rattle.elf_link_files.specs.Files.{IsSectionIn, IsSymbolIn, AreDiscardMarks, Discarded, object_at};
 
-use crate::discarded::discarded;
-use crate::ids::{SectionId, SymbolId};
-use crate::input_section::InputSection;
-use crate::input_symbol::InputSymbol;
+use crate::section_tests::discarded;
 use elf_object_type::Object;
 use std::alloc::{AllocError, Global};
 use std::marker::Model;
+
+// The sections and symbols of the files of a link, by file and position.
+
+/// A section of a file. It may be none: a function that reads it asks for one that is there.
+#[derive(Clone, Copy)]
+pub struct SectionId {
+    /// The file's position among the objects, from 0.
+    pub file: usize,
+    /// The section's position in the file, from 0.
+    pub index: usize,
+}
+
+/// A symbol of a file. It may be none: a function that reads it asks for one that is there.
+#[derive(Clone, Copy)]
+pub struct SymbolId {
+    /// The file's position among the objects, from 0.
+    pub file: usize,
+    /// The symbol's position in the file, from 0.
+    pub index: usize,
+}
+
+// A section of the files of a link.
+
+/// A section of the files of a link, which is there: [`Inputs::section`] makes it.
+#[derive(Drop)]
+pub struct InputSection<'i, 'l, 'a> {
+    /// The files.
+    pub inputs: &'i Inputs<'l, 'a>,
+    /// Where it is in them.
+    pub id: SectionId,
+    ghost there: { IsSectionIn inputs.now id },
+}
+
+// A symbol of the files of a link.
+
+/// A symbol of the files of a link, which is there: [`Inputs::symbol`] makes it.
+#[derive(Drop)]
+pub struct InputSymbol<'i, 'l, 'a> {
+    /// The files.
+    pub inputs: &'i Inputs<'l, 'a>,
+    /// Where it is in them.
+    pub id: SymbolId,
+    ghost there: { IsSymbolIn inputs.now id },
+}
 
 /// The files of a link, with a mark for each section: whether it is discarded. To a contract it is the files.
 #[derive(Drop)]
@@ -25,7 +64,7 @@ impl<'l, 'a> Model for Inputs<'l, 'a> {
 
     ghost Value = { List ObjectValue };
 
-    ghost use Rattle.elf_link_files.specs.Inputs.{AreMarked, objects_of};
+    ghost use Rattle.elf_link_files.specs.Files.{AreMarked, objects_of};
 
     ghost view = { objects_of };
 

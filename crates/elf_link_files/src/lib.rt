@@ -5,30 +5,17 @@
 //! [`Inputs`], which are the files, and know which of their sections the link discards.
 #![tactic(auto)]
 
-mod chosen;
-mod discarded;
 mod fault;
 pub mod files;
-mod ids;
-mod input_section;
-mod input_symbol;
 mod inputs;
-mod options;
 mod rule_names;
 pub mod rules;
 mod section_tests;
 mod site;
-mod site_test;
 mod symbol_tests;
 
-pub use chosen::Chosen;
 pub use elf_image_rules::Broken;
-pub use fault::LinkFault;
-pub use ids::{SectionId, SymbolId};
-pub use input_section::InputSection;
-pub use input_symbol::InputSymbol;
-pub use inputs::Inputs;
-pub use options::Options;
-pub use site::{Site, is_at, site_in};
-pub use site_test::SiteTest;
+pub use fault::{LinkFault, Options};
+pub use inputs::{InputSection, InputSymbol, Inputs, SectionId, SymbolId};
+pub use site::{Chosen, Site, SiteTest, is_at, site_in};
 pub use symbol_tests::is_no_power;

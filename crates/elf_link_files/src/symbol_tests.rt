@@ -1,14 +1,11 @@
 //! What a symbol is to the link (gABI chapter 4, Symbol Table).
 ghost use Rattle.std.specs.Prelude.{◌≡◌, ◌↔◌, IsTrue};
 ghost use Rattle.elf_link_files.specs.FileRules.{IsBadCommon, IsBadSymbol, IsNoPower};
-ghost use Rattle.elf_link_files.specs.Files.{object_at};
-ghost use Rattle.elf_link_files.specs.Ids.{symbol_with};
+ghost use Rattle.elf_link_files.specs.Files.{object_at, symbol_with, IsCommon, IsDefinedAt, IsDefinition, IsEntry, IsNotWeak, IsPlaceIn, IsUndefinedAt, is_common as is_common_of};
 ghost use Rattle.elf_object_type.specs.ObjectView.{symbol_value};
-ghost use Rattle.elf_link_files.specs.Symbols.{IsCommon, IsDefinedAt, IsDefinition, IsEntry, IsNotWeak, IsPlaceIn, IsUndefinedAt, is_common as is_common_of};
 
 use crate::files::symbol_of;
-use crate::ids::SectionId;
-use crate::input_symbol::InputSymbol;
+use crate::inputs::{InputSymbol, SectionId};
 use elf_field::abi::*;
 use elf_image_rules::is_wrong_alignment;
 use elf_object_type::{Place, Symbol};

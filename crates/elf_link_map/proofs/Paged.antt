@@ -16,21 +16,17 @@ use Rattle.elf_extent.specs.Place.{Fits, IsMultiple}
 use Rattle.elf_image_rules.proofs.Public.{is_alignment}
 use Rattle.elf_object_type.specs.Object.{ObjectValue}
 use Rattle.elf_object_type.proofs.Public.{object_rules_kept}
-use Rattle.elf_link_files.specs.declared.options.Options.{Options}
+use Rattle.elf_link_files.specs.declared.fault.Options.{Options}
 use Rattle.elf_link_files.specs.declared.site.Site.{Site}
-use Rattle.elf_link_files.specs.Commons.{no_common}
+use Rattle.elf_link_files.specs.Rows.{no_common, site, site_at, FirstAmong}
 use Rattle.elf_link_files.specs.Files.{object_at}
-use Rattle.elf_link_files.specs.Listing.{site, site_at}
-use Rattle.elf_link_files.specs.Rows.{FirstAmong}
-use Rattle.elf_link_names.specs.LinkRules.{input_rules}
-use Rattle.elf_link_outputs.specs.Outputs.{live, part_of, raised}
+use Rattle.elf_link_names.specs.Binds.{input_rules}
+use Rattle.elf_link_outputs.specs.Outputs.{live, part_of, raised, common_part, output_parts, placed}
 use Rattle.elf_link_outputs.specs.Placed.{common_at, members_at, start_of}
-use Rattle.elf_link_outputs.specs.Plan.{common_part, output_parts, placed}
 use Rattle.elf_link_outputs.proofs.Public.{length-outputs, length-raised, members_live, outputs_some, parts_long, within_all}
-use Rattle.elf_link_map.specs.LinkFaults.{FirstOfLink}
-use Rattle.elf_link_map.specs.LinkMap.{IsLinkMap, IsLinkPlan, IsMapOf, LinkMapValue, LinkPlan, link_parts}
+use Rattle.elf_link_map.specs.LinkMap.{FirstOfLink, IsLinkMap, IsLinkPlan, IsMapOf, LinkMapValue, LinkPlan, link_parts}
 use Rattle.elf_link_map.specs.Standing.{ArePaged, AreObjects, output_at}
-use Rattle.elf_link_map.proofs.Apart.{common_begins, common_in_parts}
+use Rattle.elf_link_map.proofs.Standing.{common_begins, common_in_parts}
 
 -- ---- multiples of powers of two
 

@@ -5,43 +5,32 @@ use Rattle.std.specs.Prelude.{◌↔◌, cond, MatchOption, Option, None, Some, 
 use Rattle.std.specs.Str.{bytes_eq}
 use Rattle.std.proofs.lemmas.Bool.{cases_lt}
 use Rattle.std.proofs.lemmas.Slice.Eq.{bytes_eq-Decides}
-use Rattle.elf_extent.specs.Least.{Never}
+use Rattle.elf_extent.specs.Extent.{Never}
 use Rattle.elf_extent.specs.Place.{EndsFit, Least, end_of}
 use Rattle.elf_object_type.specs.Object.{ObjectValue}
-use Rattle.elf_link_files.specs.declared.chosen.Chosen.{Chosen}
-use Rattle.elf_link_files.specs.declared.options.Options.{Options}
+use Rattle.elf_link_files.specs.declared.site.Chosen.{Chosen}
+use Rattle.elf_link_files.specs.declared.fault.Options.{Options}
 use Rattle.elf_link_files.specs.declared.site.Site.{Site}
-use Rattle.elf_link_files.specs.Commons.{chosen_at}
-use Rattle.elf_link_files.specs.Discarded.{AreDiscardMarks, Discarded}
-use Rattle.elf_link_files.specs.Files.{object_at}
-use Rattle.elf_link_files.specs.Items.{AreEach}
-use Rattle.elf_link_files.specs.Listing.{Lists, name_at, site, site_at}
-use Rattle.elf_link_files.specs.Rows.{FirstAmong, section_count, symbol_count}
-use Rattle.elf_link_names.specs.declared.choice.Choice.{Choice}
-use Rattle.elf_link_names.specs.declared.choice.Choice.TheVariants.{Strong, Common, Weak, Zero}
-use Rattle.elf_link_names.specs.Binds.{AllBound, Binds, entries}
-use Rattle.elf_link_names.specs.ChosenCommons.{HaveChosen}
-use Rattle.elf_link_names.specs.LinkRules.{input_rules}
-use Rattle.elf_link_names.specs.Listing.{IsFirstEntry, first_entries}
+use Rattle.elf_link_files.specs.Rows.{chosen_at, AreEach, Lists, name_at, site, site_at, FirstAmong, section_count, symbol_count}
+use Rattle.elf_link_files.specs.Files.{AreDiscardMarks, Discarded, object_at}
+use Rattle.elf_link_names.specs.declared.name_rules.Choice.{Choice}
+use Rattle.elf_link_names.specs.declared.name_rules.Choice.TheVariants.{Strong, Common, Weak, Zero}
+use Rattle.elf_link_names.specs.Binds.{AllBound, Binds, entries, input_rules, IsFirstEntry, first_entries}
+use Rattle.elf_link_names.specs.Resolution.{HaveChosen}
 use Rattle.elf_link_names.proofs.ChosenCommons.{have_chosen}
 use Rattle.elf_link_names.proofs.Public.{all_bound, entry_listed, entry_there}
 use Rattle.elf_link_outputs.specs.declared.addresses.Target.{Target}
 use Rattle.elf_link_outputs.specs.Addresses.{HasNoValue, HasValue, address_rules, target_value}
-use Rattle.elf_link_outputs.specs.Outputs.{is_no_bits, live, output_flags, section_at_site}
-use Rattle.elf_link_outputs.specs.Placed.{AreAddresses, ArePlacedCommons, ArePlacedOutputs, CommonValue, IsOutput, OutputValue, common_at, member_of, members_at, no_output, no_placed, placed_common, start_of}
-use Rattle.elf_link_outputs.specs.Plan.{placed}
-use Rattle.elf_link_outputs.specs.Planning.{AreFilled, AreLive, with_cell}
-use Rattle.elf_link_outputs.proofs.Cells.{addresses_are, filled_more, filled_none}
-use Rattle.elf_link_outputs.proofs.Openers.{outputs_live, outputs_some}
-use Rattle.elf_link_outputs.proofs.Placings.{parts_long, place_order, within_all}
+use Rattle.elf_link_outputs.specs.Outputs.{is_no_bits, live, output_flags, section_at_site, placed}
+use Rattle.elf_link_outputs.specs.Placed.{AreAddresses, ArePlacedCommons, ArePlacedOutputs, CommonValue, IsOutput, OutputValue, common_at, member_of, members_at, no_output, no_placed, placed_common, start_of, AreFilled, AreLive, with_cell}
+use Rattle.elf_link_outputs.proofs.Placings.{addresses_are, filled_more, filled_none, parts_long, place_order, within_all}
+use Rattle.elf_link_outputs.proofs.OutputLists.{outputs_live, outputs_some}
 use Rattle.elf_link_map.specs.declared.bindings.Binding.{Binding}
-use Rattle.elf_link_map.specs.declared.bindings.Binding.TheVariants as bound
-use Rattle.elf_link_map.specs.LinkFaults.{FirstOfLink}
-use Rattle.elf_link_map.specs.LinkMap.{AreBindings, AreNames, IsBinding, IsLinkMap, IsLinkPlan, LinkMapValue, LinkPlan, bound_in, link_parts, no_name}
+use Rattle.elf_link_map.specs.LinkMap.{FirstOfLink, AreBindings, AreNames, IsBinding, IsLinkMap, IsLinkPlan, LinkMapValue, LinkPlan, bound_in, link_parts, no_name}
 use Rattle.elf_link_map.specs.Naming.{AreNamedAt, IsNamedAt}
-use Rattle.elf_link_map.proofs.Naming.{bound_here, names_are}
-use Rattle.elf_link_map.proofs.PlacedCommons.{common_names}
-use Rattle.elf_link_map.proofs.SomePlan.{some_choice, some_each, some_list, some_row}
+use Rattle.elf_link_map.proofs.OneMap.{bound_here, names_are, common_names}
+use Rattle.elf_link_map.proofs.Plans.{some_choice, some_each, some_list, some_row}
+use Rattle.elf_link_map.specs.declared.bindings.Binding.TheVariants as bound
 
 none_some : {A : Type 0} (x : A) → None ≡ Some x → ⊥
 none_some x e = cc

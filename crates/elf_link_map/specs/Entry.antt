@@ -3,17 +3,16 @@
 use Rattle.std.specs.Prelude.{◌≡◌, ℕ, ◌+◌, ◌<◌, ◌⊎◌, Option, None, Some, List, length}
 use Rattle.std.specs.Borrow.{Bor}
 use Rattle.elf_object_type.specs.Object.{ObjectValue}
-use Rattle.elf_object_type.specs.declared.symbol.Place.{Place}
-use Rattle.elf_object_type.specs.declared.symbol.Place.TheVariants.{Undef, Abs, In}
-use Rattle.elf_object_type.specs.declared.symbol.Place.TheVariants.{Common as CommonPlace}
-use Rattle.elf_link_files.specs.declared.chosen.Chosen.{Chosen}
+use Rattle.elf_object_type.specs.declared.parts.Place.{Place}
+use Rattle.elf_object_type.specs.declared.parts.Place.TheVariants.{Undef, Abs, In, Common as CommonPlace}
+use Rattle.elf_link_files.specs.declared.site.Chosen.{Chosen}
 use Rattle.elf_link_files.specs.declared.site.Site.{Site}
 use Rattle.elf_link_files.specs.Files.{symbol_in}
-use Rattle.elf_link_files.specs.Listing.{site_at}
-use Rattle.elf_link_names.specs.declared.choice.Choice.{Choice}
-use Rattle.elf_link_names.specs.declared.choice.Choice.TheVariants.{Strong, Common, Weak, Zero}
+use Rattle.elf_link_files.specs.Rows.{site_at}
+use Rattle.elf_link_names.specs.declared.name_rules.Choice.{Choice}
+use Rattle.elf_link_names.specs.declared.name_rules.Choice.TheVariants.{Strong, Common, Weak, Zero}
 use Rattle.elf_link_names.specs.Binds.{Binds, IsUnbound}
-use Rattle.elf_link_names.specs.ChosenCommons.{IsCommonOf}
+use Rattle.elf_link_names.specs.Resolution.{IsCommonOf}
 use Rattle.elf_link_outputs.specs.declared.addresses.Target.{Target}
 use Rattle.elf_link_outputs.specs.declared.addresses.Target.TheVariants.{Lost, Fixed, Part}
 

@@ -1,26 +1,30 @@
 -- The link map as a value, and when it is the one of some objects and options.
 -- (gABI chapter 4, Symbol Table; outputs and placement are this project's profile.)
-use Rattle.std.specs.Prelude.{◌≡◌, ℕ, ◌<◌, Bool, Option, MatchOption, List, [], length, map}
+use Rattle.std.specs.Prelude.{◌≡◌, ℕ, ◌<◌, Bool, Option, MatchOption, List, [], length, map, ◌⊎◌, None, Some}
 use Rattle.std.specs.Map.{lookup}
 use Rattle.std.specs.Str.{bytes_eq}
+use Rattle.elf_extent.specs.Extent.{Never}
 use Rattle.elf_extent.specs.Place.{EndsFit, Least}
-use Rattle.elf_object_type.specs.Object.{ObjectValue}
-use Rattle.elf_link_files.specs.declared.options.Options.{Options}
+use Rattle.elf_link_files.specs.FileRules.{option_rules}
+use Rattle.elf_link_files.specs.Files.{AreDiscardMarks}
+use Rattle.elf_link_files.specs.Rows.{Lists, name_at, FirstAmong}
+use Rattle.elf_link_files.specs.declared.fault.LinkFault.TheVariants.{Rule, OutOfMemory}
+use Rattle.elf_link_files.specs.declared.fault.LinkFault.{LinkFault}
+use Rattle.elf_link_files.specs.declared.fault.Options.{Options}
 use Rattle.elf_link_files.specs.declared.site.Site.{Site}
-use Rattle.elf_link_files.specs.Discarded.{AreDiscardMarks}
-use Rattle.elf_link_files.specs.Listing.{Lists, name_at}
-use Rattle.elf_extent.specs.Least.{Never}
-use Rattle.elf_link_names.specs.declared.choice.Choice.TheVariants.{Strong as StrongChoice, Common as CommonChoice, Weak as WeakChoice, Zero as ZeroChoice}
-use Rattle.elf_link_names.specs.Binds.{Binds, entries}
-use Rattle.elf_link_names.specs.Listing.{first_entries}
-use Rattle.elf_link_names.specs.ChosenCommons.{AreChosen}
-use Rattle.elf_link_outputs.specs.declared.addresses.Target.{Target}
-use Rattle.elf_link_outputs.specs.Addresses.{HasValue}
-use Rattle.elf_link_outputs.specs.Plan.{Plan, parts_of, placed, AreOutputs}
-use Rattle.elf_link_outputs.specs.Placed.{OutputValue, CommonValue, common_at, AreAddresses, ArePlacedOutputs, ArePlacedCommons}
-use Rattle.elf_link_map.specs.declared.bindings.Binding.{Binding}
-use Rattle.elf_link_map.specs.declared.bindings.Binding.TheVariants.{Strong, Common, Weak, Zero}
 use Rattle.elf_link_map.specs.Entry.{IsEntrySymbolTarget}
+use Rattle.elf_link_map.specs.declared.bindings.Binding.TheVariants.{Strong, Common, Weak, Zero}
+use Rattle.elf_link_map.specs.declared.bindings.Binding.{Binding}
+use Rattle.elf_link_map.specs.declared.bindings.Named.{Named}
+use Rattle.elf_link_map.specs.declared.link_map.LinkMap.TheInside.{Inside}
+use Rattle.elf_link_names.specs.Binds.{Binds, entries, first_entries, input_rules}
+use Rattle.elf_link_names.specs.Resolution.{AreChosen}
+use Rattle.elf_link_names.specs.declared.name_rules.Choice.TheVariants.{Strong as StrongChoice, Common as CommonChoice, Weak as WeakChoice, Zero as ZeroChoice}
+use Rattle.elf_link_outputs.specs.Addresses.{HasValue, address_rules}
+use Rattle.elf_link_outputs.specs.Outputs.{Plan, parts_of, placed, AreOutputs, AddressedValue}
+use Rattle.elf_link_outputs.specs.Placed.{OutputValue, CommonValue, common_at, AreAddresses, ArePlacedOutputs, ArePlacedCommons, output_value, common_value}
+use Rattle.elf_link_outputs.specs.declared.addresses.Target.{Target}
+use Rattle.elf_object_type.specs.Object.{ObjectValue}
 
 pub record LinkMapValue : Type 0 where
   pub addresses : List (List (Option ℕ))
@@ -102,3 +106,63 @@ IsLinkMap opt fs m = (l : LinkPlan) × IsLinkPlan opt fs l × IsMapOf opt fs l m
 -- the link map of some objects, whatever its base, page and entry are
 abbrev pub IsSomeLinkMap : List ObjectValue → LinkMapValue → Type 0
 IsSomeLinkMap fs m = (opt : Options) × (base page entry : ℕ) × IsLinkMap opt fs (with_options m base page entry)
+
+-- What contracts see of a link map, its outputs and its commons.
+
+-- a name with its binding
+abbrev pub named_value : Named → List ℕ × Binding
+named_value n = (n.name.now, n.binding)
+
+abbrev pub link_map_value : Inside → LinkMapValue
+link_map_value m = record {
+  addresses = map (λ row. row.items) m.addresses.items;
+  discarded = map (λ row. row.items) m.discarded.items;
+  bindings = m.names;
+  outputs = map output_value m.outputs.items;
+  commons = map common_value m.commons.items;
+  base = m.base;
+  page = m.page;
+  entry = m.entry;
+}
+
+-- The fault of a link: the first of rules 1 to 11 that is broken. Rules 10 and 11 are asked of the plan, where none before is broken.
+
+-- rules 10 and 11 at the plan of the objects
+abbrev pub FirstOfAddresses : Options → List ObjectValue → Option (ℕ × Site) → Type 0
+FirstOfAddresses opt fs found =
+    (l : LinkPlan) × IsLinkPlan opt fs l × FirstAmong (address_rules (link_parts fs opt l) opt.base l.target) found
+
+-- the first rule of the link that is broken
+abbrev pub FirstOfLink : Options → List ObjectValue → Option (ℕ × Site) → Type 0
+FirstOfLink opt fs None = FirstAmong (input_rules opt fs) None × FirstOfAddresses opt fs None
+FirstOfLink opt fs (Some broken) =
+    FirstAmong (input_rules opt fs) (Some broken) ⊎ (FirstAmong (input_rules opt fs) None × FirstOfAddresses opt fs (Some broken))
+
+-- memory is taken only where rules 1 and 2 are not broken
+abbrev pub IsLinkFault : Options → List ObjectValue → LinkFault → Type 0
+IsLinkFault opt fs (Rule number file index entry) =
+    FirstOfLink opt fs (Some (number, record { file = file; index = index; entry = entry }))
+IsLinkFault opt fs OutOfMemory = FirstAmong (option_rules opt fs) None
+
+-- A plan at the addresses that a link gives it.
+
+abbrev pub plan_at : AddressedValue → Target → LinkPlan
+plan_at a target = record { plan = a.plan.plan; places = a.places; target = target }
+
+-- the plan of these files and options, and neither rule 10 nor 11 is broken
+pub record IsPlacedAt (opt : Options) (fs : List ObjectValue) (a : AddressedValue) (target : Target) : Type 0 where
+  pub objects : a.plan.objects ≡ fs
+  pub page : a.plan.page ≡ opt.page
+  pub plan : IsLinkPlan opt fs (plan_at a target)
+  pub sound : FirstAmong (address_rules (link_parts fs opt (plan_at a target)) opt.base target) None
+  pub fits : EndsFit (link_parts fs opt (plan_at a target)) a.places (length (link_parts fs opt (plan_at a target)))
+  pub entry : HasValue (link_parts fs opt (plan_at a target)) opt.base target a.entry
+
+abbrev pub IsAddressedFor : Options → List ObjectValue → AddressedValue → Type 0
+IsAddressedFor opt fs a = (target : Target) × IsPlacedAt opt fs a target
+
+-- the first of rules 10 and 11 that is broken, or out of memory
+abbrev pub IsAddressingFault : Options → List ObjectValue → LinkFault → Type 0
+IsAddressingFault opt fs (Rule number file index entry) =
+    FirstOfAddresses opt fs (Some (number, record { file = file; index = index; entry = entry }))
+IsAddressingFault opt fs OutOfMemory = Unit {0}

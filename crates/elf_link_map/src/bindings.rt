@@ -1,17 +1,21 @@
 //! What every name is bound to, with addresses (gABI chapter 4, Symbol Table: symbol binding).
-ghost use Rattle.std.specs.Prelude.{◌<◌, IfOk, length, map};
-ghost use Rattle.elf_link_files.specs.Discarded.{AreDiscardMarks};
-ghost use Rattle.elf_link_names.specs.Resolved.{name_in};
-ghost use Rattle.elf_link_outputs.specs.PlacedView.{common_value};
-ghost use Rattle.elf_link_map.specs.BindingNumbers.{AreNumbersIn};
-ghost use Rattle.elf_link_map.specs.LinkMap.{AreBindings, AreNames, IsBinding};
-ghost use Rattle.elf_link_map.specs.LinkMapView.{named_value};
-ghost use Rattle.elf_link_map.specs.Naming.{AreCommonNames, AreNamedAt};
+ghost use Rattle.std.specs.Prelude.{◌<◌, IfOk, length, map, ◌≡◌, MatchOption, None, map as map_list};
+ghost use Rattle.elf_link_files.specs.Files.{AreDiscardMarks, object_at, IsSymbolIn};
+ghost use Rattle.elf_link_names.specs.Resolution.{name_in};
+ghost use Rattle.elf_link_outputs.specs.Placed.{common_value};
+ghost use Rattle.elf_link_map.specs.Naming.{AreNumbersIn, AreCommonNames, AreNamedAt, AreBindingPositions, IsBindingAt, AreBindingNumbers, IsBindingNumber, IsBindingRow};
+ghost use Rattle.elf_link_map.specs.LinkMap.{AreBindings, AreNames, IsBinding, named_value, bound_in, IsSomeLinkMap};
+ghost use Rattle.elf_link_names.specs.Tables.{name_position};
 
-use crate::names::{Named, Names};
-use elf_link_names::{Choice, Resolution};
+use crate::link_map::LinkMap;
+use elf_field::abi::*;
+use elf_link_files::SymbolId;
+use elf_link_files::files::{symbol_count, symbol_of};
+use elf_link_names::{Choice, NameIndex, Resolution};
 use elf_link_outputs::Common;
+use elf_object_type::Object;
 use std::alloc::{AllocError, Global};
+use std::marker::Model;
 
 /// What a name is bound to.
 #[derive(Clone, Copy, Debug, PartialEq, Eq)]
@@ -95,4 +99,134 @@ pub(crate) fn all_bindings<'a>(
         names: Names::new(list, parts.positions),
         numbers: parts.numbers,
     })
+}
+
+// The names of a link map, with what each is bound to (gABI chapter 4, Symbol Table).
+
+/// A name that is not local, and what it is bound to.
+#[derive(Clone, Copy, Debug, PartialEq, Eq)]
+pub struct Named<'a> {
+    /// The name.
+    pub name: &'a [u8],
+    /// What it is bound to.
+    pub binding: Binding,
+}
+
+/// Names with their bindings in order, and the position of each.
+#[derive(Debug, Drop)]
+pub(crate) struct Names<'a> {
+    list: Vec<Named<'a>>,
+    positions: NameIndex<'a>,
+}
+
+impl<'a> Model for Names<'a> {
+    ghost use Rattle.std.specs.Prelude.{ℕ, List, map};
+    ghost use Rattle.elf_link_map.specs.declared.bindings.Binding.{Binding};
+
+    ghost Value = { List (List ℕ × Binding) };
+
+    ghost use Rattle.elf_link_names.specs.Tables.{name_position};
+    ghost use Rattle.elf_link_map.specs.LinkMap.{named_value};
+    ghost use Rattle.elf_link_map.specs.Naming.{AreBindingPositions};
+
+    ghost view = { λ a. map named_value a.list.items };
+
+    ghost invariant = { λ a. AreBindingPositions (map named_value a.list.items) (name_position a.positions) };
+}
+
+impl<'a> Names<'a> {
+    /// These names, whose positions are known.
+    pub(crate) fn new(list: Vec<Named<'a>>, positions: NameIndex<'a>) -> Names<'a>
+        requires { AreBindingPositions (map named_value list.items) (name_position positions) }
+        ensures { result ≡ map named_value list.entry.items }
+    {
+        Names { list, positions }
+    }
+
+    /// All of them, in order.
+    pub(crate) fn list(&self) -> &[Named<'a>]
+        ensures { map named_value result.now ≡ self.now }
+    {
+        &self.list
+    }
+
+    /// The position of a name; None if it is not there.
+    pub(crate) fn position(&self, name: &[u8]) -> Option<usize>
+        ensures { MatchOption result (bound_in self.now name.now ≡ None) (IsBindingAt self.now name.now) }
+    {
+        self.positions.get(name)
+    }
+
+    /// What a name is bound to; None if it is not there.
+    pub(crate) fn binding(&self, name: &[u8]) -> Option<Binding>
+        ensures { result ≡ bound_in self.now name.now }
+    {
+        match self.positions.get(name) {
+            Some(k) => Some(self.list[k].binding),
+            None => None,
+        }
+    }
+}
+
+// The number of each symbol's name: the position of its binding in a link map (gABI chapter 4, Symbol Table).
+
+/// A link map, and the number of the name of each symbol.
+#[derive(Debug, Drop)]
+pub struct NumberedMap<'a> {
+    /// The link map.
+    pub map: LinkMap<'a>,
+    /// For each symbol of each file that is not local where its name is among [`LinkMap::names`]; 0 for a local one.
+    pub numbers: Vec<Vec<usize>>,
+}
+
+/// Where the name of a symbol is; 0 for a local symbol.
+fn name_number(objects: &[Object<'_>], map: &LinkMap<'_>, id: SymbolId) -> usize
+    requires map { IsSomeLinkMap objects.now map.now }
+    requires symbol { IsSymbolIn objects.now id }
+    ensures { IsBindingNumber objects.now map.now id.file id.index result }
+{
+    let symbol = symbol_of(objects, id);
+    if symbol.binding() == STB_LOCAL {
+        return 0;
+    }
+    // Each name of a symbol that is not local is there.
+    map.position(symbol.name).unwrap_or(0)
+}
+
+/// The numbers of the names of a file's symbols.
+fn file_numbers(
+    alloc: Global,
+    objects: &[Object<'_>],
+    map: &LinkMap<'_>,
+    file: usize,
+) -> Result<Vec<usize>, AllocError>
+    requires map { IsSomeLinkMap objects.now map.now }
+    requires file { file < length objects.now }
+    ensures { IfOk result (λ row. IsBindingRow objects.now map.now file (length (object_at objects.now file).symbols) row.items) }
+{
+    let count = symbol_count(&objects[file]);
+    let mut row = Vec::with_capacity(alloc, count)?;
+    for index in 0..count {
+        row.push(name_number(objects, map, SymbolId { file, index }))?;
+    }
+    Ok(row)
+}
+
+/// For each symbol of each file the position of its name among [`LinkMap::names`]; 0 for a local symbol. The map is one of these objects,
+/// whatever its base, page and entry are. It takes log n comparisons of names for each symbol; [`map_numbered`](crate::map_numbered)
+/// returns the numbers without them. The error comes if an allocation fails. The map is never changed.
+#[tactic(auto, unfolding(crate::specs::Naming::AreBindingNumbers))]
+pub fn name_numbers(
+    alloc: Global,
+    objects: &[Object<'_>],
+    map: &LinkMap<'_>,
+) -> Result<Vec<Vec<usize>>, AllocError>
+    requires { IsSomeLinkMap objects.now map.now }
+    ensures { IfOk result (λ rows. AreBindingNumbers objects.now map.now (map_list (λ row. row.items) rows.items)) }
+{
+    let mut rows = Vec::with_capacity(alloc, objects.len())?;
+    for file in 0..objects.len() {
+        rows.push(file_numbers(alloc, objects, map, file)?)?;
+    }
+    Ok(rows)
 }

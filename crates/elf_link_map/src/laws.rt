@@ -1,13 +1,11 @@
 //! What the layers above may know of a link map.
 ghost use Rattle.std.specs.Prelude.{◌≡◌, ℕ, List, None, Option};
-ghost use Rattle.elf_link_files.specs.declared.options.Options.{Options};
+ghost use Rattle.elf_link_files.specs.declared.fault.Options.{Options};
 ghost use Rattle.elf_link_files.specs.declared.site.Site.{Site};
 ghost use Rattle.elf_link_files.specs.Rows.{FirstAmong};
-ghost use Rattle.elf_link_names.specs.LinkRules.{input_rules};
-ghost use Rattle.elf_link_map.specs.Apart.{StandApart};
-ghost use Rattle.elf_link_map.specs.LinkFaults.{FirstOfLink};
-ghost use Rattle.elf_link_map.specs.LinkMap.{IsLinkMap, LinkMapValue};
-ghost use Rattle.elf_link_map.specs.Standing.{AreObjects, ArePaged, ObjectsFit, OutputsStand};
+ghost use Rattle.elf_link_names.specs.Binds.{input_rules};
+ghost use Rattle.elf_link_map.specs.Standing.{StandApart, AreObjects, ArePaged, ObjectsFit, OutputsStand};
+ghost use Rattle.elf_link_map.specs.LinkMap.{FirstOfLink, IsLinkMap, LinkMapValue};
 ghost use Rattle.elf_object_type.specs.Object.{ObjectValue};
 
 use elf_object_type::Object;

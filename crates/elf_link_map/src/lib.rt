@@ -20,11 +20,8 @@ mod bindings;
 mod laws;
 mod link;
 mod link_map;
-mod names;
-mod numbers;
-mod target;
 
-pub use bindings::Binding;
+pub use bindings::{Binding, Named, NumberedMap, name_numbers};
 pub use elf_link_files::{Broken, LinkFault, Options, Site, files, rules};
 pub use elf_link_outputs::{Common, Member, Output, memory_size};
 pub use laws::{
@@ -32,5 +29,3 @@ pub use laws::{
 };
 pub use link::{map, map_numbered};
 pub use link_map::LinkMap;
-pub use names::Named;
-pub use numbers::{NumberedMap, name_numbers};

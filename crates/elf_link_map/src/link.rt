@@ -1,24 +1,112 @@
 //! The link map of objects.
-ghost use Rattle.std.specs.Prelude.{◌≡◌, IfErr, IfOk, None, OnOk, map as map_list};
-ghost use Rattle.elf_link_map.specs.LinkFaults.{FirstOfLink, IsLinkFault};
-ghost use Rattle.elf_link_map.specs.BindingNumbers.{AreBindingNumbers};
-ghost use Rattle.elf_link_map.specs.Apart.{StandApart};
-ghost use Rattle.elf_link_map.specs.LinkMap.{IsLinkMap};
-ghost use Rattle.elf_link_map.specs.PlacedFor.{IsAddressedFor, IsAddressingFault};
-ghost use Rattle.elf_link_map.specs.Standing.{ArePaged, OutputsStand};
+ghost use Rattle.std.specs.Prelude.{ℕ, ◌+◌, ◌^◌, ◌<◌, MatchOption, length, ◌≡◌, IfErr, IfOk, None, OnOk, map as map_list};
+ghost use Rattle.elf_link_files.specs.Files.{IsSymbolIn};
+ghost use Rattle.elf_link_names.specs.Resolution.{name_in};
+ghost use Rattle.elf_link_outputs.specs.Addresses.{IsTargetBelow};
+ghost use Rattle.elf_link_map.specs.Entry.{HasSite, IsBoundTarget, IsEntrySymbolTarget, IsNameTarget, IsSectionTarget, IsSymbolTarget};
+ghost use Rattle.elf_link_map.specs.LinkMap.{FirstOfLink, IsLinkFault, IsLinkMap, IsAddressedFor, IsAddressingFault};
+ghost use Rattle.elf_link_map.specs.Naming.{AreBindingNumbers};
+ghost use Rattle.elf_link_map.specs.Standing.{StandApart, ArePaged, OutputsStand};
 
-use crate::bindings::all_bindings;
+use crate::bindings::{NumberedMap, all_bindings};
 use crate::laws::prove_objects;
 use crate::link_map::LinkMap;
-use crate::numbers::NumberedMap;
-use crate::target::entry_target;
-use elf_link_files::{LinkFault, Options};
-use elf_link_names::Resolution;
+use elf_link_files::{LinkFault, Options, Site, SymbolId, is_at};
 use elf_link_names::judge::judge;
+use elf_link_names::{Choice, Resolution};
+use elf_link_outputs::addresses::Target;
 use elf_link_outputs::{Addressed, Outputs, Plan};
-use elf_object_type::Object;
+use elf_object_type::{Object, Place};
 use std::alloc::Global;
 use std::hash::BuildHasher;
+
+// What the entry symbol's value is made of (gABI chapter 4, ELF Header: `e_entry`; Symbol Table: `st_value`).
+
+/// The position of a section among those that are placed.
+fn position_of(sites: &[Site], file: usize, section: usize) -> Option<usize>
+    ensures { MatchOption result ((k : ℕ) → HasSite sites.now file section k → ⊥) (HasSite sites.now file section) }
+{
+    for k in 0..sites.len() {
+        if is_at(sites[k], file, section) {
+            return Some(k);
+        }
+    }
+    None
+}
+
+/// An offset in a section.
+fn section_target(sites: &[Site], file: usize, section: usize, offset: u64) -> Target
+    ensures target { IsSectionTarget sites.now file section offset result }
+    ensures below { IsTargetBelow (length sites.now) result }
+{
+    match position_of(sites, file, section) {
+        Some(k) => Target::Part(k, offset),
+        None => Target::Lost,
+    }
+}
+
+/// The value of a symbol.
+fn symbol_target(resolution: &Resolution<'_, '_>, sites: &[Site], id: SymbolId) -> Target
+    requires { IsSymbolIn resolution.now.objects id }
+    ensures target { IsSymbolTarget resolution.now.objects sites.now id.file id.index result }
+    ensures below { IsTargetBelow (length sites.now) result }
+{
+    let symbol = resolution.symbol(id);
+    match symbol.place {
+        Place::Undef | Place::Common => Target::Lost,
+        Place::Abs => Target::Fixed(symbol.value),
+        Place::In(section) => section_target(sites, id.file, section, symbol.value),
+    }
+}
+
+/// The value of the name of number `k` by its binding. A common is after all sections.
+fn bound_target(resolution: &Resolution<'_, '_>, sites: &[Site], k: usize) -> Target
+    requires number { k < length resolution.now.firsts }
+    requires fits { length sites.now + length resolution.now.commons < 2 ^ 64 }
+    ensures target { IsBoundTarget resolution.now.objects sites.now resolution.now.commons (name_in resolution.now k) result }
+    ensures below { IsTargetBelow (length sites.now + length resolution.now.commons) result }
+{
+    match resolution.choice(k) {
+        Choice::Strong { file, symbol } | Choice::Weak { file, symbol } => symbol_target(
+            resolution,
+            sites,
+            SymbolId {
+                file,
+                index: symbol,
+            },
+        ),
+        Choice::Common { .. } => Target::Part(sites.len() + resolution.common_position(k), 0),
+        Choice::Zero => Target::Lost,
+    }
+}
+
+/// The value of a name; lost where no symbol has it that is not local.
+fn name_target(resolution: &Resolution<'_, '_>, sites: &[Site], name: &[u8]) -> Target
+    requires { length sites.now + length resolution.now.commons < 2 ^ 64 }
+    ensures target { IsNameTarget resolution.now.objects sites.now resolution.now.commons name.now result }
+    ensures below { IsTargetBelow (length sites.now + length resolution.now.commons) result }
+{
+    match resolution.number(name) {
+        Some(k) => bound_target(resolution, sites, k),
+        None => Target::Lost,
+    }
+}
+
+/// The value of the entry symbol, 0 if none is named.
+pub(crate) fn entry_target(
+    resolution: &Resolution<'_, '_>,
+    sites: &[Site],
+    name: Option<&[u8]>,
+) -> Target
+    requires { length sites.now + length resolution.now.commons < 2 ^ 64 }
+    ensures target { IsEntrySymbolTarget resolution.now.objects sites.now resolution.now.commons name.entry result }
+    ensures below { IsTargetBelow (length sites.now + length resolution.now.commons) result }
+{
+    match name {
+        Some(name) => name_target(resolution, sites, name),
+        None => Target::Fixed(0),
+    }
+}
 
 /// Where everything of a link is.
 ///

@@ -1,14 +1,11 @@
 //! The link map: where everything is, and what each name is bound to (gABI chapter 4, Sections, Symbol Table).
 ghost use Rattle.std.specs.Prelude.{◌≡◌, MatchOption, None, map};
-ghost use Rattle.elf_link_files.specs.Discarded.{mark};
-ghost use Rattle.elf_link_outputs.specs.Placed.{cell};
-ghost use Rattle.elf_link_outputs.specs.PlacedView.{common_value, output_value};
-ghost use Rattle.elf_link_map.specs.LinkMap.{bound_in};
-ghost use Rattle.elf_link_map.specs.LinkMapView.{named_value};
+ghost use Rattle.elf_link_files.specs.Files.{mark};
+ghost use Rattle.elf_link_outputs.specs.Placed.{cell, common_value, output_value};
+ghost use Rattle.elf_link_map.specs.LinkMap.{bound_in, named_value};
 ghost use Rattle.elf_link_map.specs.Naming.{IsBindingAt};
 
-use crate::bindings::Binding;
-use crate::names::{Named, Names};
+use crate::bindings::{Binding, Named, Names};
 use elf_link_outputs::{Common, Output};
 use std::marker::Model;
 
@@ -30,7 +27,7 @@ impl<'a> Model for LinkMap<'a> {
 
     ghost Value = { LinkMapValue };
 
-    ghost use Rattle.elf_link_map.specs.LinkMapView.{link_map_value};
+    ghost use Rattle.elf_link_map.specs.LinkMap.{link_map_value};
 
     ghost view = { link_map_value };
 }

@@ -1,28 +1,25 @@
 -- The chosen commons, gathered symbol by symbol: a name without a GLOBAL definition chooses its first common, with the largest size and
 -- alignment of all. So each name that is bound to a common has one in the list.
-use Rattle.std.proofs.Common.{◌≡◌, ℕ, ◌+◌, ◌<◌, ◌⊎◌, true, List, [], ◌∷◌, ◌++◌, length, inl, inr, refl, sym, ◌∙◌, ap, subst, arith, length-append}
-use Rattle.std.proofs.lemmas.List.{get_or_push}
+use Rattle.std.proofs.Common.{◌≡◌, ℕ, ◌+◌, ◌<◌, ◌⊎◌, true, List, [], ◌∷◌, ◌++◌, length, inl, inr, refl, sym, ◌∙◌, ap, subst, arith, length-append, map, set}
+use Rattle.std.proofs.lemmas.List.{get_or_push, get_or-set_other, get_or-set_same, length-map, length-set}
 use Rattle.std.proofs.Math.ListN.{get_or-append}
-use Rattle.std.proofs.lemmas.Bool.{cases_eq}
-use Rattle.elf_field.specs.Abi.{STB_LOCAL}
-use Rattle.elf_object_type.specs.Object.{ObjectValue, binding}
-use Rattle.elf_link_files.specs.declared.chosen.Chosen.{Chosen}
-use Rattle.elf_link_files.specs.declared.ids.SymbolId.{SymbolId}
-use Rattle.elf_link_files.specs.declared.site.Site.{Site}
+use Rattle.std.proofs.lemmas.Bool.{cases_eq, cases_lt}
 use Rattle.std.specs.Prelude.{Option, None, Some, MatchOption}
+use Rattle.elf_extent.specs.Extent.{Never}
+use Rattle.elf_field.specs.Abi.{STB_LOCAL}
+use Rattle.elf_link_files.proofs.Public.{each_more, first_in_row, first_same, listed_more, listed_past, lists_same, site_is, same_bool, same_name, one_site_list}
+use Rattle.elf_link_files.specs.Files.{object_at, symbol_in, IsCommon, is_common}
+use Rattle.elf_link_files.specs.Rows.{UpTo, site, site_at, name_at, AreSymbols, no_common, IsFirstAt, symbol_count, chosen_at, Lists}
+use Rattle.elf_link_files.specs.declared.inputs.SymbolId.{SymbolId}
+use Rattle.elf_link_files.specs.declared.site.Chosen.{Chosen}
+use Rattle.elf_link_files.specs.declared.site.Site.{Site}
+use Rattle.elf_link_names.proofs.KnownNames.{listed_file, names_once, found_none, placed_at, whole_firsts}
+use Rattle.elf_link_names.specs.Binds.{IsLargest, align_at, commons, size_at, strong, IsChosen, chosen_commons, entries, first_entries}
+use Rattle.elf_link_names.specs.KnownNames.{IsWholeBlock, id_site, AreAllKnown, first_site}
+use Rattle.elf_link_names.specs.Resolution.{AreChosen, AreChosenAt, AreChosenIn, HaveChosen, IsBlockOf, IsChosenFor, IsOfLargest, IsCommonOf, AreRanks, IsNameCount, IsNumber, IsNumberOf, numbered}
 use Rattle.elf_link_names.specs.declared.known_names.Block.{Block}
-use Rattle.elf_link_names.specs.KnownNames.{IsWholeBlock, id_site}
-use Rattle.elf_link_files.specs.Files.{object_at, symbol_in}
-use Rattle.elf_link_files.specs.Listing.{UpTo, site, site_at, name_at}
-use Rattle.elf_link_files.specs.Commons.{AreSymbols, no_common}
-use Rattle.elf_extent.specs.Least.{Never}
-use Rattle.elf_link_files.specs.Rows.{IsFirstAt, symbol_count}
-use Rattle.elf_link_files.specs.Symbols.{IsCommon, is_common}
-use Rattle.elf_link_files.proofs.Public.{each_more, first_in_row, first_same, listed_more, listed_past, lists_same, site_is, same_bool, same_name}
-use Rattle.elf_link_names.specs.Binds.{IsLargest, align_at, commons, size_at, strong}
-use Rattle.elf_link_names.specs.Listing.{IsChosen, chosen_commons}
-use Rattle.elf_link_names.proofs.Tabled.{listed_file}
-use Rattle.elf_link_names.specs.ChosenCommons.{AreChosen, AreChosenAt, AreChosenIn, HaveChosen, IsBlockOf, IsChosenFor, IsOfLargest}
+use Rattle.elf_link_names.specs.declared.known_names.Known.{Known}
+use Rattle.elf_object_type.specs.Object.{ObjectValue, binding}
 
 same_id : (a b : SymbolId) → a.file ≡ b.file → a.index ≡ b.index → a ≡ b
 same_id a b file index = ap (λ (n : ℕ). record { file = n; index = a.index }) file ∙ ap (λ (n : ℕ). record { file = b.file; index = n }) index
@@ -120,3 +117,61 @@ have_chosen fs cs (ps, lists, are) name size align (none, largest, aligned) =
     let (k, lt, here) = lists.all q (file, index, first_chosen fs name q first none, entry) in
     let count = are.count in
     (k, (omega arith, ap (name_at fs) ((are.each k lt).0 ∙ here) ∙ is.0.1))
+
+-- The position of a name among those known is its number, since there is one list of the first entries (`one_site_list`). Noting the rank
+-- of one name leaves those of the others, as no two first entries have one name.
+
+-- what is known is in the order of the first entries
+pub firsts_are : (fs : List ObjectValue) (position : List ℕ → Option ℕ) (ks : List Known) (firsts : List Site) → AreAllKnown fs position ks →
+    Lists (first_entries fs) firsts → map first_site ks ≡ firsts
+firsts_are fs position ks firsts known lists = one_site_list (first_entries fs) (map first_site ks) firsts (whole_firsts fs position ks known) lists
+
+pub count_is : (fs : List ObjectValue) (position : List ℕ → Option ℕ) (ks : List Known) (n : ℕ) → AreAllKnown fs position ks → n ≡ length ks → IsNameCount fs n
+count_is fs position ks n known is firsts lists =
+    let many = length-map ks first_site in
+    let same = firsts_are fs position ks firsts known lists in
+    is ∙ sym many ∙ ap (λ (ps : List Site). length ps) same
+
+pub number_is : (fs : List ObjectValue) (position : List ℕ → Option ℕ) (ks : List Known) (name : List ℕ) (k : ℕ) → AreAllKnown fs position ks →
+    position name ≡ Some k → IsNumberOf fs name k
+number_is fs position ks name k known at =
+    let (lt, named) = placed_at fs (length fs) 0 position ks name k at known in
+    let many = length-map ks first_site in
+    (map first_site ks, whole_firsts fs position ks known, (omega arith, named))
+
+-- whichever list of the first entries is asked of
+pub number_by : (fs : List ObjectValue) (name : List ℕ) (k : ℕ) (firsts : List Site) → Lists (first_entries fs) firsts → IsNumberOf fs name k → IsNumber fs firsts name k
+number_by fs name k firsts lists (others, they, is) =
+    subst (λ (ps : List Site). IsNumber fs ps name k) (one_site_list (first_entries fs) others firsts they lists) is
+
+pub ranks_more : (fs : List ObjectValue) (firsts : List Site) (cs : List Chosen) (n number : ℕ) (ranks : List ℕ) → Lists (first_entries fs) firsts → n < length cs →
+    IsNumber fs firsts (name_at fs (chosen_at cs n).site) number → AreRanks fs firsts cs n ranks → AreRanks fs firsts cs (n + 1) (set ranks number n)
+ranks_more fs firsts cs n number ranks lists n_in (lt, named) are =
+    let long = are.long in
+    record {
+      long = length-set ranks number n ∙ long;
+      right = λ k j k_in j_in is. elim (cases_eq k number) [
+        | inl same ↦ rw (same, get_or-set_same ranks number n 0 (omega arith)) (n_in, sym named)
+        | inr other ↦ rw (get_or-set_other ranks number k n 0 other) (are.right k j k_in (elim (cases_lt j n) [
+          | inl below ↦ below
+          | inr above ↦ (
+              let last : j ≡ n = omega arith in
+              let here : numbered fs firsts number ≡ numbered fs firsts k = named ∙ (subst (IsCommonOf fs cs (numbered fs firsts k)) last is).1 in
+              absurd (elim (cases_lt k number) [
+                | inl below ↦ names_once fs firsts lists k number below lt (numbered fs firsts k) refl here
+                | inr never ↦ names_once fs firsts lists number k (omega arith) k_in (numbered fs firsts k) here refl
+              ]))
+        ]) is)
+      ];
+    }
+
+-- a name is found among those that are known
+pub number_found : (fs : List ObjectValue) (position : List ℕ → Option ℕ) (ks : List Known) (name : List ℕ) → AreAllKnown fs position ks →
+    MatchOption (position name) (Never (entries fs name)) (IsNumber fs (map first_site ks) name)
+number_found fs position ks name known = by_position (position name) refl where
+  by_position : (o : Option ℕ) → position name ≡ o → MatchOption o (Never (entries fs name)) (IsNumber fs (map first_site ks) name)
+  by_position None at = found_none fs position ks name at known
+  by_position (Some k) at = (
+      let (lt, named) = placed_at fs (length fs) 0 position ks name k at known in
+      let many = length-map ks first_site in
+      (omega arith, named))

@@ -1,21 +1,54 @@
 -- What is known of each name on the way through all symbols: the first definition of each binding, the commons, and whether an entry that
 -- isn't WEAK is.
-use Rattle.std.specs.Prelude.{◌≡◌, ◌↔◌, ℕ, ◌<◌, ◌≤◌, ◌⊎◌, if◌then◌else◌, Bool, true, false, Option, None, Some, MatchOption, List, get_or, length, map, set}
-use Rattle.elf_object_type.specs.Object.{ObjectValue}
-use Rattle.elf_link_files.specs.declared.site.Site.{Site}
-use Rattle.elf_link_files.specs.Files.{IsEarlier}
-use Rattle.elf_link_files.specs.Listing.{Lists, UpTo, site, site_at, name_at}
-use Rattle.elf_extent.specs.Least.{Never}
+use Rattle.std.specs.Prelude.{◌≡◌, ℕ, ◌<◌, Option, MatchOption, List, ◌≢◌, Some, [], length, ◌↔◌, ◌≤◌, ◌⊎◌, if◌then◌else◌, Bool, true, false, None, get_or, map, set}
+use Rattle.elf_extent.specs.Extent.{Never}
+use Rattle.elf_field.specs.Abi.{STB_LOCAL}
 use Rattle.elf_image_rules.specs.Rows.{Row}
-use Rattle.elf_link_files.specs.Rows.{IsFirstAt}
-use Rattle.elf_link_names.specs.declared.choice.Choice.{Choice}
+use Rattle.elf_link_files.specs.Files.{object_at, symbol_in, IsSymbolIn, symbol_with, IsEarlier}
+use Rattle.elf_link_files.specs.Rows.{site_at, name_at, AreEach, Lists, UpTo, site, IsFirstAt}
+use Rattle.elf_link_files.specs.declared.inputs.SymbolId.{SymbolId}
+use Rattle.elf_link_files.specs.declared.site.Site.{Site}
+use Rattle.elf_link_names.specs.Binds.{Binds, IsLargest, IsUnbound, align_at, commons, entries, not_weak, size_at, strong, weak, first_entries, HasEarlier}
+use Rattle.elf_link_names.specs.Tables.{name_position}
 use Rattle.elf_link_names.specs.declared.known_names.Block.{Block}
 use Rattle.elf_link_names.specs.declared.known_names.Known.{Known}
-use Rattle.elf_link_files.specs.declared.ids.SymbolId.{SymbolId}
-use Rattle.elf_link_names.specs.Binds.{Binds, IsLargest, IsUnbound, align_at, commons, entries, not_weak, size_at, strong, weak}
-use Rattle.elf_link_names.specs.Listing.{first_entries}
-use Rattle.elf_link_names.specs.NameRules.{HasEarlier}
-use Rattle.elf_link_names.specs.Naming.{ArePositionsOf}
+use Rattle.elf_link_names.specs.declared.name_rules.Choice.{Choice}
+use Rattle.elf_link_names.specs.declared.name_table.NameTable.TheInside.{Inside}
+use Rattle.elf_object_type.specs.Object.{ObjectValue, binding}
+
+-- Names by position.
+
+-- the position of each name among the first n of these sites
+abbrev pub ArePositionsOf : List ObjectValue → List Site → ℕ → (List ℕ → Option ℕ) → Type 0
+ArePositionsOf fs ps n position = (name : List ℕ) →
+    MatchOption (position name) ((k : ℕ) → k < n → name_at fs (site_at ps k) ≡ name → ⊥) (λ k. (k < n) × (name_at fs (site_at ps k) ≡ name))
+
+-- The number of each symbol's name: its position among the known names, in rows by file.
+
+-- a symbol that is not local: an entry of its name
+pub record IsEntryIn (fs : List ObjectValue) (id : SymbolId) : Type 0 where
+  pub symbol : IsSymbolIn fs id
+  pub entry : binding (symbol_with fs id) ≢ STB_LOCAL
+
+-- k is where the name of symbol i of file f is; nothing is said of a local one
+abbrev pub IsNameNumber : List ObjectValue → (List ℕ → Option ℕ) → ℕ → ℕ → ℕ → Type 0
+IsNameNumber fs position f i k = binding (symbol_in fs f i) ≢ STB_LOCAL → position (symbol_in fs f i).name ≡ Some k
+
+-- a row has those of the first n symbols of file f
+abbrev pub IsNumberRow : List ObjectValue → (List ℕ → Option ℕ) → ℕ → ℕ → List ℕ → Type 0
+IsNumberRow fs position f = AreEach 0 (IsNameNumber fs position f)
+
+-- the first n files have rows
+abbrev pub AreNumberRows : List ObjectValue → (List ℕ → Option ℕ) → ℕ → List (List ℕ) → Type 0
+AreNumberRows fs position = AreEach [] (λ f. IsNumberRow fs position f (length (object_at fs f).symbols))
+
+-- all files do
+unfoldable pub AreNameNumbers : List ObjectValue → (List ℕ → Option ℕ) → List (List ℕ) → Type 0
+AreNameNumbers fs position = AreNumberRows fs position (length fs)
+
+-- each name that was there is where it was
+abbrev pub KeepsPositions : (List ℕ → Option ℕ) → (List ℕ → Option ℕ) → Type 0
+KeepsPositions old now = (q : List ℕ) (k : ℕ) → old q ≡ Some k → now q ≡ Some k
 
 abbrev pub id_in : ℕ → ℕ → SymbolId
 id_in file index = record { file = file; index = index }
@@ -124,3 +157,14 @@ Makes known choice = (fs : List ObjectValue) (name : List ℕ) → IsKnownWhole 
 -- the same past all symbols
 abbrev pub AreAllKnown : List ObjectValue → (List ℕ → Option ℕ) → List Known → Type 0
 AreAllKnown fs position ks = AreKnownBefore fs (length fs) 0 position ks
+
+-- What is known of the names of a link, as the functions of `NameTable` look at it.
+
+-- the files of the link: all else follows from them
+abbrev pub objects_of_table : Inside → List ObjectValue
+objects_of_table t = t.inputs
+
+-- what is known of each name and the numbers are those of the files
+pub record IsTableOfNames (t : Inside) : Type 0 where
+  pub names : AreAllKnown t.inputs (name_position t.names.positions) t.names.known
+  pub numbers : AreNameNumbers t.inputs (name_position t.names.positions) (map (λ row. row.items) t.numbers.items)

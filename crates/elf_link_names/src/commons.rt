@@ -1,13 +1,12 @@
 //! The commons that are placed: of each name without a global definition one, of the largest size and the largest alignment
 //! (gABI chapter 4, Symbol Table: `SHN_COMMON`).
 ghost use Rattle.std.specs.Prelude.{◌≡◌, ◌↔◌, ◌+◌, ◌<◌, IfOk, IsTrue, MatchOption, OnOk, length};
-ghost use Rattle.elf_link_files.specs.Listing.{UpTo};
-ghost use Rattle.elf_link_names.specs.ChosenCommons.{AreChosen, AreChosenIn, IsBlockOf, IsChosenOf, IsPlacedFor};
-ghost use Rattle.elf_link_names.specs.Listing.{IsChosen, chosen_commons as chosen_row};
+ghost use Rattle.elf_link_files.specs.Rows.{UpTo};
+ghost use Rattle.elf_link_names.specs.Resolution.{AreChosen, AreChosenIn, IsBlockOf, IsChosenOf, IsPlacedFor, AreAllRanks};
+ghost use Rattle.elf_link_names.specs.Binds.{IsChosen, chosen_commons as chosen_row};
 
 use crate::known_names::{Block, Known};
-use crate::name_table::NameTable;
-use crate::named_symbol::NamedSymbol;
+use crate::name_table::{NameTable, NamedSymbol};
 use elf_link_files::{Chosen, SymbolId, site_in};
 use std::alloc::{AllocError, Global};
 
@@ -94,5 +93,27 @@ impl<'l, 'a> NameTable<'l, 'a> {
             self.push_chosen_of(file, &mut commons)?;
         }
         Ok(commons)
+    }
+}
+
+// The position of each name's common among those that are placed, by the number of the name.
+
+impl<'l, 'a> NameTable<'l, 'a> {
+    /// For each name the position of its common, where it has one. Fails only when out of memory.
+    pub(crate) fn ranks(&self, alloc: Global, commons: &[Chosen]) -> Result<Vec<usize>, AllocError>
+        requires { AreChosen self.now commons.now }
+        ensures { IfOk result (λ ranks. AreAllRanks self.now commons.now ranks.items) }
+    {
+        let count = self.name_count();
+        let mut ranks = vec![in alloc; 0; count]?;
+        for k in 0..commons.len() {
+            let site = commons[k].site;
+            let number = self.number_of(SymbolId {
+                file: site.file,
+                index: site.index,
+            });
+            ranks[number] = k;
+        }
+        Ok(ranks)
     }
 }

@@ -2,20 +2,15 @@
 //! (gABI chapter 4, Symbol Table).
 ghost use Rattle.std.specs.Prelude.{◌≡◌, ◌↔◌, ◌+◌, ◌<◌, ◌≤◌, None, Some, false, IfOk, IsTrue, OnOk, length, map};
 ghost use Rattle.elf_object_type.specs.ObjectView.{symbol_value};
-ghost use Rattle.elf_link_files.specs.Files.{object_at};
-ghost use Rattle.elf_link_files.specs.Ids.{symbol_with};
+ghost use Rattle.elf_link_files.specs.Files.{object_at, symbol_with, IsCommon, IsNotWeak, IsStrong};
 ghost use Rattle.elf_link_names.specs.Binds.{not_weak as not_weak_row};
-ghost use Rattle.elf_link_names.specs.KnownNames.{AreAllKnown, AreKnownBefore, IsBlock, IsCommonBest, IsKnownBefore, IsLargerOf, IsNotedAt, SomeBefore, first_or, known_at};
-ghost use Rattle.elf_link_names.specs.Lookups.{IsSymbolLookup};
-ghost use Rattle.elf_link_names.specs.NameNumbers.{AreNameNumbers, IsNameNumber, IsNumberRow, KeepsPositions};
-ghost use Rattle.elf_link_names.specs.Slots.{name_position};
+ghost use Rattle.elf_link_names.specs.KnownNames.{AreAllKnown, AreKnownBefore, IsBlock, IsCommonBest, IsKnownBefore, IsLargerOf, IsNotedAt, SomeBefore, first_or, known_at, AreNameNumbers, IsNameNumber, IsNumberRow, KeepsPositions};
+ghost use Rattle.elf_link_names.specs.Tables.{IsSymbolLookup, name_position};
 ghost use Rattle.elf_field.specs.Abi.{STB_LOCAL};
-ghost use Rattle.elf_link_files.specs.Symbols.{IsCommon, IsNotWeak, IsStrong};
 ghost use Rattle.elf_object_type.specs.Object.{binding as binding_of};
 
 use crate::known_table::KnownTable;
-use crate::lookups::{BLOCK, block_lookups};
-use crate::name_index::{Lookup, NameIndex};
+use crate::name_index::{BLOCK, Lookup, NameIndex, block_lookups};
 use elf_field::abi::*;
 use elf_link_files::files::symbol_count;
 use elf_link_files::{InputSymbol, Inputs, SymbolId};
@@ -268,7 +263,7 @@ fn all_symbol_count(inputs: &Inputs<'_, '_>) -> usize {
 }
 
 /// What is known of all names, and the number of each symbol's name by file and position. It takes one search a symbol.
-#[tactic(auto, unfolding(crate::specs::NameNumbers::AreNameNumbers))]
+#[tactic(auto, unfolding(crate::specs::KnownNames::AreNameNumbers))]
 pub(crate) fn known_names<'a>(
     alloc: Global,
     inputs: &Inputs<'_, 'a>,

@@ -1,7 +1,7 @@
 //! What is known of each name, in rows of 32 bytes: how long a link of many names takes depends on how much memory it goes through.
 ghost use Rattle.std.specs.Prelude.{◌≡◌, ◌<◌, ◌++◌, ◌∷◌, [], None, Some, IfOk, IfSome, OnOk, if◌then◌else◌, length, set, slice_get};
 ghost use Rattle.elf_link_names.specs.KnownNames.{known_at, marked_known};
-ghost use Rattle.elf_link_names.specs.KnownTable.{KeepsOthers, id_of, is_of, known_in, small_known};
+ghost use Rattle.elf_link_names.specs.Tables.{KeepsOthers, id_of, is_of, known_in, small_known};
 
 use crate::known_names::Known;
 use elf_link_files::SymbolId;
@@ -47,7 +47,7 @@ impl Model for KnownTable {
 
     ghost Value = { List Known };
 
-    ghost use Rattle.elf_link_names.specs.KnownTableView.{table_value};
+    ghost use Rattle.elf_link_names.specs.Tables.{table_value};
 
     ghost view = { table_value };
 }

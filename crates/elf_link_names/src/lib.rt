@@ -14,25 +14,16 @@
 //! ```
 #![tactic(auto)]
 
-mod bind;
-mod choice;
 mod commons;
-mod file_rules;
-mod hashing;
 pub mod judge;
 mod known_names;
 mod known_table;
-mod listing;
-mod lookups;
 mod name_index;
 mod name_rules;
 mod name_table;
-mod named_symbol;
-mod ordered;
-mod ranks;
 mod resolution;
 mod slots;
 
-pub use choice::Choice;
 pub use name_index::NameIndex;
+pub use name_rules::Choice;
 pub use resolution::{Resolution, ResolutionParts};

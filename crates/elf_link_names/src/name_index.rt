@@ -1,14 +1,33 @@
 //! Where each name of a link is.
-ghost use Rattle.std.specs.Prelude.{◌≡◌, ℕ, None, Some, List, MatchOption, IfOk, OnErr};
-ghost use Rattle.elf_link_names.specs.Ordered.{IsPlaced};
-ghost use Rattle.elf_link_names.specs.Slots.{IsLookup, LeadsTo, name_hash, name_position, upper_of as upper_of_hash};
+ghost use Rattle.std.specs.Prelude.{◌≡◌, ℕ, List, IfOk, OnErr, None, Some, MatchOption, ◌≤◌, ◌+◌, ◌-◌, ◌<◌, length};
+ghost use Rattle.elf_link_names.specs.Tables.{IsPlaced, position_by, IsLookup, LeadsTo, name_hash, name_position, upper_of as upper_of_hash, AreBlockHashes, AreBlockLookups, IsSymbolHash};
+ghost use Rattle.elf_link_files.specs.Files.{object_at};
 
-use crate::hashing::{hash_of, home_of, upper_of};
-use crate::ordered::place_ordered;
-use crate::slots::{Entry, MOST_STEPS, Seen, Slot, look, position_of};
+use crate::known_names::is_local;
+use crate::slots::{Entry, MOST_STEPS, Seen, Slot, hash_of, home_of, look, position_of, upper_of};
+use elf_link_files::{InputSymbol, Inputs, SymbolId};
 use std::alloc::{AllocError, Global};
 use std::collections::BTreeMap;
 use std::marker::Model;
+
+// Names in an ordered map.
+
+/// The position of a name that has one, which stays; a further name gets this one.
+pub(crate) fn place_ordered<'a>(
+    positions: &mut BTreeMap<&'a [u8], usize>,
+    name: &'a [u8],
+    next: usize,
+) -> Result<Option<usize>, AllocError>
+    ensures old { IfOk result (λ old. old ≡ position_by positions.old name.now) }
+    ensures positions { IfOk result (λ old. IsPlaced old name.now next (position_by positions.old) (position_by positions.new)) }
+    ensures err { OnErr result ((q : List ℕ) → position_by positions.new q ≡ position_by positions.old q) }
+{
+    if let Some(place) = positions.get(name) {
+        return Ok(Some(*place));
+    }
+    positions.insert(name, next)?;
+    Ok(None)
+}
 
 /// Where each name is. A name's hash gives it some slots, one after the other, and it is in the first that was free, by a number; names
 /// that find all of them taken are in an ordered map. So names that are chosen to share their hashes cost log n comparisons each, as in an
@@ -38,7 +57,7 @@ impl Lookup {
 }
 
 impl<'a> Model for NameIndex<'a> {
-    ghost use Rattle.elf_link_names.specs.Slots.{HasNameTables, Positions, positions_value};
+    ghost use Rattle.elf_link_names.specs.Tables.{HasNameTables, Positions, positions_value};
 
     ghost Value = { Positions };
 
@@ -49,7 +68,7 @@ impl<'a> Model for NameIndex<'a> {
 
 impl<'a> NameIndex<'a> {
     /// No names, with capacity for so many. The error comes only if an allocation fails.
-    #[tactic(auto, unfolding(crate::specs::Slots::name_position))]
+    #[tactic(auto, unfolding(crate::specs::Tables::name_position))]
     pub fn new(alloc: Global, room: usize) -> Result<NameIndex<'a>, AllocError>
         ensures { IfOk result (λ positions. (q : List ℕ) → name_position positions q ≡ None) }
     {
@@ -64,7 +83,7 @@ impl<'a> NameIndex<'a> {
     }
 
     /// The position of a name; None if it has none.
-    #[tactic(auto, unfolding(crate::specs::Slots::name_position))]
+    #[tactic(auto, unfolding(crate::specs::Tables::name_position))]
     pub fn get(&self, name: &[u8]) -> Option<usize>
         ensures { result ≡ name_position self.now name.now }
     {
@@ -123,7 +142,7 @@ impl<'a> NameIndex<'a> {
     }
 
     /// What [`place`](NameIndex::place) does, of a name of this hash.
-    #[tactic(auto, unfolding(crate::specs::Slots::name_position))]
+    #[tactic(auto, unfolding(crate::specs::Tables::name_position))]
     fn place_hashed(
         &mut self,
         hash: u64,
@@ -151,4 +170,70 @@ impl<'a> NameIndex<'a> {
             Seen::Taken => Ok(place_ordered(&mut self.more, name, next)?),
         }
     }
+}
+
+// The names of a block of symbols, looked up before any of them is placed. Each step goes through the whole block, so that the waits for
+// memory of many searches overlap.
+
+/// How many symbols a block has at most.
+pub(crate) const BLOCK: usize = 64;
+
+/// The hash of a symbol's name; 0 for a local symbol, whose name is not looked up.
+fn symbol_hash(symbol: &InputSymbol<'_, '_, '_>) -> u64
+    ensures { IsSymbolHash symbol.now.inputs.now symbol.now.id.file symbol.now.id.index result }
+{
+    let own = symbol.symbol();
+    if is_local(&own) {
+        return 0;
+    }
+    hash_of(own.name)
+}
+
+/// The hashes of the names of the symbols of a file from `start` to before `end`.
+fn block_hashes(inputs: &Inputs<'_, '_>, file: usize, start: usize, end: usize) -> [u64; BLOCK]
+    requires file { file < length inputs.now }
+    requires within { end ≤ length (object_at inputs.now file).symbols }
+    requires few { end ≤ start + BLOCK }
+    ensures { AreBlockHashes inputs.now file start (end - start) result }
+{
+    let mut hashes = [0; BLOCK];
+    for index in start..end {
+        let id = SymbolId { file, index };
+        hashes[index - start] = symbol_hash(&InputSymbol { inputs, id });
+    }
+    hashes
+}
+
+/// The slot where the search for each hash begins. It is only a hint, so no contract says which one it is.
+fn first_slots(positions: &NameIndex<'_>, hashes: &[u64; BLOCK]) -> [Slot; BLOCK] {
+    let mut slots = [Slot::FREE; BLOCK];
+    for step in 0..BLOCK {
+        slots[step] = positions.first_slot(hashes[step]);
+    }
+    slots
+}
+
+/// The lookups of the names of the symbols of a file from `start` to before `end`.
+pub(crate) fn block_lookups(
+    inputs: &Inputs<'_, '_>,
+    positions: &NameIndex<'_>,
+    file: usize,
+    start: usize,
+    end: usize,
+) -> [Lookup; BLOCK]
+    requires file { file < length inputs.now }
+    requires within { end ≤ length (object_at inputs.now file).symbols }
+    requires few { end ≤ start + BLOCK }
+    ensures { AreBlockLookups inputs.now (name_position positions.now) file start (end - start) result }
+{
+    let hashes = block_hashes(inputs, file, start, end);
+    let slots = first_slots(positions, &hashes);
+    let mut lookups = [Lookup::NONE; BLOCK];
+    for index in start..end {
+        let id = SymbolId { file, index };
+        let name = InputSymbol { inputs, id }.symbol().name;
+        let step = index - start;
+        lookups[step] = positions.look_up(slots[step], hashes[step], name);
+    }
+    lookups
 }

@@ -1,19 +1,75 @@
 //! Rules 8 and 9: the definitions of a name.
 ghost use Rattle.std.specs.Prelude.{◌↔◌, ◌<◌, IsTrue, MatchOption, length};
+ghost use Rattle.elf_link_names.specs.KnownNames.{Makes, TellsUnbound, TellsEarlier};
 ghost use Rattle.elf_link_files.specs.Files.{IsEarlier};
-ghost use Rattle.elf_extent.specs.Least.{Never};
-ghost use Rattle.elf_image_rules.specs.Broken.{fault_of};
+ghost use Rattle.elf_extent.specs.Extent.{Never};
+ghost use Rattle.elf_image_rules.specs.Rows.{fault_of};
 ghost use Rattle.elf_link_files.specs.Rows.{AtSymbol, FirstAmong, IsFirstAt};
-ghost use Rattle.elf_link_names.specs.KnownNames.{TellsEarlier};
-ghost use Rattle.elf_link_names.specs.NameRules.{BreaksName, HasNoName, HasTwoDefinitions, IsFirstName, IsUndefinedName, link_name_rules};
+ghost use Rattle.elf_link_names.specs.Binds.{BreaksName, HasNoName, HasTwoDefinitions, IsFirstName, IsUndefinedName, link_name_rules};
 
-use crate::bind::is_unbound;
 use crate::known_names::Known;
-use crate::name_table::NameTable;
-use crate::named_symbol::NamedSymbol;
+use crate::name_table::{NameTable, NamedSymbol};
 use elf_field::abi::*;
 use elf_link_files::rules::*;
 use elf_link_files::{Broken, Site, SymbolId, site_in};
+
+// What a name is bound to, before anything has an address.
+
+/// The binding of a name.
+#[derive(Clone, Copy)]
+pub enum Choice {
+    /// A global definition.
+    Strong { file: usize, symbol: usize },
+    /// A common of the largest size and the largest alignment.
+    Common { size: u64, align: u64 },
+    /// The first weak definition.
+    Weak { file: usize, symbol: usize },
+    /// Zero: only weak entries, and no definition.
+    Zero,
+}
+
+// What a name is bound to, by what is known of it (gABI chapter 4, Symbol Table).
+
+/// Whether a name is bound to nothing: it has no definition and no common, and an entry that is not weak.
+pub(crate) fn is_unbound(known: Known) -> bool
+    ensures { TellsUnbound known result }
+{
+    if let Some(_) = known.strong {
+        return false;
+    }
+    if let Some(_) = known.common {
+        return false;
+    }
+    if let Some(_) = known.weak {
+        return false;
+    }
+    known.not_weak
+}
+
+/// What a name that is bound makes of what is known of it.
+pub(crate) fn choice_of(known: Known) -> Choice
+    ensures { Makes known result }
+{
+    if let Some(id) = known.strong {
+        return Choice::Strong {
+            file: id.file,
+            symbol: id.index,
+        };
+    }
+    if let Some(block) = known.common {
+        return Choice::Common {
+            size: block.size,
+            align: block.align,
+        };
+    }
+    if let Some(id) = known.weak {
+        return Choice::Weak {
+            file: id.file,
+            symbol: id.index,
+        };
+    }
+    Choice::Zero
+}
 
 /// A rule on the entries of a name.
 #[derive(Clone, Copy)]

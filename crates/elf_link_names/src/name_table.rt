@@ -1,13 +1,10 @@
 //! The names of the files of a link, before rules 8 and 9 are asked.
 ghost use Rattle.std.specs.Prelude.{◌≡◌, ◌<◌, IfOk, length};
-ghost use Rattle.elf_link_files.specs.Files.{object_at};
-ghost use Rattle.elf_link_files.specs.Ids.{IsSymbolIn, symbol_with};
-ghost use Rattle.elf_link_names.specs.NameNumbers.{IsEntryIn};
-ghost use Rattle.elf_link_names.specs.KnownNames.{IsKnownWhole};
-ghost use Rattle.elf_link_names.specs.Numbers.{IsNameCount, IsNumberOf};
+ghost use Rattle.elf_link_files.specs.Files.{object_at, IsSymbolIn, symbol_with};
+ghost use Rattle.elf_link_names.specs.KnownNames.{IsEntryIn, IsKnownWhole};
+ghost use Rattle.elf_link_names.specs.Resolution.{IsNameCount, IsNumberOf};
 
 use crate::known_names::{Known, KnownNames, known_names};
-use crate::named_symbol::NamedSymbol;
 use elf_link_files::files::symbol_count;
 use elf_link_files::{InputSymbol, Inputs, SymbolId};
 use std::alloc::{AllocError, Global};
@@ -27,7 +24,7 @@ impl<'l, 'a> Model for NameTable<'l, 'a> {
 
     ghost Value = { List ObjectValue };
 
-    ghost use Rattle.elf_link_names.specs.NameTable.{IsTableOfNames, objects_of_table};
+    ghost use Rattle.elf_link_names.specs.KnownNames.{IsTableOfNames, objects_of_table};
 
     ghost view = { objects_of_table };
 
@@ -73,7 +70,7 @@ impl<'l, 'a> NameTable<'l, 'a> {
     }
 
     /// The number of the name of a symbol, which is not local.
-    #[tactic(auto, unfolding(crate::specs::NameNumbers::AreNameNumbers))]
+    #[tactic(auto, unfolding(crate::specs::KnownNames::AreNameNumbers))]
     pub(crate) fn number_of(&self, id: SymbolId) -> usize
         requires { IsEntryIn self.now id }
         ensures { IsNumberOf self.now (symbol_with self.now id).name result }
@@ -105,5 +102,27 @@ impl<'l, 'a> NameTable<'l, 'a> {
         ensures id { result.id ≡ id }
     {
         self.inputs.symbol(id)
+    }
+}
+
+// A symbol of the files of a link, with what is known of their names.
+
+/// A symbol of the files of a link, which is there, with what is known of their names: [`NameTable::symbol`] makes it.
+#[derive(Drop)]
+pub(crate) struct NamedSymbol<'t, 'l, 'a> {
+    /// The names.
+    pub(crate) table: &'t NameTable<'l, 'a>,
+    /// Where it is in the files.
+    pub(crate) id: SymbolId,
+    ghost there: { IsSymbolIn table.now id },
+}
+
+impl<'t, 'l, 'a> NamedSymbol<'t, 'l, 'a> {
+    /// It by itself.
+    pub(crate) fn input(&self) -> InputSymbol<'t, 'l, 'a>
+        ensures inputs { result.inputs.now ≡ self.now.table.now }
+        ensures id { result.id ≡ self.now.id }
+    {
+        self.table.input(self.id)
     }
 }

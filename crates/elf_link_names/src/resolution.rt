@@ -1,31 +1,66 @@
 //! The names of a link in which each is bound: what every name is bound to, and which commons are placed (gABI chapter 4, Symbol
 //! Table).
-ghost use Rattle.std.specs.Prelude.{◌≡◌, ◌<◌, ℕ, IfOk, MatchOption, length, map};
-ghost use Rattle.elf_extent.specs.Least.{Never};
-ghost use Rattle.elf_link_files.specs.Commons.{AreSymbols};
-ghost use Rattle.elf_link_files.specs.Discarded.{AreDiscardMarks};
-ghost use Rattle.elf_link_files.specs.Ids.{IsSymbolIn, symbol_with};
-ghost use Rattle.elf_link_files.specs.Listing.{Lists};
+ghost use Rattle.std.specs.Prelude.{◌+◌, ◌<◌, IfOk, OnOk, length, ◌≡◌, ℕ, MatchOption, map};
+ghost use Rattle.elf_link_files.specs.Rows.{Lists, UpTo, AreSymbols};
+ghost use Rattle.elf_link_names.specs.Binds.{live_sections as live_row, AllBound, Binds, entries, first_entries};
+ghost use Rattle.elf_extent.specs.Extent.{Never};
+ghost use Rattle.elf_link_files.specs.Files.{AreDiscardMarks, IsSymbolIn, symbol_with};
 ghost use Rattle.elf_object_type.specs.ObjectView.{symbol_value};
-ghost use Rattle.elf_link_names.specs.Slots.{name_position};
-ghost use Rattle.elf_link_names.specs.declared.choice.Choice.TheVariants.{Common};
-ghost use Rattle.elf_link_names.specs.Binds.{AllBound, Binds, entries};
-ghost use Rattle.elf_link_names.specs.ChosenCommons.{AreChosen, IsCommonOf};
-ghost use Rattle.elf_link_names.specs.Listing.{first_entries, live_sections as live_row};
-ghost use Rattle.elf_link_names.specs.NameNumbers.{AreNameNumbers};
-ghost use Rattle.elf_link_names.specs.Naming.{ArePositionsOf};
-ghost use Rattle.elf_link_names.specs.Resolved.{IsNumberIn, name_in};
+ghost use Rattle.elf_link_names.specs.Tables.{name_position};
+ghost use Rattle.elf_link_names.specs.declared.name_rules.Choice.TheVariants.{Common};
+ghost use Rattle.elf_link_names.specs.Resolution.{AreChosen, IsCommonOf, IsNumberIn, name_in};
+ghost use Rattle.elf_link_names.specs.KnownNames.{AreNameNumbers, ArePositionsOf};
 
-use crate::bind::choice_of;
-use crate::choice::Choice;
 use crate::known_names::KnownNames;
-use crate::listing::live_sections;
 use crate::name_index::NameIndex;
+use crate::name_rules::{Choice, choice_of};
 use crate::name_table::NameTable;
-use elf_link_files::{Chosen, Inputs, Site, SymbolId};
+use elf_link_files::files::section_count;
+use elf_link_files::{Chosen, InputSection, Inputs, SectionId, Site, SymbolId, site_in};
 use elf_object_type::{Object, Symbol};
 use std::alloc::{AllocError, Global};
 use std::marker::Model;
+
+// The live sections of the files, in order.
+
+/// Adds a section to the live ones before it, where it is live.
+fn push_live(section: &InputSection<'_, '_, '_>, sites: &mut Vec<Site>) -> Result<(), AllocError>
+    requires { Lists (UpTo (live_row section.now.inputs.now) section.now.id.file section.now.id.index) sites.old.items }
+    ensures { OnOk result (Lists (UpTo (live_row section.now.inputs.now) section.now.id.file (section.now.id.index + 1)) sites.new.items) }
+{
+    if !section.is_live() {
+        return Ok(());
+    }
+    sites.push(site_in(section.id.file, section.id.index))?;
+    Ok(())
+}
+
+/// Adds the live sections of a file to those of the files before it.
+fn push_live_of(
+    inputs: &Inputs<'_, '_>,
+    file: usize,
+    sites: &mut Vec<Site>,
+) -> Result<(), AllocError>
+    requires file { file < length inputs.now }
+    requires before { Lists (UpTo (live_row inputs.now) file 0) sites.old.items }
+    ensures { OnOk result (Lists (UpTo (live_row inputs.now) (file + 1) 0) sites.new.items) }
+{
+    for index in 0..section_count(inputs.object(file)) {
+        push_live(&inputs.section(SectionId { file, index }), sites)?;
+    }
+    Ok(())
+}
+
+/// All live sections, by file and position. Fails only when out of memory.
+pub(crate) fn live_sections(alloc: Global, inputs: &Inputs<'_, '_>) -> Result<Vec<Site>, AllocError>
+    ensures { IfOk result (λ sites. Lists (live_row inputs.now) sites.items) }
+{
+    let mut sites = Vec::new(alloc);
+    for file in 0..inputs.file_count() {
+        push_live_of(inputs, file, &mut sites)?;
+    }
+    Ok(sites)
+}
 
 /// The files of a link in which each name is bound, with the commons that are placed. A name is reported by its number: its position among
 /// all names that are not local, in the order of the first entry of each. To a contract it is the files, these first entries and these
@@ -40,7 +75,7 @@ pub struct Resolution<'l, 'a> {
 }
 
 impl<'l, 'a> Model for Resolution<'l, 'a> {
-    ghost use Rattle.elf_link_names.specs.Resolved.{ResolutionValue};
+    ghost use Rattle.elf_link_names.specs.Resolution.{ResolutionValue};
 
     ghost Value = { ResolutionValue };
 

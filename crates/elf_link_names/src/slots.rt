@@ -1,8 +1,35 @@
 //! Slots in which names are by their hashes, and what they say about a name.
 ghost use Rattle.std.specs.Prelude.{◌≡◌, ◌<◌, ◌≤◌, ◌+◌, MatchOption, length};
-ghost use Rattle.elf_link_names.specs.Slots.{AreEntryNumbers, IsOfName, LeadsTo, Sees, SlotsTell, numbered_entry, name_hash, upper_of as upper_of_hash};
+ghost use Rattle.elf_link_names.specs.Tables.{name_hash, place_among, upper_of as upper_of_hash, AreEntryNumbers, IsOfName, LeadsTo, Sees, SlotsTell, numbered_entry};
 
-use crate::hashing::{home_of, upper_of};
+use std::hash::{FoldHasher, Hasher};
+
+// The hash of a name, and its place in a table.
+
+/// The hash of a name, by a fixed seed. It reads eight bytes at a time.
+#[tactic(auto, unfolding(crate::specs::Tables::name_hash))]
+pub fn hash_of(name: &[u8]) -> u64
+    ensures { result ≡ name_hash name.now }
+{
+    let mut hasher = FoldHasher::default();
+    hasher.write(name);
+    hasher.finish()
+}
+
+/// The upper half of a hash.
+pub(crate) fn upper_of(hash: u64) -> u32
+    ensures { result ≡ upper_of_hash hash }
+{
+    (hash / 0x1_0000_0000) as u32
+}
+
+/// The place of a hash among so many. It is taken from the lower half, which a processor divides faster than the whole.
+pub(crate) fn home_of(hash: u64, count: usize) -> usize
+    requires { 0 < count }
+    ensures { result ≡ place_among hash count }
+{
+    (hash % 0x1_0000_0000 % count as u64) as usize
+}
 
 /// How many slots a name may be in, one after the other.
 pub(crate) const MOST_STEPS: usize = 8;

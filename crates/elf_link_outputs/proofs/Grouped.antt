@@ -1,29 +1,100 @@
 -- Sections in order are grouped by key, site by site. A section joins the group whose first section has its key, or opens one if none has.
 -- The groups of live sections with bytes, and then those without, are the outputs, in the order of their openers (`outputs_all`).
-use mathlib.Core.Bool.{beq}
-use Rattle.std.proofs.Common.{◌≡◌, ℕ, ◌+◌, ◌<◌, ◌⊎◌, ◌&&◌, Bool, true, false, List, [], ◌∷◌, ◌++◌, get_or, length, map, set, zero, suc, inl, inr, refl, sym, ◌∙◌, ap, subst, arith, length-append}
-use Rattle.std.specs.Global.{Vec}
+use Rattle.std.proofs.Common.{◌≡◌, ℕ, ◌+◌, ◌<◌, List, [], ◌∷◌, ◌++◌, length, inl, inr, refl, sym, ◌∙◌, subst, arith, ◌&&◌, Bool, true, false, ◌⊎◌, get_or, map, set, zero, suc, ap, length-append}
+use Rattle.std.proofs.lemmas.Bool.{cases_lt, eq-eqb, cases_eq, eqb-true}
 use Rattle.std.specs.Prelude.{◌==◌, cond, Option, None, Some}
-use Rattle.std.specs.Option.{unwrap_or}
+use Rattle.std.specs.Cmp.{nat_cmp_is}
+use Rattle.std.specs.Cmp.Lexicographic.{slice_cmp}
+use Rattle.std.specs.Ordering.{bool_cmp, is_eq, nat_cmp, ordering_then}
 use Rattle.std.specs.Str.{bytes_eq}
-use Rattle.std.proofs.lemmas.Bool.{cases_eq, cases_lt, eq-eqb, eqb-true}
+use Rattle.std.specs.declared.cmp.Ordering.{Ordering}
+use Rattle.std.specs.declared.cmp.Ordering.TheVariants.{Less, Equal, Greater}
+use Rattle.std.proofs.lemmas.Map.Text.{is_eq-slice_cmp}
+use Rattle.std.proofs.lemmas.Slice.Eq.{bytes_eq-Decides}
+use Rattle.std.specs.Global.{Vec}
+use Rattle.std.specs.Option.{unwrap_or}
 use Rattle.std.proofs.lemmas.List.{get_or-map, get_or_push, get_or-set_other, get_or-set_same, length-set, map-set}
 use Rattle.std.proofs.lemmas.Option.{none-some}
-use Rattle.std.proofs.lemmas.Slice.Eq.{bytes_eq-Decides}
 use Rattle.std.proofs.Math.ListN.{get_or-append}
-use Rattle.elf_object_type.specs.Object.{ObjectValue}
-use Rattle.elf_link_files.specs.declared.site.Site.{Site}
-use Rattle.elf_link_files.specs.Listing.{Lists, site, site_at}
-use Rattle.elf_link_files.specs.Items.{AreEach}
-use Rattle.elf_link_files.specs.Rows.{Before}
+use mathlib.Core.Bool.{beq}
+use Rattle.elf_image_rules.specs.Rows.{Row}
 use Rattle.elf_link_files.proofs.Public.{lists_more, lists_same, not_true, same_bool, one_before, each_more}
-use Rattle.elf_link_outputs.specs.declared.ranks.OutputKey.{OutputKey}
-use Rattle.elf_link_outputs.specs.OutputGroups.{AreGrouped, AreGroups, AreGroupsOfKind, AreHeaded, AreInOrder, IsHead, IsKeyOf, IsMemberAdded}
-use Rattle.elf_link_outputs.specs.Outputs.{HaveOneKey, Picks, members, of_kind, openers}
-use Rattle.elf_link_outputs.specs.Ranks.{IsRanked, is_same_key}
-use Rattle.elf_link_outputs.specs.Plan.{AreOpeners, AreOutputMembers}
-use Rattle.elf_link_outputs.proofs.Openers.{key_join, key_swap}
-use Rattle.elf_link_outputs.proofs.Picked.{picked_done, picked_past}
+use Rattle.elf_link_files.specs.Rows.{Lists, site_at, Before, site, AreEach}
+use Rattle.elf_link_files.specs.declared.site.Site.{Site}
+use Rattle.elf_link_outputs.proofs.OutputLists.{key_join, key_swap}
+use Rattle.elf_link_outputs.specs.Outputs.{Picks, is_hashed_key, is_same_key, AreGrouped, AreGroups, AreGroupsOfKind, AreHeaded, AreInOrder, IsHead, IsKeyOf, IsMemberAdded, HaveOneKey, members, of_kind, openers, IsRanked, AreOpeners, AreOutputMembers}
+use Rattle.elf_link_outputs.specs.declared.outputs.OutputKey.{OutputKey}
+use Rattle.elf_object_type.specs.Object.{ObjectValue}
+
+-- What is picked from a list of sites, in order: a site that passes is one more, and any other adds nothing. After the whole list all that
+-- pass are picked.
+
+pub picked_more : (row : Row Site) (ps : List Site) (k : ℕ) (P : Site → Type 0) (out : List Site) → Lists row ps → k < length ps →
+    P (site_at ps k) → Picks ps k P out → Picks ps (k + 1) P (out ++ site_at ps k ∷ [])
+picked_more row ps k P out is lt here picks =
+    lists_more (λ p. P p × ((j : ℕ) × (j < k) × (site_at ps j ≡ p))) (λ p. P p × ((j : ℕ) × (j < k + 1) × (site_at ps j ≡ p))) out (site_at ps k)
+    (λ p (holds, earlier). (let (j, below, at) = earlier in (holds, (j, omega arith, at))))
+    (here, (k, omega arith, refl))
+    (λ p (holds, earlier). (let (j, below, at) = earlier in elim (cases_lt j k) [
+      | inl before ↦ inl (holds, (j, before, at))
+      | inr above ↦ (let same : j ≡ k = omega arith in inr (sym at ∙ subst (λ n. site_at ps j ≡ site_at ps n) same refl))
+    ]))
+    (λ p (holds, earlier). (let (j, below, at) = earlier in subst (λ q. Before q (site_at ps k)) at (is.order j k below lt)))
+    picks
+
+pub picked_past : (ps : List Site) (k : ℕ) (P : Site → Type 0) (out : List Site) → (P (site_at ps k) → ⊥) → Picks ps k P out → Picks ps (k + 1) P out
+picked_past ps k P out other picks =
+    lists_same (λ p. P p × ((j : ℕ) × (j < k) × (site_at ps j ≡ p))) (λ p. P p × ((j : ℕ) × (j < k + 1) × (site_at ps j ≡ p))) out
+    (λ p (holds, earlier). (let (j, below, at) = earlier in (holds, (j, omega arith, at))))
+    (λ p (holds, earlier). (let (j, below, at) = earlier in elim (cases_lt j k) [
+      | inl before ↦ (holds, (j, before, at))
+      | inr above ↦ (let same : j ≡ k = omega arith in absurd (other (subst (λ n. P (site_at ps n)) same (subst P (sym at) holds))))
+    ]))
+    picks
+
+pub picked_done : (row : Row Site) (ps : List Site) (P : Site → Type 0) (out : List Site) → Lists row ps → Picks ps (length ps) P out →
+    Lists (λ p. row p × P p) out
+picked_done row ps P out is picks =
+    lists_same (λ p. P p × ((j : ℕ) × (j < length ps) × (site_at ps j ≡ p))) (λ p. row p × P p) out
+    (λ p (holds, earlier). (let (j, below, at) = earlier in (subst row at (is.each j below), holds)))
+    (λ p (there, holds). (holds, is.all p there)) picks
+
+-- Two keys with their hashes compare equal exactly if the keys alone do, provided that equal names have equal hashes. A comparison in parts
+-- is equal exactly if each part is, and the test of the hash follows from that of the name (`implied`).
+
+both_equal : (a b : Ordering) → is_eq (ordering_then a b) ≡ (is_eq a && is_eq b)
+both_equal Less b = refl
+both_equal Equal b = refl
+both_equal Greater b = refl
+
+one_number : (x y : ℕ) → is_eq (nat_cmp x y) ≡ (x == y)
+one_number x y = grind (arith, nat_cmp_is)
+
+one_kind : (a b : Bool) → is_eq (bool_cmp a b) ≡ beq a b
+one_kind true true = refl
+one_kind true false = refl
+one_kind false true = refl
+one_kind false false = refl
+
+-- a test that follows from the next one adds nothing
+implied : (a b c : Bool) → (b ≡ true → a ≡ true) → (a && (b && c)) ≡ (b && c)
+implied a true c is = rw (is refl) refl
+implied true false c is = refl
+implied false false c is = refl
+
+pub same_keys : (h i : ℕ) (k q : OutputKey) → (k.name.now ≡ q.name.now → h ≡ i) → is_hashed_key h k (record { hash = i; key = q }) ≡ is_same_key k q
+same_keys h i k q hash =
+    both_equal (nat_cmp h i) _ ∙
+    rw (
+      one_number h i,
+      both_equal (slice_cmp nat_cmp k.name.now q.name.now) (ordering_then (nat_cmp k.flags q.flags) (bool_cmp k.no_bits q.no_bits)),
+      is_eq-slice_cmp k.name.now q.name.now,
+      both_equal (nat_cmp k.flags q.flags) (bool_cmp k.no_bits q.no_bits),
+      one_number k.flags q.flags,
+      one_kind k.no_bits q.no_bits,
+    )
+    (implied (h == i) (bytes_eq k.name.now q.name.now) (k.flags == q.flags && beq k.no_bits q.no_bits)
+    (λ same. eq-eqb h i (hash ((bytes_eq-Decides k.name.now q.name.now).0 same))))
 
 -- ---- picks in order
 

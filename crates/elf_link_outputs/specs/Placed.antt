@@ -1,17 +1,16 @@
 -- Sections, outputs and commons at their places, as values.
 -- (gABI chapter 4, Sections; outputs and placement are this project's profile.)
-use Rattle.std.specs.Prelude.{◌≡◌, ◌↔◌, ℕ, ◌+◌, ◌-◌, ◌<◌, Bool, false, Option, None, Some, List, [], get_or, length, map, slice_index, take}
-use Rattle.elf_extent.specs.Place.{end_of}
-use Rattle.elf_object_type.specs.Object.{ObjectValue}
-use Rattle.elf_link_files.specs.declared.chosen.Chosen.{Chosen}
-use Rattle.elf_link_files.specs.declared.site.Site.{Site}
+use Rattle.std.specs.Prelude.{◌≡◌, ◌↔◌, ℕ, ◌+◌, ◌-◌, ◌<◌, Bool, false, Option, None, Some, List, [], get_or, length, map, slice_index, take, replicate, set}
+use Rattle.elf_extent.specs.Place.{end_of, EndsFit, Least}
 use Rattle.elf_link_files.specs.Files.{object_at}
-use Rattle.elf_link_files.specs.Listing.{site, site_at, name_at}
-use Rattle.elf_link_files.specs.Items.{AreEach}
-use Rattle.elf_link_files.specs.Commons.{chosen_at}
-use Rattle.elf_link_outputs.specs.declared.output.Member.{Member}
-use Rattle.elf_link_outputs.specs.Outputs.{is_no_bits, live, output_flags, section_at_site}
-use Rattle.elf_link_outputs.specs.Plan.{flat}
+use Rattle.elf_link_files.specs.Rows.{site, site_at, name_at, AreEach, chosen_at, AreIn, IsSiteIn, AreOnce}
+use Rattle.elf_link_files.specs.declared.site.Chosen.{Chosen}
+use Rattle.elf_link_files.specs.declared.site.Site.{Site}
+use Rattle.elf_link_outputs.specs.Outputs.{is_no_bits, live, output_flags, section_at_site, flat}
+use Rattle.elf_link_outputs.specs.declared.placing.Common.{Common}
+use Rattle.elf_link_outputs.specs.declared.placing.Member.{Member}
+use Rattle.elf_link_outputs.specs.declared.placing.Output.{Output}
+use Rattle.elf_object_type.specs.Object.{ObjectValue}
 
 pub record OutputValue : Type 0 where
   pub name : List ℕ
@@ -78,3 +77,45 @@ placed_common fs places k c = record { name = name_at fs c.site; address = slice
 
 abbrev pub ArePlacedCommons : List ObjectValue → List Chosen → List ℕ → ℕ → ℕ → List CommonValue → Type 0
 ArePlacedCommons fs cs places first = AreEach no_placed (λ k c. c ≡ placed_common fs places (first + k) (chosen_at cs k))
+
+-- What the code keeps while it plans.
+
+-- all sites of all lists are sections of their files
+abbrev pub AreAllIn : List ObjectValue → List (List Site) → Type 0
+AreAllIn fs outputs = (k : ℕ) → k < length outputs → AreIn fs (get_or outputs k [])
+
+-- the list has each live section, once
+pub record AreLive (fs : List ObjectValue) (ps : List Site) : Type 0 where
+  pub once : AreOnce ps
+  pub each : (k : ℕ) → k < length ps → live fs (site_at ps k)
+  pub all : (p : Site) → live fs p → IsSiteIn ps p
+
+-- the addresses of the first n sites are there, and no others
+pub record AreFilled (fs : List ObjectValue) (ps : List Site) (places : List ℕ) (n : ℕ) (rows : List (List (Option ℕ))) : Type 0 where
+  pub files : length rows ≡ length fs
+  pub long : (f : ℕ) → f < length fs → length (get_or rows f []) ≡ length (object_at fs f).sections
+  pub placed : (k : ℕ) → k < n → cell rows (site_at ps k).file (site_at ps k).index ≡ Some (slice_index places k)
+  pub others : (f s a : ℕ) → cell rows f s ≡ Some a → (k : ℕ) × (k < n) × ((site_at ps k).file ≡ f) × ((site_at ps k).index ≡ s)
+
+abbrev pub with_cell : List (List (Option ℕ)) → ℕ → ℕ → ℕ → List (List (Option ℕ))
+with_cell rows f s a = set rows f (set (get_or rows f []) s (Some a))
+
+-- rows without addresses for the first n files
+abbrev pub AreEmptyRows : List ObjectValue → ℕ → List (List (Option ℕ)) → Type 0
+AreEmptyRows fs = AreEach [] (λ f row. row ≡ replicate (length (object_at fs f).sections) None)
+
+-- the parts have their least places, and end there below 2^64
+abbrev pub ArePlaced : List (ℕ × ℕ) → List ℕ → Type 0
+ArePlaced parts places = (base : ℕ) × Least parts base places × EndsFit parts places (length parts)
+
+-- each output has a member
+abbrev pub AreSome : List (List Site) → Type 0
+AreSome outputs = (k : ℕ) → k < length outputs → 0 < length (get_or outputs k [])
+
+-- What contracts see of an output and of a common that has an address.
+
+abbrev pub output_value : Output → OutputValue
+output_value o = record { name = o.name.now; flags = o.flags; no_bits = o.no_bits; address = o.address; length = o.length; members = o.members.items }
+
+abbrev pub common_value : Common → CommonValue
+common_value c = record { name = c.name.now; address = c.address; size = c.size; align = c.align }

@@ -4,20 +4,12 @@
 //! [`Outputs`] groups the live sections, [`Plan`] puts the commons after them, and [`Addressed`] reports where each is.
 #![tactic(auto)]
 
-mod address_rows;
-mod addressed;
 pub mod addresses;
-mod common;
-mod output;
 mod outputs;
-mod parts;
 mod placing;
 mod plan;
-mod ranks;
 
-pub use addressed::Addressed;
-pub use common::Common;
-pub use output::{Member, Output};
+pub use addresses::Addressed;
 pub use outputs::Outputs;
-pub use parts::memory_size;
-pub use plan::Plan;
+pub use placing::{Common, Member, Output};
+pub use plan::{Plan, memory_size};

@@ -1,23 +1,88 @@
 //! Output sections: the live sections of each, in order.
-ghost use Rattle.std.specs.Prelude.{◌≡◌, ◌↔◌, ◌+◌, ◌<◌, IfOk, IsTrue, OnOk, length, map};
+ghost use Rattle.std.specs.Prelude.{◌≡◌, [], IfOk, ◌↔◌, ◌+◌, ◌<◌, IsTrue, OnOk, length, map};
 ghost use Rattle.std.specs.List.{flat_map};
+ghost use Rattle.elf_link_outputs.specs.Outputs.{IsRanked, rank_by, AreGrouped, AreGroups, AreGroupsOfKind, IsKeyOf, IsMemberAdded, Picks, is_no_bits as is_no_bits_of, live as live_row, of_kind, output_flags as output_flags_of, section_at_site, AreOutputs, flat, output_parts};
 ghost use Rattle.elf_link_files.specs.Files.{object_at};
-ghost use Rattle.elf_link_files.specs.Listing.{Lists, site_at};
-ghost use Rattle.elf_link_outputs.specs.OutputGroups.{AreGrouped, AreGroups, AreGroupsOfKind, IsKeyOf, IsMemberAdded};
-ghost use Rattle.elf_link_outputs.specs.Outputs.{Picks, is_no_bits as is_no_bits_of, live as live_row, of_kind, output_flags as output_flags_of, section_at_site};
-ghost use Rattle.elf_link_outputs.specs.Plan.{AreOutputs, flat, output_parts};
-ghost use Rattle.elf_link_outputs.specs.Ranks.{rank_by};
+ghost use Rattle.elf_link_files.specs.Rows.{Lists, site_at};
 ghost use Rattle.elf_object_type.specs.ObjectView.{body_value};
 
-use crate::parts::push_parts;
-use crate::ranks::{OutputKey, Ranks};
+use crate::plan::push_parts;
 use elf_field::abi::*;
 use elf_link_files::Site;
 use elf_link_files::files::section_of;
 use elf_object_type::{Body, Object};
 use std::alloc::{AllocError, Global};
-use std::hash::BuildHasher;
+use std::collections::BTreeMap;
+use std::hash::{BuildHasher, Hasher};
 use std::marker::Model;
+
+// The rank of each output section by what its sections have in common.
+
+/// What the sections of one output section have in common.
+#[derive(Clone, Copy, PartialEq, Eq, PartialOrd, Ord)]
+pub(crate) struct OutputKey<'a> {
+    /// The name.
+    pub(crate) name: &'a [u8],
+    /// All flags but `SHF_GROUP`.
+    pub(crate) flags: u64,
+    /// Whether they take memory without bits.
+    pub(crate) no_bits: bool,
+}
+
+/// A key beside the hash of its name, by which most keys differ: so few comparisons look at a name.
+#[derive(Clone, Copy, PartialEq, Eq, PartialOrd, Ord)]
+pub(crate) struct HashedKey<'a> {
+    hash: u64,
+    key: OutputKey<'a>,
+}
+
+/// The rank of each key. Whatever hasher spreads the names, a key takes log n comparisons at most.
+#[derive(Drop)]
+pub(crate) struct Ranks<'a, S> {
+    pub(crate) hasher: S,
+    pub(crate) known: BTreeMap<HashedKey<'a>, usize>,
+}
+
+impl<'a, S: BuildHasher> Ranks<'a, S> {
+    /// No ranks yet.
+    pub(crate) fn new(alloc: Global, hasher: S) -> Ranks<'a, S> {
+        Ranks {
+            hasher,
+            known: BTreeMap::new(alloc),
+        }
+    }
+
+    /// Forgets all ranks.
+    pub(crate) fn clear(&mut self)
+        ensures { self.new.known.entries ≡ [] }
+    {
+        self.known.clear();
+    }
+
+    /// The rank of a key that has one, which stays; a further key gets the next one.
+    pub(crate) fn place(&mut self, key: OutputKey<'a>, next: usize) -> Result<usize, AllocError>
+        ensures { IfOk result (λ rank. IsRanked key.entry next rank
+            (rank_by (S.Hasher.finish) (S.Hasher.write) (S.build_hasher self.old.hasher) self.old.known)
+            (rank_by (S.Hasher.finish) (S.Hasher.write) (S.build_hasher self.new.hasher) self.new.known)) }
+    {
+        let hash = hash_of(&self.hasher, key.name);
+        let hashed = HashedKey { hash, key };
+        if let Some(rank) = self.known.get(&hashed) {
+            return Ok(*rank);
+        }
+        self.known.insert(hashed, next)?;
+        Ok(next)
+    }
+}
+
+/// The hash of a name.
+fn hash_of<S: BuildHasher>(hasher: &S, name: &[u8]) -> u64
+    ensures { result ≡ S.Hasher.finish (S.Hasher.write (S.build_hasher hasher.now) name.now) }
+{
+    let mut state = hasher.build_hasher();
+    state.write(name);
+    state.finish()
+}
 
 /// All flags of a section but `SHF_GROUP`.
 pub(crate) fn output_flags(flags: u64) -> u64
@@ -72,11 +137,11 @@ pub(crate) struct Sections<'l, 'a> {
 }
 
 impl<'l, 'a> Model for Sections<'l, 'a> {
-    ghost use Rattle.elf_link_outputs.specs.Planned.{SectionsValue};
+    ghost use Rattle.elf_link_outputs.specs.Outputs.{SectionsValue};
 
     ghost Value = { SectionsValue };
 
-    ghost use Rattle.elf_link_outputs.specs.OutputsView.{AreSections, sections_value};
+    ghost use Rattle.elf_link_outputs.specs.Views.{AreSections, sections_value};
 
     ghost view = { sections_value };
 
@@ -127,11 +192,11 @@ pub(crate) struct LiveSections<'l, 'a> {
 }
 
 impl<'l, 'a> Model for LiveSections<'l, 'a> {
-    ghost use Rattle.elf_link_outputs.specs.Planned.{SectionsValue};
+    ghost use Rattle.elf_link_outputs.specs.Outputs.{SectionsValue};
 
     ghost Value = { SectionsValue };
 
-    ghost use Rattle.elf_link_outputs.specs.OutputsView.{AreLiveSections, live_value};
+    ghost use Rattle.elf_link_outputs.specs.Views.{AreLiveSections, live_value};
 
     ghost view = { live_value };
 
@@ -200,11 +265,11 @@ pub struct Outputs<'l, 'a> {
 }
 
 impl<'l, 'a> Model for Outputs<'l, 'a> {
-    ghost use Rattle.elf_link_outputs.specs.Planned.{OutputsValue};
+    ghost use Rattle.elf_link_outputs.specs.Outputs.{OutputsValue};
 
     ghost Value = { OutputsValue };
 
-    ghost use Rattle.elf_link_outputs.specs.OutputsView.{AreOutputSections, outputs_value};
+    ghost use Rattle.elf_link_outputs.specs.Views.{AreOutputSections, outputs_value};
 
     ghost view = { outputs_value };
 

@@ -1,22 +1,59 @@
 //! Output sections and commons at their places.
 ghost use Rattle.std.specs.Prelude.{◌≡◌, ◌+◌, ◌<◌, ◌≤◌, IfOk, length, map, slice_index};
 ghost use Rattle.elf_extent.specs.Place.{end_of};
-ghost use Rattle.elf_link_files.specs.Listing.{AreIn};
-ghost use Rattle.elf_link_files.specs.Listing.{name_at};
-ghost use Rattle.elf_link_files.specs.Commons.{AreSymbols};
+ghost use Rattle.elf_link_files.specs.Rows.{AreIn, name_at, AreSymbols};
 ghost use Rattle.elf_link_files.specs.Files.{object_at};
-ghost use Rattle.elf_link_outputs.specs.Placed.{ArePlacedCommons, ArePlacedOutputs, IsOutput, member_of as member_of_site};
-ghost use Rattle.elf_link_outputs.specs.PlacedView.{common_value, output_value};
-ghost use Rattle.elf_link_outputs.specs.Plan.{flat};
-ghost use Rattle.elf_link_outputs.specs.Planning.{AreAllIn, ArePlaced, AreSome};
+ghost use Rattle.elf_link_outputs.specs.Placed.{ArePlacedCommons, ArePlacedOutputs, IsOutput, member_of as member_of_site, common_value, output_value, AreAllIn, ArePlaced, AreSome};
+ghost use Rattle.elf_link_outputs.specs.Outputs.{flat};
 
-use crate::common::Common;
-use crate::output::{Member, Output};
 use crate::outputs::{is_no_bits, output_flags};
 use elf_link_files::files::{section_of, symbol_of};
 use elf_link_files::{Chosen, Site, SymbolId};
 use elf_object_type::Object;
 use std::alloc::{AllocError, Global};
+
+// Commons at their places (gABI chapter 4, Symbol Table: `SHN_COMMON`).
+
+/// A common that has an address.
+#[derive(Clone, Copy, Debug, PartialEq, Eq)]
+pub struct Common<'a> {
+    /// Its name.
+    pub name: &'a [u8],
+    /// Where it begins.
+    pub address: u64,
+    /// The largest size of its name.
+    pub size: u64,
+    /// The largest alignment of its name.
+    pub align: u64,
+}
+
+// Output sections at their places (gABI chapter 4, Sections).
+
+/// A section of an input file.
+#[derive(Clone, Copy, Debug, PartialEq, Eq)]
+pub struct Member {
+    /// The position of the file among the objects, from 0.
+    pub file: usize,
+    /// The position of the section in it.
+    pub section: usize,
+}
+
+/// An output section.
+#[derive(Debug, Drop)]
+pub struct Output<'a> {
+    /// The name of its members.
+    pub name: &'a [u8],
+    /// Their flags without `SHF_GROUP`.
+    pub flags: u64,
+    /// Whether they take memory without bits.
+    pub no_bits: bool,
+    /// Where the first member begins.
+    pub address: u64,
+    /// The bytes from there to the end of the last one.
+    pub length: u64,
+    /// The members, in order of placement.
+    pub members: Vec<Member>,
+}
 
 /// A site as a member of an output.
 fn member_of(site: Site) -> Member

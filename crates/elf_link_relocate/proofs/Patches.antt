@@ -1,32 +1,81 @@
 -- Copies with one more number in its field. Patching changes the bytes of that field alone, and fields share no byte; so after k fields
 -- the copies have the numbers of the first k, and all else as it was.
-use Rattle.std.proofs.Common.{◌≡◌, ◌≢◌, ℕ, ◌+◌, ◌<◌, ◌≤◌, ◌⊎◌, ℤ, List, [], ◌∷◌, zero, suc, get_or, length, inl, inr, refl, sym, ◌∙◌, ap, subst, arith}
-use Rattle.std.specs.Prelude.{Option, None, Some, option_map, slice_index}
+use Rattle.std.proofs.Common.{◌≡◌, ℕ, ◌<◌, Bool, true, List, length, arith, ◌≢◌, map, ◌+◌, ◌≤◌, ◌⊎◌, ℤ, [], ◌∷◌, zero, suc, inl, inr, refl, sym, ◌∙◌, ap, subst}
+use Rattle.std.specs.Prelude.{IfSome, None, Option, Some, get_or, option_map, slice_index}
+use Rattle.std.specs.Global.{Vec}
 use Rattle.std.proofs.lemmas.Bool.{cases_eq, cases_lt}
-use Rattle.elf_object_type.specs.Object.{ObjectValue}
-use Rattle.elf_object_type.specs.ObjectRules.{IsObject}
+use Rattle.elf_field.specs.Abi.{STB_LOCAL}
+use Rattle.elf_link_field.specs.Field.{relocation_number, IsPatched, size_of}
 use Rattle.elf_link_field.specs.declared.rule.RelocRule.{RelocRule}
-use Rattle.elf_link_field.specs.Number.{relocation_number}
-use Rattle.elf_link_field.specs.Patch.{IsPatched}
-use Rattle.elf_link_field.specs.Rule.{size_of}
+use Rattle.elf_link_files.proofs.Public.{table_read}
+use Rattle.elf_link_files.specs.Files.{object_at, symbol_in}
 use Rattle.elf_link_files.specs.declared.site.Site.{Site}
-use Rattle.elf_link_files.specs.Files.{object_at}
 use Rattle.elf_link_map.specs.LinkMap.{LinkMapValue}
-use Rattle.elf_link_relocate.specs.Linked.{HasLiveBits}
+use Rattle.elf_link_map.specs.Naming.{AreBindingNumbers, IsBindingNumber, IsBindingAt}
+use Rattle.elf_link_relocate.proofs.Marked.{grid_with, item_here, item_other}
+use Rattle.elf_link_relocate.specs.Fields.{IsEntrySite, entries_of, entry_at, target_at, target_of, HasField, HasOffset, IsWithin, content_in, field_start, addend_of, field_address, number_at, value_at}
+use Rattle.elf_link_relocate.specs.Linked.{IsSectionOf, HasLiveBits, IsGrid, item, with, number_byte}
+use Rattle.elf_link_relocate.specs.Passes.{field_at, AreJudged, IsRead, IsCovered, IsFieldIn, AreAllCopies, AreRelocated, IsCopy, IsRelocated}
+use Rattle.elf_link_relocate.specs.Views.{IsFileSymbol}
 use Rattle.elf_link_relocate.specs.declared.field.Field.{Field}
-use Rattle.elf_link_relocate.specs.Collecting.{field_at}
-use Rattle.elf_link_relocate.specs.Entries.{target_at}
-use Rattle.elf_link_relocate.specs.Fields.{HasField, HasOffset, IsWithin, content_in, field_start}
-use Rattle.elf_link_relocate.specs.Grid.{IsGrid, IsSectionOf, item, with}
-use Rattle.elf_link_relocate.specs.Judged.{AreJudged}
-use Rattle.elf_link_relocate.specs.LinkingFacts.{IsRead}
-use Rattle.elf_link_relocate.specs.Marking.{IsCovered, IsFieldIn}
-use Rattle.elf_link_relocate.specs.Memory.{number_byte}
-use Rattle.elf_link_relocate.specs.Numbers.{addend_of, field_address, number_at}
-use Rattle.elf_link_relocate.specs.Patching.{AreAllCopies, AreRelocated, IsCopy, IsRelocated}
-use Rattle.elf_link_relocate.specs.Values.{value_at}
-use Rattle.elf_link_relocate.proofs.Grids.{grid_with, item_here, item_other}
-use Rattle.elf_link_relocate.proofs.ObjectFacts.{target_has_bits, target_section}
+use Rattle.elf_object_type.proofs.Public.{references_there, relocations_there}
+use Rattle.elf_object_type.specs.Object.{BodyValue, bits, no_bits, relocs, group, ObjectValue, no_relocation, section_at, is_bits, binding}
+use Rattle.elf_object_type.specs.ObjectRules.{HasReferences, IsObject}
+use Rattle.elf_object_type.specs.declared.relocations.Relocation.{Relocation}
+
+-- What the rules of objects say of relocation sections: the target is a section with bits, and the symbol of an entry is there. So the
+-- target of an entry, and its symbol if it names one, are those of its own file.
+
+-- the target of a relocation section is a section of the object
+pub target_there : (o : ObjectValue) (s : ℕ) (rela : Bool) (target : ℕ) (es : List Relocation) → IsObject o → s < length o.sections →
+    (section_at o s).body ≡ relocs rela target es → target < length o.sections
+target_there o s rela target es is there body = (relocations_there o s rela target es is there body).target_there
+
+-- it has bits
+target_of_body : (o : ObjectValue) (b : BodyValue) (e : ℕ) → HasReferences o b → e < length (entries_of b) →
+    (target_of b < length o.sections) × (is_bits (section_at o (target_of b)).body ≡ true)
+target_of_body o (bits type content) e has lt = absurd (omega arith)
+target_of_body o (no_bits size) e has lt = absurd (omega arith)
+target_of_body o (relocs rela target es) e has lt = (has.target_there, has.target_bits)
+target_of_body o (group comdat signature members) e has lt = absurd (omega arith)
+
+pub target_has_bits : (o : ObjectValue) (s e : ℕ) → IsObject o → s < length o.sections → e < length (entries_of (section_at o s).body) →
+    (target_of (section_at o s).body < length o.sections) × (is_bits (section_at o (target_of (section_at o s).body)).body ≡ true)
+target_has_bits o s e is there lt = target_of_body o (section_at o s).body e (references_there o s is there) lt
+
+symbol_of_body : (o : ObjectValue) (b : BodyValue) (e : ℕ) → HasReferences o b → e < length (entries_of b) →
+    IfSome (get_or (entries_of b) e no_relocation).symbol (λ i. i < length o.symbols)
+symbol_of_body o (bits type content) e has lt = absurd (omega arith)
+symbol_of_body o (no_bits size) e has lt = absurd (omega arith)
+symbol_of_body o (relocs rela target es) e has lt = has.symbols_there e lt
+symbol_of_body o (group comdat signature members) e has lt = absurd (omega arith)
+
+-- the symbol of an entry is one of the object
+symbol_there : (o : ObjectValue) (s e : ℕ) → IsObject o → s < length o.sections → e < length (entries_of (section_at o s).body) →
+    IfSome (get_or (entries_of (section_at o s).body) e no_relocation).symbol (λ i. i < length o.symbols)
+symbol_there o s e is there lt = symbol_of_body o (section_at o s).body e (references_there o s is there) lt
+
+with_file : (fs : List ObjectValue) (f : ℕ) (symbol : Option ℕ) → f < length fs → IfSome symbol (λ i. i < length (object_at fs f).symbols) →
+    IfSome symbol (IsFileSymbol fs f)
+with_file fs f None file there = tt
+with_file fs f (Some i) file there = (file, there)
+
+pub symbol_in_file : (fs : List ObjectValue) (p : Site) → IsEntrySite fs p → IsObject (object_at fs p.file) → IfSome (entry_at fs p).symbol (IsFileSymbol fs p.file)
+symbol_in_file fs p there is =
+    with_file fs p.file (entry_at fs p).symbol there.file (symbol_there (object_at fs p.file) p.index p.entry is there.section there.entry)
+
+-- the target of an applied entry is a section of its file
+pub target_section : (fs : List ObjectValue) (p : Site) → IsEntrySite fs p → IsObject (object_at fs p.file) → IsSectionOf fs p.file (target_at fs p)
+target_section fs p there is = (there.file, (target_has_bits (object_at fs p.file) p.index p.entry is there.section there.entry).0)
+
+-- The number of a symbol's name is read.
+
+pub number_stands : (fs : List ObjectValue) (m : LinkMapValue) (rows : List (Vec ℕ)) (row : Vec ℕ) (f i k : ℕ) → f < length fs →
+    i < length (object_at fs f).symbols → binding (symbol_in fs f i) ≢ STB_LOCAL → row ≡ get_or rows f row → k ≡ get_or row.items i k →
+    AreBindingNumbers fs m (map (λ (r : Vec ℕ). r.items) rows) → IsBindingAt m.bindings (symbol_in fs f i).name k
+unfolding AreBindingNumbers
+number_stands fs m rows row f i k f_in i_in not_local row_is k_is are =
+    table_read 0 (IsBindingNumber fs m) (λ g. length (object_at fs g).symbols) (length fs) rows row f i k f_in i_in row_is k_is are not_local
 
 -- ---- at first
 

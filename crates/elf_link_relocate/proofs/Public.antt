@@ -1,7 +1,4 @@
 -- What the proofs of the crates above may cite: the laws of src/laws.rt, each under its name there, and when relocated
 -- bytes are ready to be written.
-pub use Rattle.elf_link_relocate.proofs.AnyOptions.{any_options, without_entry}
-pub use Rattle.elf_link_relocate.proofs.MemoryLaws.{field_in_content, memory_bytes, memory_in, memory_there, memory_zero, some_byte}
-pub use Rattle.elf_link_relocate.proofs.OneByte.{one_byte}
-pub use Rattle.elf_link_relocate.proofs.Ready.{ready_of}
-pub use Rattle.elf_link_relocate.proofs.SomeLinked.{some_linked}
+pub use Rattle.elf_link_relocate.proofs.Memories.{any_options, without_entry, one_byte}
+pub use Rattle.elf_link_relocate.proofs.MemoryLaws.{field_in_content, memory_bytes, memory_in, memory_there, memory_zero, some_byte, ready_of, some_linked}

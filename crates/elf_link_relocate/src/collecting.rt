@@ -1,22 +1,63 @@
 //! All fields of a link, in order.
-ghost use Rattle.std.specs.Prelude.{◌≡◌, ◌+◌, ◌^◌, ◌<◌, IfErr, IfOk, OnOk, length};
-ghost use Rattle.elf_link_relocate.specs.Collecting.{AreFields, entry_site};
-ghost use Rattle.elf_link_relocate.specs.FieldOfView.{IsAppliedEntry};
-ghost use Rattle.elf_link_relocate.specs.FieldTests.{IsRuleFault, NoneUnruled};
-ghost use Rattle.elf_link_relocate.specs.Found.{AreFirsts, AreFoundBefore, first_of as first_of_list};
-ghost use Rattle.elf_link_relocate.specs.Grid.{IsSectionOf};
-ghost use Rattle.elf_link_relocate.specs.LinkingFacts.{AreFieldsRead};
+ghost use Rattle.std.specs.Prelude.{◌≡◌, ◌↔◌, IsTrue, ◌+◌, ◌^◌, ◌<◌, IfErr, IfOk, OnOk, length};
+ghost use Rattle.elf_link_files.specs.Files.{Live, Discarded};
+ghost use Rattle.elf_link_relocate.specs.Fields.{content_in, content_of as content_of_body};
+ghost use Rattle.elf_link_relocate.specs.Linked.{IsSectionOf};
+ghost use Rattle.elf_object_type.specs.ObjectView.{body_value};
+ghost use Rattle.elf_link_relocate.specs.Passes.{AreFields, entry_site, IsRuleFault, NoneUnruled, AreFirsts, AreFoundBefore, first_of as first_of_list, AreFieldsRead};
+ghost use Rattle.elf_link_relocate.specs.Views.{IsAppliedEntry};
 
-use crate::entries::are_applied;
 use crate::field::{Entry, Field, Fields};
 use crate::numbers::FieldOf;
 use crate::rules::NO_RULE;
-use crate::values::Values;
+use crate::values::{Linking, Values};
 use elf_link_field::{Form, rule_of};
 use elf_link_map::files::{prove_rules, section_count, section_of};
 use elf_link_map::{Broken, LinkFault, Site};
-use elf_object_type::Body;
+use elf_object_type::{Body, Object};
 use std::alloc::Global;
+
+// The sections that relocation entries speak of (gABI chapter 4, Relocation).
+
+/// The bytes of a body; none if it has no bits.
+fn content_of<'a>(body: &Body<'a>) -> &'a [u8]
+    ensures { result.now ≡ content_of_body (body_value body.now) }
+{
+    match body {
+        Body::Bits(_, content) => content,
+        _ => &[],
+    }
+}
+
+/// The bytes of a section of a file.
+pub(crate) fn content<'a>(objects: &[Object<'a>], file: usize, section: usize) -> &'a [u8]
+    requires { IsSectionOf objects.now file section }
+    ensures { result.now ≡ content_in objects.now file section }
+{
+    content_of(&section_of(objects, file, section).body)
+}
+
+/// Whether a section is live.
+pub(crate) fn is_live(linking: &Linking<'_, '_>, file: usize, section: usize) -> bool
+    requires { IsSectionOf linking.now.objects file section }
+    ensures { IsTrue result ↔ Live linking.now.objects file section }
+{
+    linking.map.address(file, section).is_some()
+}
+
+/// Whether entries of a section for this target are applied: the section is not discarded, and the target is live.
+pub(crate) fn are_applied(
+    linking: &Linking<'_, '_>,
+    file: usize,
+    section: usize,
+    target: usize,
+) -> bool
+    requires section { IsSectionOf linking.now.objects file section }
+    requires target { IsSectionOf linking.now.objects file target }
+    ensures { IsTrue result ↔ ((¬ Discarded linking.now.objects file section) × Live linking.now.objects file target) }
+{
+    !linking.map.discarded(file, section) && is_live(linking, file, target)
+}
 
 /// The first position that something holds at, of those before, and then of this one.
 fn first_of(before: Option<usize>, holds: bool, position: usize) -> Option<usize>

@@ -1,7 +1,14 @@
 //! Fields: the bytes that applied entries change.
+ghost use Rattle.std.specs.Prelude.{◌≡◌, ◌<◌, length};
+ghost use Rattle.elf_link_relocate.specs.Passes.{field_at, IsInTarget, test_number};
+ghost use Rattle.elf_link_relocate.specs.Fields.{HasField, IsWithin};
+
+use crate::rules::{FIELD_OUT_OF_RANGE, UNPLACED, VALUE_OUT_OF_RANGE};
+use crate::values::{Linking, Values};
 use elf_link_field::RelocRule;
 use elf_link_map::Site;
 use elf_object_type::Relocation;
+use std::marker::Model;
 
 /// An entry, which is read once.
 #[derive(Clone, Copy)]
@@ -56,4 +63,81 @@ pub(crate) struct Fields {
     pub out_of_range: Option<usize>,
     /// The first one that breaks rule 16.
     pub refused: Option<usize>,
+}
+
+// The fields of a link, once each is known to end within its target.
+
+/// All fields of a link, by file, section and entry. Each ends within its target.
+#[derive(Drop)]
+pub(crate) struct FieldList<'f, 'v, 'l, 'a> {
+    pub(crate) values: &'f Values<'v, 'l, 'a>,
+    pub(crate) fields: &'f [Field],
+}
+
+impl<'f, 'v, 'l, 'a> Model for FieldList<'f, 'v, 'l, 'a> {
+    ghost use Rattle.elf_link_relocate.specs.Passes.{FieldListValue};
+
+    ghost Value = { FieldListValue };
+
+    ghost use Rattle.elf_link_relocate.specs.Views.{HasFields, field_list_value};
+
+    ghost view = { field_list_value };
+
+    ghost invariant = { HasFields };
+}
+
+impl<'f, 'v, 'l, 'a> FieldList<'f, 'v, 'l, 'a> {
+    /// The link.
+    pub(crate) fn linking(&self) -> &'v Linking<'l, 'a>
+        ensures objects { result.now.objects ≡ self.now.objects }
+        ensures map { result.now.map ≡ self.now.map }
+        ensures rules { result.now.rules ≡ self.now.rules }
+    {
+        self.values.linking()
+    }
+
+    /// How many fields there are.
+    pub(crate) fn count(&self) -> usize
+        ensures { result ≡ length self.now.fields }
+    {
+        self.fields.len()
+    }
+
+    /// The field at position `k`.
+    pub(crate) fn field(&self, k: usize) -> Field
+        requires { k < length self.now.fields }
+        ensures is { result ≡ field_at self.now.fields k }
+        ensures has { HasField self.now.objects self.now.rules result.site result.rule }
+        ensures place { IsInTarget self.now.objects result }
+        ensures within { IsWithin self.now.objects result.site result.rule }
+    {
+        let fields = self.fields;
+        fields[k]
+    }
+}
+
+// The rules that look at one field by itself.
+
+/// A rule of the link that looks at one field by itself.
+#[derive(Clone, Copy)]
+pub(crate) enum FieldTest {
+    /// Rule 13: its symbol has no value.
+    Unplaced,
+    /// Rule 14: it passes the end of its target.
+    FieldOutOfRange,
+    /// Rule 16: it does not admit its number.
+    ValueOutOfRange,
+}
+
+impl FieldTest {
+    /// The number of the rule.
+    pub(crate) fn rule(self) -> u16
+        ensures { result ≡ test_number self }
+    {
+        match self {
+            FieldTest::Unplaced => UNPLACED,
+            FieldTest::FieldOutOfRange => FIELD_OUT_OF_RANGE,
+            FieldTest::ValueOutOfRange => VALUE_OUT_OF_RANGE,
+        }
+    }
 }

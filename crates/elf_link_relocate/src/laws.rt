@@ -1,15 +1,12 @@
 //! What the layers above may know of relocated bytes. What is said of a map of the files holds whatever its base, page and entry are
 //! (`IsMapButOptions`).
 ghost use Rattle.std.specs.Prelude.{◌≡◌, ◌<◌, ℕ, List, None, Option, length};
-ghost use Rattle.elf_link_files.specs.declared.options.Options.{Options};
+ghost use Rattle.elf_link_files.specs.declared.fault.Options.{Options};
 ghost use Rattle.elf_link_files.specs.declared.site.Site.{Site};
 ghost use Rattle.elf_link_files.specs.Rows.{FirstAmong};
-ghost use Rattle.elf_link_map.specs.LinkFaults.{FirstOfLink};
-ghost use Rattle.elf_link_map.specs.LinkMap.{IsLinkMap, LinkMapValue, with_options};
-ghost use Rattle.elf_link_relocate.specs.Linked.{IsLinked, LinkedValue};
-ghost use Rattle.elf_link_relocate.specs.MapFacts.{IsMapButOptions, IsMapOfSome};
-ghost use Rattle.elf_link_relocate.specs.Memory.{HasContentAt, HasFieldAt, HaveBytes, IsInMemory, IsInNoMember, IsInOutputAt, IsMemory};
-ghost use Rattle.elf_link_relocate.specs.RelocationRules.{applied_entry_rules};
+ghost use Rattle.elf_link_map.specs.LinkMap.{FirstOfLink, IsLinkMap, LinkMapValue, with_options};
+ghost use Rattle.elf_link_relocate.specs.Linked.{IsLinked, LinkedValue, IsMapButOptions, IsMapOfSome, HasContentAt, HasFieldAt, HaveBytes, IsInMemory, IsInNoMember, IsInOutputAt, IsMemory};
+ghost use Rattle.elf_link_relocate.specs.Fields.{applied_entry_rules};
 ghost use Rattle.elf_object_type.specs.Object.{ObjectValue};
 ghost use Rattle.elf_link_field.specs.declared.rule.RelocRule.{RelocRule};
 

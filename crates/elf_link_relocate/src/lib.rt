@@ -14,28 +14,19 @@
 
 mod collecting;
 mod copies;
-mod entries;
 mod field;
-mod field_list;
-mod field_test;
-mod judge;
 mod laws;
 mod linked;
-mod linking;
-mod mapped;
 mod marks;
 mod numbers;
-mod patching;
 mod relocating;
 pub mod rules;
-mod sharing;
 mod values;
 
 pub use laws::{
     any_options, field_in_content, memory_bytes, memory_in, memory_there, memory_zero, one_byte,
     one_relocation_fault, some_byte, without_entry,
 };
-pub use linked::{Identity, Linked};
-pub use mapped::Mapped;
+pub use linked::{Identity, Linked, Mapped};
 pub use relocating::{relocate, relocate_numbered};
 pub use values::binding_value;

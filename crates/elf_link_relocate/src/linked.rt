@@ -1,13 +1,18 @@
 //! The relocated bytes of a link.
-ghost use Rattle.std.specs.Prelude.{◌≡◌, ◌<◌, ◌^◌, option_map};
+ghost use Rattle.std.specs.Prelude.{◌≡◌, ◌<◌, ◌^◌, option_map, IfErr, IfOk, None, OnOk};
 ghost use Rattle.elf_link_map.specs.Standing.{AreObjects, ObjectsFit};
-ghost use Rattle.elf_link_relocate.specs.Linked.{bytes_at, identity_of};
+ghost use Rattle.elf_link_relocate.specs.Linked.{bytes_at, identity_of, IsLinked, IsMapOfSome};
+ghost use Rattle.elf_link_map.specs.LinkMap.{FirstOfLink, IsLinkFault, IsLinkMap};
+ghost use Rattle.elf_link_relocate.specs.Fields.{IsRelocationFault};
 
 use crate::copies::Copies;
+use crate::relocating::relocate_numbered;
 use elf_field::Order;
 use elf_link_field::RelocRule;
-use elf_link_map::LinkMap;
+use elf_link_map::{LinkFault, LinkMap, NumberedMap, Options, map_numbered};
 use elf_object_type::Object;
+use std::alloc::Global;
+use std::hash::BuildHasher;
 use std::marker::Model;
 
 /// What a file says of itself in its header (gABI chapter 4, ELF Header).
@@ -39,7 +44,7 @@ impl<'m, 'a> Model for Linked<'m, 'a> {
 
     ghost Value = { LinkedValue };
 
-    ghost use Rattle.elf_link_relocate.specs.LinkedView.{HasSoundObjects, linked_value};
+    ghost use Rattle.elf_link_relocate.specs.Views.{HasSoundObjects, linked_value};
 
     ghost view = { linked_value };
 
@@ -110,5 +115,77 @@ impl<'m, 'a> Linked<'m, 'a> {
                 flags: 0,
             },
         }
+    }
+}
+
+// Objects that are linked, with their map.
+
+/// Some objects, their link map, and the number of the name of each symbol.
+#[derive(Drop)]
+pub struct Mapped<'a> {
+    objects: Vec<Object<'a>>,
+    link: NumberedMap<'a>,
+}
+
+impl<'a> Model for Mapped<'a> {
+    ghost use Rattle.elf_link_relocate.specs.Linked.{MappedValue};
+
+    ghost Value = { MappedValue };
+
+    ghost use Rattle.elf_link_relocate.specs.Views.{HasItsMap, mapped_value};
+
+    ghost view = { mapped_value };
+
+    ghost invariant = { HasItsMap };
+}
+
+impl<'a> Mapped<'a> {
+    /// These objects with their link map.
+    pub fn new<S: BuildHasher + Drop>(
+        alloc: Global,
+        objects: Vec<Object<'a>>,
+        options: &Options<'_>,
+        hasher: S,
+    ) -> Result<Mapped<'a>, LinkFault>
+        ensures objects { IfOk result (λ mapped. mapped.objects ≡ objects.entry.items) }
+        ensures map { IfOk result (λ mapped. IsLinkMap options.now mapped.objects mapped.map) }
+        ensures sound { OnOk result (FirstOfLink options.now objects.entry.items None) }
+        ensures err { IfErr result (IsLinkFault options.now objects.entry.items) }
+    {
+        let link = map_numbered(alloc, &objects, options, hasher)?;
+        Ok(Mapped { objects, link })
+    }
+
+    /// The objects.
+    pub fn objects(&self) -> &[Object<'a>]
+        ensures { result.now ≡ self.now.objects }
+    {
+        &self.objects
+    }
+
+    /// The map.
+    pub fn map(&self) -> &LinkMap<'a>
+        ensures { result.now ≡ self.now.map }
+    {
+        &self.link.map
+    }
+
+    /// The relocated bytes of the objects, by these relocation rules.
+    pub fn relocated<'m>(
+        &'m self,
+        alloc: Global,
+        rules: &'m [RelocRule],
+    ) -> Result<Linked<'m, 'a>, LinkFault>
+        ensures map { IsMapOfSome self.entry.now.objects self.entry.now.map }
+        ensures linked { IfOk result (λ linked. IsLinked self.entry.now.objects self.entry.now.map rules.entry.now linked) }
+        ensures err { IfErr result (IsRelocationFault self.entry.now.objects self.entry.now.map rules.entry.now) }
+    {
+        relocate_numbered(
+            alloc,
+            &self.link.map,
+            &self.objects,
+            rules,
+            &self.link.numbers,
+        )
     }
 }

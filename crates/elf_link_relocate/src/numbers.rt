@@ -1,16 +1,11 @@
 //! The numbers of fields (gABI chapter 4, Relocation).
 ghost use Rattle.std.specs.Prelude.{◌≡◌, ◌↔◌, ◌^◌, ◌<◌, IsTrue, Some, pos, neg_ℤ, ◌<ℤ◌, ◌≤ℤ◌};
-ghost use Rattle.elf_link_relocate.specs.Fields.{HasField, IsWithin, content_at};
-ghost use Rattle.elf_link_relocate.specs.Found.{IsJudgedField};
-ghost use Rattle.elf_link_relocate.specs.LinkingFacts.{IsInTarget};
-ghost use Rattle.elf_link_relocate.specs.Numbers.{addend_of as addend_at, field_address as field_address_of, number_at};
-ghost use Rattle.elf_link_relocate.specs.RelocationRules.{IsFieldOutOfRange};
-ghost use Rattle.elf_link_relocate.specs.Values.{IsSmall, value_at};
+ghost use Rattle.elf_link_relocate.specs.Fields.{HasField, IsWithin, content_at, addend_of as addend_at, field_address as field_address_of, number_at, IsFieldOutOfRange, IsSmall, value_at};
+ghost use Rattle.elf_link_relocate.specs.Passes.{IsJudgedField, IsInTarget};
 
-use crate::entries::content;
+use crate::collecting::content;
 use crate::field::{Entry, Field, Judged};
-use crate::linking::Linking;
-use crate::values::Values;
+use crate::values::{Linking, Values};
 use elf_link_field::addend_in;
 use elf_link_map::files::prove_rules;
 use std::marker::Model;
@@ -38,11 +33,11 @@ pub(crate) struct FieldOf<'f, 'v, 'l, 'a> {
 }
 
 impl<'f, 'v, 'l, 'a> Model for FieldOf<'f, 'v, 'l, 'a> {
-    ghost use Rattle.elf_link_relocate.specs.Linking.{FieldOfValue};
+    ghost use Rattle.elf_link_relocate.specs.Passes.{FieldOfValue};
 
     ghost Value = { FieldOfValue };
 
-    ghost use Rattle.elf_link_relocate.specs.FieldOfView.{HasItsEntry, field_of_value};
+    ghost use Rattle.elf_link_relocate.specs.Views.{HasItsEntry, field_of_value};
 
     ghost view = { field_of_value };
 

@@ -2,20 +2,41 @@
 ghost use Rattle.std.specs.Prelude.{◌≡◌, ◌≢◌, ◌+◌, ◌<◌, IfSome, length, map as map_list};
 ghost use Rattle.elf_field.specs.Abi.{STB_LOCAL};
 ghost use Rattle.elf_link_files.specs.Files.{object_at, symbol_in};
-ghost use Rattle.elf_link_map.specs.BindingNumbers.{AreBindingNumbers};
-ghost use Rattle.elf_link_map.specs.Naming.{IsBindingAt};
+ghost use Rattle.elf_link_map.specs.Naming.{AreBindingNumbers, IsBindingAt};
 ghost use Rattle.elf_object_type.specs.Object.{binding as binding_of};
-ghost use Rattle.elf_object_type.specs.declared.symbol.Place.TheVariants.{In as InSection};
-ghost use Rattle.elf_link_relocate.specs.Values.{IsSmall, binding_value as binding_value_of, definition_value as definition_value_of, name_value as name_value_of, place_value as place_value_of, reference_value, resolved_value as resolved_value_of};
-ghost use Rattle.elf_link_relocate.specs.ValuesView.{IsFileSymbol};
+ghost use Rattle.elf_object_type.specs.declared.parts.Place.TheVariants.{In as InSection};
+ghost use Rattle.elf_link_relocate.specs.Fields.{IsSmall, binding_value as binding_value_of, definition_value as definition_value_of, name_value as name_value_of, place_value as place_value_of, reference_value, resolved_value as resolved_value_of};
+ghost use Rattle.elf_link_relocate.specs.Views.{IsFileSymbol};
 
-use crate::linking::Linking;
 use elf_field::abi::*;
+use elf_link_field::RelocRule;
 use elf_link_files::SymbolId;
 use elf_link_map::files::symbol_of;
 use elf_link_map::{Binding, LinkMap};
 use elf_object_type::{Object, Place};
 use std::marker::Model;
+
+// What the passes over the entries and the fields look at.
+
+/// The objects of a link, their map, and the relocation rules. The map is sound for the objects.
+#[derive(Drop)]
+pub(crate) struct Linking<'l, 'a> {
+    pub(crate) objects: &'l [Object<'a>],
+    pub(crate) map: &'l LinkMap<'a>,
+    pub(crate) rules: &'l [RelocRule],
+}
+
+impl<'l, 'a> Model for Linking<'l, 'a> {
+    ghost use Rattle.elf_link_relocate.specs.Passes.{LinkingValue};
+
+    ghost Value = { LinkingValue };
+
+    ghost use Rattle.elf_link_relocate.specs.Views.{IsReady, linking_value};
+
+    ghost view = { linking_value };
+
+    ghost invariant = { IsReady };
+}
 
 /// The value so far after the start of a section of a file.
 fn section_value(map: &LinkMap<'_>, file: usize, section: usize, value: u64) -> Option<u128>
@@ -83,11 +104,11 @@ pub(crate) struct Values<'v, 'l, 'a> {
 }
 
 impl<'v, 'l, 'a> Model for Values<'v, 'l, 'a> {
-    ghost use Rattle.elf_link_relocate.specs.Linking.{LinkingValue};
+    ghost use Rattle.elf_link_relocate.specs.Passes.{LinkingValue};
 
     ghost Value = { LinkingValue };
 
-    ghost use Rattle.elf_link_relocate.specs.ValuesView.{HasValues, values_value};
+    ghost use Rattle.elf_link_relocate.specs.Views.{HasValues, values_value};
 
     ghost view = { values_value };
 
@@ -111,7 +132,7 @@ impl<'v, 'l, 'a> Values<'v, 'l, 'a> {
     }
 
     /// Where the name of the symbol at `index` of a file, which is not local, is among the names of the map.
-    #[tactic(auto, unfolding(elf_link_map::specs::BindingNumbers::AreBindingNumbers))]
+    #[tactic(auto, unfolding(elf_link_map::specs::Naming::AreBindingNumbers))]
     fn name_number(&self, file: usize, index: usize) -> usize
         requires symbol { IsFileSymbol self.now.objects file index }
         requires entry { binding_of (symbol_in self.now.objects file index) ≢ STB_LOCAL }

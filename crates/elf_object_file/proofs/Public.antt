@@ -1,4 +1,3 @@
 -- What the proofs of the crates above may cite: that the canonical layout of an object is its file, and the object that a file denotes
 -- keeps the rules and fits its fields.
-pub use Rattle.elf_object_file.proofs.SoundObject.{sound_object}
-pub use Rattle.elf_object_file.proofs.ObjectFile.{file_of}
+pub use Rattle.elf_object_file.proofs.ObjectFile.{sound_object, file_of}

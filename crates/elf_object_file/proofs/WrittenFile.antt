@@ -1,20 +1,451 @@
 -- The sections of the file that an object is written as. Own section p has index p + 1; then come the symbol table, its index table if one
 -- is needed, and the string tables. By cases on whether there is an index table. What holds of index 0 and of each of these holds of all
 -- (`by_section`).
-use Rattle.std.proofs.Common.{◌≡◌, ◌<◌, ◌+◌, ◌-◌, ℕ, zero, suc, Bool, true, false, List, get_or, length, refl, ap, subst, ◌∙◌, arith, inl, inr}
-use Rattle.std.specs.Prelude.{codes, if◌then◌else◌}
-use Rattle.std.proofs.lemmas.Bool.{cases_lt}
+use Rattle.std.proofs.Common.{◌≡◌, ◌≢◌, ◌<◌, ◌≤◌, ◌+◌, ◌-◌, ◌^◌, ◌||◌, ℕ, zero, suc, Bool, true, false, List, [], ◌∷◌, length, map, get_or, refl, sym, ap, subst, ◌∙◌, arith, inl, inr, ap₂, ◌⊎◌}
+use Rattle.std.specs.Prelude.{◌==◌, if◌then◌else◌, codes, Option, None, Some, slice_index}
+use Rattle.std.specs.List.{AllByRecursion, filter, flat_map}
+use Rattle.std.proofs.lemmas.Bool.{cases_lt, ne_eqb}
+use Rattle.std.proofs.lemmas.List.{map-append, get_or-map, length-map}
+use Rattle.elf_field.specs.Abi.{SHT_NOBITS, SHT_NULL, EI_ABIVERSION, EI_OSABI, ELFDATA2MSB, SHT_DYNAMIC, SHT_DYNSYM, SHT_GROUP, SHT_HASH, SHT_REL, SHT_RELA, SHT_SHLIB, SHT_STRTAB, SHT_SYMTAB, SHT_SYMTAB_SHNDX}
+use Rattle.elf_field.specs.Bytes.{IsBytes, IsBytes-append, IsBytes-bytes_of, IsBytes-cons, IsBytes-nil}
+use Rattle.elf_field.specs.Entries.{rel_bytes, rel_layout, rela_bytes, rela_layout, sym_bytes, sym_layout, word_bytes}
+use Rattle.elf_field.specs.Record.{widths, IsBytes-spelled}
+use Rattle.elf_field.specs.declared.number.Order.TheVariants.{Little, Big}
+use Rattle.elf_field.specs.declared.number.Order.{Order}
 use Rattle.elf_field.specs.declared.shdr.Shdr.{Shdr}
-use Rattle.elf_object_strings.specs.StringTable.{name_offset}
-use Rattle.elf_table_symbols.specs.Sections.{Sections, content, count, section}
-use Rattle.elf_object_writer.specs.Laid.{section_header, section_size}
-use Rattle.elf_object_type.specs.Object.{ObjectValue, section_at}
-use Rattle.elf_object_writer.specs.PlainSections.{PlainSection, has_index_table, index_table_section, own_section, section_names, strings, strings_at, symbol_names, symbol_table_at, symbol_table_section}
-use Rattle.elf_object_file.specs.WrittenObject.{IsWrittenAt, written_sections}
-use Rattle.elf_object_writer.proofs.Public.{last_count, last_sections, length-plain, no_plain, plain_last}
-use Rattle.elf_object_file.proofs.WrittenKept.{count_of_written, last_some, written_last, written_own}
-use Rattle.elf_object_file.proofs.WrittenParts.{own_content}
-use Rattle.elf_object_file.proofs.WrittenSections.{written_content}
+use Rattle.elf_image_outline.specs.Image.{value_names}
+use Rattle.elf_image_rules.proofs.Public.{above}
+use Rattle.elf_image_rules.specs.Tables.{order_of}
+use Rattle.elf_image_type.specs.ImageView.{string}
+use Rattle.elf_object_file.proofs.WrittenSections.{own_short, symbols_short, last_some, own_typed, written_name_table, written_own, written_content, count_of_written, written_last, indexes_no_body, own_type, symbols_no_body, written_first}
+use Rattle.elf_object_file.specs.ObjectFile.{IsWrittenAt, written_sections}
+use Rattle.elf_object_reader.specs.Denotes.{section_name_of}
+use Rattle.elf_object_reader.specs.FileRules.{IsForeignType}
+use Rattle.elf_object_strings.proofs.Public.{holds_names}
+use Rattle.elf_object_strings.specs.StringTable.{string_table, HasNoZero, name_offset}
+use Rattle.elf_object_type.proofs.Public.{all_of_each, each_of_all, no_wrong_bits_type, no_wrong_position, no_zero_in_section_name}
+use Rattle.elf_object_type.specs.Object.{BodyValue, bits, no_bits, relocs, group, ObjectValue, SectionValue, SymbolValue, no_section, section_at, BodyFits, InfoFits, SectionFits, SymbolFits, IsPast, info_position}
+use Rattle.elf_object_type.specs.ObjectRules.{HasWrongReference, IsWrongBitsType}
+use Rattle.elf_object_type.specs.declared.parts.Info.TheVariants.{Number, Section}
+use Rattle.elf_object_type.specs.declared.parts.Info.{Info}
+use Rattle.elf_object_type.specs.declared.relocations.Relocation.{Relocation}
+use Rattle.elf_object_writer.proofs.Public.{last_sections, length-plain, no_plain, plain_at, plain_last, plain_own, last_count}
+use Rattle.elf_object_writer.specs.Laid.{section_size, PlainSection, body_bytes, body_info, body_link, body_space, body_type, group_words, has_index_table, index_of, index_table_section, index_word, is_local, null_symbol, own_info, own_section, plain_sections, rel_entry, rela_entry, relocation_bytes, section_names, sections_before_names, strings, symbol_entry, symbol_names, symbol_table_section, encoding, name_table_at, strings_at, symbol_table_at, section_header}
+use Rattle.elf_table_symbols.specs.Sections.{content, order, section, Sections, count}
+
+-- The section headers and contents of a written object fit a file: each number its field, each content the size that is reported. The
+-- object's own fields are bounded by its widths, the others by the length of a layout that is not too long.
+
+-- ---- what holds of each kind of section holds of all
+
+pub record EachKind (o : ObjectValue) (P : PlainSection → Type 0) : Type 0 where
+  pub own : (p : ℕ) → p < length o.sections → P (own_section o (section_at o p))
+  pub symbols : P (symbol_table_section o)
+  pub indexes : has_index_table o ≡ true → P (index_table_section o)
+  pub symbol_strings : P (strings (codes ".strtab") (symbol_names o))
+  pub section_strings : P (strings (codes ".shstrtab") (section_names o))
+
+last_of : (o : ObjectValue) (P : PlainSection → Type 0) → EachKind o P → (far : Bool) → has_index_table o ≡ far → (k : ℕ) → k < (if far then 4 else 3) → P (get_or (last_sections o far) k no_plain)
+unfolding last_sections
+last_of o P each true is zero lt = each.symbols
+last_of o P each true is (suc zero) lt = each.indexes is
+last_of o P each true is (suc (suc zero)) lt = each.symbol_strings
+last_of o P each true is (suc (suc (suc zero))) lt = each.section_strings
+last_of o P each true is (suc (suc (suc (suc k)))) lt = absurd (omega arith)
+last_of o P each false is zero lt = each.symbols
+last_of o P each false is (suc zero) lt = each.symbol_strings
+last_of o P each false is (suc (suc zero)) lt = each.section_strings
+last_of o P each false is (suc (suc (suc k))) lt = absurd (omega arith)
+
+pub each_plain : (o : ObjectValue) (P : PlainSection → Type 0) → EachKind o P → (p : ℕ) → p < length (plain_sections o) → P (plain_at o p)
+each_plain o P each p lt = elim (cases_lt p (length o.sections)) [
+  | inl own ↦ subst P (sym (plain_own o p own)) (each.own p own)
+  | inr last ↦ (
+      let far = has_index_table o in
+      let many = length-plain o far refl in
+      let k : (k : ℕ) × (p ≡ length o.sections + k) = (p - length o.sections, omega arith) in
+      subst P (sym (ap (plain_at o) k.1 ∙ plain_last o far refl k.0)) (last_of o P each far refl k.0 (omega arith)))
+]
+
+-- ---- bytes
+
+IsBytes-flat : {A : Type 0} (f : A → List ℕ) → ((x : A) → IsBytes (f x)) → (xs : List A) → IsBytes (flat_map f xs)
+IsBytes-flat f each [] = IsBytes-nil
+IsBytes-flat f each (x ∷ xs) = IsBytes-append (f x) (flat_map f xs) (each x) (IsBytes-flat f each xs)
+
+IsBytes-relocations : (order : Order) (rela : Bool) (entries : List Relocation) → IsBytes (relocation_bytes order rela entries)
+IsBytes-relocations order true entries = IsBytes-flat (rela_bytes order) (λ e. IsBytes-spelled order [] (widths rela_layout) (rela_layout.values e) IsBytes-nil) (map rela_entry entries)
+IsBytes-relocations order false entries = IsBytes-flat (rel_bytes order) (λ e. IsBytes-spelled order [] (widths rel_layout) (rel_layout.values e) IsBytes-nil) (map rel_entry entries)
+
+IsBytes-words : (order : Order) (words : List ℕ) → IsBytes (flat_map (word_bytes order) words)
+IsBytes-words order words = IsBytes-flat (word_bytes order) (λ word. IsBytes-bytes_of order 4 word) words
+
+pub IsBytes-all : (bytes : List ℕ) → AllByRecursion (λ b. b < 256) bytes → IsBytes bytes
+IsBytes-all [] all = IsBytes-nil
+IsBytes-all (b ∷ bytes) all = IsBytes-cons b bytes all.0 (IsBytes-all bytes all.1)
+
+IsBytes-symtab : IsBytes (codes ".symtab")
+IsBytes-symtab = IsBytes-all (codes ".symtab") (omega arith, (omega arith, (omega arith, (omega arith, (omega arith, (omega arith, (omega arith, tt)))))))
+
+IsBytes-symtab_shndx : IsBytes (codes ".symtab_shndx")
+IsBytes-symtab_shndx =
+    IsBytes-all (codes ".symtab_shndx")
+    (omega arith, (omega arith, (omega arith, (omega arith, (omega arith, (omega arith, (omega arith, (omega arith, (omega arith, (omega arith, (omega arith, (omega arith, (omega arith, tt)))))))))))))
+
+IsBytes-strtab : IsBytes (codes ".strtab")
+IsBytes-strtab = IsBytes-all (codes ".strtab") (omega arith, (omega arith, (omega arith, (omega arith, (omega arith, (omega arith, (omega arith, tt)))))))
+
+IsBytes-shstrtab : IsBytes (codes ".shstrtab")
+IsBytes-shstrtab =
+    IsBytes-all (codes ".shstrtab") (omega arith, (omega arith, (omega arith, (omega arith, (omega arith, (omega arith, (omega arith, (omega arith, (omega arith, tt)))))))))
+
+-- ---- the names
+
+pub section_names_are : (o : ObjectValue) → section_names o ≡ map (λ (s : PlainSection). s.name) (plain_sections o)
+unfolding section_names plain_sections
+section_names_are o = sym (map-append (λ (s : PlainSection). s.name) (sections_before_names o) (strings (codes ".shstrtab") (section_names o) ∷ []))
+
+names_are_bytes : (o : ObjectValue) (places : List ℕ) → IsWrittenAt o places → EachKind o (λ s. IsBytes s.name)
+names_are_bytes o places written = record {
+  own = λ p lt. (each_of_all SectionFits o.sections no_section written.widths.sections p lt).name;
+  symbols = IsBytes-symtab;
+  indexes = λ far. IsBytes-symtab_shndx;
+  symbol_strings = IsBytes-strtab;
+  section_strings = IsBytes-shstrtab;
+}
+
+IsBytes-section_names : (o : ObjectValue) (places : List ℕ) → IsWrittenAt o places → IsBytes (string_table (section_names o))
+IsBytes-section_names o places written =
+    let each = each_plain o (λ s. IsBytes s.name) (names_are_bytes o places written) in
+    let names = all_of_each (λ (s : PlainSection). IsBytes s.name) (plain_sections o) no_plain each in
+    (holds_names (section_names o)).bytes (subst (AllByRecursion IsBytes) (sym (section_names_are o)) (map_all (plain_sections o) names))
+  where
+    map_all : (sections : List PlainSection) → AllByRecursion (λ (s : PlainSection). IsBytes s.name) sections → AllByRecursion IsBytes (map (λ (s : PlainSection). s.name) sections)
+    map_all [] all = tt
+    map_all (s ∷ sections) all = (all.0, map_all sections all.1)
+
+IsBytes-symbol_names : (o : ObjectValue) (places : List ℕ) → IsWrittenAt o places → IsBytes (string_table (symbol_names o))
+IsBytes-symbol_names o places written = (holds_names (symbol_names o)).bytes (map_all o.symbols written.widths.symbols)
+  where
+    map_all : (symbols : List SymbolValue) → AllByRecursion SymbolFits symbols → AllByRecursion IsBytes (map (λ (s : SymbolValue). s.name) symbols)
+    map_all [] all = tt
+    map_all (s ∷ symbols) all = (all.0.name, map_all symbols all.1)
+
+-- ---- each number fits its field
+
+abbrev pub taken : PlainSection → ℕ
+taken s = if (s.type == SHT_NULL) || (s.type == SHT_NOBITS) then 0 else section_size s
+
+pub record PlainFits (s : PlainSection) : Type 0 where
+  pub type : s.type < 2 ^ 32
+  pub flags : s.flags < 2 ^ 64
+  pub addr : s.addr < 2 ^ 64
+  pub link : s.link < 2 ^ 32
+  pub info : s.info < 2 ^ 32
+  pub align : s.align < 2 ^ 64
+  pub entsize : s.entsize < 2 ^ 64
+  pub space : s.space < 2 ^ 64
+  pub bytes : IsBytes s.content
+  -- what the file holds of it is its content
+  pub taken : taken s ≡ length s.content
+
+pub index_short : (n : ℕ) (r : Option ℕ) → (IsPast n r → ⊥) → index_of r ≤ n
+index_short n None near = omega arith
+index_short n (Some p) near = let below = above p n near in omega arith
+
+info_short : (n : ℕ) (i : Info) → n < 2 ^ 32 → InfoFits i → (IsPast n (info_position i) → ⊥) → own_info i < 2 ^ 32
+info_short n (Number number) lt fits near = fits
+info_short n (Section p) lt fits near = let below = above p n near in omega arith
+
+bits_taken : (type : ℕ) (n : ℕ) → type ≢ 0 → type ≢ 8 → (if (type == SHT_NULL) || (type == SHT_NOBITS) then 0 else (if type == SHT_NOBITS then 0 else n)) ≡ n
+bits_taken type n some other = rw (ne_eqb type SHT_NULL some, ne_eqb type SHT_NOBITS other) refl
+
+-- a body with the section's own fields
+abbrev own_with : ObjectValue → SectionValue → BodyValue → PlainSection
+own_with o s b = record {
+  name = s.name;
+  type = body_type b;
+  flags = s.flags;
+  addr = s.addr;
+  link = body_link o s b;
+  info = body_info s b;
+  align = s.align;
+  entsize = s.entsize;
+  space = body_space b;
+  content = body_bytes o.order b;
+}
+
+-- what the rules and widths say of the body
+record IsFitBody (o : ObjectValue) (s : SectionValue) (b : BodyValue) : Type 0 where
+  fits : BodyFits b
+  bits : IsWrongBitsType b → ⊥
+  link : IsPast (length o.sections) s.link → ⊥
+  info : IsPast (length o.sections) (info_position s.info) → ⊥
+  reference : HasWrongReference o b → ⊥
+
+own_fits : (o : ObjectValue) (s : SectionValue) (b : BodyValue) → length o.sections + 3 < 2 ^ 24 → length o.symbols < 2 ^ 30 → SectionFits s → IsFitBody o s b → PlainFits (own_with o s b)
+own_fits o s (bits type content) few some fits body =
+    let link = index_short (length o.sections) s.link body.link in
+    record {
+      type = body.fits.0;
+      flags = fits.flags;
+      addr = fits.addr;
+      link = omega arith;
+      info = info_short (length o.sections) s.info (omega arith) fits.info body.info;
+      align = fits.align;
+      entsize = fits.entsize;
+      space = omega arith;
+      bytes = body.fits.1;
+      taken = bits_taken type (length content) (λ same. body.bits (0, omega arith, sym same)) (λ same. body.bits (5, omega arith, sym same));
+    }
+own_fits o s (no_bits size) few some fits body =
+    let link = index_short (length o.sections) s.link body.link in
+    record {
+      type = omega arith;
+      flags = fits.flags;
+      addr = fits.addr;
+      link = omega arith;
+      info = info_short (length o.sections) s.info (omega arith) fits.info body.info;
+      align = fits.align;
+      entsize = fits.entsize;
+      space = body.fits;
+      bytes = IsBytes-nil;
+      taken = refl;
+    }
+own_fits o s (relocs true target entries) few some fits body =
+    let within = above target (length o.sections) (λ past. body.reference (inl (inl past))) in
+    record {
+      type = omega arith;
+      flags = fits.flags;
+      addr = fits.addr;
+      link = omega arith;
+      info = omega arith;
+      align = fits.align;
+      entsize = fits.entsize;
+      space = omega arith;
+      bytes = IsBytes-relocations o.order true entries;
+      taken = refl;
+    }
+own_fits o s (relocs false target entries) few some fits body =
+    let within = above target (length o.sections) (λ past. body.reference (inl (inl past))) in
+    record {
+      type = omega arith;
+      flags = fits.flags;
+      addr = fits.addr;
+      link = omega arith;
+      info = omega arith;
+      align = fits.align;
+      entsize = fits.entsize;
+      space = omega arith;
+      bytes = IsBytes-relocations o.order false entries;
+      taken = refl;
+    }
+own_fits o s (group comdat signature members) few some fits body =
+    let within = above signature (length o.symbols) (λ past. body.reference (inl past)) in
+    record {
+      type = omega arith;
+      flags = fits.flags;
+      addr = fits.addr;
+      link = omega arith;
+      info = omega arith;
+      align = fits.align;
+      entsize = fits.entsize;
+      space = omega arith;
+      bytes = IsBytes-words o.order (group_words comdat members);
+      taken = refl;
+    }
+
+locals_short : (symbols : List SymbolValue) → length (filter is_local symbols) ≤ length symbols
+locals_short [] = omega arith
+locals_short (s ∷ symbols) = by_one (is_local s) (locals_short symbols)
+  where
+    by_one : (one : Bool) → length (filter is_local symbols) ≤ length symbols → length (if one then s ∷ filter is_local symbols else filter is_local symbols) ≤ suc (length symbols)
+    by_one true le = omega arith
+    by_one false le = omega arith
+
+pub plain_fits : (o : ObjectValue) (places : List ℕ) → IsWrittenAt o places → EachKind o PlainFits
+plain_fits o places written =
+    let few = own_short o places written in
+    let some = symbols_short o places written in
+    let locals = locals_short o.symbols in
+    let far_by = strings_at_short (has_index_table o) in
+    record {
+      own = λ p lt.
+          let s = section_at o p in
+          let fits = each_of_all SectionFits o.sections no_section written.widths.sections p lt in
+          let position = no_wrong_position o written.object p lt in
+          own_fits o s s.body few (omega arith) fits (record {
+            fits = fits.body;
+            bits = no_wrong_bits_type o written.object p lt;
+            link = λ past. position (inl past);
+            info = λ past. position (inr (inl past));
+            reference = λ wrong. position (inr (inr wrong));
+          });
+      symbols = record {
+        type = omega arith;
+        flags = omega arith;
+        addr = omega arith;
+        link = far_by;
+        info = omega arith;
+        align = omega arith;
+        entsize = omega arith;
+        space = omega arith;
+        bytes = IsBytes-flat (sym_bytes o.order) (λ e. IsBytes-spelled o.order [] (widths sym_layout) (sym_layout.values e) IsBytes-nil) (null_symbol ∷ map (symbol_entry o) o.symbols);
+        taken = refl;
+      };
+      indexes = λ far. record {
+        type = omega arith;
+        flags = omega arith;
+        addr = omega arith;
+        link = omega arith;
+        info = omega arith;
+        align = omega arith;
+        entsize = omega arith;
+        space = omega arith;
+        bytes = IsBytes-words o.order (0 ∷ map (λ s. index_word s.place) o.symbols);
+        taken = refl;
+      };
+      symbol_strings = strings_fit (codes ".strtab") (symbol_names o) (IsBytes-symbol_names o places written);
+      section_strings = strings_fit (codes ".shstrtab") (section_names o) (IsBytes-section_names o places written);
+    }
+  where
+    strings_at_short : (far : Bool) → length o.sections + 1 + (if far then 2 else 1) < 2 ^ 32
+    strings_at_short true = let few = own_short o places written in omega arith
+    strings_at_short false = let few = own_short o places written in omega arith
+
+    strings_fit : (name : List ℕ) (names : List (List ℕ)) → IsBytes (string_table names) → PlainFits (strings name names)
+    strings_fit name names bytes = record {
+      type = omega arith;
+      flags = omega arith;
+      addr = omega arith;
+      link = omega arith;
+      info = omega arith;
+      align = omega arith;
+      entsize = omega arith;
+      space = omega arith;
+      bytes = bytes;
+      taken = refl;
+    }
+
+-- What the file that an object is written as holds: byte order, header fields, the content of each section, and the names of own sections.
+-- Header fields are computed. Contents go by index, with cases on the index table. A name is read at its offset in the name table, because
+-- it has no zero byte.
+
+-- ---- the header
+
+pub written_order : (o : ObjectValue) (places : List ℕ) → order (written_sections o places) ≡ o.order
+unfolding written_sections order_of
+written_order o places = by_order o.order
+  where
+    by_order : (named : Order) → (if encoding named == ELFDATA2MSB then Big else Little) ≡ named
+    by_order Little = refl
+    by_order Big = refl
+
+pub written_osabi : (o : ObjectValue) (places : List ℕ) → slice_index (written_sections o places).header.e_ident EI_OSABI ≡ o.osabi
+unfolding written_sections
+written_osabi o places = refl
+
+pub written_abi : (o : ObjectValue) (places : List ℕ) → slice_index (written_sections o places).header.e_ident EI_ABIVERSION ≡ o.abi
+unfolding written_sections
+written_abi o places = refl
+
+pub written_machine : (o : ObjectValue) (places : List ℕ) → (written_sections o places).header.e_machine ≡ o.machine
+unfolding written_sections
+written_machine o places = refl
+
+pub written_flags : (o : ObjectValue) (places : List ℕ) → (written_sections o places).header.e_flags ≡ o.flags
+unfolding written_sections
+written_flags o places = refl
+
+-- ---- contents
+
+pub own_content : (o : ObjectValue) (places : List ℕ) (p : ℕ) → p < length o.sections →
+    content (written_sections o places) (suc p) ≡ body_bytes o.order (section_at o p).body
+own_content o places p lt =
+    let many = length-plain o (has_index_table o) refl in
+    let more = last_some (has_index_table o) in
+    written_content o places p (omega arith) ∙ ap (λ (s : PlainSection). s.content) (plain_own o p lt)
+
+last_content : (o : ObjectValue) (places : List ℕ) (far : Bool) → has_index_table o ≡ far → (k : ℕ) → k < last_count far →
+    content (written_sections o places) (symbol_table_at o + k) ≡ (get_or (last_sections o far) k no_plain).content
+last_content o places far is k lt =
+    let many = length-plain o far is in
+    let next : symbol_table_at o + k ≡ suc (length o.sections + k) = omega arith in
+    ap (content (written_sections o places)) next ∙ written_content o places (length o.sections + k) (omega arith)
+    ∙ ap (λ (s : PlainSection). s.content) (plain_last o far is k)
+
+pub symbols_content : (o : ObjectValue) (places : List ℕ) → content (written_sections o places) (symbol_table_at o) ≡ (symbol_table_section o).content
+unfolding last_sections
+symbols_content o places = ap (content (written_sections o places)) at ∙ by_far (has_index_table o) refl
+  where
+    at : symbol_table_at o ≡ symbol_table_at o + 0
+    at = omega arith
+
+    by_far : (far : Bool) → has_index_table o ≡ far → content (written_sections o places) (symbol_table_at o + 0) ≡ (symbol_table_section o).content
+    by_far true is = last_content o places true is 0 (omega arith)
+    by_far false is = last_content o places false is 0 (omega arith)
+
+pub indexes_content : (o : ObjectValue) (places : List ℕ) → has_index_table o ≡ true → content (written_sections o places) (symbol_table_at o + 1) ≡ (index_table_section o).content
+unfolding last_sections
+indexes_content o places is = last_content o places true is 1 (omega arith)
+
+strings_content_at : (o : ObjectValue) (places : List ℕ) (far : Bool) → has_index_table o ≡ far →
+    content (written_sections o places) (symbol_table_at o + (if far then 2 else 1)) ≡ string_table (symbol_names o)
+unfolding last_sections
+strings_content_at o places true is = last_content o places true is 2 (omega arith)
+strings_content_at o places false is = last_content o places false is 1 (omega arith)
+
+pub strings_content : (o : ObjectValue) (places : List ℕ) → content (written_sections o places) (strings_at o) ≡ string_table (symbol_names o)
+strings_content o places = strings_content_at o places (has_index_table o) refl
+
+names_content_at : (o : ObjectValue) (places : List ℕ) (far : Bool) → has_index_table o ≡ far →
+    content (written_sections o places) (symbol_table_at o + (if far then 2 else 1) + 1) ≡ string_table (section_names o)
+unfolding last_sections
+names_content_at o places true is =
+    let next : symbol_table_at o + 2 + 1 ≡ symbol_table_at o + 3 = omega arith in
+    ap (content (written_sections o places)) next ∙ last_content o places true is 3 (omega arith)
+names_content_at o places false is =
+    let next : symbol_table_at o + 1 + 1 ≡ symbol_table_at o + 2 = omega arith in
+    ap (content (written_sections o places)) next ∙ last_content o places false is 2 (omega arith)
+
+pub names_content : (o : ObjectValue) (places : List ℕ) → content (written_sections o places) (name_table_at o) ≡ string_table (section_names o)
+names_content o places = names_content_at o places (has_index_table o) refl
+
+-- ---- names
+
+-- a name of a string table's list is read at its offset
+pub name_read : (names : List (List ℕ)) (i : ℕ) (name : List ℕ) → i < length names → get_or names i [] ≡ name → HasNoZero name →
+    string (string_table names) (name_offset names name) ≡ name
+name_read names i name lt is named =
+    subst (λ (n : List ℕ). HasNoZero n → string (string_table names) (name_offset names n) ≡ n) is ((holds_names names).read i lt) named
+
+-- the section name string table holds the names of all sections
+pub section_name_at : (o : ObjectValue) (p : ℕ) → p < length (plain_sections o) → get_or (section_names o) p [] ≡ (plain_at o p).name
+section_name_at o p lt =
+    ap (λ (names : List (List ℕ)). get_or names p []) (section_names_are o) ∙ get_or-map (λ (s : PlainSection). s.name) (plain_sections o) p no_plain [] lt
+
+pub written_names : (o : ObjectValue) (places : List ℕ) → IsWrittenAt o places →
+    (let f = written_sections o places in value_names f.header f.headers f.contents ≡ string_table (section_names o))
+written_names o places written =
+    let f = written_sections o places in
+    ap (λ (k : ℕ). if k == 0 then [] else content f k) (written_name_table o places written)
+    ∙ rw (ne_eqb (name_table_at o) 0 (λ same. omega arith)) (names_content o places)
+
+own_name : (o : ObjectValue) (p : ℕ) → p < length o.sections → HasNoZero (section_at o p).name →
+    string (string_table (section_names o)) (name_offset (section_names o) (section_at o p).name) ≡ (section_at o p).name
+own_name o p lt named =
+    let many = length-plain o (has_index_table o) refl in
+    let more = last_some (has_index_table o) in
+    let all = ap length (section_names_are o) ∙ length-map (plain_sections o) (λ (s : PlainSection). s.name) in
+    let same = section_name_at o p (omega arith) ∙ ap (λ (s : PlainSection). s.name) (plain_own o p lt) in
+    name_read (section_names o) p (section_at o p).name (omega arith) same named
+
+pub written_name : (o : ObjectValue) (places : List ℕ) → IsWrittenAt o places → (p : ℕ) → p < length o.sections → section_name_of (written_sections o places) (suc p) ≡ (section_at o p).name
+written_name o places written p lt =
+    let names = section_names o in
+    rw (ne_eqb (section (written_sections o places) (suc p)).sh_type SHT_NULL (own_typed o places written p lt))
+    (ap₂ (λ (table : List ℕ) (x : ℕ). string table x) (written_names o places written) (ap (λ (s : Shdr). s.sh_name) (written_own o places written p lt))
+    ∙ own_name o p lt (no_zero_in_section_name o written.object p lt))
 
 -- section i of the file is this one
 pub record HasSectionAt (f : Sections) (i : ℕ) (s : PlainSection) : Type 0 where
@@ -120,3 +551,80 @@ by_section o places written P first own last (suc p) lt = elim (cases_lt p (leng
       let at : symbol_table_at o + (p - length o.sections) ≡ suc p = omega arith in
       subst P at (last (p - length o.sections) (omega arith)))
 ]
+
+-- In a written file only the symbol table has type SYMTAB, and only its index table, if there is one, has type SYMTAB_SHNDX. No section has
+-- type HASH, DYNAMIC, SHLIB or DYNSYM. By cases on the section: the type of an own section goes with its body by rule 2 of objects. (gABI
+-- chapter 4, Sections: sh_type.)
+
+-- what the type of a section says of its index: the symbols' tables are there once, and no type that objects don't have is
+pub record TellsIndex (o : ObjectValue) (i type : ℕ) : Type 0 where
+  pub symbols : type ≡ SHT_SYMTAB → i ≡ symbol_table_at o
+  pub indexes : type ≡ SHT_SYMTAB_SHNDX → (has_index_table o ≡ true) × (i ≡ symbol_table_at o + 1)
+  pub not_foreign : IsForeignType type → ⊥
+
+-- no type that is another number is foreign
+not_foreign_type : (type : ℕ) → type ≢ SHT_HASH → type ≢ SHT_DYNAMIC → type ≢ SHT_SHLIB → type ≢ SHT_DYNSYM → IsForeignType type → ⊥
+not_foreign_type type hash dynamic shlib dynsym (inl is) = hash is
+not_foreign_type type hash dynamic shlib dynsym (inr (inl is)) = dynamic is
+not_foreign_type type hash dynamic shlib dynsym (inr (inr (inl is))) = shlib is
+not_foreign_type type hash dynamic shlib dynsym (inr (inr (inr is))) = dynsym is
+
+no_foreign_number : (type number : ℕ) → type ≡ number → (number < SHT_HASH) ⊎ (SHT_DYNSYM < number) → IsForeignType type → ⊥
+no_foreign_number type number is (inl low) =
+    not_foreign_type type (λ same. omega arith) (λ same. omega arith) (λ same. omega arith) (λ same. omega arith)
+no_foreign_number type number is (inr high) =
+    not_foreign_type type (λ same. omega arith) (λ same. omega arith) (λ same. omega arith) (λ same. omega arith)
+
+-- no body is of such a type
+body_not_foreign : (b : BodyValue) → (IsWrongBitsType b → ⊥) → IsForeignType (body_type b) → ⊥
+body_not_foreign (bits type bytes) right =
+    not_foreign_type type (λ same. right (3, omega arith, sym same)) (λ same. right (4, omega arith, sym same)) (λ same. right (7, omega arith, sym same))
+    (λ same. right (8, omega arith, sym same))
+body_not_foreign (no_bits size) right =
+    not_foreign_type SHT_NOBITS (λ same. omega arith) (λ same. omega arith) (λ same. omega arith) (λ same. omega arith)
+body_not_foreign (relocs true target entries) right = no_foreign_number SHT_RELA SHT_RELA refl (inl (omega arith))
+body_not_foreign (relocs false target entries) right =
+    not_foreign_type SHT_REL (λ same. omega arith) (λ same. omega arith) (λ same. omega arith) (λ same. omega arith)
+body_not_foreign (group comdat signature members) right = no_foreign_number SHT_GROUP SHT_GROUP refl (inr (omega arith))
+
+strings_tell : (o : ObjectValue) (i type : ℕ) → type ≡ SHT_STRTAB → TellsIndex o i type
+strings_tell o i type is =
+    record { symbols = λ same. absurd (omega arith); indexes = λ same. absurd (omega arith); not_foreign = no_foreign_number type SHT_STRTAB is (inl (omega arith)) }
+
+symbols_tell : (o : ObjectValue) (i : ℕ) → i ≡ symbol_table_at o → TellsIndex o i SHT_SYMTAB
+symbols_tell o i at =
+    record { symbols = λ same. at; indexes = λ same. absurd (omega arith); not_foreign = no_foreign_number SHT_SYMTAB SHT_SYMTAB refl (inl (omega arith)) }
+
+last_tells : (o : ObjectValue) (far : Bool) (k : ℕ) → has_index_table o ≡ far → k < last_count far →
+    TellsIndex o (symbol_table_at o + k) (get_or (last_sections o far) k no_plain).type
+unfolding last_sections
+last_tells o true zero is lt = symbols_tell o (symbol_table_at o + 0) (omega arith)
+last_tells o true (suc zero) is lt =
+    record { symbols = λ same. absurd (omega arith); indexes = λ same. (is, refl); not_foreign = no_foreign_number SHT_SYMTAB_SHNDX SHT_SYMTAB_SHNDX refl (inr (omega arith)) }
+last_tells o true (suc (suc zero)) is lt = strings_tell o _ _ refl
+last_tells o true (suc (suc (suc zero))) is lt = strings_tell o _ _ refl
+last_tells o true (suc (suc (suc (suc k)))) is lt = absurd (omega arith)
+last_tells o false zero is lt = symbols_tell o (symbol_table_at o + 0) (omega arith)
+last_tells o false (suc zero) is lt = strings_tell o _ _ refl
+last_tells o false (suc (suc zero)) is lt = strings_tell o _ _ refl
+last_tells o false (suc (suc (suc k))) is lt = absurd (omega arith)
+
+pub type_tells : (o : ObjectValue) (places : List ℕ) → IsWrittenAt o places → (i : ℕ) → i < count (written_sections o places) →
+    TellsIndex o i (section (written_sections o places) i).sh_type
+type_tells o places written =
+    let f = written_sections o places in
+    let far = has_index_table o in
+    by_section o places written (λ i. TellsIndex o i (section f i).sh_type) first own
+    (λ k lt. subst (TellsIndex o (symbol_table_at o + k)) (sym (last_at o places written far refl k lt).sh_type) (last_tells o far k refl lt)) where
+      first : TellsIndex o 0 (section (written_sections o places) 0).sh_type
+      first =
+          let null = ap (λ (s : Shdr). s.sh_type) (written_first o places written) in
+          record { symbols = λ same. absurd (omega arith); indexes = λ same. absurd (omega arith); not_foreign = no_foreign_number _ SHT_NULL null (inl (omega arith)) }
+
+      own : (p : ℕ) → p < length o.sections → TellsIndex o (suc p) (section (written_sections o places) (suc p)).sh_type
+      own p lt = record {
+        symbols = λ same. absurd (own_type o places SHT_SYMTAB written symbols_no_body p lt same);
+        indexes = λ same. absurd (own_type o places SHT_SYMTAB_SHNDX written indexes_no_body p lt same);
+        not_foreign =
+            subst (λ (type : ℕ). IsForeignType type → ⊥) (sym (own_at o places written p lt).sh_type) (body_not_foreign (section_at o p).body (no_wrong_bits_type o written.object p lt));
+      }

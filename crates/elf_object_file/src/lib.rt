@@ -5,10 +5,8 @@
 //! of what an object is written as and what that denotes, [`denoted_object`] and [`sound_object`] of the object that a file denotes.
 #![tactic(auto)]
 
-mod layout_laws;
+mod laws;
 mod object_file;
-mod written_laws;
 
-pub use layout_laws::{laid_objects, one_layout};
+pub use laws::{denoted_object, laid_objects, one_layout, sound_object, written_object};
 pub use object_file::{prove_read_back, write_object, write_object_with_ends};
-pub use written_laws::{denoted_object, sound_object, written_object};

@@ -1,25 +1,26 @@
 -- Rules 70 to 79: what a file needs to be an object, beside its tables' own rules, and the order of them all.
 -- (gABI chapter 4: ELF Header, Sections, Symbol Table, Relocation, Section Groups.)
-use Rattle.std.specs.Prelude.{◌≡◌, ◌≢◌, ℕ, ◌+◌, ◌*◌, ◌<◌, ◌⊎◌, true, false, Option, None, Some, List, [], ◌∷◌, ◌++◌, get_or, length}
+use Rattle.std.specs.Prelude.{◌≡◌, ◌≢◌, ℕ, ◌+◌, ◌*◌, ◌<◌, ◌⊎◌, true, false, Option, None, Some, List, [], ◌∷◌, ◌++◌, get_or, length, ◌↔◌, Bool, map}
+use Rattle.std.specs.List.{range_with_len}
 use Rattle.elf_field.specs.Abi.{ET_REL, E_ENTRY_AT, E_PHNUM_AT, E_TYPE_AT, SHF_INFO_LINK, SHT_DYNAMIC, SHT_DYNSYM, SHT_GROUP, SHT_HASH, SHT_SHLIB, SHT_SYMTAB, SHT_SYMTAB_SHNDX, SH_INFO_AT, SH_LINK_AT, SH_TYPE_AT, ST_SHNDX_AT, SYM_SIZE, WORD_SIZE}
 use Rattle.elf_field.specs.declared.ehdr.Ehdr.{Ehdr}
 use Rattle.elf_image_rules.specs.Rows.{AtEntry, Either, OfSome, Row, Ruled, When, rule}
-use Rattle.elf_table_symbols.specs.declared.symbol.Place.{Place}
-use Rattle.elf_table_symbols.specs.declared.symbol.Place.TheVariants.{Undefined, Absolute, Common, Reserved, Section}
-use Rattle.elf_table_symbols.specs.Sections.{Sections, content, count, header_at, order, section}
-use Rattle.elf_table_symbols.specs.SymbolRules.{symbol_table_rules}
-use Rattle.elf_table_symbols.specs.Symbols.{symbols_of}
+use Rattle.elf_image_type.specs.ImageView.{string}
+use Rattle.elf_object_reader.specs.Denotes.{body_kind, is_kept, kept, left_out, symbol_table, position_of}
+use Rattle.elf_object_reader.specs.declared.file_rules.ReferenceRule.TheVariants.{WrongRelocationTarget, WrongKeptLink, WrongKeptInfo}
+use Rattle.elf_object_reader.specs.declared.file_rules.ReferenceRule.{ReferenceRule}
+use Rattle.elf_object_reader.specs.declared.object_file.BodyKind.TheVariants.{Bits, NoBits, Relocs, Group}
+use Rattle.elf_object_reader.specs.declared.object_file.BodyKind.{BodyKind}
+use Rattle.elf_object_reader.specs.declared.object_file.LeftOut.{LeftOut}
+use Rattle.elf_object_reader.specs.declared.object_file.ObjectFile.{ObjectFile}
+use Rattle.elf_object_type.specs.Object.{HasFlag}
+use Rattle.elf_table_lists.specs.Groups.{group_section_rules, member, member_count}
+use Rattle.elf_table_lists.specs.Relocations.{relocation_section_rules}
+use Rattle.elf_table_symbols.specs.Sections.{Sections, content, count, header_at, order, section, sections_of}
 use Rattle.elf_table_symbols.specs.SymbolView.{no_symbol_entry}
-use Rattle.elf_table_lists.specs.GroupRules.{group_section_rules}
-use Rattle.elf_table_lists.specs.Groups.{member, member_count}
-use Rattle.elf_table_lists.specs.RelocationRules.{relocation_section_rules}
-use Rattle.elf_object_reader.specs.declared.body_kind.BodyKind.{BodyKind}
-use Rattle.elf_object_reader.specs.declared.body_kind.BodyKind.TheVariants.{Bits, NoBits, Relocs, Group}
-use Rattle.elf_object_reader.specs.declared.left_out.LeftOut.{LeftOut}
-use Rattle.elf_object_reader.specs.declared.reference_rules.ReferenceRule.{ReferenceRule}
-use Rattle.elf_object_reader.specs.declared.reference_rules.ReferenceRule.TheVariants.{WrongRelocationTarget, WrongKeptLink, WrongKeptInfo}
-use Rattle.elf_object_reader.specs.Kept.{body_kind, is_kept, kept, left_out, symbol_table}
-use Rattle.elf_object_type.specs.Positions.{HasFlag}
+use Rattle.elf_table_symbols.specs.Symbols.{symbol_table_rules, symbols_of}
+use Rattle.elf_table_symbols.specs.declared.symbols.Place.TheVariants.{Undefined, Absolute, Common, Reserved, Section}
+use Rattle.elf_table_symbols.specs.declared.symbols.Place.{Place}
 
 -- ---- rules 70 to 74: the header, and which sections there are
 
@@ -186,3 +187,30 @@ rules_behind left f table = symbol_rules_in left f table ++ (rules_of_bodies f (
 
 unfoldable pub file_rules : Sections → List {1} (Ruled ℕ)
 file_rules f = front_rules f ++ rules_behind (left_out f) f (symbol_table f)
+
+-- Marks over the sections of a file: one for each section of which something holds.
+
+pub record AreMarks (n : ℕ) (P : ℕ → Type 0) (marks : List Bool) : Type 0 where
+  pub long : length marks ≡ n
+  pub right : (m : ℕ) → m < n → (get_or marks m false ≡ true) ↔ P m
+
+-- The file that is read as an object, as clauses name it.
+
+-- its header, its section headers and the content of each section
+abbrev pub sections_of_file : ObjectFile → Sections
+sections_of_file file = sections_of file.image.now
+
+-- What the code keeps of a file while it reads it: the positions of its sections, and where strings end.
+
+-- for each section its position; the last one is that of any section that isn't there
+pub record AreSectionPositions (left : LeftOut) (f : Sections) (positions : List ℕ) : Type 0 where
+  pub long : length positions ≡ count f + 1
+  pub right : positions ≡ map (position_of left f) (range_with_len 0 (count f + 1))
+
+-- how many bytes of a string table are a block
+abbrev pub BLOCK : ℕ
+BLOCK = 4096
+
+-- where the string ends that is at the beginning of a block
+abbrev pub block_end : List ℕ → ℕ → ℕ
+block_end table block = BLOCK * block + length (string table (BLOCK * block))

@@ -1,14 +1,135 @@
 //! An image that is read as an object, with what is looked up once for all its sections.
-ghost use Rattle.std.specs.Prelude.{◌≡◌, ◌<◌, length};
+ghost use Rattle.std.specs.Prelude.{◌≡◌, ◌==◌, ◌&&◌, ◌<◌, ◌≤◌, IfSome, length, position};
 ghost use Rattle.std.specs.Bool.{OnTrue};
-ghost use Rattle.elf_object_reader.specs.Kept.{is_kept as is_kept_of, left_out};
-ghost use Rattle.elf_table_all.specs.TableVerdicts.{AreVerdicts};
-ghost use Rattle.elf_table_symbols.specs.Sections.{sections_of};
+ghost use Rattle.elf_object_reader.specs.Denotes.{body_kind, is_at as is_at_of, is_kept as is_kept_of, left_out, symbol_table as symbol_table_of};
+ghost use Rattle.elf_table_symbols.specs.Symbols.{index_table as index_table_of, symbols_of};
+ghost use Rattle.elf_table_symbols.specs.Sections.{sections_of, section};
+ghost use Rattle.elf_table_all.specs.Tables.{AreVerdicts};
 
-use crate::file_section::FileSection;
-use crate::left_out::LeftOut;
+use elf_field::Shdr;
+use elf_field::abi::*;
 use elf_image_type::Image;
-use elf_table_all::Tables;
+use elf_table_all::{Symbols, Tables};
+
+// What a section of a type holds in an object (gABI chapter 4, Sections: sh_type).
+
+/// The kind of a section's [`Body`](elf_object_type::Body).
+#[derive(Clone, Copy, Debug, PartialEq, Eq)]
+pub enum BodyKind {
+    /// Bytes that mean nothing to the object.
+    Bits,
+    /// No bytes in the file (`SHT_NOBITS`).
+    NoBits,
+    /// Relocations (`SHT_RELA`, `SHT_REL`).
+    Relocs,
+    /// A section group (`SHT_GROUP`).
+    Group,
+}
+
+impl BodyKind {
+    /// The kind of the body of a section of this type.
+    pub(crate) fn of(section_type: u32) -> BodyKind
+        ensures { result ≡ body_kind section_type }
+    {
+        match section_type {
+            SHT_NOBITS => BodyKind::NoBits,
+            SHT_RELA | SHT_REL => BodyKind::Relocs,
+            SHT_GROUP => BodyKind::Group,
+            _ => BodyKind::Bits,
+        }
+    }
+}
+
+// The sections of a file that an object does not keep (gABI chapter 4, Sections, String Table, Symbol Table).
+
+/// The sections that an object leaves out, beside those without a type, by their indexes: the symbol table with its string
+/// table and its index table, and the section name string table (0 for none).
+#[derive(Clone, Copy, Debug, PartialEq, Eq)]
+pub struct LeftOut {
+    /// The symbol table.
+    pub symbol_table: Option<usize>,
+    /// The string table of the symbols' names.
+    pub strings: Option<usize>,
+    /// The index table of the symbol table.
+    pub index_table: Option<usize>,
+    /// The section name string table, 0 for none.
+    pub names: usize,
+}
+
+impl LeftOut {
+    /// Those of this image.
+    pub(crate) fn of(image: &Image<'_>) -> LeftOut
+        ensures { result ≡ left_out (sections_of image.now) }
+    {
+        let names = image.name_table() as usize;
+        match symbol_table(image) {
+            Some(t) => LeftOut {
+                symbol_table: Some(t),
+                strings: Some(image.section(t).sh_link as usize),
+                index_table: index_table(image, t),
+                names,
+            },
+            None => LeftOut {
+                symbol_table: None,
+                strings: None,
+                index_table: None,
+                names,
+            },
+        }
+    }
+
+    /// Whether the object keeps section `i`; it keeps none that is not there.
+    #[tactic(auto, unfolding(crate::specs::Denotes::is_kept))]
+    pub(crate) fn is_kept(&self, image: &Image<'_>, i: usize) -> bool
+        ensures value { result ≡ is_kept_of self.now (sections_of image.now) i }
+        ensures there { OnTrue result (i < length image.now.sections) }
+    {
+        if i >= image.section_count() {
+            return false;
+        }
+        !(image.section(i).sh_type == SHT_NULL
+            || (i == 0
+                || (is_at(self.symbol_table, i)
+                    || (is_at(self.strings, i)
+                        || (is_at(self.index_table, i) || self.names == i)))))
+    }
+}
+
+/// Whether a section that may be missing is section `i`.
+fn is_at(section: Option<usize>, i: usize) -> bool
+    ensures { result ≡ is_at_of section i }
+{
+    match section {
+        Some(k) => k == i,
+        None => false,
+    }
+}
+
+/// The symbol table: the first section of that type.
+pub(crate) fn symbol_table(image: &Image<'_>) -> Option<usize>
+    ensures found { result ≡ symbol_table_of (sections_of image.now) }
+    ensures there { IfSome result (λ t. t < length image.now.sections) }
+{
+    for i in 0..image.section_count() {
+        if image.section(i).sh_type == SHT_SYMTAB {
+            return Some(i);
+        }
+    }
+    None
+}
+
+/// The first index table of the symbol table in section `t`.
+fn index_table(image: &Image<'_>, t: usize) -> Option<usize>
+    ensures { result ≡ index_table_of (sections_of image.now) t }
+{
+    for i in 0..image.section_count() {
+        let section = image.section(i);
+        if section.sh_type == SHT_SYMTAB_SHNDX && section.sh_link as usize == t {
+            return Some(i);
+        }
+    }
+    None
+}
 
 /// The image of an object file, with the sections that the object leaves out, and its tables, each of which is validated.
 #[derive(Drop)]
@@ -26,7 +147,7 @@ pub(crate) struct ObjectFile<'i, 'a> {
 }
 
 impl<'i, 'a> ObjectFile<'i, 'a> {
-    ghost use Rattle.elf_object_reader.specs.ObjectFile.{sections_of_file};
+    ghost use Rattle.elf_object_reader.specs.FileRules.{sections_of_file};
 
     /// Whether the object keeps section `i`; it keeps none that is not there.
     pub(crate) fn is_kept(&self, i: usize) -> bool
@@ -48,4 +169,34 @@ impl<'i, 'a> ObjectFile<'i, 'a> {
             header: self.image.section(i),
         }
     }
+}
+
+// A section of a file that is read as an object.
+
+/// A section of an object file, with its header.
+#[derive(Clone, Copy, Drop)]
+pub(crate) struct FileSection<'f, 'i, 'a> {
+    /// The file.
+    pub(crate) file: &'f ObjectFile<'i, 'a>,
+    /// The section's index.
+    pub(crate) index: usize,
+    /// Its header.
+    pub(crate) header: Shdr,
+    ghost there: { index < length file.now.image.now.sections },
+    ghost own_header: { header ≡ section (sections_of file.now.image.now) index },
+}
+
+// The symbol table of a file that is read as an object.
+
+/// The symbol table of an object file, which breaks none of its own rules.
+#[derive(Drop)]
+pub(crate) struct FileSymbols<'f, 'i, 'a> {
+    /// The file.
+    pub(crate) file: &'f ObjectFile<'i, 'a>,
+    /// The index of the table's section.
+    pub(crate) index: usize,
+    /// The symbols.
+    pub(crate) entries: Symbols<'a>,
+    ghost there: { index < length file.now.image.now.sections },
+    ghost own_entries: { entries ≡ symbols_of (sections_of file.now.image.now) index },
 }

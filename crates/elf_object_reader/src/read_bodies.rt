@@ -1,16 +1,14 @@
 //! The sections of a file as those of an object (gABI chapter 4, Sections, Relocation, Section Groups).
 ghost use Rattle.std.specs.Prelude.{◌≡◌, ◌<◌, IfOk, length, map, true};
-ghost use Rattle.elf_object_reader.specs.declared.body_kind.BodyKind.TheVariants as kind;
-ghost use Rattle.elf_object_reader.specs.Denotes.{body_denoted, info_denoted, link_denoted, plain_info as plain_info_of, relocation_denoted, section_denoted};
-ghost use Rattle.elf_object_reader.specs.Kept.{body_kind, is_kept, kept, position_of};
-ghost use Rattle.elf_object_reader.specs.ObjectFile.{sections_of_file};
+ghost use Rattle.elf_object_reader.specs.Denotes.{body_denoted, info_denoted, link_denoted, plain_info as plain_info_of, relocation_denoted, section_denoted, body_kind, is_kept, kept, position_of};
+ghost use Rattle.elf_object_reader.specs.FileRules.{sections_of_file};
 ghost use Rattle.elf_object_type.specs.ObjectView.{body_value, section_value};
 ghost use Rattle.elf_table_lists.specs.Groups.{group_of};
 ghost use Rattle.elf_table_lists.specs.Relocations.{relocations_of};
+ghost use Rattle.elf_object_reader.specs.declared.object_file.BodyKind.TheVariants as kind;
 
-use crate::body_kind::BodyKind;
-use crate::kept_section::KeptSection;
-use crate::object_reader::ObjectReader;
+use crate::object_file::BodyKind;
+use crate::reading::{KeptSection, ObjectReader};
 use elf_field::abi::*;
 use elf_object_type::{Body, Info, Relocations, Section};
 use elf_table_all::Group;

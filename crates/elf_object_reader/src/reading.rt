@@ -1,27 +1,96 @@
 //! A relocatable file read as an object (gABI chapter 4).
-ghost use Rattle.std.specs.Prelude.{◌≡◌, IfErr, IfOk, None, map};
-ghost use Rattle.elf_image_stream.specs.declared.fault.Fault.TheVariants.{OutOfMemory};
-ghost use Rattle.elf_object_reader.specs.Denotes.{Denotes, symbol_ends};
-ghost use Rattle.elf_object_reader.specs.FileRules.{file_rules, front_rules};
-ghost use Rattle.elf_object_reader.specs.Kept.{symbol_table};
-ghost use Rattle.elf_object_reader.specs.ObjectFile.{sections_of_file};
-ghost use Rattle.elf_object_strings.specs.NameEnds.{AreTails};
-ghost use Rattle.elf_object_type.specs.ObjectView.{value_of};
+ghost use Rattle.std.specs.Prelude.{◌≡◌, None, ◌<◌, true, length, ◌+◌, IfOk, IfErr, map};
+ghost use Rattle.elf_image_rules.specs.KeepsRules.{unbroken_prop};
 ghost use Rattle.elf_image_rules.specs.Rows.{FirstIn};
-ghost use Rattle.elf_table_symbols.specs.Judged.{IsJudgedBehind};
-ghost use Rattle.elf_table_symbols.specs.Sections.{sections_of};
+ghost use Rattle.elf_object_reader.specs.Denotes.{section_reference, position_of, is_kept, Denotes, symbol_ends, symbol_table};
+ghost use Rattle.elf_object_reader.specs.FileRules.{file_rules, AreSectionPositions, sections_of_file, front_rules};
+ghost use Rattle.elf_table_symbols.specs.Sections.{sections_of, section};
+ghost use Rattle.elf_image_stream.specs.declared.fault.Fault.TheVariants.{OutOfMemory};
+ghost use Rattle.elf_object_strings.specs.StringTable.{AreTails};
+ghost use Rattle.elf_object_type.specs.ObjectView.{value_of};
+ghost use Rattle.elf_table_symbols.specs.Verdicts.{IsJudgedBehind};
 
-use crate::front_rules::judge_front;
-use crate::left_out::LeftOut;
-use crate::object_file::ObjectFile;
-use crate::object_reader::ObjectReader;
+use crate::file_rules::judge_front;
+use crate::object_file::{LeftOut, ObjectFile};
 use crate::read_symbols::symbol_ends;
+use elf_field::Shdr;
 use elf_field::abi::*;
 use elf_image_stream::Fault;
 use elf_image_type::Image;
 use elf_object_type::{Object, ObjectParts, kept_object};
 use elf_table_all::Tables;
-use std::alloc::Global;
+use std::alloc::{AllocError, Global};
+
+// A file that breaks no rule of objects, as its parts are read.
+
+/// An object file that breaks no rule, with the position of each section in the object.
+#[derive(Drop)]
+pub(crate) struct ObjectReader<'i, 'a> {
+    /// The file.
+    pub(crate) file: ObjectFile<'i, 'a>,
+    /// For each section its position, and a last one for any section that is not there.
+    pub(crate) positions: Vec<usize>,
+    ghost sound: { FirstIn (file_rules (sections_of file.image.now)) None } by { unbroken_prop _ },
+    ghost own_positions: { AreSectionPositions file.left (sections_of file.image.now) positions.items },
+}
+
+impl<'i, 'a> ObjectReader<'i, 'a> {
+    ghost use Rattle.elf_object_reader.specs.FileRules.{sections_of_file};
+
+    /// The position of section `k`.
+    pub(crate) fn position_at(&self, k: usize) -> usize
+        ensures { result ≡ position_of self.now.file.left (sections_of_file self.now.file) k }
+    {
+        self.positions[k.min(self.file.image.section_count())]
+    }
+
+    /// Section `k` as a position; 0 is none.
+    pub(crate) fn reference_at(&self, k: usize) -> Option<usize>
+        ensures { result ≡ section_reference self.now.file.left (sections_of_file self.now.file) k }
+    {
+        if k == 0 {
+            None
+        } else {
+            Some(self.position_at(k))
+        }
+    }
+}
+
+// A section of a file that the object keeps.
+
+/// A section of an object file that the object keeps, with its header.
+#[derive(Clone, Copy, Drop)]
+pub(crate) struct KeptSection<'r, 'i, 'a> {
+    /// The file.
+    pub(crate) reader: &'r ObjectReader<'i, 'a>,
+    /// The section's index.
+    pub(crate) index: usize,
+    /// Its header.
+    pub(crate) header: Shdr,
+    ghost there: { index < length reader.now.file.image.now.sections },
+    ghost own_header: { header ≡ section (sections_of reader.now.file.image.now) index },
+    ghost kept: { is_kept reader.now.file.left (sections_of reader.now.file.image.now) index ≡ true },
+}
+
+// The positions of the sections of a file in the object that it is read as.
+
+impl<'i, 'a> ObjectFile<'i, 'a> {
+    /// For each section its position, and a last one for any section that is not there.
+    pub(crate) fn positions(&self, alloc: Global) -> Result<Vec<usize>, AllocError>
+        ensures { IfOk result (λ positions. AreSectionPositions self.now.left (sections_of_file self.now) positions.items) }
+    {
+        let mut positions = Vec::new(alloc);
+        let mut kept = 0;
+        for i in 0..self.image.section_count() {
+            positions.push(kept)?;
+            if self.is_kept(i) {
+                kept += 1;
+            }
+        }
+        positions.push(kept)?;
+        Ok(positions)
+    }
+}
 
 /// The object that the image denotes: the header's fields; the sections but those of type NULL, the symbol table with its string
 /// table and its index table, and the section name string table; and the symbols but symbol 0. Indexes have become positions.

@@ -1,17 +1,235 @@
 -- Names with their indexes: in the order of their list, in another order, and sorted. Each pair has a name and its index in the list, also
 -- after a permutation. Pairs sorted by `numbered_order`, which is a total order, are in the order by ends, if each has the number of its
 -- end (`end_decides`).
-use Rattle.std.proofs.Common.{◌≡◌, ℕ, ◌<◌, List, [], get_or, length, reverse, sym, ap, subst, ◌∙◌, arith}
-use Rattle.std.specs.Cmp.{IsTotalOrder}
+use Rattle.std.proofs.Common.{◌≡◌, ℕ, zero, suc, ◌+◌, ◌-◌, ◌*◌, ◌^◌, ◌<◌, ◌≤◌, List, [], ◌∷◌, ◌++◌, length, get_or, take, drop, min, replicate, reverse, Ordering, refl, sym, ap, subst, ◌∙◌, inl, inr, add-one, arith}
+use Rattle.std.specs.declared.cmp.Ordering.TheVariants.{Less, Equal, Greater}
+use Rattle.std.specs.Cmp.{nat_cmp_is, IsTotalOrder}
+use Rattle.std.specs.Cmp.Lexicographic.{slice_cmp}
+use Rattle.std.specs.Int.{byte_worth, from_le_bytes, sum_through, w64}
+use Rattle.std.specs.Ordering.{nat_cmp, ordering_then, is_lt}
+use Rattle.std.proofs.Math.Nat.{add-mul, mul-le-mul_right, one-le-pow, pow-succ'}
+use Rattle.std.proofs.lemmas.Bool.{cases_lt, cases_order}
+use Rattle.std.proofs.lemmas.List.{append-nil, drop_all, get_or-reverse, get_or_past, length-append, length-drop, length-replicate, length-reverse, replicate_more, reverse-append, take-append-drop, take-replicate, take_all, take_more, take_rest, get_or-map, get_or_default, length-map}
 use Rattle.std.specs.List.{All, Contains}
 use Rattle.std.specs.List.Sorted.{IsPermutation, IsSortedBy}
-use Rattle.std.specs.Ordering.{is_lt}
 use Rattle.std.proofs.lemmas.Cmp.{back_total, nat_cmp_total, nat_list_cmp_total, on_total, then_total}
-use Rattle.std.proofs.lemmas.List.{get_or-map, get_or_default, length-map}
 use Rattle.std.proofs.lemmas.List.Sorted.{All-permutation, Contains-permutation, length_permutation, ranks_by, sorted_far}
+use borrow.Rule.Slice.PartMut.{post_of, put_mid}
+use Rattle.elf_field.specs.Bytes.{IsBytes, IsBytes-rest}
+use Rattle.elf_object_strings.specs.Sorting.{AreWithoutEqualEnds, HasEnd, end_number, ends_order, leading, numbered_order, AreInEndsOrder, AreNumbered, indexes_in, names_by_ends}
 use Rattle.elf_object_strings.specs.declared.sorting.Numbered.{Numbered}
-use Rattle.elf_object_strings.specs.Sorting.{AreInEndsOrder, AreNumbered, HasEnd, ends_order, indexes_in, names_by_ends, numbered_order}
-use Rattle.elf_object_strings.proofs.EndNumbers.{end_decides}
+
+-- Names as numbers of their last eight bytes, read from the end on: the last byte is the leading digit to the base 256. So if two numbers
+-- differ, they are in the order of the names; if they are equal, the names decide, without an end that both have. The code's number is this
+-- one.
+
+-- ---- the order of the numbers
+
+leading-lt : (n : ℕ) (bytes : List ℕ) → IsBytes bytes → leading n bytes < 256 ^ n
+unfolding leading
+leading-lt zero bytes are = omega arith
+leading-lt (suc n) [] are = let positive = one-le-pow (suc n) 256 (omega arith) in omega arith
+leading-lt (suc n) (byte ∷ bytes) are =
+    let small : byte < 256 = are 0 in
+    let rest = leading-lt n bytes (IsBytes-rest byte bytes are) in
+    let top : byte * 256 ^ n ≤ 255 * 256 ^ n = mul-le-mul_right (256 ^ n) (omega arith) in
+    rw (pow-succ' 256 n) (omega arith)
+
+less : (a b : ℕ) → a < b → nat_cmp a b ≡ Less
+less a b below = sym (nat_cmp_is a b Less below)
+
+equal : (a b : ℕ) → a ≡ b → nat_cmp a b ≡ Equal
+equal a b same = sym (nat_cmp_is a b Equal same)
+
+greater : (a b : ℕ) → b < a → nat_cmp a b ≡ Greater
+greater a b above = sym (nat_cmp_is a b Greater above)
+
+below_zero : (m : ℕ) → ordering_then (nat_cmp 0 m) Less ≡ Less
+below_zero zero = refl
+below_zero (suc m) = rw (less 0 (suc m) (omega arith)) refl
+
+above_zero : (m : ℕ) → ordering_then (nat_cmp m 0) Greater ≡ Greater
+above_zero zero = refl
+above_zero (suc m) = rw (greater (suc m) 0 (omega arith)) refl
+
+-- what is added to both does not count
+added : (a r s : ℕ) → nat_cmp (a + r) (a + s) ≡ nat_cmp r s
+added a r s =
+    elim (cases_order r s) [
+      | inl same ↦ equal (a + r) (a + s) (omega arith) ∙ sym (equal r s same)
+      | inr other ↦ elim other [
+        | inl below ↦ less (a + r) (a + s) (omega arith) ∙ sym (less r s below)
+        | inr above ↦ greater (a + r) (a + s) (omega arith) ∙ sym (greater r s above)
+      ]
+    ]
+
+-- two digits to the base p
+digits-lt : (x y p r s : ℕ) → x < y → r < p → x * p + r < y * p + s
+digits-lt x y p r s below low =
+    let top : (x + 1) * p ≤ y * p = mul-le-mul_right p (omega arith) in
+    let split = add-mul x 1 p in
+    omega arith
+
+digits : (x y p r s : ℕ) (o : Ordering) → r < p → s < p → ordering_then (nat_cmp r s) o ≡ o →
+    ordering_then (nat_cmp (x * p + r) (y * p + s)) (ordering_then (nat_cmp x y) o) ≡ ordering_then (nat_cmp x y) o
+digits x y p r s o low other_low rest =
+    elim (cases_order x y) [
+      | inl same ↦
+          let P : ℕ → Type 0 = λ z.
+          ordering_then (nat_cmp (x * p + r) (z * p + s)) (ordering_then (nat_cmp x z) o) ≡ ordering_then (nat_cmp x z) o in
+          subst P same (rw (added (x * p) r s, equal x x refl) rest)
+      | inr other ↦ elim other [
+        | inl below ↦ rw (less (x * p + r) (y * p + s) (digits-lt x y p r s below low), less x y below) refl
+        | inr above ↦ rw (greater (x * p + r) (y * p + s) (digits-lt y x p s r above other_low), greater x y above) refl
+      ]
+    ]
+
+pub leading-order : (n : ℕ) (bytes others : List ℕ) → IsBytes bytes → IsBytes others →
+    ordering_then (nat_cmp (leading n bytes) (leading n others)) (slice_cmp nat_cmp bytes others) ≡ slice_cmp nat_cmp bytes others
+unfolding leading
+leading-order zero bytes others are too = refl
+leading-order (suc n) [] [] are too = refl
+leading-order (suc n) [] (other ∷ others) are too = below_zero (other * 256 ^ n + leading n others)
+leading-order (suc n) (byte ∷ bytes) [] are too = above_zero (byte * 256 ^ n + leading n bytes)
+leading-order (suc n) (byte ∷ bytes) (other ∷ others) are too =
+    let are_rest = IsBytes-rest byte bytes are in
+    let too_rest = IsBytes-rest other others too in
+    digits byte other (256 ^ n) (leading n bytes) (leading n others) (slice_cmp nat_cmp bytes others)
+    (leading-lt n bytes are_rest) (leading-lt n others too_rest) (leading-order n bytes others are_rest too_rest)
+
+-- ---- what the numbers are made of
+
+abbrev zeros : ℕ → List ℕ
+zeros k = replicate k 0
+
+leading-nil : (n : ℕ) → leading n [] ≡ 0
+unfolding leading
+leading-nil zero = refl
+leading-nil (suc n) = refl
+
+leading-zeros : (n k : ℕ) → leading n (zeros k) ≡ 0
+unfolding leading
+leading-zeros zero k = refl
+leading-zeros (suc n) zero = refl
+leading-zeros (suc n) (suc k) = let rest = leading-zeros n k in omega arith
+
+-- zeros after the bytes do not count
+leading-closed : (n : ℕ) (bytes : List ℕ) (k : ℕ) → leading n (bytes ++ zeros k) ≡ leading n bytes
+unfolding leading
+leading-closed n [] k = leading-zeros n k ∙ sym (leading-nil n)
+leading-closed zero (byte ∷ bytes) k = refl
+leading-closed (suc n) (byte ∷ bytes) k = ap (λ (x : ℕ). byte * 256 ^ n + x) (leading-closed n bytes k)
+
+-- nor does anything after n bytes
+leading-append : (n : ℕ) (bytes rest : List ℕ) → n ≤ length bytes → leading n (bytes ++ rest) ≡ leading n bytes
+unfolding leading
+leading-append zero bytes rest long = refl
+leading-append (suc n) [] rest long = absurd (omega arith)
+leading-append (suc n) (byte ∷ bytes) rest long =
+    ap (λ (x : ℕ). byte * 256 ^ n + x) (leading-append n bytes rest (omega arith))
+
+reverse-zeros : (k : ℕ) → reverse (zeros k) ≡ zeros k
+reverse-zeros zero = refl
+reverse-zeros (suc k) =
+    let first : List ℕ = 0 ∷ [] in
+    reverse-append first (zeros k) ∙ ap (λ (xs : List ℕ). xs ++ 0 ∷ []) (reverse-zeros k)
+    ∙ replicate_more k 0 ∙ ap zeros (add-one k)
+
+-- the first bytes of a little-endian number
+worth : (k : ℕ) (bytes : List ℕ) → k < length bytes →
+    sum_through (λ i. byte_worth i (get_or bytes i 0)) k ≡ leading (suc k) (reverse (take (suc k) bytes))
+unfolding leading
+worth zero [] within = absurd (omega arith)
+worth zero (byte ∷ bytes) within = omega arith
+worth (suc k) bytes within =
+    let before = worth k bytes (omega arith) in
+    let more : take (suc (suc k)) bytes ≡ take (suc k) bytes ++ get_or bytes (suc k) 0 ∷ [] =
+    ap (λ (n : ℕ). take n bytes) (sym (add-one (suc k))) ∙ take_more bytes (suc k) 0 within in
+    let turned : reverse (take (suc (suc k)) bytes) ≡ get_or bytes (suc k) 0 ∷ reverse (take (suc k) bytes) =
+    ap reverse more ∙ reverse-append (take (suc k) bytes) (get_or bytes (suc k) 0 ∷ []) in
+    rw turned (omega arith)
+
+number-is : (bytes : List ℕ) → length bytes ≡ 8 → from_le_bytes w64 bytes ≡ leading 8 (reverse bytes)
+number-is bytes eight =
+    worth 7 bytes (omega arith) ∙ ap (λ (xs : List ℕ). leading 8 (reverse xs)) (take_all 8 bytes (omega arith))
+
+-- of the last eight bytes of a name, or of all of them, the others make no difference
+last_ones : (name : List ℕ) (m : ℕ) → m ≡ length name - 8 → leading 8 (reverse (drop m name)) ≡ leading 8 (reverse name)
+last_ones name zero is = refl
+last_ones name (suc m) is =
+    let parts : reverse name ≡ reverse (drop (suc m) name) ++ reverse (take (suc m) name) =
+    ap reverse (sym (take-append-drop (suc m) name)) ∙ reverse-append (take (suc m) name) (drop (suc m) name) in
+    let long : 8 ≤ length (reverse (drop (suc m) name)) = simp (length-reverse, length-drop) (omega arith) in
+    sym (ap (leading 8) parts ∙ leading-append 8 (reverse (drop (suc m) name)) (reverse (take (suc m) name)) long)
+
+-- the last bytes after zeros, to the length of eight
+closed_end : (name tail : List ℕ) (k : ℕ) → k + length tail ≡ 8 → tail ≡ drop (length name - length tail) name →
+    length tail ≡ min (length name) 8 → from_le_bytes w64 (zeros k ++ tail) ≡ end_number name
+closed_end name tail k long is count =
+    let eight : length (zeros k ++ tail) ≡ 8 = simp (length-append, length-replicate) long in
+    let turned : reverse (zeros k ++ tail) ≡ reverse tail ++ zeros k =
+    reverse-append (zeros k) tail ∙ ap (λ (xs : List ℕ). reverse tail ++ xs) (reverse-zeros k) in
+    number-is (zeros k ++ tail) eight ∙ ap (leading 8) turned ∙ leading-closed 8 (reverse tail) k
+    ∙ ap (λ (xs : List ℕ). leading 8 (reverse xs)) is ∙ last_ones name (length name - length tail) (omega arith)
+
+-- as a write over the last of n zeros leaves them
+behind_zeros : (a n : ℕ) (written : List ℕ) → a ≤ n → put_mid a (n - a) (zeros n) written ≡ zeros a ++ written
+behind_zeros a n written within =
+    let short : length (drop a (zeros n)) ≤ n - a = simp (length-drop, length-replicate) (omega arith) in
+    let none_left : post_of a (n - a) (zeros n) ≡ [] = drop_all (n - a) (drop a (zeros n)) short in
+    let front : take a (zeros n) ≡ zeros a = take-replicate a n 0 within in
+    rw (none_left, append-nil, front) refl
+
+pub padded_end : (name written : List ℕ) (count : ℕ) → count ≡ min (length name) 8 →
+    written ≡ take (length name - (length name - count)) (drop (length name - count) name) →
+    from_le_bytes w64 (put_mid (8 - count) (8 - (8 - count)) (zeros 8) written) ≡ end_number name
+padded_end name written count is made =
+    let all : written ≡ drop (length name - count) name = made ∙ take_rest name (length name - count) in
+    let long : length written ≡ count = ap length all ∙ length-drop (length name - count) name ∙ omega arith in
+    let ends : written ≡ drop (length name - length written) name = rw long all in
+    rw (behind_zeros (8 - count) 8 written (omega arith))
+    (closed_end name written (8 - count) (omega arith) ends (omega arith))
+
+-- ---- ends in common
+
+same_beginning : (bytes xs ys : List ℕ) → slice_cmp nat_cmp (bytes ++ xs) (bytes ++ ys) ≡ slice_cmp nat_cmp xs ys
+same_beginning [] xs ys = refl
+same_beginning (byte ∷ bytes) xs ys = rw (equal byte byte refl) (same_beginning bytes xs ys)
+
+pub without_equal_ends : (name other rest other_rest : List ℕ) → AreWithoutEqualEnds name other rest other_rest →
+    slice_cmp nat_cmp (reverse rest) (reverse other_rest) ≡ slice_cmp nat_cmp (reverse name) (reverse other)
+without_equal_ends name other rest other_rest are =
+    let whole : reverse name ≡ reverse are.ending ++ reverse rest = ap reverse are.name_is ∙ reverse-append rest are.ending in
+    let other_whole : reverse other ≡ reverse are.ending ++ reverse other_rest =
+    ap reverse are.other_is ∙ reverse-append other_rest are.ending in
+    rw (whole, other_whole) (sym (same_beginning (reverse are.ending) (reverse rest) (reverse other_rest)))
+
+-- ---- the order by the numbers first
+
+then_assoc : (o p q : Ordering) → ordering_then o (ordering_then p q) ≡ ordering_then (ordering_then o p) q
+then_assoc Less p q = refl
+then_assoc Equal p q = refl
+then_assoc Greater p q = refl
+
+IsBytes-reverse : (bytes : List ℕ) → IsBytes bytes → IsBytes (reverse bytes)
+IsBytes-reverse bytes are i = elim (cases_lt i (length bytes)) [
+  | inl within ↦ subst (λ (x : ℕ). x < 256) (sym (get_or-reverse bytes i 0 within)) (are (length bytes - 1 - i))
+  | inr past ↦
+      let none : get_or (reverse bytes) i 0 ≡ 0 = get_or_past (reverse bytes) i 0 (omega (arith, length-reverse bytes)) in
+      omega arith
+]
+
+-- it is that of the names
+pub end_decides : (names : List (List ℕ)) (it other : Numbered) → HasEnd it → HasEnd other →
+    get_or names it.index [] ≡ it.name.now → get_or names other.index [] ≡ other.name.now →
+    numbered_order names it other ≡ ends_order it.name.now it.index other.name.now other.index
+end_decides names it other end other_end named other_named =
+    let bytes : List ℕ = reverse it.name.now in
+    let others : List ℕ = reverse other.name.now in
+    let ordered = leading-order 8 others bytes (IsBytes-reverse other.name.now other_end.bytes) (IsBytes-reverse it.name.now end.bytes) in
+    rw (named, other_named, end.number, other_end.number)
+    (then_assoc (nat_cmp (leading 8 others) (leading 8 bytes)) (slice_cmp nat_cmp others bytes) (nat_cmp it.index other.index)
+    ∙ ap (λ (o : Ordering). ordering_then o (nat_cmp it.index other.index)) ordered)
 
 abbrev name_of : Numbered → List ℕ
 name_of it = it.name.now

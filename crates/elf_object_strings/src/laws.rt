@@ -1,8 +1,6 @@
 //! What the layers above may know of a string table.
 ghost use Rattle.std.specs.Prelude.{ℕ, List};
-ghost use Rattle.elf_object_strings.specs.Names.{HoldsNames};
-ghost use Rattle.elf_object_strings.specs.Shared.{AreZeroFree, SharesTails};
-ghost use Rattle.elf_object_strings.specs.StringTable.{name_offset, string_table};
+ghost use Rattle.elf_object_strings.specs.StringTable.{HoldsNames, AreZeroFree, SharesTails, name_offset, string_table};
 
 /// The table of a list of names holds each of them at its offset.
 pub fn holds_names()

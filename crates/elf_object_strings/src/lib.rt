@@ -11,10 +11,8 @@
 
 mod laws;
 mod name_list;
-mod owners;
 mod sorting;
 mod table;
-mod tails;
 
 pub use laws::{holds_names, shares_tails};
 pub use table::{Shared, shared_table, shared_table_at};

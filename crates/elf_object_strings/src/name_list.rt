@@ -3,11 +3,9 @@ ghost use Rattle.std.specs.Prelude.{◌≡◌, [], get_or, length, reverse};
 ghost use Rattle.std.specs.Bool.{OnTrue};
 ghost use Rattle.std.specs.Cmp.Lexicographic.{slice_cmp};
 ghost use Rattle.std.specs.Ordering.{nat_cmp};
-ghost use Rattle.elf_object_strings.specs.NameEnds.{AreTails, IsTailOf};
-ghost use Rattle.elf_object_strings.specs.Shared.{texts};
-ghost use Rattle.elf_object_strings.specs.StringTable.{is_suffix};
+ghost use Rattle.elf_object_strings.specs.StringTable.{AreTails, IsTailOf, texts, is_suffix};
 
-use crate::tails::{compare_ends, is_suffix};
+use crate::sorting::{compare_ends, is_suffix};
 use std::cmp::Ordering;
 use std::marker::Model;
 
@@ -27,8 +25,8 @@ impl<'n, 'a> Model for NameList<'n, 'a> {
 
     ghost Value = { List (List ℕ) };
 
-    ghost use Rattle.elf_object_strings.specs.NameEnds.{AreTails};
-    ghost use Rattle.elf_object_strings.specs.Shared.{texts};
+    ghost use Rattle.elf_object_strings.specs.StringTable.{AreTails};
+    ghost use Rattle.elf_object_strings.specs.StringTable.{texts};
 
     ghost view = { λ list. texts list.names.now };
 

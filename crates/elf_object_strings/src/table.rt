@@ -1,14 +1,88 @@
 //! The bytes of a string table, and where its names begin.
-ghost use Rattle.std.specs.Prelude.{◌≡◌, ◌≤◌, ◌-◌, true, false, length, map, IfOk};
-ghost use Rattle.elf_object_strings.specs.NameEnds.{AreTails};
-ghost use Rattle.elf_object_strings.specs.Owners.{AreOwners};
-ghost use Rattle.elf_object_strings.specs.Shared.{AreZeroFree, HoldsEach, IsShortest, Shares, texts};
-ghost use Rattle.elf_object_strings.specs.StringTable.{is_named, name_offset, string_table};
-ghost use Rattle.elf_object_strings.specs.Writing.{HasEnds, with_name};
+ghost use Rattle.std.specs.Prelude.{◌≡◌, ◌<◌, [], get_or, min, if◌then◌else◌, length, IfOk, ◌≤◌, ◌-◌, true, false, map};
+ghost use Rattle.elf_object_strings.specs.StringTable.{AreOwners, AreTails, texts, is_suffix, AreZeroFree, HoldsEach, IsShortest, Shares, is_named, name_offset, string_table, HasEnds, with_name};
+ghost use Rattle.elf_object_strings.specs.Sorting.{AreBelow, AreRuns, GivesOwner, IsRun, AreInEndsOrder, AreNumbered, indexes_in, names_by_ends};
 
-use crate::owners::owners_of;
+use crate::name_list::NameList;
+use crate::sorting::{Numbered, sorted_names};
 use elf_extent::OutOfMemory;
 use std::alloc::{AllocError, Global};
+
+// For each name of a list the one whose bytes in the table it shares.
+
+/// The owner of each name: the first name that ends with it, of those that no other name ends with.
+///
+/// Takes n log n comparisons of ends.
+pub(crate) fn owners_of(
+    alloc: Global,
+    names: &[&[u8]],
+    ends: &[u32],
+) -> Result<Vec<usize>, AllocError>
+    requires { AreTails (texts names.now) ends.now }
+    ensures { IfOk result (λ owners. AreOwners (texts names.now) owners.items) }
+{
+    let list = NameList::new(names, ends);
+    owners_in(alloc, &list, &sorted_names(alloc, &list)?)
+}
+
+fn owners_in(
+    alloc: Global,
+    list: &NameList<'_, '_>,
+    sorted: &[Numbered<'_>],
+) -> Result<Vec<usize>, AllocError>
+    requires numbered { AreNumbered list.now (names_by_ends sorted.now) (indexes_in sorted.now) }
+    requires order { AreInEndsOrder (names_by_ends sorted.now) (indexes_in sorted.now) }
+    ensures { IfOk result (λ owners. AreOwners list.now owners.items) }
+{
+    let mut owners = Vec::new(alloc);
+    owners.resize(sorted.len(), 0)?;
+    let mut starts = Vec::with_capacity(alloc, sorted.len())?;
+    for position in 0..sorted.len() {
+        let (start, owner) = run_of(list, sorted, &starts, &owners, position);
+        owners[sorted[position].index] = owner;
+        starts.push(start)?;
+    }
+    Ok(owners)
+}
+
+/// Where the run of the names that end with this one begins, which ends at it; and its owner.
+fn run_of(
+    list: &NameList<'_, '_>,
+    sorted: &[Numbered<'_>],
+    starts: &[usize],
+    owners: &[usize],
+    position: usize,
+) -> (usize, usize)
+    requires within { position < length sorted.now }
+    requires numbered { AreNumbered list.now (names_by_ends sorted.now) (indexes_in sorted.now) }
+    requires order { AreInEndsOrder (names_by_ends sorted.now) (indexes_in sorted.now) }
+    requires runs { AreRuns (names_by_ends sorted.now) starts.now position }
+    requires indexes { AreBelow (indexes_in sorted.now) (length owners.now) }
+    ensures run { IsRun (names_by_ends sorted.now) position result.0 }
+    ensures owner { GivesOwner (names_by_ends sorted.now) (indexes_in sorted.now) owners.now position result.1 }
+{
+    let mut start = position;
+    let mut owner = sorted[position].index;
+    while start > 0 && is_tail(list, &sorted[position], &sorted[start - 1]) {
+        owner = least_owner(start == position, owner, owners[sorted[start - 1].index]);
+        start = starts[start - 1];
+    }
+    (start, owner)
+}
+
+fn is_tail(list: &NameList<'_, '_>, name: &Numbered<'_>, other: &Numbered<'_>) -> bool
+    requires name { get_or list.now name.now.index [] ≡ name.now.name.now }
+    requires other { get_or list.now other.now.index [] ≡ other.now.name.now }
+    ensures { result ≡ is_suffix name.now.name.now other.now.name.now }
+{
+    list.is_tail(name.name, name.index, other.name, other.index)
+}
+
+fn least_owner(first: bool, owner: usize, met: usize) -> usize
+    ensures { result ≡ (if first then met else min owner met) }
+{
+    if first || met < owner { met } else { owner }
+}
 
 /// A string table whose names share their tails: its bytes, and the offset in it at which each name begins.
 #[derive(Debug, Drop)]

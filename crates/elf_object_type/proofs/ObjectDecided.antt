@@ -6,18 +6,14 @@ use Rattle.std.specs.Int.{IsPowerOfTwo}
 use Rattle.std.proofs.Math.Nat.{pow-suc}
 use Rattle.std.proofs.lemmas.Bool.{cases_eq, cases_lt}
 use Rattle.std.proofs.lemmas.List.{get_or_default}
-use Rattle.elf_extent.specs.Least.{IsLowest, Never}
+use Rattle.elf_extent.specs.Extent.{IsLowest, Never}
 use Rattle.elf_field.specs.Abi.{SHF_GROUP, SHF_INFO_LINK, STB_LOCAL, WORD_SIZE, relocation_size}
 use Rattle.elf_image_rules.specs.Rows.{AtEntry, FirstIn, Ruled}
-use Rattle.elf_object_type.specs.declared.relocation.Relocation.{Relocation}
-use Rattle.elf_object_type.specs.declared.section.Info.{Info}
-use Rattle.elf_object_type.specs.declared.section.Info.TheVariants.{Number, Section}
-use Rattle.elf_object_type.specs.GroupRule.{HasWrongMembership, IsInEarlierGroup, IsWrongMembership, NamesMember, object_group_rules}
-use Rattle.elf_object_type.specs.Object.{BodyValue, bits, no_bits, relocs, group, ObjectValue, SectionValue, no_relocation, section_at, symbol_at}
-use Rattle.elf_object_type.specs.ObjectRules.{object_rules}
-use Rattle.elf_object_type.specs.Positions.{HasZero, IsPast, info_position, is_bits, is_group, members_of}
-use Rattle.elf_object_type.specs.SectionRules.{HasLinkOrInfo, HasWrongAlignment, HasWrongField, HasWrongPosition, HasWrongReference, IsAgainstFlag, IsWrongBitsType, object_section_rules, types_without_bits}
-use Rattle.elf_object_type.specs.SymbolRules.{IsLocal, IsMisplacedLocal, object_symbol_rules, place_position}
+use Rattle.elf_object_type.specs.declared.relocations.Relocation.{Relocation}
+use Rattle.elf_object_type.specs.declared.parts.Info.{Info}
+use Rattle.elf_object_type.specs.declared.parts.Info.TheVariants.{Number, Section}
+use Rattle.elf_object_type.specs.ObjectRules.{HasWrongMembership, IsInEarlierGroup, IsWrongMembership, NamesMember, object_group_rules, object_rules, HasLinkOrInfo, HasWrongAlignment, HasWrongField, HasWrongPosition, HasWrongReference, IsAgainstFlag, IsWrongBitsType, object_section_rules, types_without_bits, IsLocal, IsMisplacedLocal, object_symbol_rules, place_position}
+use Rattle.elf_object_type.specs.Object.{BodyValue, bits, no_bits, relocs, group, ObjectValue, SectionValue, no_relocation, section_at, symbol_at, HasZero, IsPast, info_position, is_bits, is_group, members_of}
 
 -- ---- what is decided
 

@@ -1,10 +1,10 @@
 -- What contracts see of an object, its sections and its symbols.
 use Rattle.std.specs.Prelude.{map}
 use Rattle.elf_object_type.specs.declared.parts.ObjectParts.{ObjectParts}
-use Rattle.elf_object_type.specs.declared.section.Body.{Body}
-use Rattle.elf_object_type.specs.declared.section.Body.TheVariants.{Bits, NoBits, Relocs, Group}
-use Rattle.elf_object_type.specs.declared.section.Section.{Section}
-use Rattle.elf_object_type.specs.declared.symbol.Symbol.{Symbol}
+use Rattle.elf_object_type.specs.declared.parts.Body.{Body}
+use Rattle.elf_object_type.specs.declared.parts.Body.TheVariants.{Bits, NoBits, Relocs, Group}
+use Rattle.elf_object_type.specs.declared.parts.Section.{Section}
+use Rattle.elf_object_type.specs.declared.parts.Symbol.{Symbol}
 use Rattle.elf_object_type.specs.Object.{BodyValue, bits, no_bits, relocs, group, ObjectValue, SectionValue, SymbolValue}
 
 abbrev pub body_value : Body → BodyValue

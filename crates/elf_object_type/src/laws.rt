@@ -1,8 +1,7 @@
 //! What holds of the rules of objects.
 ghost use Rattle.std.specs.Prelude.{◌≡◌, ℕ, Option};
-ghost use Rattle.elf_object_type.specs.KeepsObjectRules.{KeepsObjectRules};
+ghost use Rattle.elf_object_type.specs.ObjectRules.{KeepsObjectRules, IsObject, object_rules};
 ghost use Rattle.elf_object_type.specs.Object.{ObjectValue};
-ghost use Rattle.elf_object_type.specs.ObjectRules.{IsObject, object_rules};
 ghost use Rattle.elf_image_rules.specs.Rows.{FirstIn};
 
 /// Parts have one fault or none.

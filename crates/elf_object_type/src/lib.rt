@@ -18,30 +18,16 @@
 //! ```
 #![tactic(auto)]
 
-mod fault;
-mod group_rule;
 mod laws;
 mod object;
 mod object_rules;
 mod parts;
-mod positions;
-mod relocation;
-mod relocation_table;
 mod relocations;
 mod rule_names;
 pub mod rules;
-mod section;
 mod section_rules;
-mod symbol;
-mod symbol_rules;
-mod widths;
 
-pub use fault::ObjectFault;
 pub use laws::{kept_object_rules, one_object_fault};
-pub use object::{Object, kept_object};
-pub use parts::ObjectParts;
-pub use relocation::Relocation;
-pub use relocation_table::relocation_size;
-pub use relocations::Relocations;
-pub use section::{Body, Info, Section};
-pub use symbol::{Place, Symbol};
+pub use object::{Object, ObjectFault, kept_object};
+pub use parts::{Body, Info, ObjectParts, Place, Section, Symbol};
+pub use relocations::{Relocation, Relocations, relocation_size};

@@ -2,17 +2,51 @@
 ghost use Rattle.std.specs.Prelude.{◌≡◌, ◌↔◌, IfErr, IfOk, IsTrue, OnOk, map};
 ghost use Rattle.elf_object_type.specs.ObjectRules.{IsObject, IsObjectFault};
 ghost use Rattle.elf_object_type.specs.ObjectView.{section_value, symbol_value, value_of};
-ghost use Rattle.elf_object_type.specs.Widths.{ObjectFits};
+ghost use Rattle.elf_object_type.specs.Object.{ObjectFits};
 
-use crate::fault::ObjectFault;
 use crate::object_rules::judge;
-use crate::parts::ObjectParts;
-use crate::section::Section;
-use crate::symbol::Symbol;
-use crate::widths::prove_parts;
+use crate::parts::{ObjectParts, Section, Symbol, prove_parts};
+use crate::rule_names::rule_name;
 use elf_field::Order;
-use std::alloc::Global;
+use std::alloc::{AllocError, AllocFailed, Global};
 use std::marker::Model;
+use thiserror::Error;
+
+// Why parts are no object.
+
+/// The first of the object rules ([`rules`](crate::rules)) that parts break, at its least position.
+#[derive(Clone, Copy, Debug, PartialEq, Eq, Error)]
+pub enum ObjectFault {
+    /// The section at this position breaks the rule of this number, 1 to 6.
+    #[error("rule {rule} ({name}) at section {position}", name = rule_name(*.rule))]
+    Section { rule: u16, position: usize },
+    /// The symbol at this position breaks the rule of this number, 7 to 9.
+    #[error("rule {rule} ({name}) at symbol {position}", name = rule_name(*.rule))]
+    Symbol { rule: u16, position: usize },
+    /// An allocation failed while groups were tested.
+    #[error("out of memory")]
+    OutOfMemory,
+}
+
+impl From<AllocError> for ObjectFault {
+    ghost use Rattle.elf_object_type.specs.declared.object.ObjectFault.TheVariants.{OutOfMemory};
+
+    ghost from_gives = { λ _ fault. fault ≡ OutOfMemory };
+
+    fn from(_refused: AllocError) -> ObjectFault {
+        ObjectFault::OutOfMemory
+    }
+}
+
+impl<T: Drop> From<AllocFailed<T>> for ObjectFault {
+    ghost use Rattle.elf_object_type.specs.declared.object.ObjectFault.TheVariants.{OutOfMemory};
+
+    ghost from_gives = { λ _ fault. fault ≡ OutOfMemory };
+
+    fn from(_refused: AllocFailed<T>) -> ObjectFault {
+        ObjectFault::OutOfMemory
+    }
+}
 
 /// A relocatable object: parts that break none of the nine object rules ([`rules`](crate::rules)), of which it makes sure.
 /// Names and bytes borrow from where they were read. No accessor takes memory.
@@ -28,7 +62,7 @@ impl<'a> Model for Object<'a> {
 
     ghost use Rattle.elf_object_type.specs.ObjectRules.{IsObject};
     ghost use Rattle.elf_object_type.specs.ObjectView.{value_of};
-    ghost use Rattle.elf_object_type.specs.Widths.{ObjectFits};
+    ghost use Rattle.elf_object_type.specs.Object.{ObjectFits};
 
     ghost view = { λ a. value_of a.parts };
 
@@ -37,7 +71,7 @@ impl<'a> Model for Object<'a> {
 
 impl PartialEq for Object<'_> {
     ghost use Rattle.elf_object_type.specs.Equality.{is_same_object};
-    ghost use Rattle.elf_object_type.specs.EqualityLaws.{object_partial_equivalence};
+    ghost use Rattle.elf_object_type.specs.Equality.{object_partial_equivalence};
 
     ghost eq = { is_same_object };
 
@@ -53,7 +87,7 @@ impl PartialEq for Object<'_> {
 }
 
 impl Eq for Object<'_> {
-    ghost use Rattle.elf_object_type.specs.EqualityLaws.{object_equivalence};
+    ghost use Rattle.elf_object_type.specs.Equality.{object_equivalence};
 
     ghost laws = { object_equivalence };
 }

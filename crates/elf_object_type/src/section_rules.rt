@@ -1,20 +1,83 @@
 //! Rules 1 to 5: what each section says by itself, and whether what it names is there
 //! (gABI chapter 4, Sections, Relocation).
-ghost use Rattle.std.specs.Prelude.{◌≡◌, ◌≢◌, ◌↔◌, ◌<◌, ◌≤◌, Any, Contains, IfErr, IsTrue, length, pos};
-ghost use Rattle.elf_extent.specs.Least.{IsLowest};
-ghost use Rattle.elf_image_rules.specs.Broken.{fault_of};
-ghost use Rattle.elf_image_rules.specs.Rows.{FirstIn};
-ghost use Rattle.elf_object_type.specs.ObjectView.{body_value, section_value, value_of};
-ghost use Rattle.elf_object_type.specs.Positions.{IsPast};
-ghost use Rattle.elf_object_type.specs.SectionRules.{BreaksSection, HasLinkOrInfo, HasWrongAlignment, HasWrongField, HasWrongPosition, HasWrongReference, IsAgainstFlag, IsNoTarget, IsWrongBitsType, SomeSection, object_section_rules, types_without_bits};
+ghost use Rattle.std.specs.Prelude.{◌≡◌, ◌↔◌, ◌<◌, ◌≤◌, Any, IsTrue, length, ◌≢◌, Contains, IfErr, pos};
+ghost use Rattle.elf_object_type.specs.Object.{section_at as section_of, symbol_at as symbol_of, HasZero, IsPast, info_position as info_position_of, is_bits as is_bits_of, is_group as is_group_of};
+ghost use Rattle.elf_object_type.specs.ObjectView.{body_value, section_value, symbol_value, value_of};
+ghost use Rattle.elf_extent.specs.Extent.{IsLowest};
+ghost use Rattle.elf_image_rules.specs.Rows.{fault_of, FirstIn};
+ghost use Rattle.elf_object_type.specs.ObjectRules.{BreaksSection, HasLinkOrInfo, HasWrongAlignment, HasWrongField, HasWrongPosition, HasWrongReference, IsAgainstFlag, IsNoTarget, IsWrongBitsType, SomeSection, object_section_rules, types_without_bits};
 
-use crate::parts::ObjectParts;
-use crate::positions::{has_past, has_zero, info_position, is_bits, is_past, section_at};
+use crate::parts::{Body, Info, ObjectParts, Section, Symbol};
 use crate::relocations::Relocations;
 use crate::rules::*;
-use crate::section::{Body, Info, Section};
 use elf_field::abi::*;
 use elf_image_rules::{Broken, is_wrong_alignment};
+
+// References from one section or symbol of an object to another, and the elements that they name.
+
+/// The section at position `i`.
+pub(crate) fn section_at<'p, 'a>(parts: &'p ObjectParts<'a>, i: usize) -> &'p Section<'a>
+    requires { i < length parts.now.sections.items }
+    ensures { section_value result.now ≡ section_of (value_of parts.now) i }
+{
+    &parts.sections[i]
+}
+
+/// The symbol at position `i`.
+pub(crate) fn symbol_at<'a>(parts: &ObjectParts<'a>, i: usize) -> Symbol<'a>
+    requires { i < length parts.now.symbols.items }
+    ensures { symbol_value result ≡ symbol_of (value_of parts.now) i }
+{
+    parts.symbols[i]
+}
+
+/// Whether a position that may be missing is not below the count.
+pub(crate) fn is_past(count: usize, position: Option<usize>) -> bool
+    ensures { IsTrue result ↔ IsPast count position }
+{
+    match position {
+        Some(position) => position >= count,
+        None => false,
+    }
+}
+
+/// The position in `info`, where it is one.
+pub(crate) fn info_position(info: Info) -> Option<usize>
+    ensures { result ≡ info_position_of info }
+{
+    match info {
+        Info::Number(_) => None,
+        Info::Section(position) => Some(position),
+    }
+}
+
+/// Whether a body is a section group.
+pub(crate) fn is_group(body: &Body<'_>) -> bool
+    ensures { result ≡ is_group_of (body_value body.now) }
+{
+    matches!(body, Body::Group { .. })
+}
+
+/// Whether a body is bits.
+pub(crate) fn is_bits(body: &Body<'_>) -> bool
+    ensures { result ≡ is_bits_of (body_value body.now) }
+{
+    matches!(body, Body::Bits(..))
+}
+
+/// Whether a name has a zero byte.
+pub(crate) fn has_zero(name: &[u8]) -> bool
+    ensures { IsTrue result ↔ HasZero name.now }
+{
+    name.contains(&0)
+}
+
+/// Whether a position is not below the count.
+pub(crate) fn has_past(count: usize, positions: &[usize]) -> bool
+    ensures { IsTrue result ↔ Any (λ position. count ≤ position) positions.now }
+{
+    positions.iter().any(|position| *position >= count)
+}
 
 /// The section types whose body is another, or that an object can't have.
 const TYPES_WITHOUT_BITS: [u32; 11] = [
@@ -190,7 +253,7 @@ fn lowest_section(parts: &ObjectParts<'_>, rule: SectionRule) -> Option<u64>
 }
 
 /// Rules 1 to 5; what is broken is broken at a position.
-#[tactic(auto, unfolding(crate::specs::SectionRules::object_section_rules))]
+#[tactic(auto, unfolding(crate::specs::ObjectRules::object_section_rules))]
 pub(crate) fn judge_sections(parts: &ObjectParts<'_>) -> Result<(), Broken<u64>>
     ensures fault { FirstIn (object_section_rules (value_of parts.now)) (fault_of result) }
     ensures number { IfErr result (λ broken. broken.rule ≤ 5) }

@@ -1,37 +1,91 @@
 -- The parts of a canonical layout as they are written. `IsGoing` says that the header and the first parts are written, with the zeros
 -- between them. A part that is written extends them; if that fails, the bytes written are a beginning of the file. The content of a section
 -- ends at 2^30 at most.
-use Rattle.std.proofs.Common.{◌≡◌, ◌<◌, ◌≤◌, ◌+◌, ◌-◌, ◌*◌, ◌^◌, ℕ, Option, List, [], ◌∷◌, ◌++◌, length, map, take, drop, get_or, refl, sym, ap, subst, ◌∙◌, append_assoc, arith, length-append}
+use Rattle.std.proofs.Common.{◌≡◌, ◌∙◌, ◌+◌, ◌-◌, ◌*◌, ◌/◌, ◌%◌, ◌^◌, ℕ, zero, suc, Bool, true, false, List, [], ◌∷◌, length, map, take_all, refl, sym, ap, arith, zero-add, ◌<◌, ◌≤◌, Option, ◌++◌, take, drop, get_or, subst, append_assoc, length-append}
+use Rattle.std.specs.List.{flat_map, range_with_len}
+use Rattle.std.proofs.lemmas.Bool.{ne_eqb}
 use Rattle.std.specs.Prelude.{replicate, Result, Ok, Err}
 use Rattle.std.specs.Io.KnownBytes.{Appends}
-use Rattle.std.specs.List.{flat_map}
 use Rattle.std.proofs.Math.ListN.{drop_of_length-le}
 use Rattle.std.proofs.KnownBytes.{Appends-trans}
 use Rattle.std.proofs.lemmas.List.{append-nil, drop_more, get_or-append-add, get_or-map, get_or_append_left, length-map, length-replicate, take-append-le}
-use Rattle.elf_field.specs.Ehdr.{ehdr_bytes}
-use Rattle.elf_field.specs.EhdrLaws.{ehdr_laws}
-use Rattle.elf_field.specs.Shdr.{shdr_bytes, shdr_laws}
-use Rattle.elf_field.proofs.RecordTableLaws.{length-table}
-use Rattle.elf_field.specs.declared.order.Order.{Order}
-use Rattle.elf_field.specs.declared.order.Order.TheVariants.{Little, Big}
 use Rattle.elf_extent.specs.Place.{Fits}
-use Rattle.elf_image_stream.specs.declared.fault.WriteFault.{WriteFault}
-use Rattle.elf_image_type.specs.FileParts.{spread, unaligned}
-use Rattle.elf_image_type.specs.RelocatableFile.{all_headers, offsets, relocatable_bytes}
-use Rattle.elf_image_stream.proofs.Public.{went_err}
+use Rattle.elf_field.proofs.RecordTableLaws.{entries_bytes, length-table}
+use Rattle.elf_field.specs.Abi.{relocation_size}
+use Rattle.elf_field.specs.Entries.{rel_at, rel_bytes, rel_laws, rela_at, rela_bytes, rela_laws}
+use Rattle.elf_field.specs.Headers.{ehdr_bytes, ehdr_laws, shdr_bytes, shdr_laws}
+use Rattle.elf_field.specs.declared.number.Order.TheVariants.{Little, Big}
+use Rattle.elf_field.specs.declared.number.Order.{Order}
+use Rattle.elf_field.specs.declared.rel.Rel.{Rel}
+use Rattle.elf_field.specs.declared.rela.Rela.{Rela}
 use Rattle.elf_image_rules.specs.Tables.{order_of}
+use Rattle.elf_image_stream.proofs.Public.{went_err}
+use Rattle.elf_image_stream.specs.declared.fault.WriteFault.{WriteFault}
+use Rattle.elf_image_type.specs.RelocatableFile.{spread, unaligned, all_headers, offsets, relocatable_bytes}
 use Rattle.elf_object_strings.specs.StringTable.{name_offset}
-use Rattle.elf_object_writer.specs.Laid.{identification, layout_bytes, section_headers}
-use Rattle.elf_object_writer.specs.LayoutView.{IsLayoutOf, LayoutValue}
-use Rattle.elf_object_type.specs.Object.{ObjectValue}
-use Rattle.elf_object_writer.specs.ObjectWriting.{WritesBehind, header_table}
-use Rattle.elf_object_writer.specs.PlacedObject.{IsPlacedObject, IsSectionAt, PlacedValue, plain_section}
-use Rattle.elf_object_writer.specs.PlainSections.{PlainSection, name_table_at, plain_sections, section_names}
-use Rattle.elf_object_writer.specs.declared.placed_section.PlacedSection.{PlacedSection}
-use Rattle.elf_object_writer.specs.declared.placed_section.PlacedSection.TheVariants.{Names}
-use Rattle.elf_object_writer.proofs.CanonicalLayout.{canonical_header, canonical_section_headers, contents_of, layout_order, offsets_are}
-use Rattle.elf_object_writer.proofs.HeaderTable.{length-headers}
-use Rattle.elf_object_writer.proofs.ShortLayout.{content_end}
+use Rattle.elf_object_type.proofs.Public.{length_table_relocations}
+use Rattle.elf_object_type.specs.Object.{IsRelocationTable, symbol_reference, table_count, table_relocation, table_relocations, ObjectValue}
+use Rattle.elf_object_type.specs.declared.relocations.Relocation.{Relocation}
+use Rattle.elf_object_writer.proofs.CanonicalLayout.{canonical_header, canonical_section_headers, contents_of, layout_order, offsets_are, content_end}
+use Rattle.elf_object_writer.proofs.HeaderTables.{length-headers}
+use Rattle.elf_object_writer.specs.Laid.{index_of, rel_entry, rela_entry, relocation_bytes, identification, layout_bytes, section_headers, IsLayoutOf, LayoutValue, PlainSection, name_table_at, plain_sections, section_names}
+use Rattle.elf_object_writer.specs.PlacedObject.{WritesBehind, header_table, IsPlacedObject, IsSectionAt, PlacedValue, plain_section}
+use Rattle.elf_object_writer.specs.declared.placed_object.PlacedSection.TheVariants.{Names}
+use Rattle.elf_object_writer.specs.declared.placed_object.PlacedSection.{PlacedSection}
+
+-- The relocations that a table of a file lists have the bytes of that table. `r_info` is put together from its two halves, and an entry
+-- that is read and written is the same, so all of them are.
+
+index_back : (k : ℕ) → index_of (symbol_reference k) ≡ k
+index_back zero = refl
+index_back (suc k) =
+    let other : suc k ≡ 0 → ⊥ = λ e. omega arith in
+    rw (ne_eqb (suc k) 0 other) (let back : (suc k - 1) + 1 ≡ suc k = omega arith in back)
+
+-- the halves of r_info put together again
+info_back : (info : ℕ) → index_of (symbol_reference (info / 2 ^ 32)) * 2 ^ 32 + info % 2 ^ 32 ≡ info
+info_back info = ap (λ (n : ℕ). n * 2 ^ 32 + info % 2 ^ 32) (index_back (info / 2 ^ 32)) ∙ omega arith
+
+rela_back : (order : Order) (bytes : List ℕ) (j : ℕ) → rela_entry (table_relocation true order bytes j) ≡ rela_at order bytes (24 * j)
+unfolding table_relocation
+rela_back order bytes j =
+    let e = rela_at order bytes (24 * j) in
+    ap (λ (info : ℕ). let x : Rela = record { r_offset = e.r_offset; r_info = info; r_addend = e.r_addend } in x) (info_back e.r_info)
+
+rel_back : (order : Order) (bytes : List ℕ) (j : ℕ) → rel_entry (table_relocation false order bytes j) ≡ rel_at order bytes (16 * j)
+unfolding table_relocation
+rel_back order bytes j =
+    let e = rel_at order bytes (16 * j) in
+    ap (λ (info : ℕ). let x : Rel = record { r_offset = e.r_offset; r_info = info } in x) (info_back e.r_info)
+
+-- entries made of what was read are those that were read
+entries_back : {A : Type 0} (entry : Relocation → A) (read : ℕ → Relocation) (at : ℕ → A) → ((j : ℕ) → entry (read j) ≡ at j) → (js : List ℕ) →
+    map entry (map read js) ≡ map at js
+entries_back entry read at each [] = refl
+entries_back entry read at each (j ∷ js) = λ i. each j i ∷ entries_back entry read at each js i
+
+whole_count : (rela : Bool) (order : Order) (bytes : List ℕ) (relocations : List Relocation) → IsRelocationTable rela order bytes relocations →
+    length bytes ≡ relocation_size rela * table_count rela bytes
+whole_count rela order bytes relocations is =
+    is.whole ∙ ap (λ rs. relocation_size rela * length rs) is.relocations_are ∙ ap (λ n. relocation_size rela * n) (length_table_relocations rela order bytes)
+
+pub relocations_back : (rela : Bool) (order : Order) (bytes : List ℕ) (relocations : List Relocation) → IsRelocationTable rela order bytes relocations →
+    relocation_bytes order rela relocations ≡ bytes
+unfolding table_relocations
+relocations_back true order bytes relocations is =
+    let count = table_count true bytes in
+    let long : length bytes ≡ 24 * count = whole_count true order bytes relocations is in
+    ap (λ rs. flat_map (rela_bytes order) (map rela_entry rs)) is.relocations_are
+    ∙ ap (flat_map (rela_bytes order)) (entries_back rela_entry (table_relocation true order bytes) (λ j. rela_at order bytes (0 + 24 * j)) (λ j. rela_back order bytes j ∙ ap (rela_at order bytes) (sym (zero-add (24 * j)))) (range_with_len 0 count))
+    ∙ entries_bytes rela_laws order bytes 0 0 count is.are_bytes (omega arith)
+    ∙ take_all (24 * count) bytes (omega arith)
+relocations_back false order bytes relocations is =
+    let count = table_count false bytes in
+    let long : length bytes ≡ 16 * count = whole_count false order bytes relocations is in
+    ap (λ rs. flat_map (rel_bytes order) (map rel_entry rs)) is.relocations_are
+    ∙ ap (flat_map (rel_bytes order)) (entries_back rel_entry (table_relocation false order bytes) (λ j. rel_at order bytes (0 + 16 * j)) (λ j. rel_back order bytes j ∙ ap (rel_at order bytes) (sym (zero-add (16 * j)))) (range_with_len 0 count))
+    ∙ entries_bytes rel_laws order bytes 0 0 count is.are_bytes (omega arith)
+    ∙ take_all (16 * count) bytes (omega arith)
 
 -- ---- bytes that go out part by part
 

@@ -1,16 +1,43 @@
 -- An object with its string tables and its canonical layout.
-use Rattle.std.specs.Prelude.{◌≡◌, ◌<◌, ◌≤◌, ℕ, ◌+◌, ◌^◌, All, codes, get_or, length}
+use Rattle.std.specs.Prelude.{◌≡◌, ℕ, List, map, ◌<◌, ◌≤◌, ◌+◌, ◌^◌, All, codes, get_or, length, ◌-◌, take, Option, Result, Ok, Err, MatchResult}
+use Rattle.std.specs.Io.KnownBytes.{Appends}
+use Rattle.std.specs.List.{flat_map}
+use denote.Struct.Props.{props}
+use Rattle.elf_field.specs.Headers.{shdr_bytes}
+use Rattle.elf_image_rules.specs.Rules.{MAX_LEN}
+use Rattle.elf_image_stream.specs.Output.{Writes}
+use Rattle.elf_image_stream.specs.declared.fault.WriteFault.{WriteFault}
+use Rattle.elf_image_type.specs.RelocatableFile.{all_headers}
+use Rattle.elf_object_strings.specs.StringTable.{SharesTails, name_offset, string_table}
+use Rattle.elf_object_type.specs.Object.{ObjectValue, BodyValue, bits, no_bits, relocs, group, SectionValue, section_at, info_position}
+use Rattle.elf_object_type.specs.ObjectRules.{IsObject, IsWrongBitsType}
+use Rattle.elf_object_writer.specs.Laid.{section_names, symbol_names, IsLayoutOf, LayoutValue, PlainSection, body_bytes, index_of, index_table_section, own_section, plain_sections, strings, symbol_table_section, Laid, section_headers, IsLayoutFault, name_table_at}
 use Rattle.elf_object_writer.specs.declared.name_tables.NameTables.{NameTables}
-use Rattle.elf_object_writer.specs.declared.placed_section.PlacedSection.{PlacedSection}
-use Rattle.elf_object_writer.specs.declared.placed_section.PlacedSection.TheVariants.{Own, SymbolTable, IndexTable, Strings, Names}
-use Rattle.elf_object_writer.specs.LayoutView.{IsLayoutOf, LayoutValue}
-use Rattle.elf_object_writer.specs.NameTables.{AreNameTables}
-use Rattle.elf_object_type.specs.Object.{BodyValue, bits, no_bits, relocs, group, ObjectValue, SectionValue, section_at}
-use Rattle.elf_object_type.specs.ObjectRules.{IsObject}
-use Rattle.elf_object_writer.specs.PlainSections.{PlainSection, body_bytes, index_of, index_table_section, own_section, plain_sections, section_names, strings, symbol_names, symbol_table_section}
-use Rattle.elf_object_type.specs.Positions.{info_position}
-use Rattle.elf_object_type.specs.SectionRules.{IsWrongBitsType}
-use Rattle.elf_image_rules.specs.HeaderRules.{MAX_LEN}
+use Rattle.elf_object_writer.specs.declared.object_writing.ObjectWriteFault.TheVariants.{TooLong, OutOfMemory, Io}
+use Rattle.elf_object_writer.specs.declared.object_writing.ObjectWriteFault.{ObjectWriteFault}
+use Rattle.elf_object_writer.specs.declared.placed_object.PlacedSection.TheVariants.{Own, SymbolTable, IndexTable, Strings, Names}
+use Rattle.elf_object_writer.specs.declared.placed_object.PlacedSection.{PlacedSection}
+use Rattle.elf_object_writer.specs.declared.layout.LayoutFault.TheVariants as layout
+
+-- The string tables of an object, as the code has them.
+
+-- an object, and the ends of its symbols' names that are known
+pub record ObjectWithEndsValue : Type 0 where
+  pub object : ObjectValue
+  pub symbol_ends : List ℕ
+
+-- their bytes, and where each name begins
+pub record AreNameTables (o : ObjectValue) (tables : NameTables) : Type 0 where
+  pub strings : tables.strings.bytes.items ≡ string_table (symbol_names o)
+  pub string_offsets : tables.strings.offsets.items ≡ map (name_offset (symbol_names o)) (symbol_names o)
+  pub names : tables.names.bytes.items ≡ string_table (section_names o)
+  pub name_offsets : tables.names.offsets.items ≡ map (name_offset (section_names o)) (section_names o)
+
+-- the names of the sections in one table and those of the symbols in the other: each at its lowest offset, and neither table could be
+-- shorter
+pub record HasSharedNames (o : ObjectValue) : Type 0 where
+  pub sections : SharesTails (section_names o)
+  pub symbols : SharesTails (symbol_names o)
 
 pub record PlacedValue : Type 0 where
   pub object : ObjectValue
@@ -62,3 +89,40 @@ pub record HasShortNumbers (o : ObjectValue) (s : SectionValue) : Type 0 where
   pub info : index_of (info_position s.info) < 2 ^ 32
   pub indexes : HasShortIndexes s.body
   pub short : length (body_bytes o.order s.body) ≤ MAX_LEN
+
+-- That a section is there has no content beside that it holds: a type can have it as an invariant.
+
+pub is_there_prop : (o : ObjectValue) (section : PlacedSection) → IsProp (IsThere o section)
+is_there_prop o (Own position) = hlevel props
+is_there_prop o SymbolTable = hlevel props
+is_there_prop o IndexTable = hlevel props
+is_there_prop o Strings = hlevel props
+is_there_prop o Names = hlevel props
+
+-- What writing an object does to what a writer holds.
+
+-- the bytes of the canonical layout go out, or exactly the first of them and then the writer fails
+abbrev pub WritesLayout : ObjectValue → Option (List ℕ) → Option (List ℕ) → Result Unit WriteFault → Type 0
+WritesLayout o before after result = (b : List ℕ) × Laid o b × (length b ≤ MAX_LEN) × Writes before after b result
+
+-- each fault with when it comes, and what it leaves; out of memory says nothing else
+abbrev pub IsLayoutWriteFault : ObjectValue → Option (List ℕ) → Option (List ℕ) → ObjectWriteFault → Type 0
+IsLayoutWriteFault o before after TooLong = (after ≡ before) × IsLayoutFault o layout.TooLong
+IsLayoutWriteFault o before after OutOfMemory = after ≡ before
+IsLayoutWriteFault o before after (Io written) = WritesLayout o before after (Err (record { written = written }))
+
+abbrev pub IsLayoutWritten : {T : Type 0} → ObjectValue → Option (List ℕ) → Option (List ℕ) → Result T ObjectWriteFault → Type 0
+IsLayoutWritten o before after result = MatchResult result (λ _. WritesLayout o before after (Ok tt)) (IsLayoutWriteFault o before after)
+
+-- ---- part by part
+
+-- bytes are written after so many others: all of them, and the result is where they end, or a fault that counts all that are written
+abbrev pub WritesBehind : ℕ → Option (List ℕ) → Option (List ℕ) → List ℕ → Result ℕ WriteFault → Type 0
+WritesBehind out before after bytes result = MatchResult result
+    (λ end. (end ≡ out + length bytes) × Appends before after bytes)
+    (λ fault. (out ≤ fault.written) × (fault.written < out + length bytes) × Appends before after (take (fault.written - out) bytes))
+
+-- the bytes of the section header table
+unfoldable pub header_table : ObjectValue → List ℕ → List ℕ
+header_table o places =
+    flat_map (shdr_bytes o.order) (all_headers (section_headers (name_offset (section_names o)) (plain_sections o) places) (name_table_at o))

@@ -7,20 +7,12 @@
 //! ```
 #![tactic(auto)]
 
-mod body_entries;
 mod contents;
-mod file_header;
-mod indexes;
-mod laid_section;
+mod headers;
 mod layout;
-mod layout_parts;
 mod name_tables;
 mod object_writing;
 mod placed_object;
-mod placed_section;
-mod placed_writing;
-mod section_headers;
-mod symbol_entries;
 
 pub use layout::{Layout, LayoutFault, lay_out};
 pub use name_tables::ObjectWithEnds;

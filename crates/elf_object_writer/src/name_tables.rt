@@ -1,9 +1,9 @@
 //! The names of an object's symbols and sections, as string tables (gABI chapter 4, String Table).
 ghost use Rattle.std.specs.Prelude.{◌≡◌, [], IfErr, IfOk, map};
 ghost use Rattle.std.specs.List.{list_any};
-ghost use Rattle.elf_object_strings.specs.NameEnds.{AreTails};
-ghost use Rattle.elf_object_writer.specs.PlainSections.{has_index_table, is_far, section_names, symbol_names};
-ghost use Rattle.elf_object_writer.specs.NameTables.{AreNameTables};
+ghost use Rattle.elf_object_strings.specs.StringTable.{AreTails};
+ghost use Rattle.elf_object_writer.specs.Laid.{has_index_table, is_far, section_names, symbol_names};
+ghost use Rattle.elf_object_writer.specs.PlacedObject.{AreNameTables};
 ghost use Rattle.elf_object_writer.specs.declared.layout.LayoutFault.TheVariants.{OutOfMemory};
 
 use crate::layout::LayoutFault;
@@ -23,9 +23,9 @@ pub struct ObjectWithEnds<'o, 'a> {
 }
 
 impl<'o, 'a> Model for ObjectWithEnds<'o, 'a> {
-    ghost use Rattle.elf_object_strings.specs.NameEnds.{AreTails};
-    ghost use Rattle.elf_object_writer.specs.NameTables.{ObjectWithEndsValue};
-    ghost use Rattle.elf_object_writer.specs.PlainSections.{symbol_names};
+    ghost use Rattle.elf_object_strings.specs.StringTable.{AreTails};
+    ghost use Rattle.elf_object_writer.specs.PlacedObject.{ObjectWithEndsValue};
+    ghost use Rattle.elf_object_writer.specs.Laid.{symbol_names};
 
     ghost Value = { ObjectWithEndsValue };
 

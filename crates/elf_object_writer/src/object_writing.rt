@@ -1,13 +1,172 @@
 //! An object onto a writer.
-ghost use Rattle.elf_object_writer.specs.ObjectWriting.{IsLayoutWritten};
+ghost use Rattle.std.specs.Prelude.{◌≡◌, ◌<◌, ◌≤◌, ℕ, ◌+◌, ◌-◌, ◌^◌, ◌++◌, IfErr, List, Option, get_or, length, replicate, slice_index};
+ghost use Rattle.elf_field.specs.Headers.{ehdr_bytes};
+ghost use Rattle.elf_image_stream.specs.Output.{Writes};
+ghost use Rattle.elf_object_writer.specs.Laid.{file_header, layout_bytes, PlainSection, plain_sections};
+ghost use Rattle.elf_object_writer.specs.PlacedObject.{WritesBehind, header_table, plain_section, IsLayoutWritten};
+ghost use Rattle.elf_image_rules.specs.Rules.{MAX_LEN};
 
+use crate::headers::{SectionHeaders, file_header};
 use crate::layout::LayoutFault;
 use crate::name_tables::ObjectWithEnds;
-use crate::placed_object::PlacedObject;
-use crate::placed_writing::write_placed;
+use crate::placed_object::{LaidSection, PlacedObject};
+use elf_field::abi::*;
+use elf_image_stream::WriteFault;
+use elf_image_stream::output::{write_entries, write_records, write_zeros};
 use std::alloc::Global;
 use std::io::Write;
 use thiserror::Error;
+
+// The parts of an object's canonical layout onto a writer, each at its place, with zeros between (gABI chapter 4, ELF Header,
+// Sections).
+
+/// Writes the bytes of the layout, or exactly the first `written` of them, fewer than all, and a fault.
+pub(crate) fn write_placed<W: Write>(
+    placed: &PlacedObject<'_, '_>,
+    writer: &mut W,
+) -> Result<(), WriteFault>
+    ensures { Writes (W.contents writer.old) (W.contents writer.new)
+        (layout_bytes placed.now.object placed.now.layout.places) result }
+{
+    placed.prove_placed();
+    match write_header(placed, writer) {
+        Ok(()) => {}
+        Err(fault) => return Err(fault),
+    }
+    let mut out = EHDR_SIZE;
+    for position in 0..placed.section_count() {
+        match write_part(placed, position, out, writer) {
+            Ok(end) => out = end,
+            Err(fault) => return Err(fault),
+        }
+    }
+    match write_table(placed, out, writer) {
+        Ok(_) => Ok(()),
+        Err(fault) => Err(fault),
+    }
+}
+
+fn write_header<W: Write>(placed: &PlacedObject<'_, '_>, writer: &mut W) -> Result<(), WriteFault>
+    ensures { let o = placed.now.object in let count = length (plain_sections o) in
+        Writes (W.contents writer.old) (W.contents writer.new)
+        (ehdr_bytes o.order (file_header o (count + 1) (slice_index placed.now.layout.places count))) result }
+{
+    write_records(writer, placed.object().order(), &[file_header(placed)])
+}
+
+/// The content of the section of this position, at its place, where so many bytes are written before it. The answer is where it ends.
+fn write_part<W: Write>(
+    placed: &PlacedObject<'_, '_>,
+    position: usize,
+    out: u64,
+    writer: &mut W,
+) -> Result<u64, WriteFault>
+    requires there { position < length (plain_sections placed.now.object) }
+    requires before { out ≤ slice_index placed.now.layout.places position }
+    ensures { let p = placed.now in (d : PlainSection) → WritesBehind out (W.contents writer.old) (W.contents writer.new)
+        (replicate (slice_index p.layout.places position - out) 0 ++ (get_or (plain_sections p.object) position d).content) result }
+{
+    placed.prove_placed();
+    let section = placed.section(position);
+    let laid = LaidSection { placed, section };
+    let padding = placed.place(position) - out;
+    let size = laid.content_size();
+    let sent = laid.write_padded(padding, writer);
+    behind(out, padding + size, sent)
+}
+
+impl<'p, 'o, 'a> LaidSection<'p, 'o, 'a> {
+    /// Writes zeros, and its content.
+    fn write_padded<W: Write>(&self, padding: u64, writer: &mut W) -> Result<(), WriteFault>
+        requires { padding + length (plain_section self.now.placed.now.object self.now.section).content < 2 ^ 64 }
+        ensures { Writes (W.contents writer.old) (W.contents writer.new)
+            (replicate padding 0 ++ (plain_section self.now.placed.now.object self.now.section).content) result }
+    {
+        match write_zeros(writer, padding) {
+            Ok(()) => {}
+            Err(fault) => return Err(fault),
+        }
+        match self.write_content(writer) {
+            Ok(()) => Ok(()),
+            Err(fault) => Err(WriteFault {
+                written: padding + fault.written,
+            }),
+        }
+    }
+}
+
+/// The section header table at its place, where so many bytes are written before it.
+fn write_table<W: Write>(
+    placed: &PlacedObject<'_, '_>,
+    out: u64,
+    writer: &mut W,
+) -> Result<u64, WriteFault>
+    requires { out ≤ slice_index placed.now.layout.places (length (plain_sections placed.now.object)) }
+    ensures { let o = placed.now.object in let places = placed.now.layout.places in
+        WritesBehind out (W.contents writer.old) (W.contents writer.new)
+        (replicate (slice_index places (length (plain_sections o)) - out) 0 ++ header_table o places) result }
+{
+    let padding = placed.table() - out;
+    let size = table_size(placed);
+    let sent = write_padded_table(placed, padding, writer);
+    behind(out, padding + size, sent)
+}
+
+/// The size of the section header table, which ends in time.
+fn table_size(placed: &PlacedObject<'_, '_>) -> u64
+    ensures value { result ≡ length (header_table placed.now.object placed.now.layout.places) }
+    ensures within { slice_index placed.now.layout.places (length (plain_sections placed.now.object)) + result ≤ MAX_LEN }
+{
+    placed.prove_placed();
+    SHDR_SIZE * placed.header_count() as u64
+}
+
+/// Zeros, and the section header table.
+fn write_padded_table<W: Write>(
+    placed: &PlacedObject<'_, '_>,
+    padding: u64,
+    writer: &mut W,
+) -> Result<(), WriteFault>
+    requires { padding + length (header_table placed.now.object placed.now.layout.places) < 2 ^ 64 }
+    ensures { Writes (W.contents writer.old) (W.contents writer.new)
+        (replicate padding 0 ++ header_table placed.now.object placed.now.layout.places) result }
+{
+    match write_zeros(writer, padding) {
+        Ok(()) => {}
+        Err(fault) => return Err(fault),
+    }
+    match write_headers(placed, writer) {
+        Ok(()) => Ok(()),
+        Err(fault) => Err(WriteFault {
+            written: padding + fault.written,
+        }),
+    }
+}
+
+#[tactic(auto, unfolding(crate::specs::PlacedObject::header_table))]
+fn write_headers<W: Write>(placed: &PlacedObject<'_, '_>, writer: &mut W) -> Result<(), WriteFault>
+    ensures { Writes (W.contents writer.old) (W.contents writer.new)
+        (header_table placed.now.object placed.now.layout.places) result }
+{
+    placed.prove_placed();
+    let order = placed.object().order();
+    write_entries(writer, order, &SectionHeaders { placed })
+}
+
+/// How many bytes are written when so many more are sent after others; a fault counts all of them.
+fn behind(out: u64, size: u64, sent: Result<(), WriteFault>) -> Result<u64, WriteFault>
+    requires fits { out + size < 2 ^ 64 }
+    requires below { IfErr sent (λ fault. fault.written < size) }
+    ensures { (before after : Option (List ℕ)) (bytes : List ℕ) → length bytes ≡ size → Writes before after bytes sent →
+        WritesBehind out before after bytes result }
+{
+    match sent {
+        Ok(()) => Ok(out + size),
+        Err(fault) => Err(WriteFault {
+            written: out + fault.written,
+        }),
+    }
+}
 
 /// Why an object is not written.
 #[derive(Clone, Copy, Debug, PartialEq, Eq, Error)]

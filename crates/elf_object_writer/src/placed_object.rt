@@ -1,16 +1,31 @@
 //! An object with all that its canonical layout takes memory for (gABI chapter 4, ELF Header, Sections, String Table).
 ghost use Rattle.std.specs.Prelude.{◌≡◌, ◌<◌, ℕ, ◌+◌, ◌^◌, [], get_or, length, slice_index, IfErr, IfOk};
-ghost use Rattle.elf_object_writer.specs.LayoutView.{IsLayoutFault};
-ghost use Rattle.elf_object_writer.specs.PlacedObject.{IsPlacedObject, IsSectionAt};
-ghost use Rattle.elf_object_writer.specs.PlainSections.{name_table_at, plain_sections, section_names, strings_at, symbol_names, symbol_table_at};
+ghost use Rattle.elf_object_writer.specs.Laid.{IsLayoutFault, name_table_at, plain_sections, section_names, strings_at, symbol_names, symbol_table_at};
+ghost use Rattle.elf_object_writer.specs.PlacedObject.{IsPlacedObject, IsSectionAt, IsThere, is_there_prop};
 ghost use Rattle.elf_object_strings.specs.StringTable.{name_offset, string_table};
 
 use crate::layout::{Layout, LayoutFault, lay_out_with};
 use crate::name_tables::{NameTables, ObjectWithEnds};
-use crate::placed_section::PlacedSection;
 use elf_object_type::Object;
 use std::alloc::Global;
 use std::marker::Model;
+
+// The sections of an object's canonical layout (gABI chapter 4, Sections).
+
+/// A section, by what it is.
+#[derive(Clone, Copy, Debug, PartialEq, Eq)]
+pub(crate) enum PlacedSection {
+    /// The object's own section of this position.
+    Own(usize),
+    /// `.symtab`.
+    SymbolTable,
+    /// `.symtab_shndx`, the index table of the symbols.
+    IndexTable,
+    /// `.strtab`, the names of the symbols.
+    Strings,
+    /// `.shstrtab`, the names of the sections.
+    Names,
+}
 
 /// An object, its string tables and its layout.
 #[derive(Debug, Drop)]
@@ -186,4 +201,14 @@ impl<'o, 'a> PlacedObject<'o, 'a> {
             PlacedSection::IndexTable
         }
     }
+}
+
+// A section of an object's canonical layout, with the object.
+
+/// A section of an object in its layout, which is there.
+#[derive(Drop)]
+pub(crate) struct LaidSection<'p, 'o, 'a> {
+    pub placed: &'p PlacedObject<'o, 'a>,
+    pub section: PlacedSection,
+    ghost there: { IsThere placed.now.object section } by { is_there_prop placed.now.object _ },
 }

@@ -1,22 +1,17 @@
 //! What holds of the rules of tables themselves, and of tables and the bytes of a file.
 ghost use Rattle.std.specs.Prelude.{◌≡◌, ◌+◌, ◌*◌, ◌<◌, ◌≤◌, ℕ, List, None, Option, Some, length, slice_get};
 ghost use Rattle.elf_extent.specs.declared.extent.Extent.{Extent};
-ghost use Rattle.elf_field.specs.declared.order.Order.{Order};
+ghost use Rattle.elf_field.specs.declared.number.Order.{Order};
 ghost use Rattle.elf_field.specs.Abi.{DYN_SIZE, RELA_SIZE, REL_SIZE, SYM_SIZE, WORD_SIZE};
-ghost use Rattle.elf_field.specs.Dyn.{dyn_at};
-ghost use Rattle.elf_field.specs.Rel.{rel_at};
-ghost use Rattle.elf_field.specs.Rela.{rela_at};
-ghost use Rattle.elf_field.specs.Sym.{sym_at};
-ghost use Rattle.elf_field.specs.Word.{word_at};
+ghost use Rattle.elf_field.specs.Entries.{dyn_at, rel_at, rela_at, sym_at, word_at};
 ghost use Rattle.elf_image_outline.specs.Image.{ImageValue, IsImage};
 ghost use Rattle.elf_image_rules.specs.Rows.{FirstIn};
 ghost use Rattle.elf_image_rules.specs.Tables.{bytes_in};
 ghost use Rattle.elf_table_symbols.specs.Sections.{Sections, sections_in, sections_of};
-ghost use Rattle.elf_table_symbols.specs.StringRules.{string_table_rules};
-ghost use Rattle.elf_table_symbols.specs.SymbolRules.{entry, symbol_table_rules, word};
-ghost use Rattle.elf_table_lists.specs.DynamicArray.{dynamic_entry};
+ghost use Rattle.elf_table_symbols.specs.Symbols.{string_table_rules, entry, symbol_table_rules, word};
+ghost use Rattle.elf_table_lists.specs.Dynamic.{dynamic_entry};
 ghost use Rattle.elf_table_lists.specs.Notes.{note_at, note_end, note_offset, notes_in};
-ghost use Rattle.elf_table_all.specs.TableRules.{table_rules};
+ghost use Rattle.elf_table_all.specs.Tables.{table_rules};
 
 /// The rules of a table look at the header, the section headers and the contents of an image; these are the ones that the bytes have for
 /// which the image is, edited or as read.

@@ -14,7 +14,6 @@
 //! ```
 #![tactic(auto)]
 
-mod index_tables;
 mod laws;
 mod tables;
 mod verdicts;

@@ -1,22 +1,17 @@
 //! The tables of an image, each validated once (gABI chapter 4, Sections: sh_type).
 ghost use Rattle.std.specs.Prelude.{◌≡◌, ◌<◌, None, IfOk, get_or, length};
-ghost use Rattle.elf_image_rules.specs.Broken.{fault_of};
-ghost use Rattle.elf_image_rules.specs.Rows.{FirstIn};
+ghost use Rattle.elf_image_rules.specs.Rows.{fault_of, FirstIn};
 ghost use Rattle.elf_table_symbols.specs.Sections.{sections_of};
 ghost use Rattle.elf_table_symbols.specs.Symbols.{symbols_of};
-ghost use Rattle.elf_table_symbols.specs.declared.table_kind.TableKind.TheVariants as kind;
 ghost use Rattle.elf_table_hash.specs.HashView.{hash_of_section};
-ghost use Rattle.elf_table_lists.specs.DynamicArray.{dynamic_array_of};
+ghost use Rattle.elf_table_lists.specs.Dynamic.{dynamic_array_of};
 ghost use Rattle.elf_table_lists.specs.Groups.{group_of};
 ghost use Rattle.elf_table_lists.specs.Notes.{notes_of};
 ghost use Rattle.elf_table_lists.specs.Relocations.{relocations_of};
-ghost use Rattle.elf_table_all.specs.DynamicStrings.{dynamic_strings};
-ghost use Rattle.elf_table_all.specs.Signature.{signature_name};
-ghost use Rattle.elf_table_all.specs.TableRules.{table_rules};
-ghost use Rattle.elf_table_all.specs.TableVerdicts.{AreVerdicts, HasSoundTable};
+ghost use Rattle.elf_table_all.specs.Tables.{dynamic_strings, signature_name, table_rules, AreVerdicts, HasSoundTable};
+ghost use Rattle.elf_table_symbols.specs.declared.table_section.TableKind.TheVariants as kind;
 
-use crate::index_tables::AllIndexTables;
-use crate::verdicts::all_verdicts;
+use crate::verdicts::{AllIndexTables, all_verdicts};
 use elf_image_rules::Broken;
 use elf_image_type::Image;
 use elf_table_hash::{Hash, sound_hash};
@@ -39,8 +34,8 @@ pub struct Tables<'i, 'a> {
 }
 
 impl<'i, 'a> Model for Tables<'i, 'a> {
-    ghost use Rattle.elf_table_all.specs.TableVerdicts.{TablesValue};
-    ghost use Rattle.elf_table_all.specs.TablesView.{AreVerdictsKept, tables_view};
+    ghost use Rattle.elf_table_all.specs.Tables.{TablesValue};
+    ghost use Rattle.elf_table_all.specs.Tables.{AreVerdictsKept, tables_view};
 
     ghost Value = { TablesValue };
 

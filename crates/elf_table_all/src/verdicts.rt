@@ -1,18 +1,12 @@
 //! The verdicts on the tables of an image: each symbol table is validated once, and its verdict serves every table that links to it.
-ghost use Rattle.std.specs.Prelude.{◌≡◌, ◌<◌, Some, IfOk, length};
-ghost use Rattle.elf_image_rules.specs.Broken.{fault_of};
-ghost use Rattle.elf_image_rules.specs.Rows.{FirstIn};
-ghost use Rattle.elf_table_symbols.specs.Sections.{section, sections_of};
-ghost use Rattle.elf_table_symbols.specs.SymbolRules.{symbol_table_rules};
-ghost use Rattle.elf_table_symbols.specs.TableKind.{kind_of};
-ghost use Rattle.elf_table_symbols.specs.declared.table_kind.TableKind.TheVariants as kind;
-ghost use Rattle.elf_table_all.specs.AllIndexTables.{AreAllIndexTables};
-ghost use Rattle.elf_table_all.specs.TableRules.{table_rules};
-ghost use Rattle.elf_table_symbols.specs.LinkedVerdicts.{AreSymbolVerdicts};
-ghost use Rattle.elf_table_all.specs.TableVerdicts.{AreVerdicts};
-ghost use Rattle.elf_table_all.specs.Verdict.{IsUnread, IsVerdictOf};
+ghost use Rattle.std.specs.Prelude.{◌≡◌, ◌≢◌, ℕ, IfOk, OnOk, length, ◌<◌, Some};
+ghost use Rattle.elf_table_symbols.specs.Symbols.{noted, symbol_table_rules, AreSymbolVerdicts};
+ghost use Rattle.elf_table_symbols.specs.Sections.{sections_of, section, kind_of};
+ghost use Rattle.elf_table_all.specs.Tables.{AreAllIndexTables, index_tables_at, table_rules, AreVerdicts, IsUnread, IsVerdictOf};
+ghost use Rattle.elf_image_rules.specs.Rows.{fault_of, FirstIn};
+ghost use Rattle.elf_table_symbols.specs.declared.table_section.TableKind.TheVariants as kind;
 
-use crate::index_tables::AllIndexTables;
+use elf_field::abi::*;
 use elf_image_rules::Broken;
 use elf_image_stream::Fault;
 use elf_image_type::Image;
@@ -20,8 +14,57 @@ use elf_table_hash::judge_hash_table;
 use elf_table_lists::{
     judge_dynamic_section, judge_group_section, judge_note_section, judge_relocation_section,
 };
-use elf_table_symbols::{SymbolVerdicts, TableKind, TableSection, Verdicts, judge_symbol_table};
+use elf_table_symbols::{
+    IndexTables, SymbolVerdicts, TableKind, TableSection, Verdicts, judge_symbol_table,
+};
 use std::alloc::{AllocError, Global};
+use std::collections::BTreeMap;
+
+// The index tables of an image, found in one pass over its section headers (gABI chapter 4, Sections: SHT_SYMTAB_SHNDX).
+
+/// The first two index tables of each symbol table. Only symbol tables that have one take memory.
+#[derive(Drop)]
+pub(crate) struct AllIndexTables {
+    // By the index of the symbol table.
+    noted: BTreeMap<usize, IndexTables>,
+}
+
+impl AllIndexTables {
+    /// Those of this image.
+    pub(crate) fn new(alloc: Global, image: &Image<'_>) -> Result<AllIndexTables, AllocError>
+        ensures { IfOk result (AreAllIndexTables (sections_of image.now) (length image.now.sections)) }
+    {
+        let mut all = AllIndexTables {
+            noted: BTreeMap::new(alloc),
+        };
+        for j in 0..image.section_count() {
+            let section = image.section(j);
+            if section.sh_type == SHT_SYMTAB_SHNDX {
+                all.note(section.sh_link as usize, j)?;
+            }
+        }
+        Ok(all)
+    }
+
+    /// Those of the symbol table in section `i`. Logarithmic in the number of symbol tables that have one.
+    pub(crate) fn of(&self, i: usize) -> IndexTables
+        ensures { result ≡ index_tables_at self.now i }
+    {
+        self.noted.get(&i).copied().unwrap_or(IndexTables::NONE)
+    }
+
+    // Adds section `j` to those of the symbol table in section `i`. Its index is above theirs.
+    fn note(&mut self, i: usize, j: usize) -> Result<(), AllocError>
+        ensures here { OnOk result (index_tables_at self.new i ≡ noted (index_tables_at self.old i) j) }
+        ensures others { OnOk result ((k : ℕ) → k ≢ i → index_tables_at self.new k ≡ index_tables_at self.old k) }
+    {
+        // Most often it is the first one, and the map is searched once.
+        if let Some(tables) = self.noted.insert(i, IndexTables::NONE.with(j))? {
+            self.noted.insert(i, tables.with(j))?;
+        }
+        Ok(())
+    }
+}
 
 /// The verdict on the table in each section; `Ok` where there is none.
 pub(crate) fn all_verdicts(
@@ -74,7 +117,7 @@ fn symbol_verdict(
 }
 
 // The verdict on the table in this section, by those on the symbol tables; `Ok` where it holds none.
-#[tactic(auto, unfolding(crate::specs::TableRules::table_rules))]
+#[tactic(auto, unfolding(crate::specs::Tables::table_rules))]
 fn table_verdict(
     alloc: Global,
     table: TableSection<'_, '_>,

@@ -1,31 +1,59 @@
 -- If a hash table breaks none of rules 65 to 69, and its content has all its bytes, it is `Valid` for its names. The rules give its size,
 -- its counts, and that each word is a symbol. Whether chains end, and what is on them, is decided (`ChainsDecided`), so rules 68 and 69
 -- give the rest.
-use Rattle.std.proofs.Common.{◌≡◌, ◌≢◌, ℕ, ◌+◌, ◌*◌, ◌%◌, ◌/◌, ◌<◌, None, length, get_or, inl, inr, refl, ap, sym, subst, ◌∙◌, arith}
+use Rattle.std.proofs.Common.{◌≡◌, ℕ, ◌/◌, ◌<◌, List, [], ◌∷◌, length, map, get_or, refl, ap, zero-add, ◌≢◌, ◌+◌, ◌*◌, ◌%◌, None, inl, inr, sym, subst, ◌∙◌, arith, Option, Some, ◌++◌, length-append, ◌-◌, Bool, true, false, cond, drop, min, not, take, zero, suc}
+use Rattle.std.specs.List.{range_with_len, before_first, position_or_len}
+use Rattle.std.proofs.lemmas.List.FromFn.{get_or-map-range_with_len, length-map-range_with_len}
 use Rattle.std.proofs.Math.Nat.{mod-lt}
 use Rattle.std.proofs.lemmas.Bool.{cases_eq, cases_lt}
-use Rattle.elf_extent.specs.Least.{Never}
-use Rattle.elf_field.specs.Abi.{SHT_HASH, WORD_SIZE}
+use Rattle.std.specs.Option.{IsSome}
+use Rattle.std.specs.Prelude.{◌==◌}
+use Rattle.std.proofs.Math.ListN.{drop_of_length-le}
+use Rattle.std.proofs.lemmas.List.{length-take, take-take, take_all, take_rest}
+use Rattle.elf_extent.specs.Extent.{Never}
+use Rattle.elf_field.specs.Abi.{WORD_SIZE, SHT_HASH}
+use Rattle.elf_field.specs.declared.number.Order.{Order}
 use Rattle.elf_field.specs.declared.shdr.Shdr.{Shdr}
-use Rattle.elf_image_rules.specs.Rows.{FirstIn}
 use Rattle.elf_image_rules.proofs.Public.{FirstIn-behind, FirstIn-front}
+use Rattle.elf_image_rules.specs.Rows.{FirstIn}
 use Rattle.elf_image_rules.specs.Tables.{content_extent}
-use Rattle.elf_table_symbols.specs.declared.table_kind.TableKind.TheVariants.{HashTable}
-use Rattle.elf_table_symbols.specs.OwnRules.{own_rules}
-use Rattle.elf_table_symbols.specs.Sections.{Sections, content, order, section}
-use Rattle.elf_table_symbols.specs.Symbols.{symbols_of}
-use Rattle.elf_table_symbols.specs.SymbolRules.{symbol_table_rules}
-use Rattle.elf_table_symbols.specs.SymbolParts.{symbol_parts}
-use Rattle.elf_table_symbols.proofs.Public.{type_of_hash}
-use Rattle.elf_table_hash.specs.HashParts.{HashPartsValue, hash_parts}
-use Rattle.elf_table_hash.specs.HashRules.{chain_rules, hash_rules, hash_table_rules, hash_word_past_end, word_rules}
+use Rattle.elf_table_hash.proofs.Chains.{ends_or_not, on_or_not, chain_short, end_below, one_chain, path_append, path_at, path_push}
+use Rattle.elf_table_hash.specs.HashRules.{HashPartsValue, hash_parts, chain_rules, hash_rules, hash_table_rules, hash_word_past_end, word_rules}
+use Rattle.elf_table_hash.specs.HashTable.{names_in, symbol_name, words_in, AreHashWords, Valid, bucket, bucket_of, chain, name_of, nbucket, nchain, Ends, IsOn, hash_of, symbol_names_of, IsChain, IsPath, HasSymbolNamed, HashValue, IsEndingChain, IsFirstNamed, IsProbed, NoneNamed}
 use Rattle.elf_table_hash.specs.HashView.{hash_of_section}
-use Rattle.elf_table_hash.specs.HashTable.{AreHashWords, Valid, bucket, bucket_of, chain, name_of, nbucket, nchain}
-use Rattle.elf_table_hash.specs.Chains.{Ends, IsOn}
-use Rattle.elf_table_hash.specs.ElfHash.{hash_of}
-use Rattle.elf_table_hash.specs.WordLists.{names_in, symbol_names_of}
-use Rattle.elf_table_hash.proofs.ChainsDecided.{ends_or_not, on_or_not}
-use Rattle.elf_table_hash.proofs.WordListLemmas.{length_words, names_are}
+use Rattle.elf_table_symbols.proofs.Public.{type_of_hash}
+use Rattle.elf_table_symbols.specs.Sections.{own_rules, Sections, content, order, section}
+use Rattle.elf_table_symbols.specs.Symbols.{entry_count, word, SymbolEntryValue, symbol_entry_in, symbols_in, symbols_of, symbol_table_rules, symbol_parts}
+use Rattle.elf_table_symbols.specs.declared.table_section.TableKind.TheVariants.{HashTable}
+
+-- The lists of words and of names have as many entries as whole entries fit, and entry j is `word` or `symbol_name` of j. Both follow from
+-- the law of `map` over a range. `names_are`: the names of a table's symbols are this list of names, by induction on the indexes.
+
+pub length_words : (o : Order) (table : List ℕ) → length (words_in o table) ≡ length table / WORD_SIZE
+unfolding words_in
+length_words o table = length-map-range_with_len (word o table) 0 (length table / WORD_SIZE)
+
+pub word_get : (o : Order) (table : List ℕ) (j : ℕ) → j < length table / WORD_SIZE → get_or (words_in o table) j 0 ≡ word o table j
+unfolding words_in
+word_get o table j within = get_or-map-range_with_len (word o table) 0 (length table / WORD_SIZE) j j 0 within (zero-add j)
+
+pub length_names : (o : Order) (table names : List ℕ) → length (names_in o table names) ≡ entry_count table
+unfolding names_in
+length_names o table names = length-map-range_with_len (symbol_name o table names) 0 (entry_count table)
+
+pub name_get : (o : Order) (table names : List ℕ) (j : ℕ) → j < entry_count table → get_or (names_in o table names) j [] ≡ symbol_name o table names j
+unfolding names_in
+name_get o table names j within = get_or-map-range_with_len (symbol_name o table names) 0 (entry_count table) j j [] within (zero-add j)
+
+-- the names of symbols are those of the table
+map_names : (o : Order) (table names words xs : List ℕ) → map (λ (s : SymbolEntryValue). s.name) (map (symbol_entry_in o table names words) xs) ≡ map (symbol_name o table names) xs
+unfolding symbol_entry_in
+map_names o table names words [] = refl
+map_names o table names words (x ∷ xs) = ap (λ (ns : List (List ℕ)). symbol_name o table names x ∷ ns) (map_names o table names words xs)
+
+pub names_are : (o : Order) (table names words : List ℕ) → map (λ (s : SymbolEntryValue). s.name) (symbols_in o table names words) ≡ names_in o table names
+unfolding symbols_in names_in
+names_are o table names words = map_names o table names words (range_with_len 0 (entry_count table))
 
 -- it has as many bytes in the file as its section header says
 pub hash_type : (f : Sections) (i : ℕ) → FirstIn (own_rules HashTable f i) None → (section f i).sh_type ≡ SHT_HASH
@@ -124,3 +152,187 @@ valid_in_section f i sound whole =
 pub sound_hash_type : (f : Sections) (i : ℕ) → FirstIn (hash_table_rules f i) None → (section f i).sh_type ≡ SHT_HASH
 unfolding hash_table_rules
 sound_hash_type f i sound = hash_type f i (FirstIn-front (own_rules HashTable f i) _ sound)
+
+-- A walk along a chain that ends: the symbols passed do not have the name, and are fewer than there are. At the first symbol with the name,
+-- or at the end, the walk has its result (`walk_found`, `walk_ended`). In a valid table a symbol is found exactly if one from 1 on has the
+-- name, because it is on its bucket's chain (`probe_some`).
+
+-- what is left of a chain at a symbol: the symbol, and the chain of its chain word
+pub left_at : (next : ℕ → ℕ) (s : ℕ) (left : List ℕ) → s ≢ 0 → IsChain next s left → (after : List ℕ) × IsChain next (next s) after × (left ≡ s ∷ after)
+left_at next s [] some chain = absurd (some chain)
+left_at next s (y ∷ after) some chain = (after, subst (λ k. IsChain next (next k) after) chain.1 chain.2, ap (λ k. k ∷ after) chain.1)
+
+-- the symbols looked at and those left are fewer than there are
+pub looked_short : (next : ℕ → ℕ) (m start s : ℕ) (done left : List ℕ) → ((k : ℕ) → k < m → next k < m) → start < m → IsPath next start done s → IsChain next s left →
+    length done + length left < m
+looked_short next m start s done left below within path ends =
+    let short = chain_short next m start (done ++ left) below within (path_append next start s 0 done left path ends) in
+    let sum = length-append done left in
+    omega arith
+
+pub none_more : (names : List (List ℕ)) (name : List ℕ) (s : ℕ) (done : List ℕ) → NoneNamed names name done → name_of names s ≢ name → NoneNamed names name (done ++ s ∷ [])
+none_more names name s [] none other = (other, tt)
+none_more names name s (x ∷ done) none other = (none.0, none_more names name s done none.1 other)
+
+-- ---- a walk along a chain
+
+-- after so many symbols it is at s; none of them had the name
+pub record IsWalked (words : List ℕ) (names : List (List ℕ)) (name : List ℕ) (start steps s : ℕ) : Type 0 where
+  pub done : List ℕ
+  pub left : List ℕ
+  pub path : IsPath (chain words) start done s
+  pub ends : IsChain (chain words) s left
+  pub count : steps ≡ length done
+  pub apart : NoneNamed names name done
+  pub inside : s < nchain words
+
+pub walk_begins : (words : List ℕ) (names : List (List ℕ)) (name : List ℕ) (start : ℕ) → IsEndingChain words names start →
+    IsWalked words names name start 0 start
+walk_begins words names name start chained =
+    record { done = []; left = chained.ends.0; path = refl; ends = chained.ends.1; count = refl; apart = tt; inside = chained.inside }
+
+-- it has looked at fewer symbols than there are
+pub walk_short : (words : List ℕ) (names : List (List ℕ)) (name : List ℕ) (start steps s : ℕ) → IsEndingChain words names start →
+    IsWalked words names name start steps s → steps < nchain words
+walk_short words names name start steps s chained walked =
+    let short = looked_short (chain words) (nchain words) start s walked.done walked.left chained.valid.linked.chains chained.inside walked.path walked.ends in
+    let count = walked.count in
+    omega arith
+
+-- and before a symbol at least one fewer
+pub walk_shorter : (words : List ℕ) (names : List (List ℕ)) (name : List ℕ) (start steps s : ℕ) → IsEndingChain words names start →
+    IsWalked words names name start steps s → s ≢ 0 → steps + 1 < nchain words
+walk_shorter words names name start steps s chained walked some =
+    let short = looked_short (chain words) (nchain words) start s walked.done walked.left chained.valid.linked.chains chained.inside walked.path walked.ends in
+    let count = walked.count in
+    let (after, rest, is) = left_at (chain words) s walked.left some walked.ends in
+    let long = ap (λ (xs : List ℕ). length xs) is in
+    omega arith
+
+pub walk_found : (words : List ℕ) (names : List (List ℕ)) (name : List ℕ) (start steps s : ℕ) → IsWalked words names name start steps s →
+    s ≢ 0 → name_of names s ≡ name → IsFirstNamed (chain words) names name start (Some s) (steps + 1)
+walk_found words names name start steps s walked some named =
+    let (after, rest, is) = left_at (chain words) s walked.left some walked.ends in (
+      walked.done,
+      after,
+      path_append (chain words) start s 0 walked.done (s ∷ after) walked.path (some, refl, rest),
+      ap (λ n. n + 1) walked.count,
+      named,
+      walked.apart,
+    )
+
+pub walk_ended : (words : List ℕ) (names : List (List ℕ)) (name : List ℕ) (start steps s : ℕ) → IsWalked words names name start steps s →
+    s ≡ 0 → IsFirstNamed (chain words) names name start None steps
+walk_ended words names name start steps s walked none =
+    (walked.done, subst (λ (end : ℕ). IsPath (chain words) start walked.done end) none walked.path, walked.count, walked.apart)
+
+pub walk_more : (words : List ℕ) (names : List (List ℕ)) (name : List ℕ) (start steps s : ℕ) → IsEndingChain words names start →
+    IsWalked words names name start steps s → s ≢ 0 → name_of names s ≢ name → IsWalked words names name start (steps + 1) (chain words s)
+walk_more words names name start steps s chained walked some other =
+    let (after, rest, is) = left_at (chain words) s walked.left some walked.ends in
+    let sum = length-append walked.done (s ∷ []) in
+    let count = walked.count in
+    record {
+      done = walked.done ++ s ∷ [];
+      left = after;
+      path = path_push (chain words) start s walked.done walked.path some;
+      ends = rest;
+      count = omega arith;
+      apart = none_more names name s walked.done walked.apart other;
+      inside = chained.valid.linked.chains s walked.inside;
+    }
+
+-- ---- whether a symbol has a name
+
+-- a symbol of the name is not among those that do not have it
+none_there : (names : List (List ℕ)) (name : List ℕ) (s : ℕ) (before after : List ℕ) → NoneNamed names name (before ++ s ∷ after) → name_of names s ≡ name → ⊥
+none_there names name s [] after none named = none.0 named
+none_there names name s (x ∷ before) after none named = none_there names name s before after none.1 named
+
+-- the bucket of a name is one of the table's
+pub bucket_there : (words : List ℕ) (name : List ℕ) → nbucket words ≢ 0 → hash_of name % nbucket words < nbucket words
+bucket_there words name some = let above : 0 < nbucket words = omega arith in mod-lt (hash_of name) above
+
+pub bucket_ends : (words : List ℕ) (names : List (List ℕ)) (name : List ℕ) → Valid words names → Ends (chain words) (bucket_of words name)
+bucket_ends words names name valid = valid.ends (hash_of name % nbucket words) (bucket_there words name valid.some_bucket)
+
+-- a symbol is found exactly where one from 1 on has the name
+pub probe_some : (hash : HashValue) (name : List ℕ) (found : Option ℕ) (steps : ℕ) → Valid hash.words hash.names → IsProbed hash name found steps →
+    (IsSome found → HasSymbolNamed hash name) × (HasSymbolNamed hash name → IsSome found)
+probe_some hash name (Some s) steps valid probed = (
+  (λ _. (
+      let (before, after, whole, count, named, none) = probed in
+      let (some, front, back) = path_at (chain hash.words) (bucket_of hash.words name) 0 s before after whole in
+      let within = valid.linked.buckets (hash_of name % nbucket hash.words) (bucket_there hash.words name valid.some_bucket) in
+      let below = end_below (chain hash.words) (nchain hash.words) (bucket_of hash.words name) s before valid.linked.chains within front in
+      let counted = valid.one_each in
+      (s, (omega arith), (omega arith), named))),
+  λ _. refl,
+)
+probe_some hash name None steps valid probed = (
+  (λ is. cc),
+  λ there. (
+      let (s, above, below, named) = there in
+      let (symbols, whole, count, none) = probed in
+      let counted = valid.one_each in
+      let on = valid.found s above (omega arith) in
+      let same = one_chain (chain hash.words) (bucket_of hash.words name) symbols (on.0 ++ s ∷ on.1) whole
+      (subst (λ n. IsChain (chain hash.words) (bucket_of hash.words n) (on.0 ++ s ∷ on.1)) named on.2) in
+      absurd (none_there hash.names name s on.0 on.1 (subst (NoneNamed hash.names name) same none) named)),
+)
+
+-- the chain of a name's bucket ends, and begins in the table
+pub bucket_chain : (words : List ℕ) (names : List (List ℕ)) (name : List ℕ) → Valid words names → IsEndingChain words names (bucket_of words name)
+bucket_chain words names name valid = record {
+  valid = valid;
+  inside = valid.linked.buckets (hash_of name % nbucket words) (bucket_there words name valid.some_bucket);
+  ends = bucket_ends words names name valid;
+}
+
+-- A string is known by the first bytes from its place on, one more than the length of the name that it is compared with: if its zero is
+-- not among them, the string is longer, and otherwise all of it was seen.
+
+abbrev end_of : List ℕ → ℕ
+end_of xs = position_or_len (λ byte. byte == 0) xs
+
+abbrev string_of : List ℕ → List ℕ
+string_of xs = before_first (λ byte. byte == 0) xs
+
+end_near : (xs : List ℕ) (n : ℕ) → end_of (take n xs) ≡ min n (end_of xs)
+end_near [] zero = omega arith
+end_near [] (suc n) = omega arith
+end_near (x ∷ xs) zero = omega arith
+end_near (x ∷ xs) (suc n) = by (x == 0) (end_near xs n)
+  where
+    by : (b : Bool) → end_of (take n xs) ≡ min n (end_of xs) → cond (not b) (1 + end_of (take n xs)) 0 ≡ min (suc n) (cond (not b) (1 + end_of xs) 0)
+    by true rest = omega arith
+    by false rest = omega arith
+
+-- the string of n bytes of xs is as long as these let it be
+cut_string : (xs : List ℕ) (n : ℕ) → string_of (take n xs) ≡ take (min n (end_of xs)) xs
+cut_string xs n = ap (λ (k : ℕ). take k (take n xs)) (end_near xs n) ∙ take-take (min n (end_of xs)) n xs (omega arith)
+
+pub near_same : (xs name : List ℕ) (n : ℕ) → n ≡ min (length xs) (length name + 1) → string_of (take n xs) ≡ name → string_of xs ≡ name
+near_same xs name n near same = elim (cases_lt (length name + 1) (length xs)) [
+  | inl below ↦
+      let cut : take (min n (end_of xs)) xs ≡ name = sym (cut_string xs n) ∙ same in
+      let long = sym (length-take (min n (end_of xs)) xs) ∙ ap (length {A = ℕ}) cut in
+      ap (λ (k : ℕ). take k xs) (omega arith) ∙ cut
+  | inr past ↦ ap string_of (sym (take_all n xs (omega arith))) ∙ same
+]
+
+pub near_back : (xs name : List ℕ) (n : ℕ) → n ≡ min (length xs) (length name + 1) → string_of xs ≡ name → string_of (take n xs) ≡ name
+near_back xs name n near same = elim (cases_lt (length name + 1) (length xs)) [
+  | inl below ↦
+      let long = sym (length-take (end_of xs) xs) ∙ ap (length {A = ℕ}) same in
+      cut_string xs n ∙ ap (λ (k : ℕ). take k xs) (omega arith) ∙ same
+  | inr past ↦ ap string_of (take_all n xs (omega arith)) ∙ same
+]
+
+-- what is there of a list from an offset on, or nothing past its end
+pub rest_from : (xs : List ℕ) (x : ℕ) → take (length xs - min x (length xs)) (drop (min x (length xs)) xs) ≡ drop x xs
+rest_from xs x =
+    take_rest xs (min x (length xs)) ∙ elim (cases_lt x (length xs)) [
+      | inl below ↦ ap (λ (n : ℕ). drop n xs) (omega arith)
+      | inr past ↦ drop_of_length-le xs (omega arith) ∙ sym (drop_of_length-le xs (omega arith))
+    ]

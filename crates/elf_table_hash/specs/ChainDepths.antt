@@ -1,7 +1,8 @@
 -- What the test of a hash table's chains keeps: for each of its m symbols how long its chain is, as far as that is known, and a
 -- symbol further down. Here `next` gives the chain word of each symbol.
-use Rattle.std.specs.Prelude.{◌≡◌, ℕ, ◌<◌, ◌⊎◌, Bool, true, false, List, ◌∷◌, ◌++◌, get_or, length}
-use Rattle.elf_table_hash.specs.Chains.{IsChain, IsPath}
+use Rattle.std.specs.Prelude.{◌≡◌, ℕ, ◌<◌, ◌⊎◌, Bool, true, false, List, ◌∷◌, ◌++◌, get_or, length, ◌≢◌, ◌+◌, ◌%◌, ◌≤◌, slice_set}
+use Rattle.elf_table_hash.specs.HashTable.{IsChain, IsPath, hash_of, bucket, chain, name_of, nbucket, nchain, AreHashWords}
+use Rattle.elf_table_hash.specs.declared.hash_chains.KnownChains.TheInside.{Inside}
 
 -- the words of a hash table, and for each symbol the length of its chain, 0 where that isn't known
 pub record ChainsValue : Type 0 where
@@ -41,3 +42,39 @@ IsAmongSymbols symbols s = (before after : List ℕ) × (symbols ≡ before ++ s
 pub record AreSeen (m : ℕ) (depth stack : List ℕ) (seen : List Bool) : Type 0 where
   pub long : length seen ≡ m
   pub waits : (s : ℕ) → get_or seen s false ≡ true → (0 < get_or depth s 0) ⊎ IsAmongSymbols stack s
+
+-- Chains as they are made, from the last symbol down: `next` gives the chain word of each symbol, `head` the word of each bucket, and
+-- `home` the bucket of each symbol.
+
+-- the symbols from `from` on, of m, are on the chains of their buckets, of n
+pub record AreThreaded (next head home : ℕ → ℕ) (n m from : ℕ) : Type 0 where
+  pub heads : (b : ℕ) → b < n → (head b ≡ 0) ⊎ ((from ≤ head b) × (head b < m))
+  pub ascending : (s : ℕ) → s < m → (next s ≡ 0) ⊎ ((s < next s) × (next s < m))
+  pub unset : (s : ℕ) → s < from → next s ≡ 0
+  pub found : (s : ℕ) → from ≤ s → s < m → Leads next (head (home s)) s
+  -- no chain has a symbol of another bucket
+  pub own_heads : (b : ℕ) → b < n → head b ≢ 0 → home (head b) ≡ b
+  pub own_links : (s : ℕ) → s < m → next s ≢ 0 → home (next s) ≡ home s
+
+-- in the words of a table for these names
+abbrev pub home_of : List ℕ → List (List ℕ) → ℕ → ℕ
+home_of words names s = hash_of (name_of names s) % nbucket words
+
+abbrev pub IsThreaded : List ℕ → List (List ℕ) → ℕ → Type 0
+IsThreaded words names from = AreThreaded (chain words) (bucket words) (home_of words names) (nbucket words) (nchain words) from
+
+-- symbol s put before the others on the chain of bucket b
+unfoldable pub threaded : List ℕ → ℕ → ℕ → List ℕ
+threaded words s b = slice_set (slice_set words (2 + nbucket words + s) (bucket words b)) (2 + b) s
+
+-- The chains of a hash table, as the functions of `KnownChains` look at them.
+
+-- the jumps and the starts are ways to a chain, and no part of it
+abbrev pub chains_value : Inside → ChainsValue
+chains_value k = record { words = k.words.now; depth = k.depth.items }
+
+pub record AreKnownChains (k : Inside) : Type 0 where
+  pub linked : AreHashWords k.words.now
+  pub depths : AreDepths (chain k.words.now) (nchain k.words.now) k.depth.items
+  pub jumps : AreJumps (chain k.words.now) (nchain k.words.now) k.jump.items
+  pub starts : AreStarts (chain k.words.now) (nchain k.words.now) k.depth.items k.starts.items

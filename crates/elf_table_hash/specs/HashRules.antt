@@ -1,14 +1,40 @@
 -- Rules 65 to 69: the words and the chains of a hash table. (gABI chapter 5, Hash Table.)
-use Rattle.std.specs.Prelude.{◌≡◌, ◌≢◌, ℕ, ◌+◌, ◌*◌, ◌<◌, ◌≤◌, ◌⊎◌, List, [], ◌∷◌, ◌++◌, get_or, length}
+use Rattle.std.specs.Prelude.{ℕ, List, ◌≡◌, ◌≢◌, ◌+◌, ◌*◌, ◌<◌, ◌≤◌, ◌⊎◌, [], ◌∷◌, ◌++◌, get_or, length}
 use Rattle.elf_field.specs.Abi.{SH_SIZE_AT, WORD_SIZE}
 use Rattle.elf_image_rules.specs.Rows.{AtEntry, Either, Row, Ruled, When, rule}
-use Rattle.elf_table_symbols.specs.declared.table_kind.TableKind.TheVariants.{HashTable}
-use Rattle.elf_table_symbols.specs.OwnRules.{own_rules}
-use Rattle.elf_table_symbols.specs.Sections.{Sections, section}
-use Rattle.elf_table_symbols.specs.SymbolRules.{symbol_table_rules}
-use Rattle.elf_table_hash.specs.Chains.{Ends, IsOn}
-use Rattle.elf_table_hash.specs.HashParts.{HashPartsValue, hash_parts}
-use Rattle.elf_table_hash.specs.HashTable.{bucket, bucket_of, chain, name_of, nbucket, nchain}
+use Rattle.elf_table_hash.specs.HashTable.{symbol_names_of, words_in, Ends, IsOn, bucket, bucket_of, chain, name_of, nbucket, nchain}
+use Rattle.elf_table_symbols.specs.Sections.{Sections, content, header_at, order, section, own_rules}
+use Rattle.elf_table_symbols.specs.Symbols.{symbol_table_rules}
+use Rattle.elf_table_symbols.specs.declared.table_section.TableKind.TheVariants.{HashTable}
+use Rattle.elf_table_hash.specs.declared.hash_parts.HashParts as declared
+
+-- What the rules of a hash table look at, beside its own section header: its words, and the names of the symbols of the symbol
+-- table that it links to. (gABI chapter 5, Hash Table.)
+
+pub record HashPartsValue : Type 0 where
+  -- the offset of the section header, and its sh_size
+  pub header : ℕ
+  pub size : ℕ
+  pub words : List ℕ
+  -- the offset of the words
+  pub start : ℕ
+  pub names : List (List ℕ)
+
+-- those of the hash table in section i
+abbrev pub hash_parts : Sections → ℕ → HashPartsValue
+hash_parts f i =
+    let s = section f i in
+    record {
+      header = header_at f i;
+      size = s.sh_size;
+      words = words_in (order f) (content f i);
+      start = s.sh_offset;
+      names = symbol_names_of f s.sh_link;
+    }
+
+-- those that the code has gathered
+abbrev pub hash_parts_value : declared.HashParts → HashPartsValue
+hash_parts_value p = record { header = p.header; size = p.size; words = p.words; start = p.start; names = p.names }
 
 -- the offset in the file of the word of bucket b, and of the chain word of symbol s
 abbrev pub bucket_at : HashPartsValue → ℕ → ℕ

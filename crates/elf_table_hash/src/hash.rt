@@ -1,18 +1,17 @@
 //! Hash tables (gABI chapter 5, Hash Table).
 ghost use Rattle.std.specs.Prelude.{◌≡◌, ◌↔◌, ◌<◌, ◌≤◌, ℕ, None, IsSome, length, get_or};
 ghost use Rattle.elf_image_rules.specs.Rows.{FirstIn};
-ghost use Rattle.elf_table_symbols.specs.Judged.{IsJudgedBehind};
+ghost use Rattle.elf_table_symbols.specs.Verdicts.{IsJudgedBehind};
 ghost use Rattle.elf_table_symbols.specs.Sections.{sections_of};
-ghost use Rattle.elf_table_hash.specs.HashLeft.{words_left};
+ghost use Rattle.elf_table_hash.specs.HashView.{words_left, hash_of_section};
 ghost use Rattle.elf_table_hash.specs.HashRules.{hash_table_front, hash_table_rules};
-ghost use Rattle.elf_table_hash.specs.HashTable.{nbucket as nbucket_of, nchain as nchain_of};
-ghost use Rattle.elf_table_hash.specs.HashView.{hash_of_section};
-ghost use Rattle.elf_table_hash.specs.Probe.{HasSymbolNamed, IsProbed};
+ghost use Rattle.elf_table_hash.specs.HashTable.{nbucket as nbucket_of, nchain as nchain_of, HasSymbolNamed, IsProbed, Valid, chain, IsEndingChain, IsFirstNamed, hash_in};
 
+use crate::hash_building::elf_hash;
 use crate::hash_parts::HashParts;
-use crate::hash_probe::probe_in;
 use crate::hash_rules::judge_hash_table;
 use crate::hash_words::{HashWords, SymbolNames};
+use elf_field::Order;
 use elf_image_stream::Fault;
 use elf_image_type::Image;
 use elf_table_symbols::{LinkedTable, SymbolVerdicts, TableSection};
@@ -29,7 +28,7 @@ pub struct Hash<'a> {
 
 impl<'a> Model for Hash<'a> {
     ghost use Rattle.elf_table_hash.specs.HashTable.{Valid};
-    ghost use Rattle.elf_table_hash.specs.Probe.{HashValue};
+    ghost use Rattle.elf_table_hash.specs.HashTable.{HashValue};
 
     ghost Value = { HashValue };
 
@@ -150,7 +149,7 @@ pub struct HashIter<'s, 'a> {
 
 impl<'s, 'a> Iterator for HashIter<'s, 'a> {
     ghost use Rattle.std.specs.Iterator.{YieldsFirst, item_count};
-    ghost use Rattle.elf_table_hash.specs.HashLeft.{words_left};
+    ghost use Rattle.elf_table_hash.specs.HashView.{words_left};
 
     type Item = u32;
 
@@ -166,4 +165,71 @@ impl<'s, 'a> Iterator for HashIter<'s, 'a> {
         self.next += 1;
         Some(word)
     }
+}
+
+// Looking up a name in words that may be any (gABI chapter 5, Hash Table).
+
+/// What [`Hash::find`](crate::Hash::find) returns, of a hash table with this content, whose symbol table and string table have these: the
+/// first symbol of this name on the chain of the name's bucket. Of contents that break a rule it answers some symbol or none. It takes no
+/// memory, and no more steps than there are symbols.
+pub fn find_in(
+    order: Order,
+    table: &[u8],
+    symbols: &[u8],
+    strings: &[u8],
+    name: &[u8],
+) -> Option<u32>
+    ensures found { let hash = hash_in order table.now symbols.now strings.now in
+        Valid hash.words hash.names → (steps : ℕ) × IsProbed hash name.now result steps }
+    ensures some { let hash = hash_in order table.now symbols.now strings.now in
+        Valid hash.words hash.names → (IsSome result ↔ HasSymbolNamed hash name.now) }
+{
+    let words = HashWords::new(order, table);
+    let names = SymbolNames::new(order, symbols, strings);
+    probe_in(&words, &names, name).0
+}
+
+/// The first symbol of this name on the chain of the name's bucket, with its position there, counted from 1, or else the length of the
+/// chain.
+pub(crate) fn probe_in(
+    words: &HashWords<'_>,
+    names: &SymbolNames<'_>,
+    name: &[u8],
+) -> (Option<u32>, u32)
+    ensures found { Valid words.now names.now →
+        IsProbed (record { words = words.now; names = names.now }) name.now result.0 result.1 }
+    ensures few { Valid words.now names.now → result.1 < nchain_of words.now }
+{
+    let nbucket = words.word_or_zero(0);
+    // A table that breaks a rule may report more symbols than there are.
+    if nbucket == 0 || words.word_or_zero(1) as usize != names.len() {
+        return (None, 0);
+    }
+    let start = words.word_or_zero(2 + (elf_hash(name) % nbucket) as usize);
+    first_named(words, names, name, start)
+}
+
+// The first symbol of this name on the chain of `start`, with its position, or the length of the chain.
+fn first_named(
+    words: &HashWords<'_>,
+    names: &SymbolNames<'_>,
+    name: &[u8],
+    start: u32,
+) -> (Option<u32>, u32)
+    ensures found { IsEndingChain words.now names.now start →
+        IsFirstNamed (chain words.now) names.now name.now start result.0 result.1 }
+    ensures few { IsEndingChain words.now names.now start → result.1 < nchain_of words.now }
+{
+    let mut s = start;
+    // A chain has fewer symbols than there are.
+    for steps in 0..words.word_or_zero(1) {
+        if s == 0 {
+            return (None, steps);
+        }
+        if names.has(s, name) {
+            return (Some(s), steps + 1);
+        }
+        s = words.chain_or_zero(s);
+    }
+    (None, 0)
 }

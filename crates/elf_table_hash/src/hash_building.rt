@@ -1,12 +1,32 @@
 //! Making a hash table (gABI chapter 5, Hash Table).
 ghost use Rattle.std.specs.Prelude.{◌≡◌, ◌≢◌, ◌<◌, ◌≤◌, ◌+◌, ◌%◌, ℕ, IfErr, IfOk, length, get_or, map};
-ghost use Rattle.elf_table_hash.specs.HashBuilt.{IsBuilt, IsRefused, MAX_HASH};
-ghost use Rattle.elf_table_hash.specs.HashTable.{nbucket as nbucket_of, nchain as nchain_of};
-ghost use Rattle.elf_table_hash.specs.HashThreads.{IsThreaded, threaded};
+ghost use Rattle.elf_table_hash.specs.HashTable.{hash_of, hash_step, IsBuilt, IsRefused, MAX_HASH, nbucket as nbucket_of, nchain as nchain_of};
+ghost use Rattle.elf_table_hash.specs.ChainDepths.{IsThreaded, threaded};
 
-use crate::name_hash::elf_hash;
 use std::alloc::{AllocError, AllocFailed, Global};
 use thiserror::Error;
+
+// The hash of a symbol's name (gABI chapter 5, Hash Table).
+
+/// The hash by which a hash table finds the bucket of a symbol with this name. Linear in the name; it takes no memory.
+pub fn elf_hash(name: &[u8]) -> u32
+    ensures { result ≡ hash_of name.now }
+{
+    let mut hash = 0;
+    for &byte in name {
+        hash = hash_more(hash, byte);
+    }
+    hash
+}
+
+// The hash after one more byte.
+fn hash_more(hash: u32, byte: u8) -> u32
+    ensures { result ≡ hash_step hash byte }
+{
+    let sum = hash.wrapping_mul(16).wrapping_add(byte as u32);
+    let top = sum & 0xf000_0000;
+    (sum ^ (top >> 24)) & 0x0fff_ffff
+}
 
 /// The most names, and the most buckets, of a table that is made.
 const MAX_HASH_SIZE: usize = 1 << 24;
@@ -89,7 +109,7 @@ fn thread_symbols(words: &mut [u32], names: &[&[u8]])
 }
 
 // Puts symbol `s`, whose name has this hash, before the others on the chain of its bucket.
-#[tactic(auto, unfolding(crate::specs::HashThreads::threaded, crate::specs::HashTable::bucket))]
+#[tactic(auto, unfolding(crate::specs::ChainDepths::threaded, crate::specs::HashTable::bucket))]
 fn thread_symbol(words: &mut [u32], s: usize, hash: u32)
     requires some_bucket { nbucket_of words.old ≢ 0 }
     requires long { length words.old ≡ 2 + nbucket_of words.old + nchain_of words.old }

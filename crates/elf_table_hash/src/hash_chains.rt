@@ -4,12 +4,11 @@
 //! symbols. The walks here stop where the chain's length is known, and go back over the symbols that are new: each
 //! symbol is met once. Whether a symbol is on a chain is asked by jumps down it, of which a few lead to any place.
 ghost use Rattle.std.specs.Prelude.{◌≡◌, ◌≢◌, ◌↔◌, ◌<◌, ◌≤◌, ◌+◌, ◌*◌, ℕ, [], None, IfOk, IfNone, IfSome, IsSome, IsTrue, length, get_or, slice_set};
-ghost use Rattle.elf_extent.specs.Least.{IsLowest};
-ghost use Rattle.elf_image_rules.specs.HeaderRules.{MAX_LEN};
-ghost use Rattle.elf_table_symbols.specs.Below.{Below};
+ghost use Rattle.elf_extent.specs.Extent.{IsLowest};
+ghost use Rattle.elf_image_rules.specs.Rules.{MAX_LEN};
+ghost use Rattle.elf_table_symbols.specs.Sections.{Below};
 ghost use Rattle.elf_table_hash.specs.ChainDepths.{AreDepths, AreSeen, IsDepthKnown, IsAmongSymbols, Leads};
-ghost use Rattle.elf_table_hash.specs.Chains.{Ends, IsOn, IsPath};
-ghost use Rattle.elf_table_hash.specs.HashTable.{AreHashWords, bucket, chain, nbucket, nchain};
+ghost use Rattle.elf_table_hash.specs.HashTable.{Ends, IsOn, IsPath, AreHashWords, bucket, chain, nbucket, nchain};
 
 use crate::hash_words::HashWords;
 use std::alloc::{AllocError, Global};
@@ -45,7 +44,7 @@ impl<'w, 'a> Model for KnownChains<'w, 'a> {
 
     ghost Value = { ChainsValue };
 
-    ghost use Rattle.elf_table_hash.specs.KnownChains.{AreKnownChains, chains_value};
+    ghost use Rattle.elf_table_hash.specs.ChainDepths.{AreKnownChains, chains_value};
 
     ghost view = { chains_value };
 

@@ -1,7 +1,7 @@
 //! What the rules of a hash table look at (gABI chapter 5, Hash Table).
 ghost use Rattle.std.specs.Prelude.{◌≡◌, ◌+◌, ◌/◌, ◌<◌, ◌≤◌, length};
 ghost use Rattle.elf_field.specs.Abi.{SHDR_SIZE, WORD_SIZE};
-ghost use Rattle.elf_image_rules.specs.HeaderRules.{MAX_LEN};
+ghost use Rattle.elf_image_rules.specs.Rules.{MAX_LEN};
 
 use crate::hash_words::{HashWords, SymbolNames};
 use elf_table_symbols::{LinkedTable, TableKind};
@@ -25,10 +25,10 @@ pub(crate) struct HashParts<'a> {
 impl<'a> HashParts<'a> {
     ghost use Rattle.std.specs.Prelude.{None};
     ghost use Rattle.elf_image_rules.specs.Rows.{FirstIn};
-    ghost use Rattle.elf_table_symbols.specs.OwnRules.{own_rules};
+    ghost use Rattle.elf_table_symbols.specs.Sections.{own_rules};
     ghost use Rattle.elf_table_symbols.specs.Sections.{section, sections_of};
-    ghost use Rattle.elf_table_symbols.specs.SymbolRules.{symbol_table_rules};
-    ghost use Rattle.elf_table_hash.specs.HashParts.{hash_parts, hash_parts_value};
+    ghost use Rattle.elf_table_symbols.specs.Symbols.{symbol_table_rules};
+    ghost use Rattle.elf_table_hash.specs.HashRules.{hash_parts, hash_parts_value};
 
     /// Those of a hash table whose section header breaks no rule, as the symbol table that it links to.
     pub(crate) fn new(linked: LinkedTable<'_, 'a>) -> HashParts<'a>

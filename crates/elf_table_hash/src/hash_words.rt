@@ -1,10 +1,9 @@
 //! The words of a hash table, and the names that it is for (gABI chapter 5, Hash Table).
 ghost use Rattle.std.specs.Prelude.{◌≡◌, ◌≢◌, ◌↔◌, ◌<◌, ◌≤◌, ◌+◌, [], IsTrue, length, get_or};
-ghost use Rattle.elf_table_hash.specs.HashTable.{bucket as bucket_word, bucket_of as bucket_of_name, chain as chain_word, nbucket as nbucket_of, nchain as nchain_of};
-ghost use Rattle.elf_image_type.specs.Strings.{string};
-ghost use Rattle.elf_table_hash.specs.WordLists.{names_in, words_in};
+ghost use Rattle.elf_table_hash.specs.HashTable.{bucket as bucket_word, bucket_of as bucket_of_name, chain as chain_word, nbucket as nbucket_of, nchain as nchain_of, names_in, words_in};
+ghost use Rattle.elf_image_type.specs.ImageView.{string};
 
-use crate::name_hash::elf_hash;
+use crate::hash_building::elf_hash;
 use elf_field::Order;
 use elf_field::abi::*;
 use elf_image_type::strings::string_at;
@@ -20,7 +19,7 @@ pub(crate) struct HashWords<'a> {
 
 impl<'a> Model for HashWords<'a> {
     ghost use Rattle.std.specs.Prelude.{ℕ, List};
-    ghost use Rattle.elf_table_hash.specs.WordLists.{words_in};
+    ghost use Rattle.elf_table_hash.specs.HashTable.{words_in};
 
     ghost Value = { List ℕ };
 
@@ -119,7 +118,7 @@ pub(crate) struct SymbolNames<'a> {
 
 impl<'a> Model for SymbolNames<'a> {
     ghost use Rattle.std.specs.Prelude.{ℕ, List};
-    ghost use Rattle.elf_table_hash.specs.WordLists.{names_in};
+    ghost use Rattle.elf_table_hash.specs.HashTable.{names_in};
 
     ghost Value = { List (List ℕ) };
 

@@ -12,14 +12,9 @@ mod hash;
 mod hash_building;
 mod hash_chains;
 mod hash_parts;
-mod hash_probe;
 mod hash_rules;
-mod hash_word_rules;
 mod hash_words;
-mod name_hash;
 
-pub use hash::{Hash, HashIter, sound_hash};
-pub use hash_building::{HashFault, build_hash};
-pub use hash_probe::find_in;
+pub use hash::{Hash, HashIter, find_in, sound_hash};
+pub use hash_building::{HashFault, build_hash, elf_hash};
 pub use hash_rules::judge_hash_table;
-pub use name_hash::elf_hash;

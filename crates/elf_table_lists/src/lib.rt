@@ -11,25 +11,17 @@
 #![tactic(auto)]
 
 mod dynamic;
-mod dynamic_entries;
-mod dynamic_rules;
 mod group;
-mod group_rules;
-mod note;
-mod note_rules;
 mod notes;
-mod relocation;
-mod relocation_rules;
-mod relocs;
+mod relocations;
 
-pub use dynamic::{Dynamic, DynamicIter, sound_dynamic};
-pub use dynamic_entries::{dynamic_entry, dynamic_entry_count, first_null_entry, is_string_tag};
-pub use dynamic_rules::judge_dynamic_section;
-pub use group::{Group, GroupIter, sound_group};
-pub use group_rules::{judge_group_section, member, member_count};
-pub use note::{Note, NoteHeader, note_at};
-pub use note_rules::judge_note_section;
-pub use notes::{NoteIter, Notes, sound_notes};
-pub use relocation::{Relocation, relocation_at, relocation_count};
-pub use relocation_rules::judge_relocation_section;
-pub use relocs::{RelocIter, Relocs, section_relocs};
+pub use dynamic::{
+    Dynamic, DynamicIter, dynamic_entry, dynamic_entry_count, first_null_entry, is_string_tag,
+    judge_dynamic_section, sound_dynamic,
+};
+pub use group::{Group, GroupIter, judge_group_section, member, member_count, sound_group};
+pub use notes::{Note, NoteHeader, NoteIter, Notes, judge_note_section, note_at, sound_notes};
+pub use relocations::{
+    RelocIter, Relocation, Relocs, judge_relocation_section, relocation_at, relocation_count,
+    section_relocs,
+};

@@ -1,9 +1,5 @@
 -- `Public` is for the proofs of the crates above, the others are for those of this one.
 mod IndexTableLemmas
 mod JudgedLemmas
-mod Lowest
-mod OwnRuleLemmas
-pub mod Public
 mod SymbolLists
-mod TableKinds
-mod VerdictLists
+pub mod Public

@@ -1,24 +1,45 @@
 -- The list of symbols has `entry_count` entries, and entry j is `symbol_entry_in` of j. If the table breaks no rule, the section that it
 -- links to is there (rule 44). Each symbol with index 0xffff then has its word (rules 50 and 51), if the index table's words are as long as
 -- its header says.
-use Rattle.std.proofs.Common.{◌≡◌, ℕ, ◌*◌, ◌<◌, Option, None, Some, List, length, get_or, ◌++◌, inl, inr, refl, sym, subst, arith, zero-add}
-use Rattle.std.proofs.lemmas.Bool.{cases_eq}
+use Rattle.std.proofs.Common.{ℕ, ◌<◌, None, inl, inr, refl, ◌≡◌, Some, arith, ◌*◌, Option, List, length, get_or, ◌++◌, sym, subst, zero-add}
+use Rattle.std.proofs.lemmas.Bool.{cases_lt, cases_eq}
+use Rattle.std.proofs.lemmas.Grind.{common_steps}
 use Rattle.std.proofs.lemmas.List.FromFn.{get_or-map-range_with_len, length-map-range_with_len}
-use Rattle.elf_field.specs.Abi.{SHN_XINDEX, WORD_SIZE}
-use Rattle.elf_field.specs.declared.order.Order.{Order}
-use Rattle.elf_image_rules.specs.Rows.{FirstIn}
+use Rattle.elf_field.specs.Abi.{SHT_GROUP, SHT_HASH, SHN_XINDEX, WORD_SIZE}
+use Rattle.elf_field.specs.declared.number.Order.{Order}
 use Rattle.elf_image_rules.proofs.Public.{FirstIn-behind, FirstIn-front}
-use Rattle.elf_table_symbols.specs.declared.table_kind.TableKind.TheVariants.{SymbolTable}
-use Rattle.elf_table_symbols.specs.IndexTable.{index_table}
-use Rattle.elf_table_symbols.specs.OwnRules.{own_rules}
-use Rattle.elf_table_symbols.specs.Sections.{Sections, count, section}
-use Rattle.elf_table_symbols.specs.StringRules.{linked_string_rules}
-use Rattle.elf_table_symbols.specs.SymbolParts.{SymbolPartsValue, symbol_parts}
-use Rattle.elf_table_symbols.specs.SymbolRules.{entry, entry_count, index_table_rules, place_rules, rest_rules, symbol_entry_rules, symbol_table_rules}
-use Rattle.elf_table_symbols.specs.Symbols.{IsReadable, SymbolEntryValue, symbol_entry_in, symbols_in}
+use Rattle.elf_image_rules.specs.Rows.{FirstIn}
+use Rattle.elf_table_symbols.specs.Sections.{own_rules, Sections, count, section, IsSymbolType, kind_of}
 use Rattle.elf_table_symbols.specs.SymbolView.{no_symbol_entry}
+use Rattle.elf_table_symbols.specs.Symbols.{index_table, linked_string_rules, SymbolPartsValue, symbol_parts, entry, entry_count, index_table_rules, place_rules, rest_rules, symbol_entry_rules, symbol_table_rules, IsReadable, SymbolEntryValue, symbol_entry_in, symbols_in}
 use Rattle.elf_table_symbols.specs.declared.symbols.Symbols.TheInside.{Inside}
-use Rattle.elf_table_symbols.proofs.OwnRuleLemmas.{link_there}
+use Rattle.elf_table_symbols.specs.declared.table_section.TableKind.TheVariants.{HashTable, SectionGroup, SymbolTable}
+use Rattle.elf_table_symbols.specs.declared.table_section.TableKind.{TableKind}
+
+-- What is known of a table that breaks none of its own rules.
+
+-- the section that it links to is there
+pub link_there : (kind : TableKind) (f : Sections) (i : ℕ) → FirstIn (own_rules kind f i) None → (section f i).sh_link < count f
+unfolding own_rules
+link_there kind f i own =
+    elim (cases_lt (section f i).sh_link (count f)) [
+      | inl there ↦ there
+      | inr past ↦ absurd (own.1.1.1.0 _ (inl past, refl))
+    ]
+
+-- What a section's type says of the table in it.
+
+-- a section that holds symbols holds a symbol table
+pub symbols_kind : (type : ℕ) → IsSymbolType type → kind_of type ≡ Some SymbolTable
+symbols_kind type (inl symtab) = rw symtab refl
+symbols_kind type (inr dynsym) = rw dynsym refl
+
+-- a section that holds a group or a hash table is of the one type that does
+pub type_of_group : (type : ℕ) → kind_of type ≡ Some SectionGroup → type ≡ SHT_GROUP
+type_of_group type is = grind (arith, common_steps)
+
+pub type_of_hash : (type : ℕ) → kind_of type ≡ Some HashTable → type ≡ SHT_HASH
+type_of_hash type is = grind (arith, common_steps)
 
 pub length_symbols : (o : Order) (table names words : List ℕ) → length (symbols_in o table names words) ≡ entry_count table
 unfolding symbols_in

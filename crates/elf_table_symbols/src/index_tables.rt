@@ -1,7 +1,7 @@
 //! Index tables: the section indexes that the symbols of a table cannot hold themselves (gABI chapter 4, Sections:
 //! SHT_SYMTAB_SHNDX).
 ghost use Rattle.std.specs.Prelude.{◌≡◌, ◌<◌, length};
-ghost use Rattle.elf_table_symbols.specs.IndexTable.{AreIndexTables, noted};
+ghost use Rattle.elf_table_symbols.specs.Symbols.{AreIndexTables, noted};
 ghost use Rattle.elf_table_symbols.specs.Sections.{sections_of};
 
 use elf_field::abi::*;

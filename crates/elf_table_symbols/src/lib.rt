@@ -15,27 +15,17 @@
 #![tactic(auto)]
 
 mod index_tables;
-mod own_rules;
 pub mod rules;
 mod strings;
-mod symbol;
 mod symbol_parts;
 mod symbol_rules;
-mod symbol_verdicts;
-mod symbol_words;
 mod symbols;
-mod table_kind;
 mod table_section;
 mod verdicts;
 
 pub use index_tables::IndexTables;
-pub use own_rules::judge_own_rules;
 pub use strings::{Strings, judge_linked_strings};
-pub use symbol::{Place, Symbol};
-pub use symbol_rules::judge_symbol_table;
-pub use symbol_verdicts::SymbolVerdicts;
-pub use symbol_words::{entry, word};
-pub use symbols::{SymbolIter, Symbols, sound_symbols};
-pub use table_kind::TableKind;
-pub use table_section::{LinkedTable, TableSection};
-pub use verdicts::Verdicts;
+pub use symbol_rules::{entry, judge_symbol_table, word};
+pub use symbols::{Place, Symbol, SymbolIter, Symbols, sound_symbols};
+pub use table_section::{LinkedTable, TableKind, TableSection, judge_own_rules};
+pub use verdicts::{SymbolVerdicts, Verdicts};

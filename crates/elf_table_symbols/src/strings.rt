@@ -1,12 +1,11 @@
 //! String tables (gABI chapter 4, String Table).
 ghost use Rattle.std.specs.Prelude.{◌≡◌, ◌≢◌, ◌<◌, ◌≤◌, ◌⊎◌, ◌+◌, MatchOption, length};
-ghost use Rattle.elf_image_rules.specs.HeaderRules.{MAX_LEN};
-ghost use Rattle.elf_image_rules.specs.Broken.{fault_of};
-ghost use Rattle.elf_image_rules.specs.Rows.{FirstIn};
-ghost use Rattle.elf_image_type.specs.Strings.{string};
-ghost use Rattle.elf_table_symbols.specs.Judged.{IsJudged};
+ghost use Rattle.elf_image_rules.specs.Rules.{MAX_LEN};
+ghost use Rattle.elf_image_rules.specs.Rows.{fault_of, FirstIn};
+ghost use Rattle.elf_image_type.specs.ImageView.{string};
+ghost use Rattle.elf_table_symbols.specs.Verdicts.{IsJudged};
 ghost use Rattle.elf_table_symbols.specs.Sections.{content, sections_of};
-ghost use Rattle.elf_table_symbols.specs.StringRules.{linked_string_rules, string_table_rules};
+ghost use Rattle.elf_table_symbols.specs.Symbols.{linked_string_rules, string_table_rules};
 
 use crate::rules::*;
 use crate::table_section::TableSection;
@@ -63,7 +62,7 @@ impl<'a> Strings<'a> {
 }
 
 /// Rules 40 and 41 of a string table.
-#[tactic(auto, unfolding(crate::specs::StringRules::string_table_rules))]
+#[tactic(auto, unfolding(crate::specs::Symbols::string_table_rules))]
 fn judge_string_table(table: TableSection<'_, '_>) -> Result<(), Broken<u64>>
     ensures { FirstIn (string_table_rules (sections_of table.entry.image.now) table.entry.index) (fault_of result) }
 {
@@ -77,7 +76,7 @@ fn judge_string_table(table: TableSection<'_, '_>) -> Result<(), Broken<u64>>
 
 /// Rule 41 of a string table at this offset in the file, which another table links to. [`Broken`] has the lowest offset where the rule is
 /// broken: that of the first byte where this isn't 0, else of the last.
-#[tactic(auto, unfolding(crate::specs::StringRules::linked_string_rules))]
+#[tactic(auto, unfolding(crate::specs::Symbols::linked_string_rules))]
 pub fn judge_linked_strings(table: &[u8], start: u64) -> Result<(), Broken<u64>>
     requires { 0 < length table.now → start + length table.now ≤ MAX_LEN }
     ensures { FirstIn (linked_string_rules table.now start) (fault_of result) }

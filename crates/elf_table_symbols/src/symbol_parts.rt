@@ -1,11 +1,11 @@
 //! What the rules of a symbol table look at, beside its own section header (gABI chapter 4, Symbol Table).
 ghost use Rattle.std.specs.Prelude.{◌≡◌, ℕ, Some, ◌*◌, ◌/◌, ◌+◌, ◌<◌, ◌≤◌, length};
 ghost use Rattle.elf_field.specs.Abi.{SHDR_SIZE};
-ghost use Rattle.elf_image_rules.specs.HeaderRules.{MAX_LEN};
+ghost use Rattle.elf_image_rules.specs.Rules.{MAX_LEN};
 ghost use Rattle.elf_table_symbols.specs.Sections.{section, sections_of};
 
 use crate::index_tables::IndexTables;
-use crate::symbol_words::index_words_in;
+use crate::symbol_rules::index_words_in;
 use crate::table_section::LinkedTable;
 use elf_field::Order;
 use elf_field::abi::*;
@@ -36,9 +36,9 @@ pub(crate) struct SymbolParts<'a> {
 }
 
 impl<'a> SymbolParts<'a> {
-    ghost use Rattle.elf_table_symbols.specs.IndexTable.{AreIndexTables};
-    ghost use Rattle.elf_table_symbols.specs.SymbolParts.{parts_value, symbol_parts};
-    ghost use Rattle.elf_table_symbols.specs.SymbolRules.{entry_count};
+    ghost use Rattle.elf_table_symbols.specs.Symbols.{AreIndexTables};
+    ghost use Rattle.elf_table_symbols.specs.Symbols.{parts_value, symbol_parts};
+    ghost use Rattle.elf_table_symbols.specs.Symbols.{entry_count};
 
     /// Those of this symbol table, with its index tables.
     pub(crate) fn new(linked: LinkedTable<'_, 'a>, tables: IndexTables) -> SymbolParts<'a>

@@ -1,26 +1,56 @@
 //! Rules 45 to 52: the symbols of a symbol table, and its index table (gABI chapter 4, Symbol Table; Sections: sh_info,
 //! SHT_SYMTAB_SHNDX).
-ghost use Rattle.std.specs.Prelude.{◌≡◌, ◌↔◌, ◌<◌, ◌≤◌, ◌≢◌, ◌+◌, ◌*◌, ℕ, Some, IsTrue, MatchOption, OnOk, length};
-ghost use Rattle.elf_image_rules.specs.HeaderRules.{MAX_LEN};
-ghost use Rattle.elf_extent.specs.Least.{IsLowest};
-ghost use Rattle.elf_image_rules.specs.Broken.{fault_of};
-ghost use Rattle.elf_image_rules.specs.Rows.{AtEntry, FirstIn};
-ghost use Rattle.elf_table_symbols.specs.IndexTable.{AreIndexTables};
-ghost use Rattle.elf_table_symbols.specs.Sections.{content, sections_of};
-ghost use Rattle.elf_table_symbols.specs.SymbolParts.{parts_value, symbol_parts};
-ghost use Rattle.elf_table_symbols.specs.SymbolRules.{BreaksSymbolEntry, entry as entry_of, entry_count, symbol_entry_rules, index_table_rules, place_rules, rest_rules, symbol_0_not_null, symbol_field, symbol_table_rules, IsWrongIndexWord, wrong_index_word};
+ghost use Rattle.std.specs.Prelude.{◌≡◌, ℕ, Some, ◌*◌, ◌+◌, ◌<◌, ◌≤◌, length, ◌↔◌, ◌≢◌, IsTrue, MatchOption, OnOk};
+ghost use Rattle.elf_image_rules.specs.Rules.{MAX_LEN};
+ghost use Rattle.elf_table_symbols.specs.Symbols.{index_words, index_words_start, entry as entry_of, entry_count, word as word_of, AreIndexTables, parts_value, symbol_parts, BreaksSymbolEntry, symbol_entry_rules, index_table_rules, place_rules, rest_rules, symbol_0_not_null, symbol_field, symbol_table_rules, IsWrongIndexWord, wrong_index_word};
+ghost use Rattle.elf_table_symbols.specs.Sections.{section, sections_of, content};
+ghost use Rattle.elf_extent.specs.Extent.{IsLowest};
+ghost use Rattle.elf_image_rules.specs.Rows.{fault_of, AtEntry, FirstIn};
 
 use crate::index_tables::IndexTables;
-use crate::own_rules::judge_own_rules;
 use crate::rules::*;
 use crate::strings::judge_linked_strings;
 use crate::symbol_parts::SymbolParts;
-use crate::symbol_words::{entry, word};
-use crate::table_kind::TableKind;
-use crate::table_section::{LinkedTable, TableSection};
-use elf_field::Sym;
+use crate::table_section::{LinkedTable, TableKind, TableSection, judge_own_rules};
 use elf_field::abi::*;
+use elf_field::{Order, Sym, get_at};
 use elf_image_rules::Broken;
+use elf_image_type::Image;
+
+// The entries of a symbol table's content, and the words of its index table (gABI chapter 4, Symbol Table).
+
+/// The content of an index table, and its offset.
+pub(crate) fn index_words_in<'a>(image: &Image<'a>, table: Option<usize>) -> (&'a [u8], u64)
+    requires there { (j : ℕ) → table ≡ Some j → j < length image.now.sections }
+    requires typed { (j : ℕ) → table ≡ Some j → (section (sections_of image.now) j).sh_type ≡ SHT_SYMTAB_SHNDX }
+    ensures words { result.0.now ≡ index_words (sections_of image.now) table }
+    ensures start { result.1 ≡ index_words_start (sections_of image.now) table }
+    ensures sized { (j : ℕ) → table ≡ Some j → length result.0.now ≡ (section (sections_of image.now) j).sh_size }
+    ensures inside { 0 < length result.0.now → result.1 + length result.0.now ≤ MAX_LEN }
+{
+    match table {
+        Some(j) => (image.content(j), image.section(j).sh_offset),
+        None => (&[], 0),
+    }
+}
+
+/// Entry `j` of a symbol table's content.
+#[tactic(auto, unfolding(crate::specs::Symbols::entry))]
+pub fn entry(order: Order, table: &[u8], j: usize) -> Sym
+    requires { j < entry_count table.now }
+    ensures { result ≡ entry_of order table.now j }
+{
+    get_at(order, table, SYM_SIZE as usize * j)
+}
+
+/// Word `j` of the content of an index table, or of another list of words.
+#[tactic(auto, unfolding(crate::specs::Symbols::word))]
+pub fn word(order: Order, words: &[u8], j: usize) -> u32
+    requires { WORD_SIZE * j + WORD_SIZE ≤ length words.now }
+    ensures { result ≡ word_of order words.now j }
+{
+    get_at(order, words, WORD_SIZE as usize * j)
+}
 
 /// A rule on one symbol by itself.
 #[derive(Clone, Copy, Debug, PartialEq, Eq)]
@@ -98,7 +128,7 @@ fn lowest_symbol_0_not_null(parts: &SymbolParts<'_>) -> Option<u64>
 }
 
 /// Rules 45 to 48.
-#[tactic(auto, unfolding(crate::specs::SymbolRules::symbol_entry_rules))]
+#[tactic(auto, unfolding(crate::specs::Symbols::symbol_entry_rules))]
 fn judge_entries(parts: &SymbolParts<'_>) -> Result<(), Broken<u64>>
     ensures { FirstIn (symbol_entry_rules (parts_value parts.now)) (fault_of result) }
 {
@@ -118,7 +148,7 @@ fn judge_entries(parts: &SymbolParts<'_>) -> Result<(), Broken<u64>>
 }
 
 /// Rules 49 and 50, of the index tables of a table of so many symbols.
-#[tactic(auto, unfolding(crate::specs::SymbolRules::index_table_rules))]
+#[tactic(auto, unfolding(crate::specs::Symbols::index_table_rules))]
 fn judge_index_table(
     table: TableSection<'_, '_>,
     tables: IndexTables,
@@ -177,7 +207,7 @@ fn is_wrong_index_word(symbol: &Sym, index: u32, sections: usize) -> bool
 }
 
 /// Rules 51 and 52.
-#[tactic(auto, unfolding(crate::specs::SymbolRules::place_rules))]
+#[tactic(auto, unfolding(crate::specs::Symbols::place_rules))]
 fn judge_places(parts: &SymbolParts<'_>) -> Result<(), Broken<u64>>
     requires { (j : ℕ) → parts.now.index_table ≡ Some j → length parts.now.words.now ≡ WORD_SIZE * entry_count parts.now.table.now }
     ensures { FirstIn (place_rules (parts_value parts.now)) (fault_of result) }
@@ -192,7 +222,7 @@ fn judge_places(parts: &SymbolParts<'_>) -> Result<(), Broken<u64>>
 }
 
 /// All rules of a symbol table after its own, of the table with these parts.
-#[tactic(auto, unfolding(crate::specs::SymbolRules::rest_rules))]
+#[tactic(auto, unfolding(crate::specs::Symbols::rest_rules))]
 fn judge_rest(
     table: TableSection<'_, '_>,
     tables: IndexTables,
@@ -210,7 +240,7 @@ fn judge_rest(
 
 /// All rules of a symbol table, which has these index tables. [`Broken`] is the first that is broken, at its lowest
 /// offset: 40, 42, 43, 44, then 41 of the string table that the section links to, then 45 to 52.
-#[tactic(auto, unfolding(crate::specs::SymbolRules::symbol_table_rules))]
+#[tactic(auto, unfolding(crate::specs::Symbols::symbol_table_rules))]
 pub fn judge_symbol_table(
     table: TableSection<'_, '_>,
     tables: IndexTables,

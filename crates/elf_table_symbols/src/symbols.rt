@@ -1,20 +1,14 @@
 //! Symbol tables (gABI chapter 4, Symbol Table).
-ghost use Rattle.std.specs.Prelude.{◌≡◌, ◌<◌, None, OnOk, length, get_or};
-ghost use Rattle.elf_image_rules.specs.Broken.{fault_of};
-ghost use Rattle.elf_image_rules.specs.Rows.{FirstIn};
-ghost use Rattle.elf_table_symbols.specs.IndexTable.{AreIndexTables};
-ghost use Rattle.elf_table_symbols.specs.Judged.{IsJudged};
+ghost use Rattle.std.specs.Prelude.{◌≡◌, ◌*◌, ◌+◌, ◌≤◌, length, ◌<◌, None, OnOk, get_or};
+ghost use Rattle.elf_table_symbols.specs.Symbols.{word as word_of, place_of, AreIndexTables, symbol_table_rules, symbols_of};
+ghost use Rattle.elf_image_rules.specs.Rows.{fault_of, FirstIn};
+ghost use Rattle.elf_table_symbols.specs.Verdicts.{IsJudged};
 ghost use Rattle.elf_table_symbols.specs.Sections.{sections_of};
-ghost use Rattle.elf_table_symbols.specs.SymbolRules.{symbol_table_rules};
-ghost use Rattle.elf_table_symbols.specs.Symbols.{symbols_of};
-ghost use Rattle.elf_table_symbols.specs.SymbolView.{no_symbol_entry, symbol_entry_value};
-ghost use Rattle.elf_table_symbols.specs.SymbolsLeft.{symbols_left};
+ghost use Rattle.elf_table_symbols.specs.SymbolView.{no_symbol_entry, symbol_entry_value, symbols_left};
 
 use crate::index_tables::{IndexTables, index_tables_of};
-use crate::symbol::{Place, Symbol, place_at};
 use crate::symbol_parts::SymbolParts;
-use crate::symbol_rules::judge_symbol_table;
-use crate::symbol_words::entry;
+use crate::symbol_rules::{entry, judge_symbol_table, word};
 use crate::table_section::{LinkedTable, TableSection};
 use elf_field::Order;
 use elf_field::abi::*;
@@ -22,6 +16,57 @@ use elf_image_stream::Fault;
 use elf_image_type::Image;
 use elf_image_type::strings::string_at;
 use std::marker::Model;
+
+// A symbol (gABI chapter 4, Symbol Table).
+
+/// Where a symbol is defined.
+#[derive(Clone, Copy, Debug, PartialEq, Eq)]
+pub enum Place {
+    /// Nowhere in this file (`SHN_UNDEF`).
+    Undefined,
+    /// Nowhere: its value is absolute (`SHN_ABS`).
+    Absolute,
+    /// In a common block that has no place yet (`SHN_COMMON`).
+    Common,
+    /// Another reserved index.
+    Reserved(u16),
+    /// The section of this index, whether the symbol holds it or the index table does.
+    Section(u32),
+}
+
+/// A symbol of a symbol table. Its name borrows from the bytes of the file.
+#[derive(Clone, Copy, Debug, PartialEq, Eq)]
+pub struct Symbol<'a> {
+    /// The name, without its closing zero.
+    pub name: &'a [u8],
+    /// `STB_LOCAL`, `STB_GLOBAL`, `STB_WEAK`, or another number below 16.
+    pub binding: u8,
+    /// `STT_NOTYPE` to `STT_TLS`, or another number below 16.
+    pub symbol_type: u8,
+    /// `st_other`: visibility; kept, never interpreted.
+    pub other: u8,
+    /// Where it is defined.
+    pub place: Place,
+    /// An address, an offset in a section, or the alignment of a common symbol.
+    pub value: u64,
+    /// Size in bytes, 0 if it is unknown or there is none.
+    pub size: u64,
+}
+
+/// The place that this `st_shndx` reports, of symbol `j` of a table with this content of its index table.
+pub(crate) fn place_at(order: Order, words: &[u8], index: u16, j: usize) -> Place
+    requires { index ≡ SHN_XINDEX → WORD_SIZE * j + WORD_SIZE ≤ length words.now }
+    ensures { result ≡ place_of index (word_of order words.now j) }
+{
+    match index {
+        SHN_UNDEF => Place::Undefined,
+        SHN_ABS => Place::Absolute,
+        SHN_COMMON => Place::Common,
+        SHN_XINDEX => Place::Section(word(order, words, j)),
+        _ if index < SHN_LORESERVE => Place::Section(index as u32),
+        _ => Place::Reserved(index),
+    }
+}
 
 /// A symbol table: the list of its symbols, symbol 0 among them. It borrows from the bytes of the file, as the names of its
 /// symbols do.
@@ -143,7 +188,7 @@ pub struct SymbolIter<'s, 'a> {
 impl<'s, 'a> Iterator for SymbolIter<'s, 'a> {
     ghost use Rattle.std.specs.Iterator.{YieldsFirstBy, item_count};
     ghost use Rattle.elf_table_symbols.specs.SymbolView.{symbol_entry_value};
-    ghost use Rattle.elf_table_symbols.specs.SymbolsLeft.{symbols_left};
+    ghost use Rattle.elf_table_symbols.specs.SymbolView.{symbols_left};
 
     type Item = Symbol<'a>;
 

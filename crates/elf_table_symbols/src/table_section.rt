@@ -1,10 +1,85 @@
 //! A section that may hold a table, and one that links to another section (gABI chapter 4, Sections).
-ghost use Rattle.std.specs.Prelude.{◌<◌, length};
-ghost use Rattle.elf_table_symbols.specs.Sections.{section, sections_of};
+ghost use Rattle.std.specs.Prelude.{◌≡◌, ◌↔◌, ◌<◌, ◌⊎◌, IsTrue, length, ◌%◌, Some, OnOk};
+ghost use Rattle.elf_table_symbols.specs.Sections.{IsLinkOf, IsSymbolType, entry_size as entry_size_of, kind_of, section, sections_of, own_rules, count, entry_size};
+ghost use Rattle.elf_image_rules.specs.Rows.{fault_of, FirstIn};
 
+use crate::rules::*;
 use elf_field::abi::*;
 use elf_field::{Order, Shdr};
+use elf_image_rules::Broken;
 use elf_image_type::Image;
+
+// The kinds of tables, and what the section headers of those say whose entries are of one size
+// (gABI chapter 4, Sections: sh_type, sh_link, sh_entsize).
+
+/// A kind of table.
+#[derive(Clone, Copy, Debug, PartialEq, Eq)]
+pub enum TableKind {
+    /// A symbol table: SYMTAB or DYNSYM.
+    SymbolTable,
+    /// A relocation section: REL or RELA.
+    RelocationTable,
+    /// A section group: GROUP.
+    SectionGroup,
+    /// A note section: NOTE.
+    NoteSection,
+    /// A dynamic array: DYNAMIC.
+    DynamicArray,
+    /// A symbol hash table: HASH.
+    HashTable,
+}
+
+impl TableKind {
+    /// The kind of table that a section of this type holds; None if it holds none that is a list of entries. String tables
+    /// are no lists.
+    pub fn of(section_type: u32) -> Option<TableKind>
+        ensures { result ≡ kind_of section_type }
+    {
+        match section_type {
+            SHT_SYMTAB | SHT_DYNSYM => Some(TableKind::SymbolTable),
+            SHT_REL | SHT_RELA => Some(TableKind::RelocationTable),
+            SHT_GROUP => Some(TableKind::SectionGroup),
+            SHT_NOTE => Some(TableKind::NoteSection),
+            SHT_DYNAMIC => Some(TableKind::DynamicArray),
+            SHT_HASH => Some(TableKind::HashTable),
+            _ => None,
+        }
+    }
+
+    /// The size in bytes of the entries of such a table, in a section of this type. Notes are of any size: 1 represents them.
+    pub(crate) fn entry_size(self, section_type: u32) -> u64
+        ensures value { result ≡ entry_size_of self section_type }
+        ensures some { 0 < result }
+    {
+        match self {
+            TableKind::SymbolTable => SYM_SIZE,
+            TableKind::RelocationTable if section_type == SHT_RELA => RELA_SIZE,
+            TableKind::RelocationTable => REL_SIZE,
+            TableKind::DynamicArray => DYN_SIZE,
+            TableKind::SectionGroup | TableKind::HashTable => WORD_SIZE,
+            TableKind::NoteSection => 1,
+        }
+    }
+
+    /// Whether such a table may link to a section of this type.
+    pub(crate) fn is_link(self, section_type: u32) -> bool
+        ensures { IsTrue result ↔ IsLinkOf self section_type }
+    {
+        match self {
+            TableKind::SymbolTable | TableKind::DynamicArray => section_type == SHT_STRTAB,
+            TableKind::RelocationTable | TableKind::HashTable => is_symbol_type(section_type),
+            TableKind::SectionGroup => section_type == SHT_SYMTAB,
+            TableKind::NoteSection => false,
+        }
+    }
+}
+
+// Whether a section of this type holds symbols.
+fn is_symbol_type(section_type: u32) -> bool
+    ensures { IsTrue result ↔ IsSymbolType section_type }
+{
+    section_type == SHT_SYMTAB || section_type == SHT_DYNSYM
+}
 
 /// A section of an image, which may hold a table. It is given by its index, of which there is a section.
 #[derive(Clone, Copy, Drop)]
@@ -18,7 +93,7 @@ pub struct TableSection<'i, 'a> {
 
 impl<'i, 'a> TableSection<'i, 'a> {
     ghost use Rattle.std.specs.Prelude.{◌≡◌, ◌≤◌, ◌+◌};
-    ghost use Rattle.elf_image_rules.specs.HeaderRules.{MAX_LEN};
+    ghost use Rattle.elf_image_rules.specs.Rules.{MAX_LEN};
     ghost use Rattle.elf_image_rules.specs.Tables.{content_extent};
     ghost use Rattle.elf_table_symbols.specs.Sections.{content, header_at, order};
 
@@ -64,7 +139,7 @@ pub struct LinkedTable<'i, 'a> {
 
 impl<'i, 'a> LinkedTable<'i, 'a> {
     ghost use Rattle.std.specs.Prelude.{◌≡◌, ◌≤◌, ◌+◌};
-    ghost use Rattle.elf_image_rules.specs.HeaderRules.{MAX_LEN};
+    ghost use Rattle.elf_image_rules.specs.Rules.{MAX_LEN};
     ghost use Rattle.elf_table_symbols.specs.Sections.{content};
 
     /// The index of the section that it links to.
@@ -90,4 +165,36 @@ impl<'i, 'a> LinkedTable<'i, 'a> {
     {
         self.table.image.content(self.link())
     }
+}
+
+// Rules 40 and 42 to 44: what the section header of a table says of the table by itself
+// (gABI chapter 4, Sections: sh_type, sh_size, sh_link, sh_entsize).
+
+/// Rules 40 and 42 to 44 of a table of this kind.
+#[tactic(auto, unfolding(crate::specs::Sections::own_rules))]
+pub fn judge_own_rules(table: TableSection<'_, '_>, kind: TableKind) -> Result<(), Broken<u64>>
+    ensures fault { FirstIn (own_rules kind (sections_of table.entry.image.now) table.entry.index) (fault_of result) }
+    ensures typed { OnOk result (kind_of (section (sections_of table.entry.image.now) table.entry.index).sh_type ≡ Some kind) }
+    ensures sized { let s = section (sections_of table.entry.image.now) table.entry.index in OnOk result (s.sh_size % entry_size kind s.sh_type ≡ 0) }
+    ensures linked { let f = sections_of table.entry.image.now in let link = (section f table.entry.index).sh_link in
+        OnOk result ((link < count f) × IsLinkOf kind (section f link).sh_type) }
+{
+    let section = table.header();
+    let at = table.header_offset();
+    let size = kind.entry_size(section.sh_type);
+    if TableKind::of(section.sh_type) != Some(kind) {
+        return Err(Broken::new(WRONG_TABLE_TYPE, at + SH_TYPE_AT));
+    }
+    if section.sh_entsize != size {
+        return Err(Broken::new(WRONG_ENTRY_SIZE, at + SH_ENTSIZE_AT));
+    }
+    if section.sh_size % size != 0 {
+        return Err(Broken::new(PARTIAL_ENTRY, at + SH_SIZE_AT));
+    }
+    let link = section.sh_link as usize;
+    let image = table.image;
+    if link >= image.section_count() || !kind.is_link(image.section(link).sh_type) {
+        return Err(Broken::new(WRONG_LINK, at + SH_LINK_AT));
+    }
+    Ok(())
 }

@@ -5,16 +5,15 @@ ghost use Rattle.std.specs.Prelude.{◌≡◌, ◌<◌, ◌^◌, ℕ, List, Opti
 ghost use Rattle.elf_field.specs.Bytes.{IsBytes};
 ghost use Rattle.elf_exec.specs.Executable.{IsExecFile, IsExecutable};
 ghost use Rattle.elf_link_field.specs.declared.rule.RelocRule.{RelocRule};
-ghost use Rattle.elf_link_files.specs.declared.options.Options.{Options};
+ghost use Rattle.elf_link_files.specs.declared.fault.Options.{Options};
 ghost use Rattle.elf_link_map.specs.LinkMap.{LinkMapValue};
 ghost use Rattle.elf_object_type.specs.Object.{ObjectValue};
-ghost use Rattle.elf_tool.specs.FileLink.{IsSoundFileLink};
-ghost use Rattle.elf_tool.specs.SaysOne.{AreFilesOfBytes, SaysOne, SaysSome};
+ghost use Rattle.elf_tool.specs.Laws.{IsSoundFileLink, AreFilesOfBytes, SaysOne, SaysSome};
 ghost use Rattle.elf_tool_check.specs.Check.{CheckSays};
 ghost use Rattle.elf_tool_link.specs.Link.{FilesLink};
 ghost use Rattle.elf_tool_link.specs.Map.{MapSays};
 ghost use Rattle.elf_tool_rewrite.specs.Rewrite.{RewriteSays};
-ghost use Rattle.elf_tool_rule_file.specs.File.{AreRules, IsBadLine};
+ghost use Rattle.elf_tool_rule_file.specs.RuleFile.{AreRules, IsBadLine};
 ghost use Rattle.elf_tool_show.specs.Show.{ShowSays};
 
 /// `check` has at most one verdict and one text for the bytes of a file, and cannot be without one.

@@ -1,5 +1,3 @@
 -- The words of this crate's contracts.
 pub mod Check
-pub mod CheckProgram
 pub mod Ending
-pub mod Opener

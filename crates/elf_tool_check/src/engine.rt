@@ -1,7 +1,7 @@
 //! `check`: is this an ELF-64 file, and if not, why and where.
 ghost use Rattle.std.specs.Prelude.{◌≡◌, length, IfOk, string_bytes};
-ghost use Rattle.elf_image_rules.specs.Broken.{fault_of};
-ghost use Rattle.elf_image_rules.specs.ImageRules.{IsFault};
+ghost use Rattle.elf_image_rules.specs.Rows.{fault_of};
+ghost use Rattle.elf_image_rules.specs.Rules.{IsFault};
 ghost use Rattle.elf_image_rules.specs.JudgedRecords.{file_of};
 ghost use Rattle.elf_tool_check.specs.Check.{CheckSays, IsChecked, file_sections, file_segments, verdict_of};
 ghost use Rattle.elf_tool_text.specs.Line.{ok_line as ok_line_of};

@@ -1,7 +1,7 @@
 //! Files by name, of the machine or of a test.
 ghost use Rattle.std.specs.Prelude.{◌≡◌, ℕ, Bool, false, List, None, Option, Some, IfErr, IfOk, IfSome};
 ghost use Rattle.elf_image_stream.specs.Source.{no_failures};
-ghost use Rattle.elf_tool_check.specs.Opener.{IsOpenFault};
+ghost use Rattle.elf_tool_check.specs.Ending.{IsOpenFault};
 
 use elf_image_stream::{Seeking, Source};
 use std::fs::{Files, OpenFile};

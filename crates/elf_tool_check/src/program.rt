@@ -1,8 +1,7 @@
 //! The program that has the command `check` alone.
 ghost use Rattle.std.specs.Prelude.{◌≡◌, map as map_list};
 ghost use Rattle.elf_tool_check.specs.Check.{IsChecked};
-ghost use Rattle.elf_tool_check.specs.Ending.{EndsFile, code_of};
-ghost use Rattle.elf_tool_check.specs.CheckProgram.{EndsCheck};
+ghost use Rattle.elf_tool_check.specs.Ending.{EndsFile, code_of, EndsCheck};
 ghost use Rattle.elf_tool_check.specs.declared.ending.Status.{Status as Ending};
 
 use crate::ending::{Status, misused, no_request, status_of, unopened};

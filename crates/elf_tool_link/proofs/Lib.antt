@@ -1,6 +1,3 @@
 -- Lemmas on objects read one after the other, on texts of the items of a list, on bytes as digits, and on what is refused.
-mod BytesText
-mod Items
-mod LinkRefusals
 mod MapRefusals
-mod ObjectFiles
+mod LinkRefusals

@@ -1,6 +1,4 @@
 -- The words of this crate's contracts.
 pub mod Link
 pub mod Map
-pub mod MapLines
-pub mod MappedFiles
 pub mod ObjectFiles

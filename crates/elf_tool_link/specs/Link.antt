@@ -1,25 +1,23 @@
 -- What `link` makes of files: the executable of their link.
 use Rattle.std.specs.Prelude.{◌≡◌, ◌⊎◌, ℕ, List, [], None, Option, Some, Result, Ok, Err}
 use Rattle.elf_object_type.specs.Object.{ObjectValue}
-use Rattle.elf_link_files.specs.declared.options.Options.{Options}
+use Rattle.elf_link_files.specs.declared.fault.Options.{Options}
 use Rattle.elf_link_files.specs.declared.site.Site.{Site}
 use Rattle.elf_link_files.specs.Rows.{FirstAmong}
-use Rattle.elf_link_map.specs.LinkFaults.{FirstOfLink}
-use Rattle.elf_link_map.specs.LinkMap.{IsLinkMap, LinkMapValue}
-use Rattle.elf_link_relocate.specs.RelocationRules.{applied_entry_rules}
+use Rattle.elf_link_map.specs.LinkMap.{FirstOfLink, IsLinkMap, LinkMapValue}
+use Rattle.elf_link_relocate.specs.Fields.{applied_entry_rules}
 use Rattle.elf_link_field.specs.declared.rule.RelocRule.{RelocRule}
 use Rattle.elf_exec.specs.Executable.{IsExecFile, IsExecutable}
 use Rattle.elf_exec.specs.ExecWriting.{IsTooLongFor}
 use Rattle.elf_tool_link.specs.ObjectFiles.{AreObjectFiles, IsFirstRefused}
 use Rattle.elf_tool_link.specs.declared.mapped.Unlinked.{Unlinked}
+use Rattle.elf_tool_text.specs.Engine.{Prints, AreRead, FailsReading}
+use Rattle.elf_tool_text.specs.declared.engine.Refusal.TheVariants.{File, Link, TooLong}
+use Rattle.elf_tool_text.specs.declared.engine.ToolFault.{ToolFault}
+use Rattle.elf_tool_text.specs.declared.engine.ToolFault.TheVariants.{OutOfMemory}
+use Rattle.elf_tool_text.specs.declared.engine.Verdict.{Verdict}
+use Rattle.elf_tool_text.specs.declared.engine.Verdict.TheVariants.{Done, Refused}
 use Rattle.elf_tool_link.specs.declared.mapped.Unlinked.TheVariants as unlinked
-use Rattle.elf_tool_text.specs.Engine.{Prints}
-use Rattle.elf_tool_text.specs.Inputs.{AreRead, FailsReading}
-use Rattle.elf_tool_text.specs.declared.fault.Refusal.TheVariants.{File, Link, TooLong}
-use Rattle.elf_tool_text.specs.declared.fault.ToolFault.{ToolFault}
-use Rattle.elf_tool_text.specs.declared.fault.ToolFault.TheVariants.{OutOfMemory}
-use Rattle.elf_tool_text.specs.declared.fault.Verdict.{Verdict}
-use Rattle.elf_tool_text.specs.declared.fault.Verdict.TheVariants.{Done, Refused}
 
 -- of objects, their map and relocation rules: their executable, which is an image that loads the memory of the link; or that it has too
 -- many segments or is too long for a file

@@ -1,16 +1,26 @@
 -- What files are as objects.
 use Rattle.std.specs.Prelude.{ℕ, zero, suc, ◌⊎◌, List, [], ◌∷◌, None, Some}
 use Rattle.elf_image_outline.specs.Image.{ImageValue, IsImage}
+use Rattle.elf_image_rules.specs.Rows.{FirstIn}
+use Rattle.elf_image_rules.specs.Rules.{IsFault}
+use Rattle.elf_image_stream.specs.declared.fault.Fault.{Fault}
+use Rattle.elf_link_files.specs.declared.fault.LinkFault.TheVariants.{Rule}
+use Rattle.elf_link_files.specs.declared.fault.LinkFault.{LinkFault}
+use Rattle.elf_link_files.specs.declared.fault.Options.{Options}
+use Rattle.elf_link_map.specs.LinkMap.{FirstOfLink, IsLinkMap}
+use Rattle.elf_link_relocate.specs.Linked.{MappedValue}
 use Rattle.elf_object_reader.specs.Denotes.{Denotes}
 use Rattle.elf_object_reader.specs.FileRules.{file_rules}
 use Rattle.elf_object_type.specs.Object.{ObjectValue}
-use Rattle.elf_image_stream.specs.declared.fault.Fault.{Fault}
-use Rattle.elf_image_stream.specs.declared.fault.Fault.TheVariants as fault
-use Rattle.elf_image_rules.specs.ImageRules.{IsFault}
-use Rattle.elf_image_rules.specs.Rows.{FirstIn}
 use Rattle.elf_table_symbols.specs.Sections.{sections_of}
-use Rattle.elf_tool_link.specs.declared.object_files.FileFault.{FileFault}
-use Rattle.elf_tool_link.specs.declared.object_files.FileFault.TheVariants.{Refused, OutOfMemory}
+use Rattle.elf_tool_link.specs.declared.mapped.FileFault.TheVariants.{Refused, OutOfMemory}
+use Rattle.elf_tool_link.specs.declared.mapped.FileFault.{FileFault}
+use Rattle.elf_tool_link.specs.declared.mapped.Unlinked.TheVariants.{Refused as UnlinkedRefused, OutOfMemory as UnlinkedOutOfMemory}
+use Rattle.elf_tool_link.specs.declared.mapped.Unlinked.{Unlinked}
+use Rattle.elf_tool_text.specs.declared.engine.Refusal.TheVariants.{File, Link, TooLong}
+use Rattle.elf_image_stream.specs.declared.fault.Fault.TheVariants as fault
+use Rattle.elf_link_files.specs.declared.fault.LinkFault.TheVariants as link
+use Rattle.elf_tool_link.specs.declared.mapped.FileFault.TheVariants as file
 
 -- a file is an image that denotes this object
 abbrev pub IsObjectFile : List ℕ → ObjectValue → Type 0
@@ -49,3 +59,25 @@ IsFirstRefused (b ∷ files) (suc f) rule at = ((o : ObjectValue) × IsObjectFil
 abbrev pub IsFileFault : List (List ℕ) → FileFault → Type 0
 IsFileFault files (Refused file rule at) = IsFirstRefused files file rule at
 IsFileFault files OutOfMemory = Unit {0}
+
+-- What files are as objects that are linked.
+
+-- the objects are those of the files, no rule of the link is broken, and this is their map
+abbrev pub IsMapOfFiles : Options → List (List ℕ) → MappedValue → Type 0
+IsMapOfFiles opt files mapped = AreObjectFiles files mapped.objects × IsLinkMap opt mapped.objects mapped.map × FirstOfLink opt mapped.objects None
+
+-- the first file that is refused, or of objects the first rule of the link that is broken; or an allocation failed
+abbrev pub IsUnlinked : Options → List (List ℕ) → Unlinked → Type 0
+IsUnlinked opt files (UnlinkedRefused (File file rule at)) = IsFirstRefused files file rule at
+IsUnlinked opt files (UnlinkedRefused (Link rule file index entry)) =
+    (fs : List ObjectValue) × AreObjectFiles files fs × FirstOfLink opt fs (Some (rule, record { file = file; index = index; entry = entry }))
+IsUnlinked opt files (UnlinkedRefused TooLong) = ⊥
+IsUnlinked opt files UnlinkedOutOfMemory = Unit {0}
+
+abbrev pub file_unlinked : FileFault → Unlinked
+file_unlinked (file.Refused file rule at) = UnlinkedRefused (File file rule at)
+file_unlinked file.OutOfMemory = UnlinkedOutOfMemory
+
+abbrev pub link_unlinked : LinkFault → Unlinked
+link_unlinked (Rule rule file index entry) = UnlinkedRefused (Link rule file index entry)
+link_unlinked link.OutOfMemory = UnlinkedOutOfMemory

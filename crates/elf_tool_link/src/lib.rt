@@ -14,13 +14,10 @@
 //! ```
 #![tactic(auto)]
 
-mod bytes_lines;
 mod linking;
 mod map_lines;
-mod map_text;
 mod mapped;
 mod mapping;
-mod object_files;
 
 pub use elf_link_map::Options;
 pub use elf_tool_text::{Refusal, ToolFault, Verdict};

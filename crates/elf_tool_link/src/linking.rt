@@ -1,11 +1,10 @@
 //! `link`: the executable of files.
 ghost use Rattle.std.specs.Prelude.{◌≡◌, map as map_list};
 ghost use Rattle.elf_tool_text.specs.Engine.{Prints};
-ghost use Rattle.elf_link_relocate.specs.ReadyLink.{IsReadyLink};
+ghost use Rattle.elf_link_relocate.specs.Linked.{IsReadyLink};
 ghost use Rattle.elf_tool_link.specs.Link.{ExecSays, FilesLink, IsLinkCall, MapLinks, unlinked_verdict};
 
-use crate::mapped::{Unlinked, mapped_files};
-use crate::object_files::slices_of;
+use crate::mapped::{Unlinked, mapped_files, slices_of};
 use elf_exec::{ExecFault, write_exec};
 use elf_link_field::RelocRule;
 use elf_link_map::Options;

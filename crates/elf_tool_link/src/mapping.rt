@@ -1,21 +1,144 @@
 //! `map`: where the sections and names of files are in their link.
-ghost use Rattle.std.specs.Prelude.{Some, option_copied, map as map_list};
+ghost use Rattle.std.specs.Prelude.{◌≡◌, ◌++◌, ◌∷◌, length, Some, option_copied, map as map_list};
+ghost use Rattle.std.specs.List.{flat_map};
+ghost use Rattle.elf_tool_text.specs.Line.{blank, bytes_text};
+ghost use Rattle.elf_tool_link.specs.Map.{bytes_line, bytes_lines, member_bytes, IsMapped, IsThis, MapSays, RelocationSays, TellsUnlinked, refusal_line};
+ghost use Rattle.elf_image_stream.specs.Output.{Sends};
 ghost use Rattle.elf_tool_text.specs.Engine.{Prints};
-ghost use Rattle.elf_tool_link.specs.Map.{IsMapped, IsThis, MapSays, RelocationSays, TellsUnlinked};
-ghost use Rattle.elf_tool_link.specs.MapLines.{refusal_line};
 
-use crate::bytes_lines::write_relocated;
-use crate::map_lines::push_refusal_line;
-use crate::map_text::map_text;
-use crate::mapped::{Unlinked, mapped_files};
-use crate::object_files::slices_of;
-use elf_image_stream::send;
+use crate::map_lines::{map_text, push_refusal_line};
+use crate::mapped::{Unlinked, mapped_files, slices_of};
+use elf_image_stream::{Chunks, WriteFault, send, send_all};
 use elf_link_field::RelocRule;
-use elf_link_map::Options;
-use elf_link_relocate::Mapped;
+use elf_link_map::{Member, Options};
+use elf_link_relocate::{Linked, Mapped};
+use elf_tool_text::lines::{send_decimal, send_hexadecimal, send_word};
 use elf_tool_text::{Refusal, ToolFault, Verdict, read_inputs};
 use std::alloc::Global;
 use std::io::{Read, Write};
+
+// The lines of relocated bytes, as they are written.
+
+/// Sends a text and after it the lines of the relocated bytes. It counts and fails as [`send`](elf_image_stream::send) does, and takes no
+/// memory.
+pub(crate) fn write_relocated<W: Write>(
+    writer: &mut W,
+    text: &[u8],
+    linked: &Linked<'_, '_>,
+) -> Result<u64, WriteFault>
+    ensures { Sends (W.contents writer.old) (W.contents writer.new) 0 (text.now ++ bytes_lines linked.now) result }
+{
+    let out = send(writer, 0, text)?;
+    send_relocated(writer, out, linked)
+}
+
+/// Sends the lines of the relocated bytes, in order of placement.
+#[tactic(auto, unfolding(crate::specs::Map::bytes_lines))]
+fn send_relocated<W: Write>(
+    writer: &mut W,
+    out: u64,
+    linked: &Linked<'_, '_>,
+) -> Result<u64, WriteFault>
+    ensures { Sends (W.contents writer.old) (W.contents writer.new) out (bytes_lines linked.now) result }
+{
+    send_all(writer, out, &OutputBytes { linked })
+}
+
+/// `bytes FILE SECTION HEX`.
+fn send_bytes_line<W: Write>(
+    writer: &mut W,
+    out: u64,
+    member: Member,
+    bytes: &[u8],
+) -> Result<u64, WriteFault>
+    ensures { Sends (W.contents writer.old) (W.contents writer.new) out (bytes_line member bytes.now) result }
+{
+    let out = send(writer, out, b"bytes")?;
+    let out = send_decimal(writer, out, member.file as u64)?;
+    let out = send_decimal(writer, out, member.section as u64)?;
+    let out = send_bytes(writer, out, bytes)?;
+    send(writer, out, b"\n")
+}
+
+// The digits of bytes, or that there are none, as a further word.
+fn send_bytes<W: Write>(writer: &mut W, out: u64, bytes: &[u8]) -> Result<u64, WriteFault>
+    ensures { Sends (W.contents writer.old) (W.contents writer.new) out (blank ∷ bytes_text bytes.now) result }
+{
+    if bytes.is_empty() {
+        return send_word(writer, out, b"-");
+    }
+    let out = send(writer, out, b" ")?;
+    send_hexadecimal(writer, out, bytes)
+}
+
+// Output by output.
+#[derive(Drop)]
+struct OutputBytes<'l, 'm, 'a> {
+    linked: &'l Linked<'m, 'a>,
+}
+
+impl<'l, 'm, 'a> Chunks for OutputBytes<'l, 'm, 'a> {
+    ghost use Rattle.std.specs.Prelude.{get_or, length};
+    ghost use Rattle.elf_tool_link.specs.Map.{output_bytes};
+    ghost use Rattle.elf_link_outputs.specs.Placed.{no_output};
+
+    ghost count = { λ pieces. length pieces.linked.now.map.outputs };
+
+    ghost chunk = { λ pieces k. output_bytes pieces.linked.now (get_or pieces.linked.now.map.outputs k no_output) };
+
+    fn count(&self) -> usize {
+        self.linked.map().outputs().len()
+    }
+
+    fn send<W: Write>(&self, writer: &mut W, out: u64, k: usize) -> Result<u64, WriteFault> {
+        send_members(
+            writer,
+            out,
+            self.linked,
+            &self.linked.map().outputs()[k].members,
+        )
+    }
+}
+
+fn send_members<W: Write>(
+    writer: &mut W,
+    out: u64,
+    linked: &Linked<'_, '_>,
+    members: &[Member],
+) -> Result<u64, WriteFault>
+    ensures { Sends (W.contents writer.old) (W.contents writer.new) out (flat_map (member_bytes linked.now) members.now) result }
+{
+    send_all(writer, out, &MemberBytes { linked, members })
+}
+
+// Member by member of an output.
+#[derive(Drop)]
+struct MemberBytes<'l, 'm, 'a> {
+    linked: &'l Linked<'m, 'a>,
+    members: &'l [Member],
+}
+
+impl<'l, 'm, 'a> Chunks for MemberBytes<'l, 'm, 'a> {
+    ghost use Rattle.std.specs.Prelude.{get_or, length};
+    ghost use Rattle.elf_link_map.specs.Standing.{no_member};
+    ghost use Rattle.elf_tool_link.specs.Map.{member_bytes};
+
+    ghost count = { λ pieces. length pieces.members.now };
+
+    ghost chunk = { λ pieces k. member_bytes pieces.linked.now (get_or pieces.members.now k no_member) };
+
+    fn count(&self) -> usize {
+        self.members.len()
+    }
+
+    fn send<W: Write>(&self, writer: &mut W, out: u64, k: usize) -> Result<u64, WriteFault> {
+        let member = self.members[k];
+        match self.linked.bytes(member.file, member.section) {
+            Some(bytes) => send_bytes_line(writer, out, member, bytes),
+            None => Ok(out),
+        }
+    }
+}
 
 /// Reads files whole, in order, links the objects that they denote, and writes the lines of their link map; with relocation rules the lines
 /// of the relocated bytes after them, `bytes FILE SECTION HEX`, in order of placement.

@@ -1,3 +1,2 @@
 -- Lemmas on the files that the program opens, and on what a scan answers.
-pub mod Opened
-mod Scanned
+pub mod Sources

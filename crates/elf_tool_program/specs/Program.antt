@@ -1,29 +1,72 @@
 -- How the program ends, and what was written then.
-use Rattle.std.specs.Prelude.{◌≡◌, ◌⊎◌, ℕ, Bool, List, map, Option, None, Some, Result, option_copied}
+use Rattle.std.specs.Prelude.{◌≡◌, ℕ, ◌<◌, Bool, List, [], get_or, length, None, Option, Some, IfSome, ◌⊎◌, ◌+◌, ◌≤◌, false, map, Result, option_copied}
 use Rattle.std.specs.Io.KnownBytes.{Keeps}
 use Rattle.clap.specs.Walk.{Text}
+use Rattle.elf_image_rules.specs.Rules.{MAX_LEN}
+use Rattle.elf_link_field.specs.declared.rule.RelocRule.{RelocRule}
+use Rattle.elf_link_files.specs.declared.fault.Options.{Options}
 use Rattle.elf_tool_check.specs.Check.{IsChecked}
-use Rattle.elf_tool_program.specs.CheckSource.{IsSourceChecked}
-use Rattle.elf_tool_check.specs.Ending.{EndsFile, EndsWords, ending_of}
+use Rattle.elf_tool_check.specs.Ending.{IsOpenFault, EndsFile, EndsWords, ending_of}
+use Rattle.elf_tool_check.specs.declared.ending.Status.TheVariants.{Usage, Failed}
+use Rattle.elf_tool_check.specs.declared.ending.Status.{Status}
 use Rattle.elf_tool_link.specs.Link.{IsLinkCall}
 use Rattle.elf_tool_link.specs.Map.{IsMapped}
-use Rattle.elf_tool_rewrite.specs.Rewrite.{IsRewritten}
-use Rattle.elf_tool_show.specs.Show.{IsShown}
-use Rattle.elf_link_files.specs.declared.options.Options.{Options}
-use Rattle.elf_link_field.specs.declared.rule.RelocRule.{RelocRule}
-use Rattle.elf_tool_program.specs.Opening.{AreOpened, IsUnopened}
-use Rattle.elf_tool_program.specs.Rules.{GivesNoRules, GivesRules}
-use Rattle.elf_tool_words.specs.Words.{IsAskedBy, IsRefusedBy}
-use Rattle.elf_tool_text.specs.declared.fault.ToolFault.{ToolFault}
-use Rattle.elf_tool_text.specs.declared.fault.Verdict.{Verdict}
+use Rattle.elf_tool_program.specs.CheckSource.{IsSourceChecked}
+use Rattle.elf_tool_program.specs.declared.opening.NoRules.TheVariants.{Unopened as NoRulesUnopened, Unread, BadLine, OutOfMemory}
+use Rattle.elf_tool_program.specs.declared.opening.NoRules.{NoRules}
 use Rattle.elf_tool_program.specs.declared.opening.Unopened.{Unopened}
-use Rattle.elf_tool_check.specs.declared.ending.Status.{Status}
-use Rattle.elf_tool_check.specs.declared.ending.Status.TheVariants.{Usage, Failed}
-use Rattle.elf_tool_program.specs.declared.rules.NoRules.{NoRules}
-use Rattle.elf_tool_program.specs.declared.rules.NoRules.TheVariants as no_rules
-use Rattle.elf_tool_words.specs.declared.words.Request.{Request}
+use Rattle.elf_tool_rewrite.specs.Rewrite.{IsRewritten}
+use Rattle.elf_tool_rule_file.specs.RuleFile.{AreRules, IsBadLine}
+use Rattle.elf_tool_show.specs.Show.{IsShown}
+use Rattle.elf_tool_text.specs.Engine.{GivesBytes, GivesFile}
+use Rattle.elf_tool_text.specs.declared.engine.ToolFault.{ToolFault}
+use Rattle.elf_tool_text.specs.declared.engine.Verdict.{Verdict}
+use Rattle.elf_tool_words.specs.Words.{IsAskedBy, IsRefusedBy}
 use Rattle.elf_tool_words.specs.declared.words.Request.TheVariants.{Check, CheckSource, Show, Rewrite, Map, Link}
+use Rattle.elf_tool_words.specs.declared.words.Request.{Request}
 use Rattle.elf_tool_words.specs.declared.words.WordsFault.{WordsFault}
+use Rattle.elf_tool_program.specs.declared.opening.NoRules.TheVariants as no_rules
+
+-- Several files that are opened by their names.
+
+-- the files of these names were opened in order: each reader has the bytes of its file, where these are known
+pub record AreOpened (holds : List ℕ → Option (List ℕ)) (names : List (List ℕ)) (inputs : List (Option (List ℕ))) : Type 0 where
+  pub count : length inputs ≡ length names
+  pub bytes : (k : ℕ) → k < length names → IfSome (holds (get_or names k [])) (λ bytes. get_or inputs k None ≡ Some bytes)
+
+-- one of them gave no reader: it is not known to open, or an allocation failed
+pub record IsUnopened (opens : List ℕ → Bool) (names : List (List ℕ)) (unopened : Unopened) : Type 0 where
+  pub within : unopened.position < length names
+  pub fault : IsOpenFault (opens (get_or names unopened.position [])) unopened.fault
+
+-- The file of relocation rules that `map` and `link` are given: what its reader gives, and what that says.
+
+-- a reader that had `input` left and has `rest` gave a file of these relocation rules, of at most 2^30 bytes
+abbrev pub ReadsRules : Option (List ℕ) → Option (List ℕ) → List RelocRule → Type 0
+ReadsRules input rest rules = (file : List ℕ) × GivesFile input rest file × (length file ≤ MAX_LEN) × AreRules file rules
+
+-- a line of what was read is bad; or all lines are those of rules, but the file is longer, and the line after them is reported
+abbrev pub HasBadLine : List ℕ → ℕ → Type 0
+HasBadLine file line = IsBadLine file line ⊎ ((MAX_LEN < length file) × ((rules : List RelocRule) × AreRules file rules × (line ≡ length rules + 1)))
+
+-- or it gave none: a call failed after so many bytes, or a line is bad, or an allocation failed
+abbrev pub ReadsNoRules : Option (List ℕ) → Option (List ℕ) → NoRules → Type 0
+ReadsNoRules input rest NoRulesUnopened = ⊥
+ReadsNoRules input rest (Unread at) = (bytes : List ℕ) × GivesBytes input rest bytes × (at ≡ length bytes)
+ReadsNoRules input rest (BadLine line) = (file : List ℕ) × GivesFile input rest file × HasBadLine file line
+ReadsNoRules input rest OutOfMemory = Unit {0}
+
+-- the file whose bytes are `known` gives these relocation rules
+abbrev pub GivesRules : Option (List ℕ) → List RelocRule → Type 0
+GivesRules known rules = (input rest : Option (List ℕ)) × IfSome known (λ bytes. input ≡ Some bytes) × ReadsRules input rest rules
+
+-- or none: it has no reader, which is known to be had where `opens` says so, or its reader gives none
+abbrev pub GivesNoRules : Option (List ℕ) → Bool → NoRules → Type 0
+GivesNoRules known opens NoRulesUnopened = opens ≡ false
+GivesNoRules known opens (Unread at) = (input rest : Option (List ℕ)) × IfSome known (λ bytes. input ≡ Some bytes) × ReadsNoRules input rest (Unread at)
+GivesNoRules known opens (BadLine line) =
+    (input rest : Option (List ℕ)) × IfSome known (λ bytes. input ≡ Some bytes) × ReadsNoRules input rest (BadLine line)
+GivesNoRules known opens OutOfMemory = Unit {0}
 
 -- a call of an engine that takes several files: what its readers had and have left, what its writer held and holds, and its result
 abbrev pub CallOnFiles : Type 1

@@ -15,7 +15,6 @@
 mod machine;
 mod opening;
 mod program;
-mod rules;
 mod scan_check;
 
 pub use elf_link_field::{Form, Range, RelocRule, Width};

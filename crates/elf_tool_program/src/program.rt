@@ -9,8 +9,7 @@ ghost use Rattle.elf_tool_link.specs.Link.{IsLinkCall};
 ghost use Rattle.elf_tool_link.specs.Map.{IsMapped};
 ghost use Rattle.elf_tool_program.specs.Program.{EndsFiles, EndsLink, EndsMap, EndsRun, unruled};
 
-use crate::opening::open_all;
-use crate::rules::{NoRules, rules_of};
+use crate::opening::{NoRules, open_all, rules_of};
 use crate::scan_check::check_source;
 use elf_link_field::RelocRule;
 use elf_tool_check::{

@@ -1,7 +1,7 @@
 //! `check` over a source: the same verdict, of what the check needs to read alone.
 ghost use Rattle.std.specs.Prelude.{◌≡◌, ℕ, List, Ok, Some, IfErr, IfOk, string_bytes};
 ghost use Rattle.elf_field.specs.Bytes.{IsBytes};
-ghost use Rattle.elf_image_rules.specs.Broken.{fault_of};
+ghost use Rattle.elf_image_rules.specs.Rows.{fault_of};
 ghost use Rattle.elf_image_stream.specs.Source.{Remembers};
 ghost use Rattle.elf_tool_check.specs.Check.{verdict_of};
 ghost use Rattle.elf_tool_program.specs.CheckSource.{IsScanStopped, IsScanned, IsSourceSaid, check_failure, line_of_scan};

@@ -6,15 +6,14 @@ use Rattle.elf_object_reader.specs.FileRules.{file_rules}
 use Rattle.elf_object_file.specs.ObjectFile.{IsWrittenFile}
 use Rattle.elf_object_writer.specs.Laid.{Laid}
 use Rattle.elf_object_type.specs.Object.{ObjectValue}
-use Rattle.elf_image_rules.specs.HeaderRules.{MAX_LEN}
-use Rattle.elf_image_rules.specs.ImageRules.{IsFault}
+use Rattle.elf_image_rules.specs.Rules.{MAX_LEN, IsFault}
 use Rattle.elf_image_rules.specs.Rows.{FirstIn}
 use Rattle.elf_table_symbols.specs.Sections.{Sections, sections_of}
 use Rattle.elf_tool_text.specs.Engine.{IsFileCallAllocatingFirst}
-use Rattle.elf_tool_text.specs.declared.fault.Refusal.TheVariants.{File, Link, TooLong}
-use Rattle.elf_tool_text.specs.declared.fault.ToolFault.{ToolFault}
-use Rattle.elf_tool_text.specs.declared.fault.Verdict.{Verdict}
-use Rattle.elf_tool_text.specs.declared.fault.Verdict.TheVariants.{Done, Refused}
+use Rattle.elf_tool_text.specs.declared.engine.Refusal.TheVariants.{File, Link, TooLong}
+use Rattle.elf_tool_text.specs.declared.engine.ToolFault.{ToolFault}
+use Rattle.elf_tool_text.specs.declared.engine.Verdict.{Verdict}
+use Rattle.elf_tool_text.specs.declared.engine.Verdict.TheVariants.{Done, Refused}
 
 -- of an object: its file, or that its canonical layout is too long for one
 abbrev pub ObjectSays : ObjectValue → Verdict → List ℕ → Type 0

@@ -3,7 +3,7 @@ ghost use Rattle.std.specs.Prelude.{◌≡◌, ℕ, List};
 ghost use Rattle.elf_tool_text.specs.Engine.{Prints};
 ghost use Rattle.elf_tool_rewrite.specs.Rewrite.{IsRewritten, ObjectSays, RewriteSays, SectionsSay};
 ghost use Rattle.elf_table_symbols.specs.Sections.{sections_of};
-ghost use Rattle.elf_tool_text.specs.declared.fault.Verdict.TheVariants.{Done};
+ghost use Rattle.elf_tool_text.specs.declared.engine.Verdict.TheVariants.{Done};
 
 use elf_image_stream::Fault;
 use elf_image_type::{Image, parse};

@@ -1,3 +1,1 @@
-mod Cuts
-mod Lines
-mod Words
+mod RuleFiles

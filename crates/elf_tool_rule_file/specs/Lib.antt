@@ -1,4 +1,2 @@
 -- The words of this crate's contracts.
-pub mod Cut
-pub mod File
-pub mod RuleLine
+pub mod RuleFile

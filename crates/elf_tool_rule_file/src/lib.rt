@@ -7,10 +7,6 @@
 //! ```
 #![tactic(auto)]
 
-mod cutting;
-mod fault;
 mod file;
-mod line;
 
-pub use fault::RulesFault;
-pub use file::read_rules;
+pub use file::{RulesFault, read_rules};

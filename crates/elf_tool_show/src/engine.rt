@@ -1,11 +1,9 @@
 //! `show`: the header, the parts, the sections, the segments and the tables of a file.
 ghost use Rattle.std.specs.Prelude.{◌≡◌, List, length, map};
 ghost use Rattle.std.specs.List.{flat_map};
-ghost use Rattle.elf_tool_text.specs.Engine.{WritesText};
+ghost use Rattle.elf_tool_text.specs.Engine.{WritesText, IsBuffered};
 ghost use Rattle.elf_tool_text.specs.Line.{refused_line as refused_line_of};
-ghost use Rattle.elf_tool_text.specs.Output.{IsBuffered};
-ghost use Rattle.elf_tool_show.specs.Show.{IsShown, IsShownOf, section_lines, segment_lines, show_text};
-ghost use Rattle.elf_tool_show.specs.ShowLines.{part_line};
+ghost use Rattle.elf_tool_show.specs.Show.{IsShown, IsShownOf, section_lines, segment_lines, show_text, part_line};
 
 use crate::show_lines::{push_file_line, push_part_line, push_section_line, push_segment_line};
 use crate::show_tables::show_tables;

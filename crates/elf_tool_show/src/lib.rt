@@ -10,11 +10,9 @@
 #![tactic(auto)]
 
 mod engine;
-mod refused_tables;
 mod show_lines;
 mod show_tables;
-mod table_lines;
 
 pub use elf_tool_text::{Refusal, ToolFault, Verdict};
 pub use engine::{show, show_bytes};
-pub use refused_tables::push_refused_tables;
+pub use show_tables::push_refused_tables;

@@ -2,7 +2,7 @@
 //! one on, and appended in one piece.
 ghost use Rattle.std.specs.Prelude.{◌≡◌, ◌≤◌, ◌+◌, ◌++◌, OnOk, drop, length, take};
 ghost use Rattle.elf_tool_text.specs.Line.{further_words};
-ghost use Rattle.elf_tool_show.specs.ShowLines.{file_line, order_text, owner_words, part_line, section_line, segment_line};
+ghost use Rattle.elf_tool_show.specs.Show.{file_line, order_text, owner_words, part_line, section_line, segment_line};
 
 use elf_field::{Ehdr, Order, Phdr, Shdr};
 use elf_image_outline::{Owner, Part};

@@ -1,24 +1,228 @@
 //! The lines of `show` on the tables that a file holds.
-ghost use Rattle.std.specs.Prelude.{◌≡◌, ◌<◌, length};
-ghost use Rattle.elf_tool_text.specs.Output.{IsBuffered};
-ghost use Rattle.elf_tool_show.specs.TableLines.{all_table_lines, group_line, hash_line, note_lines, table_refused_line, table_text};
-ghost use Rattle.elf_table_symbols.specs.declared.table_kind.TableKind.TheVariants as kind;
+ghost use Rattle.std.specs.Prelude.{◌≡◌, ◌∷◌, ◌≤◌, ◌+◌, ◌++◌, OnOk, length, map, ◌<◌, List, ℕ, IfOk};
+ghost use Rattle.std.specs.Fmt.{decimal};
+ghost use Rattle.elf_tool_text.specs.Line.{blank, bytes_text, further_words};
+ghost use Rattle.elf_tool_show.specs.Show.{addend_text, dynamic_line, group_line, hash_line, note_line, place_text, relocation_line, string_words, symbol_line, table_refused_line, all_table_lines, note_lines, table_text, RefusedTablesSay};
+ghost use Rattle.elf_table_symbols.specs.SymbolView.{symbol_entry_value};
+ghost use Rattle.elf_table_lists.specs.Notes.{note_value};
+ghost use Rattle.elf_tool_text.specs.Engine.{IsBuffered};
 ghost use Rattle.elf_table_symbols.specs.Sections.{sections_of};
-ghost use Rattle.elf_table_all.specs.TableVerdicts.{HasSoundTable};
+ghost use Rattle.elf_table_all.specs.Tables.{HasSoundTable, signature_name};
 ghost use Rattle.elf_table_lists.specs.Groups.{group_of};
-ghost use Rattle.elf_table_all.specs.Signature.{signature_name};
+ghost use Rattle.elf_table_symbols.specs.declared.table_section.TableKind.TheVariants as kind;
 
-use crate::table_lines::{
-    push_dynamic_line, push_group_line, push_hash_line, push_note_line, push_relocation_line,
-    push_symbol_line, push_table_refused_line,
-};
+use elf_field::Dyn;
 use elf_image_rules::Broken;
-use elf_image_type::Image;
-use elf_table_all::{Dynamic, Hash, Notes, Relocs, Symbols, TableKind, Tables};
-use elf_tool_text::lines::{Lines, show_lines};
-use elf_tool_text::{Output, ToolFault};
+use elf_image_stream::Fault;
+use elf_image_type::strings::string_at;
+use elf_image_type::{Image, parse};
+use elf_table_all::{
+    Dynamic, Group, Hash, Note, Notes, Place, Relocation, Relocs, Symbol, Symbols, TableKind,
+    Tables, is_string_tag,
+};
+use elf_tool_text::line::{
+    begin_line, end_line, push_bytes, push_decimal, push_hexadecimal, push_name, push_signed,
+    push_word,
+};
+use elf_tool_text::line_end::{DECIMAL_ROOM, LINE_ROOM, LineEnd, SIGNED_ROOM};
+use elf_tool_text::lines::{Lines, push_lines, show_lines};
+use elf_tool_text::{Output, Refusal, ToolFault, Verdict};
 use std::alloc::{AllocError, Global};
 use std::io::Write;
+
+// The lines of tables: each function appends one to the text that will be written. A file may have millions of symbols or relocations, so
+// the numbers of their lines are put together from the last one on, and appended in one piece.
+
+/// `symbol I S BINDING TYPE OTHER PLACE VALUE SIZE NAME`, of symbol `j` of the table in section `i`.
+pub(crate) fn push_symbol_line(
+    alloc: Global,
+    text: &mut Vec<u8>,
+    i: usize,
+    j: usize,
+    symbol: &Symbol<'_>,
+) -> Result<(), AllocError>
+    ensures { OnOk result (text.new.items ≡ text.old.items ++ symbol_line i j (symbol_entry_value symbol.now)) }
+{
+    let mut line = LineEnd::new();
+    line.put_hexadecimal(symbol.size);
+    line.put_hexadecimal(symbol.value);
+    put_place(&mut line, symbol.place);
+    line.put_decimal(symbol.other as u64);
+    line.put_decimal(symbol.symbol_type as u64);
+    line.put_decimal(symbol.binding as u64);
+    line.put_decimal(j as u64);
+    line.put_decimal(i as u64);
+    line.put(b"symbol");
+    text.extend_from_slice(line.as_bytes())?;
+    push_name(alloc, text, symbol.name)?;
+    end_line(text)
+}
+
+// Puts where a symbol is defined.
+fn put_place(line: &mut LineEnd, place: Place)
+    requires room { length line.old + DECIMAL_ROOM ≤ LINE_ROOM }
+    ensures bytes { line.new ≡ blank ∷ place_text place ++ line.old }
+    ensures room { length line.new ≤ length line.old + DECIMAL_ROOM }
+{
+    match place {
+        Place::Undefined => line.put(b" undef"),
+        Place::Absolute => line.put(b" abs"),
+        Place::Common => line.put(b" common"),
+        Place::Reserved(_) => line.put(b" reserved"),
+        Place::Section(index) => line.put_decimal(index as u64),
+    }
+}
+
+/// `reloc I R OFFSET SYMBOL TYPE ADDEND`, of relocation `j` of section `i`.
+pub(crate) fn push_relocation_line(
+    text: &mut Vec<u8>,
+    i: usize,
+    j: usize,
+    relocation: Relocation,
+) -> Result<(), AllocError>
+    ensures { OnOk result (text.new.items ≡ text.old.items ++ relocation_line i j relocation) }
+{
+    let mut line = LineEnd::new();
+    line.put(b"\n");
+    put_addend(&mut line, relocation.addend);
+    line.put_decimal(relocation.relocation_type as u64);
+    line.put_decimal(relocation.symbol as u64);
+    line.put_hexadecimal(relocation.offset);
+    line.put_decimal(j as u64);
+    line.put_decimal(i as u64);
+    line.put(b"reloc");
+    text.extend_from_slice(line.as_bytes())
+}
+
+// Puts what is added.
+fn put_addend(line: &mut LineEnd, addend: Option<i64>)
+    requires room { length line.old + SIGNED_ROOM ≤ LINE_ROOM }
+    ensures bytes { line.new ≡ blank ∷ addend_text addend ++ line.old }
+    ensures room { length line.new ≤ length line.old + SIGNED_ROOM }
+{
+    match addend {
+        Some(addend) => line.put_signed(addend),
+        None => line.put(b" -"),
+    }
+}
+
+/// `group I FLAGS NAME MEMBER..`, of the group in section `i`, by its signature's name.
+pub(crate) fn push_group_line(
+    alloc: Global,
+    text: &mut Vec<u8>,
+    i: usize,
+    name: &[u8],
+    group: &Group<'_>,
+) -> Result<(), AllocError>
+    ensures { OnOk result (text.new.items ≡ text.old.items ++ group_line i name.now group.now) }
+{
+    begin_line(text, b"group")?;
+    push_decimal(text, i as u64)?;
+    push_decimal(text, group.flags() as u64)?;
+    push_name(alloc, text, name)?;
+    push_members(text, group)?;
+    end_line(text)
+}
+
+// The members of a group.
+fn push_members(text: &mut Vec<u8>, group: &Group<'_>) -> Result<(), AllocError>
+    ensures { OnOk result (text.new.items ≡ text.old.items ++ further_words (map decimal group.now.members)) }
+{
+    for member in group.iter() {
+        push_decimal(text, member as u64)?;
+    }
+    Ok(())
+}
+
+/// `note I TYPE NAME DESC`, of a note of section `i`.
+pub(crate) fn push_note_line(
+    alloc: Global,
+    text: &mut Vec<u8>,
+    i: usize,
+    note: &Note<'_>,
+) -> Result<(), AllocError>
+    ensures { OnOk result (text.new.items ≡ text.old.items ++ note_line i (note_value note.now)) }
+{
+    begin_line(text, b"note")?;
+    push_decimal(text, i as u64)?;
+    push_decimal(text, note.note_type as u64)?;
+    push_name(alloc, text, note.name)?;
+    push_descriptor(alloc, text, note.desc)?;
+    end_line(text)
+}
+
+// The bytes of a descriptor.
+fn push_descriptor(alloc: Global, text: &mut Vec<u8>, desc: &[u8]) -> Result<(), AllocError>
+    ensures { OnOk result (text.new.items ≡ text.old.items ++ blank ∷ bytes_text desc.now) }
+{
+    if desc.is_empty() {
+        return push_word(text, b"-");
+    }
+    push_bytes(alloc, text, desc)
+}
+
+/// `dynamic I TAG VALUE`, and the string of an entry that has one in this string table, of an entry of the dynamic section `i`.
+pub(crate) fn push_dynamic_line(
+    alloc: Global,
+    text: &mut Vec<u8>,
+    i: usize,
+    strings: &[u8],
+    entry: Dyn,
+) -> Result<(), AllocError>
+    ensures { OnOk result (text.new.items ≡ text.old.items ++ dynamic_line i strings.now entry) }
+{
+    begin_line(text, b"dynamic")?;
+    push_decimal(text, i as u64)?;
+    push_signed(text, entry.d_tag)?;
+    push_hexadecimal(text, entry.d_un)?;
+    push_string(alloc, text, strings, entry)?;
+    end_line(text)
+}
+
+// The string of an entry that has one.
+fn push_string(
+    alloc: Global,
+    text: &mut Vec<u8>,
+    strings: &[u8],
+    entry: Dyn,
+) -> Result<(), AllocError>
+    ensures { OnOk result (text.new.items ≡ text.old.items ++ further_words (string_words strings.now entry)) }
+{
+    if is_string_tag(entry.d_tag) {
+        return push_name(alloc, text, string_at(strings, entry.d_un as usize));
+    }
+    Ok(())
+}
+
+/// `hash I NBUCKET NCHAIN`, of the hash table in section `i`.
+pub(crate) fn push_hash_line(
+    text: &mut Vec<u8>,
+    i: usize,
+    hash: &Hash<'_>,
+) -> Result<(), AllocError>
+    ensures { OnOk result (text.new.items ≡ text.old.items ++ hash_line i hash.now.words) }
+{
+    begin_line(text, b"hash")?;
+    push_decimal(text, i as u64)?;
+    push_decimal(text, hash.nbucket() as u64)?;
+    push_decimal(text, hash.nchain() as u64)?;
+    end_line(text)
+}
+
+/// `refused I RULE AT`, of the table in section `i`.
+pub(crate) fn push_table_refused_line(
+    text: &mut Vec<u8>,
+    i: usize,
+    broken: Broken<u64>,
+) -> Result<(), AllocError>
+    ensures { OnOk result (text.new.items ≡ text.old.items ++ table_refused_line i broken.rule broken.at) }
+{
+    begin_line(text, b"refused")?;
+    push_decimal(text, i as u64)?;
+    push_decimal(text, broken.rule as u64)?;
+    push_decimal(text, broken.at)?;
+    end_line(text)
+}
 
 /// The lines of all tables of the image.
 pub(crate) fn show_tables<W: Write>(
@@ -39,7 +243,7 @@ pub(crate) fn show_tables<W: Write>(
 }
 
 // The lines of the table in section `i`.
-#[tactic(auto, unfolding(crate::specs::TableLines::symbol_lines, crate::specs::TableLines::relocation_lines, crate::specs::TableLines::dynamic_lines))]
+#[tactic(auto, unfolding(crate::specs::Show::symbol_lines, crate::specs::Show::relocation_lines, crate::specs::Show::dynamic_lines))]
 fn show_table<W: Write>(
     alloc: Global,
     image: &Image<'_>,
@@ -159,7 +363,7 @@ struct SymbolLines<'s, 'a> {
 
 impl<'s, 'a> Lines for SymbolLines<'s, 'a> {
     ghost use Rattle.std.specs.Prelude.{length};
-    ghost use Rattle.elf_tool_show.specs.TableLines.{symbol_text};
+    ghost use Rattle.elf_tool_show.specs.Show.{symbol_text};
 
     ghost count = { λ lines. length lines.symbols.now };
 
@@ -183,7 +387,7 @@ struct RelocationLines<'s, 'a> {
 
 impl<'s, 'a> Lines for RelocationLines<'s, 'a> {
     ghost use Rattle.std.specs.Prelude.{length};
-    ghost use Rattle.elf_tool_show.specs.TableLines.{relocation_text};
+    ghost use Rattle.elf_tool_show.specs.Show.{relocation_text};
 
     ghost count = { λ lines. length lines.relocs.now };
 
@@ -208,7 +412,7 @@ struct DynamicLines<'s, 'a> {
 
 impl<'s, 'a> Lines for DynamicLines<'s, 'a> {
     ghost use Rattle.std.specs.Prelude.{length};
-    ghost use Rattle.elf_tool_show.specs.TableLines.{dynamic_text};
+    ghost use Rattle.elf_tool_show.specs.Show.{dynamic_text};
 
     ghost count = { λ lines. length lines.dynamic.now };
 
@@ -226,5 +430,59 @@ impl<'s, 'a> Lines for DynamicLines<'s, 'a> {
             self.strings,
             self.dynamic.entry(j),
         )
+    }
+}
+
+// The tables of a file that break a rule, without the entries of the others.
+
+/// Appends the line `refused I R A` of each table that breaks a rule, as [`show`](crate::show) writes it, in the order of their sections.
+///
+/// The verdict is [`Verdict::Done`] for bytes that break none of the 33 rules. Otherwise it has the first rule broken, with its lowest
+/// offset, and nothing is appended. [`ToolFault::OutOfMemory`] is the only error; some of the lines may be appended then. Memory holds the
+/// records and parts of the file, the verdicts on its tables, and what the test of one table takes. The time is that of `parse` and of the
+/// `new` of each table.
+pub fn push_refused_tables(
+    alloc: Global,
+    bytes: &[u8],
+    text: &mut Vec<u8>,
+) -> Result<Verdict, ToolFault>
+    ensures { IfOk result (λ verdict. (said : List ℕ) × RefusedTablesSay bytes.now verdict said × (text.new.items ≡ text.old.items ++ said)) }
+{
+    match parse(alloc, bytes) {
+        Ok(image) => {
+            let tables = Tables::new(alloc, &image)?;
+            push_lines(alloc, &RefusedTables { tables: &tables }, text)?;
+            Ok(Verdict::Done)
+        }
+        Err(Fault::Rule { rule, at }) => Ok(Verdict::Refused(Refusal::File { file: 0, rule, at })),
+        Err(Fault::OutOfMemory) => Err(ToolFault::OutOfMemory),
+        // No reader is called while bytes are validated.
+        Err(Fault::Io { .. }) => unreachable!(),
+    }
+}
+
+// The lines of the tables that are refused.
+#[derive(Drop)]
+struct RefusedTables<'t, 'i, 'a> {
+    tables: &'t Tables<'i, 'a>,
+}
+
+impl<'t, 'i, 'a> Lines for RefusedTables<'t, 'i, 'a> {
+    ghost use Rattle.std.specs.Prelude.{length};
+    ghost use Rattle.elf_tool_show.specs.Show.{refused_table_text};
+
+    ghost count = { λ lines. length lines.tables.now.image.sections };
+
+    ghost line = { λ lines. refused_table_text lines.tables.now };
+
+    fn count(&self) -> usize {
+        self.tables.section_count()
+    }
+
+    fn push(&self, _alloc: Global, text: &mut Vec<u8>, i: usize) -> Result<(), AllocError> {
+        match self.tables.verdict(i) {
+            Ok(()) => Ok(()),
+            Err(broken) => push_table_refused_line(text, i, broken),
+        }
     }
 }

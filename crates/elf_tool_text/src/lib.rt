@@ -16,14 +16,9 @@
 #![tactic(auto)]
 
 mod digits;
-mod fault;
-mod input;
+mod engine;
 pub mod line;
 pub mod line_end;
 pub mod lines;
-mod output;
-pub mod sending;
 
-pub use fault::{Refusal, ToolFault, Verdict};
-pub use input::{read_input, read_inputs};
-pub use output::Output;
+pub use engine::{Output, Refusal, ToolFault, Verdict, read_input, read_inputs};

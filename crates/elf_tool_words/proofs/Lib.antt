@@ -1,3 +1,2 @@
 -- Lemmas on the words of the command line.
-pub mod Entered
-pub mod Numbers
+pub mod WordLists

@@ -1,4 +1,3 @@
 -- The words of this crate's contracts.
 pub mod Command
-pub mod Number
 pub mod Words

@@ -8,7 +8,6 @@
 #![tactic(auto)]
 
 mod command;
-mod number;
 mod words;
 
 pub use words::{Request, WordsFault, read_words};

@@ -1,16 +1,71 @@
 //! What the words of a command line ask for.
 ghost use Rattle.std.specs.Prelude.{◌≡◌, [], IfErr, IfOk, OnOk, codes, map, option_copied};
+ghost use Rattle.std.specs.List.{list_all};
 ghost use Rattle.clap.specs.Walk.{first_of};
 ghost use Rattle.clap.specs.Words.{fault_of, found_of, rows_of, subcommand_of, subcommand_rows_of};
+ghost use Rattle.elf_tool_words.specs.Words.{decimal_number, hexadecimal_number, is_decimal_digit, is_hexadecimal_digit as is_hexadecimal, number_of as number_in, AreLinkWords, Asks, CommandRefuses, IsAskedBy, IsRefusedBy, RefusesLinkWords, is_set as is_set_in, text_of, texts_of};
 ghost use Rattle.elf_tool_words.specs.Command.{IsNameIn, elfmap as elfmap_app};
-ghost use Rattle.elf_tool_words.specs.Words.{AreLinkWords, Asks, CommandRefuses, IsAskedBy, IsRefusedBy, RefusesLinkWords, is_set as is_set_in, text_of, texts_of};
 
 use crate::command::elfmap;
-use crate::number::number_of;
 use clap::error::ErrorKind;
 use clap::{ArgMatches, Error};
 use std::alloc::{AllocError, AllocFailed, Global};
 use std::convert::AsStr;
+
+// The numbers of a command line.
+
+/// How many hexadecimal digits a number has at most.
+const MOST_DIGITS: usize = 16;
+
+/// The number of a text: decimal digits, or `0x` and 1 to 16 hexadecimal digits in lower case, below
+/// 2^64. None for any other text.
+pub(crate) fn number_of(text: &str) -> Option<u64>
+    ensures { result ≡ number_in text.now }
+{
+    match text.strip_prefix("0x") {
+        Some(digits) => hexadecimal(digits),
+        None => decimal(text),
+    }
+}
+
+fn decimal(text: &str) -> Option<u64>
+    ensures { result ≡ decimal_number text.now }
+{
+    if !are_decimal(text.as_bytes()) {
+        return None;
+    }
+    u64::from_str_radix(text, 10).ok()
+}
+
+fn hexadecimal(text: &str) -> Option<u64>
+    ensures { result ≡ hexadecimal_number text.now }
+{
+    if text.len() > MOST_DIGITS {
+        return None;
+    }
+    if !are_hexadecimal(text.as_bytes()) {
+        return None;
+    }
+    u64::from_str_radix(text, 16).ok()
+}
+
+fn are_decimal(text: &[u8]) -> bool
+    ensures { result ≡ list_all is_decimal_digit text.now }
+{
+    text.iter().all(|b| (b'0'..=b'9').contains(b))
+}
+
+fn are_hexadecimal(text: &[u8]) -> bool
+    ensures { result ≡ list_all is_hexadecimal text.now }
+{
+    text.iter().all(|b| is_hexadecimal_digit(*b))
+}
+
+fn is_hexadecimal_digit(b: u8) -> bool
+    ensures { result ≡ is_hexadecimal b }
+{
+    (b'0'..=b'9').contains(&b) || (b'a'..=b'f').contains(&b)
+}
 
 /// A command with its values and files.
 #[derive(Debug, PartialEq, Eq, Drop)]

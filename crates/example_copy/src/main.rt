@@ -8,7 +8,7 @@ mod counting;
 ghost use Rattle.std.specs.Prelude.{◌≡◌, ℕ, List, Some};
 ghost use Rattle.std.specs.Io.KnownBytes.{Appends};
 ghost use Rattle.elf_field.specs.Bytes.{IsBytes};
-ghost use Rattle.elf_image.specs.Edits.{flagged};
+ghost use Rattle.elf_image.specs.Image.{flagged};
 ghost use Rattle.elf_image.specs.Image.{IsImage};
 ghost use Rattle.elf_image.specs.Outline.{OutlineValue, image_in};
 

@@ -6,7 +6,7 @@
 
 ghost use Rattle.std.specs.Prelude.{ℕ, List, IfOk, OnOk};
 ghost use Rattle.std.specs.Io.KnownBytes.{Appends};
-ghost use Rattle.elf_image.specs.Edits.{with_flags, with_zero_gaps};
+ghost use Rattle.elf_image.specs.Image.{with_flags, with_zero_gaps};
 ghost use Rattle.elf_image.specs.Image.{ImageValue, IsImage};
 
 use elf_image::{Fault, Image, parse, write};

@@ -6,7 +6,7 @@ ghost use Rattle.std.specs.Prelude.{ℕ, IfOk, List, OnOk};
 ghost use Rattle.std.specs.Io.KnownBytes.{Appends};
 ghost use Rattle.elf_exec.specs.Executable.{IsExecutable, IsExecutableOf, IsMemoryOf};
 ghost use Rattle.elf_link.specs.LinkMap.{LinkMapValue};
-ghost use Rattle.elf_link.specs.MapFacts.{IsMapOfSome};
+ghost use Rattle.elf_link.specs.Linked.{IsMapOfSome};
 
 use elf_exec::{prove_loaded, write_exec};
 use elf_image::parse;

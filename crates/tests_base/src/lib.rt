@@ -2,15 +2,9 @@
 #![tactic(auto)]
 
 #[cfg(test)]
-mod accounts;
-#[cfg(test)]
-mod doubles;
-#[cfg(test)]
 mod extents;
 #[cfg(test)]
 mod image_rules;
-#[cfg(test)]
-mod places;
 #[cfg(test)]
 mod records;
 #[cfg(test)]
@@ -19,5 +13,3 @@ mod relocations;
 mod rule_files;
 #[cfg(test)]
 mod string_tables;
-#[cfg(test)]
-mod sweeps;

@@ -1,10 +1,11 @@
 //! Images, their tables, and the objects that they denote.
-ghost use Rattle.std.specs.Prelude.{◌<◌, length};
+ghost use Rattle.std.specs.Prelude.{◌<◌, length, ◌≡◌, ℕ, List, Some};
+ghost use Rattle.elf_field.specs.Bytes.{IsBytes};
 
 use crate::said::{Said, of_fault, say};
-use elf_image_outline::scan;
-use elf_image_stream::{Bytes, Fault};
-use elf_image_type::{Image, parse};
+use elf_image_outline::{CopyFault, copy_image, scan};
+use elf_image_stream::{Bytes, Fault, Source, WriteFault};
+use elf_image_type::{Image, parse, verdict, write};
 use elf_object_file::write_object;
 use elf_object_reader::object_of;
 use elf_object_type::Object;
@@ -12,6 +13,8 @@ use elf_object_writer::{LayoutFault, ObjectWriteFault, lay_out};
 use elf_table_all::Tables;
 use elf_table_hash::Hash;
 use elf_table_lists::Group;
+use elf_tool_check::check;
+use elf_tool_rewrite::{Verdict, rewrite};
 use std::alloc::{AllocError, Global};
 use std::io::Write;
 
@@ -71,4 +74,164 @@ fn on_object<W: Write>(alloc: Global, object: &Object<'_>, out: &mut W) {
         Err(ObjectWriteFault::OutOfMemory) => say(out, "write_object", Said::Memory),
         Err(_) => say(out, "write_object", Said::Refused),
     }
+}
+
+// What the calls say of the beginnings of a file, and of the files that differ from it in one byte.
+
+/// Reports of each beginning of the file, the shorter ones first, and then for each of its bytes of the files in which it is another one,
+/// in the order of these. Returns the exit status, 0 if all was reported.
+pub fn tell<W: Write>(alloc: Global, bytes: &mut [u8], out: &mut W) -> u8 {
+    for length in 0..bytes.len() {
+        if !one(alloc, &bytes[..length], out) {
+            return 3;
+        }
+    }
+    for at in 0..bytes.len() {
+        if !changed(alloc, bytes, at, out) {
+            return 3;
+        }
+    }
+    0
+}
+
+/// Of the files in which this byte is another one.
+fn changed<W: Write>(alloc: Global, bytes: &mut [u8], at: usize, out: &mut W) -> bool
+    requires { at < length bytes.old }
+{
+    let own = bytes[at];
+    for value in 0..=255u8 {
+        bytes[at] = value;
+        if value != own && !one(alloc, bytes, out) {
+            return false;
+        }
+    }
+    bytes[at] = own;
+    true
+}
+
+/// Of a file: the line of `check`; that of `verdict`; and where it is an image whether it is written back unchanged, what it is as an
+/// object, and what `rewrite` writes, its length first.
+fn one<W: Write>(alloc: Global, bytes: &[u8], out: &mut W) -> bool {
+    let mut file = bytes;
+    if check(alloc, &mut file, out).is_err() {
+        return false;
+    }
+    let told = match verdict(bytes) {
+        None => writeln!(out, "none"),
+        Some((rule, at)) => writeln!(out, "{rule} {at}"),
+    };
+    told.is_ok()
+        && match parse(alloc, bytes) {
+            Ok(image) => of_image(alloc, bytes, &image, out),
+            Err(_) => true,
+        }
+}
+
+fn of_image<W: Write>(alloc: Global, bytes: &[u8], image: &Image<'_>, out: &mut W) -> bool {
+    let mut written = Vec::new(alloc);
+    let is_same = write(image, &mut written).is_ok() && written.as_slice() == bytes;
+    let object = match object_of(alloc, image) {
+        Ok(_) => writeln!(out, "{is_same} object"),
+        Err(Fault::Rule { rule, at }) => writeln!(out, "{is_same} {rule} {at}"),
+        Err(_) => return false,
+    };
+    let mut canonical = Vec::new(alloc);
+    let mut file = bytes;
+    let Ok(ended) = rewrite(alloc, &mut file, &mut canonical) else {
+        return false;
+    };
+    let is_done = ended == Verdict::Done;
+    object.is_ok()
+        && writeln!(out, "{is_done} {}", canonical.len()).is_ok()
+        && out.write_all(&canonical).is_ok()
+}
+
+// A file written again.
+
+/// Why nothing, or not all, was written.
+pub enum Stopped {
+    /// By a rule.
+    Rule,
+    /// An allocation failed.
+    OutOfMemory,
+    /// The layout is longer than 2^30 bytes.
+    TooLong,
+    /// The read at this offset failed.
+    Read { at: u64 },
+    /// The write after so many bytes failed.
+    Write { written: u64 },
+}
+
+impl From<Fault> for Stopped {
+    fn from(fault: Fault) -> Stopped {
+        match fault {
+            Fault::Rule { .. } => Stopped::Rule,
+            Fault::OutOfMemory => Stopped::OutOfMemory,
+            Fault::Io { at } => Stopped::Read { at },
+        }
+    }
+}
+
+impl From<WriteFault> for Stopped {
+    fn from(fault: WriteFault) -> Stopped {
+        Stopped::Write {
+            written: fault.written,
+        }
+    }
+}
+
+impl From<ObjectWriteFault> for Stopped {
+    fn from(fault: ObjectWriteFault) -> Stopped {
+        match fault {
+            ObjectWriteFault::Io { written } => Stopped::Write { written },
+            ObjectWriteFault::OutOfMemory => Stopped::OutOfMemory,
+            ObjectWriteFault::TooLong => Stopped::TooLong,
+        }
+    }
+}
+
+impl From<CopyFault> for Stopped {
+    fn from(fault: CopyFault) -> Stopped {
+        match fault {
+            CopyFault::Read { at, .. } => Stopped::Read { at },
+            CopyFault::Write { written } => Stopped::Write { written },
+        }
+    }
+}
+
+/// Writes the image of these bytes.
+pub fn image<W: Write>(alloc: Global, bytes: &[u8], out: &mut W) -> Result<(), Stopped> {
+    let image = parse(alloc, bytes)?;
+    write(&image, out)?;
+    Ok(())
+}
+
+/// Writes the object that these bytes denote.
+pub fn object<W: Write>(alloc: Global, bytes: &[u8], out: &mut W) -> Result<(), Stopped> {
+    let image = parse(alloc, bytes)?;
+    let object = object_of(alloc, &image)?;
+    write_object(alloc, &object, out)?;
+    Ok(())
+}
+
+/// Copies the image of a source.
+pub fn copy<S: Source, W: Write>(alloc: Global, source: &mut S, out: &mut W) -> Result<(), Stopped>
+    requires { (b : List ℕ) → S.content source.old ≡ Some b → IsBytes b }
+{
+    let outline = scan(alloc, source)?;
+    copy_image(&outline, source, out)?;
+    Ok(())
+}
+
+/// The exit status; what failed is reported on standard error, in the words of the program.
+pub fn status<W: Write>(ended: Result<(), Stopped>, err: &mut W) -> u8 {
+    let _ = match ended {
+        Ok(()) => return 0,
+        Err(Stopped::Rule) => return 1,
+        Err(Stopped::OutOfMemory) => writeln!(err, "out of memory"),
+        Err(Stopped::TooLong) => writeln!(err, "too long"),
+        Err(Stopped::Read { at }) => writeln!(err, "read failed at {at}"),
+        Err(Stopped::Write { written }) => writeln!(err, "write failed after {written}"),
+    };
+    3
 }

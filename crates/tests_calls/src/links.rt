@@ -1,7 +1,6 @@
 //! The link of files, their relocated bytes, and their executable.
 ghost use Rattle.std.specs.Prelude.{IfOk};
-ghost use Rattle.elf_link_relocate.specs.ReadyLink.{IsReadyLink};
-ghost use Rattle.elf_link_relocate.specs.MapFacts.{IsMapOfSome};
+ghost use Rattle.elf_link_relocate.specs.Linked.{IsReadyLink, IsMapOfSome};
 
 use crate::said::{Said, of_fault, say};
 use elf_exec::{ExecFault, write_exec};

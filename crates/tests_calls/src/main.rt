@@ -8,10 +8,9 @@
 //! `tests_calls write FILE`, `object` and `copy` write the file again: its image, the object that it denotes, or by `copy_image` what is
 //! read where it has to be. They end as the program does: status 0 if all is written, 1 if a rule is broken, 3 with a line on standard
 //! error where memory, a read or a write failed. `tests_calls changes FILE` is about the beginnings of the file, and of the files that
-//! differ from it in one byte, what each call says ([`changes::report`]).
+//! differ from it in one byte, what each call says ([`images::report`]).
 #![tactic(auto)]
 
-mod changes;
 mod extents;
 mod images;
 mod links;
@@ -19,7 +18,6 @@ mod objects;
 mod quiet;
 mod said;
 mod words;
-mod writing;
 
 use elf_image_stream::{Fault, Seeking, read_to_end, resume};
 use said::{Said, of_fault, say};
@@ -91,19 +89,19 @@ fn written(rt: &HostRuntime, call: &str, name: &String) -> io::Result<ExitCode> 
     let (mut out, mut err) = (rt.stdout(), rt.stderr());
     if call == "copy" {
         let mut source = Seeking::new(fs::open(rt, name.as_str())?);
-        let ended = writing::copy(alloc, &mut source, &mut out);
-        return Ok(ExitCode::from(writing::status(ended, &mut err)));
+        let ended = images::copy(alloc, &mut source, &mut out);
+        return Ok(ExitCode::from(images::status(ended, &mut err)));
     }
     let mut bytes = Vec::new(alloc);
     let ended = match read_to_end(&mut fs::open(rt, name.as_str())?, &mut bytes) {
         Err(fault) => Err(fault.into()),
         Ok(()) => match call {
-            "write" => writing::image(alloc, &bytes, &mut out),
-            "object" => writing::object(alloc, &bytes, &mut out),
-            _ => return Ok(ExitCode::from(changes::tell(alloc, &mut bytes, &mut out))),
+            "write" => images::image(alloc, &bytes, &mut out),
+            "object" => images::object(alloc, &bytes, &mut out),
+            _ => return Ok(ExitCode::from(images::tell(alloc, &mut bytes, &mut out))),
         },
     };
-    Ok(ExitCode::from(writing::status(ended, &mut err)))
+    Ok(ExitCode::from(images::status(ended, &mut err)))
 }
 
 /// All bytes of a reader. Where an allocation fails it is asked for once more, and nothing that was read is lost.

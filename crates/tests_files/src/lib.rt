@@ -7,21 +7,17 @@
 //! ```
 #![tactic(auto)]
 
-mod image_files;
-mod object_files;
-mod readers;
-mod sources;
-mod writers;
+mod files;
+mod streams;
 
 use elf_field::Order;
-pub use image_files::{
-    empty_contents, empty_object, filled_gap, header_alone, long_parts, one_section, one_segment,
-    two_of_each,
+pub use files::{
+    callee, caller, empty_contents, empty_object, filled_gap, header_alone, long_parts,
+    one_section, one_segment, two_of_each,
 };
-pub use object_files::{callee, caller};
-pub use readers::{Failure, OnceFailingReader, PIECE, Pieces};
-pub use sources::PartialSource;
-pub use writers::{Counter, OnceFailingWriter, Sink};
+pub use streams::{
+    Counter, Failure, OnceFailingReader, OnceFailingWriter, PIECE, PartialSource, Pieces, Sink,
+};
 
 /// A field: its offset in the file, its width in bytes and its value.
 pub type Field = (u64, usize, u64);

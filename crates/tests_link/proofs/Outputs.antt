@@ -3,9 +3,8 @@ use Rattle.std.proofs.Common.{◌≡◌, ℕ, ◌<◌, List, get_or, length, map
 use Rattle.std.proofs.lemmas.List.{get_or-map, length-map}
 use Rattle.elf_link_map.specs.LinkMap.{LinkMapValue}
 use Rattle.elf_link_map.specs.Standing.{output_at}
-use Rattle.elf_link_outputs.specs.declared.output.Output.{Output}
-use Rattle.elf_link_outputs.specs.Placed.{OutputValue, no_output}
-use Rattle.elf_link_outputs.specs.PlacedView.{output_value}
+use Rattle.elf_link_outputs.specs.declared.placing.Output.{Output}
+use Rattle.elf_link_outputs.specs.Placed.{OutputValue, no_output, output_value}
 
 pub many_outputs : (m : LinkMapValue) (os : List Output) → map output_value os ≡ m.outputs → length os ≡ length m.outputs
 many_outputs m os same = sym (length-map os output_value) ∙ ap (λ (vs : List OutputValue). length vs) same

@@ -1,8 +1,12 @@
 //! A function in one file that is called in another. Its bytes, and links of it that are refused, are in `cases/links.txt`.
-use crate::parts::{GLOBAL, list, mapped_by, object, relocs, section, symbol};
+use crate::parts::{
+    GLOBAL, WEAK, data, list, mapped, mapped_by, object, relocs, rule, section, symbol,
+};
 use elf_field::Order;
-use elf_link_map::{Binding, LinkMap, Member, Named, Options};
-use elf_object_type::{Body, Object, ObjectFault, Place, Relocation, Section, Symbol};
+use elf_link_field::{Form, Range, RelocRule, Width};
+use elf_link_map::{Binding, LinkFault, LinkMap, Member, Named, Options};
+use elf_link_relocate::{Identity, relocate};
+use elf_object_type::{Body, Object, ObjectFault, ObjectParts, Place, Relocation, Section, Symbol};
 use std::alloc::{AllocError, Global};
 use std::process::Abort;
 use std::test::Fail;
@@ -168,5 +172,98 @@ fn maps_no_files_and_no_entry(rt: HostRuntime) -> Result<(), Fail> {
     let link = linked(rt.alloc(), &objects, None)?;
     let counts = [counts_of(&empty), counts_of(&link)];
     assert_eq!(rt; counts, [([0; 3], 0), ([1, 0, 2], 0)]);
+    Ok(())
+}
+
+// What a link says of the files that it is of, and its bytes.
+
+/// An object without sections and symbols, that uses these extensions.
+fn empty(alloc: Global, osabi: u8, abi: u8) -> Result<Object<'static>, ObjectFault> {
+    let parts = ObjectParts {
+        order: Order::Big,
+        osabi,
+        abi,
+        machine: 62,
+        flags: 5,
+        sections: Vec::new(alloc),
+        symbols: Vec::new(alloc),
+    };
+    Object::new(alloc, parts)
+}
+
+/// The identity of the link of these objects, where it is, of how many files it is and by how many rules.
+fn told(
+    alloc: Global,
+    objects: &[Object<'_>],
+    rules: &[RelocRule],
+) -> Result<(Identity, u64, usize, usize), LinkFault> {
+    let map = mapped(alloc, objects, 0x2000, None)?;
+    let linked = relocate(alloc, &map, objects, rules)?;
+    Ok((
+        linked.identity(),
+        linked.map().base(),
+        linked.objects().len(),
+        linked.rules().len(),
+    ))
+}
+
+// The identity is that of the first file, or zeros.
+#[test]
+fn has_the_identity_of_the_first_file(rt: HostRuntime) -> Result<(), Fail> {
+    let none: [Object<'static>; 0] = [];
+    let objects = [empty(rt.alloc(), 3, 1)?, empty(rt.alloc(), 0, 0)?];
+    let rules = [rule(1, Form::Abs, Width::W4, Range::Signed)];
+    let found = [
+        told(rt.alloc(), &objects, &rules)?,
+        told(rt.alloc(), &none, &[])?,
+    ];
+    let first = Identity {
+        order: Order::Big,
+        osabi: 3,
+        abi: 1,
+        machine: 62,
+        flags: 5,
+    };
+    let zeros = Identity {
+        order: Order::Little,
+        osabi: 0,
+        abi: 0,
+        machine: 0,
+        flags: 0,
+    };
+    assert_eq!(rt; found, [(first, 0x2000, 2, 1), (zeros, 0x2000, 0, 0)]);
+    Ok(())
+}
+
+// Entry symbols at high values.
+
+/// One section, and the symbol that the program begins at.
+fn file(alloc: Global, info: u8, place: Place, value: u64) -> Result<Object<'static>, ObjectFault> {
+    let sections = list(alloc, [data(b".text", b"\xc3")])?;
+    let symbols = list(alloc, [symbol(b"main", info, place, value)])?;
+    object(alloc, Order::Little, sections, symbols)
+}
+
+/// The entry of the link from this address on.
+fn entry_of(alloc: Global, info: u8, place: Place, value: u64, base: u64) -> Result<u64, Fail> {
+    let objects = [file(alloc, info, place, value)?];
+    Ok(mapped(alloc, &objects, base, Some(b"main"))?.entry())
+}
+
+#[test]
+fn begins_at_values_from_2_to_the_63_on(rt: HostRuntime) -> Result<(), Fail> {
+    let half = 0x8000_0000_0000_0000;
+    let last = 0xffff_ffff_ffff_ffff;
+    let rows = [
+        (GLOBAL, Place::Abs, half, 0, half),
+        (WEAK, Place::Abs, last, 0, last),
+        (GLOBAL, Place::In(0), half, 0x1000, 0x8000_0000_0000_1000),
+        (WEAK, Place::In(0), 1, half, 0x8000_0000_0000_0001),
+        (GLOBAL, Place::In(0), 0xfff, 0xffff_ffff_ffff_f000, last),
+    ];
+    for (info, place, value, base, want) in rows {
+        let entry = entry_of(rt.alloc(), info, place, value, base)?;
+        assert_eq!(rt; entry, want);
+    }
     Ok(())
 }

@@ -12,23 +12,15 @@ mod groups;
 #[cfg(test)]
 mod hashers;
 #[cfg(test)]
-mod headers;
-#[cfg(test)]
-mod high_entries;
-#[cfg(test)]
 mod large_files;
 #[cfg(test)]
 mod large_link;
 #[cfg(test)]
-mod many_addends;
+mod many;
 #[cfg(test)]
 mod many_commons;
 #[cfg(test)]
 mod many_fields;
-#[cfg(test)]
-mod many_names;
-#[cfg(test)]
-mod memory;
 #[cfg(test)]
 mod parts;
 #[cfg(test)]

@@ -1,8 +1,7 @@
 //! Objects, their link maps and relocation rules, by their parts.
 ghost use Rattle.std.specs.Prelude.{◌≤◌, IfOk, None, OnOk};
-ghost use Rattle.elf_link_map.specs.LinkFaults.{FirstOfLink};
-ghost use Rattle.elf_link_map.specs.LinkMap.{IsLinkMap};
-ghost use Rattle.elf_link_relocate.specs.MapFacts.{IsMapOfSome};
+ghost use Rattle.elf_link_map.specs.LinkMap.{FirstOfLink, IsLinkMap};
+ghost use Rattle.elf_link_relocate.specs.Linked.{IsMapOfSome};
 
 use elf_field::Order;
 use elf_link_field::{Form, Range, RelocRule, Width};

@@ -1,5 +1,5 @@
 //! The most segments and the longest file of an executable, and one more.
-use crate::linked::{options, write_linked};
+use crate::executables::{options, write_linked};
 use crate::written::{object, section};
 use elf_exec::ExecFault;
 use elf_field::Order;

@@ -5,23 +5,11 @@
 #[cfg(test)]
 mod executable_limits;
 #[cfg(test)]
-mod executable_writers;
-#[cfg(test)]
 mod executables;
-#[cfg(test)]
-mod failing_writers;
-#[cfg(test)]
-mod far_sections;
 #[cfg(test)]
 mod files;
 #[cfg(test)]
-mod groups;
-#[cfg(test)]
 mod layouts;
-#[cfg(test)]
-mod linked;
-#[cfg(test)]
-mod many_symbols;
 #[cfg(test)]
 mod parts;
 #[cfg(test)]

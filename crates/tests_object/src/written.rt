@@ -3,9 +3,13 @@
 use elf_field::Order;
 use elf_object_file::write_object;
 use elf_object_type::{Body, Info, Object, ObjectParts, Place, Relocation, Section, Symbol};
+use elf_object_writer::ObjectWriteFault;
 use std::alloc::{AllocError, Global};
+use std::fmt::Write;
+use std::io::ErrorKind;
+use std::process::Abort;
 use std::test::Fail;
-use tests_files::{Field, one_section, set, set_header};
+use tests_files::{Counter, Field, OnceFailingWriter, one_section, set, set_header};
 
 /// An object of machine 62.
 pub(crate) fn object<'a>(
@@ -234,5 +238,252 @@ fn objects_are_written_in_both_orders(rt: HostRuntime) -> Result<(), Fail> {
         are_written(rt.alloc(), Order::Big)?,
     ];
     assert_eq!(rt; found, [[true; 2]; 2]);
+    Ok(())
+}
+
+// Objects onto writers that take little or fail, and objects that are not written.
+
+/// Writes the object to a writer that takes so many bytes a call, and whose call of this number, after so many bytes, alone fails, or takes
+/// nothing: that is the answer, and no call comes after it.
+fn assert_stopped(
+    rt: &impl Abort,
+    alloc: Global,
+    object: &Object<'_>,
+    piece: usize,
+    failing: usize,
+    out: u16,
+    failure: Option<ErrorKind>,
+) {
+    let mut writer = OnceFailingWriter::new(alloc, piece, failing, failure);
+    let answer = write_object(alloc, object, &mut writer);
+    let written = u64::from(out);
+    let file = one_section(Order::Little);
+    let is_out = Some(writer.bytes.as_slice()) == file.get(..out as usize);
+    assert_eq!(rt;
+        (answer, is_out, (writer.offers.len(), writer.flushes)),
+        (Err(ObjectWriteFault::Io { written }), true, (failing, 0))
+    );
+}
+
+#[test]
+fn a_write_that_fails_is_not_tried_again(rt: HostRuntime) -> Result<(), Fail> {
+    let alloc = rt.alloc();
+    let object = text_object(alloc, Order::Little)?;
+    for out in 0..456 {
+        let failing = out as usize + 1;
+        let interrupted = Some(ErrorKind::Interrupted);
+        assert_stopped(&rt, alloc, &object, 1, failing, out, Some(ErrorKind::Other));
+        assert_stopped(&rt, alloc, &object, 1, failing, out, interrupted);
+        assert_stopped(&rt, alloc, &object, 1, failing, out, None);
+    }
+    Ok(())
+}
+
+// The calls of a writer that takes all that it is offered: the header; the byte of `.text`; zeros and the symbol table; the two
+// string tables; zeros and the section header table.
+#[test]
+fn each_call_fails_alone(rt: HostRuntime) -> Result<(), Fail> {
+    let alloc = rt.alloc();
+    let object = text_object(alloc, Order::Little)?;
+    for (call, out) in [0, 64, 65, 72, 96, 97, 130, 136].iter().enumerate() {
+        let failing = call.saturating_add(1);
+        let failure = Some(ErrorKind::Other);
+        assert_stopped(&rt, alloc, &object, usize::MAX, failing, *out, failure);
+    }
+    Ok(())
+}
+
+/// What a write of an object of this alignment comes to, and how many bytes are written.
+fn outcome(alloc: Global, align: u64) -> Result<(Result<(), ObjectWriteFault>, u64), Fail> {
+    let bits = section(b".text", 6, align, Body::Bits(1, b"\xc3"));
+    let object = object(alloc, Order::Little, vec![in alloc; bits]?, Vec::new(alloc))?;
+    let mut writer = Counter { taken: 0, last: 0 };
+    let answer = write_object(alloc, &object, &mut writer);
+    Ok((answer, writer.taken))
+}
+
+// An object that is too long is not written, nor is one for which an allocation fails.
+#[test]
+fn nothing_is_written_of_what_is_refused(rt: HostRuntime) -> Result<(), Fail> {
+    let rows = [
+        (1 << 20, (Ok(()), 1_048_968)),
+        (1 << 30, (Err(ObjectWriteFault::TooLong), 0)),
+    ];
+    let refused = (Err(ObjectWriteFault::OutOfMemory), 0);
+    for (align, expected) in rows {
+        let found = outcome(rt.alloc(), align)?;
+        assert!(rt; found == expected || found == refused);
+    }
+    Ok(())
+}
+
+// Objects around the first reserved section index, 0xff00, as they are written.
+
+/// The file of an object of so many sections with empty names and contents, and of these symbols.
+fn file_of(alloc: Global, count: usize, symbols: Vec<Symbol<'static>>) -> Result<Vec<u8>, Fail> {
+    let mut sections = Vec::new(alloc);
+    for _ in 0..count {
+        sections.push(section(b"", 0, 1, Body::Bits(1, b"")))?;
+    }
+    let object = object(alloc, Order::Little, sections, symbols)?;
+    let mut bytes = Vec::new(alloc);
+    write_object(alloc, &object, &mut bytes)?;
+    Ok(bytes)
+}
+
+/// The number at an offset in a file, least significant byte first.
+fn number(file: &[u8], at: usize, width: u32) -> u64 {
+    let mut number = 0;
+    for i in 0..width {
+        let byte = match file.get(at.saturating_add(i as usize)) {
+            Some(byte) => *byte,
+            None => 0,
+        };
+        number |= (byte as u64).wrapping_shl(8u32.wrapping_mul(i));
+    }
+    number
+}
+
+/// Whether a file is so long and has these numbers, each given by its offset, its width and its value.
+fn has_fields(file: &[u8], length: usize, fields: &[(usize, u32, u64)]) -> bool {
+    file.len() == length
+        && fields
+            .iter()
+            .all(|(at, width, value)| number(file, *at, *width) == *value)
+}
+
+/// Whether the file of so many sections is so long, and has these numbers for its count of section headers and the index of its name table,
+/// in the header and in section header 0.
+fn counts(alloc: Global, count: usize, length: usize, numbers: [u64; 4]) -> Result<bool, Fail> {
+    let file = file_of(alloc, count, Vec::new(alloc))?;
+    let table = number(&file, 40, 8) as usize;
+    let [e_shnum, e_shstrndx, size, link] = numbers;
+    let fields = [
+        (60, 2, e_shnum),
+        (62, 2, e_shstrndx),
+        (table.saturating_add(32), 8, size),
+        (table.saturating_add(40), 4, link),
+    ];
+    Ok(has_fields(&file, length, &fields))
+}
+
+// Section header 0 holds a count or an index that is a reserved one.
+#[test]
+fn counts_that_the_header_cannot_hold(rt: HostRuntime) -> Result<(), Fail> {
+    let found = [
+        counts(rt.alloc(), 65_275, 4_177_976, [0xfeff, 0xfefe, 0, 0])?,
+        counts(rt.alloc(), 65_276, 4_178_040, [0, 0xfeff, 65_280, 0])?,
+        counts(rt.alloc(), 65_277, 4_178_104, [0, 0xffff, 65_281, 65_280])?,
+    ];
+    assert_eq!(rt; found, [true; 3]);
+    Ok(())
+}
+
+/// The file of 65,280 sections and of a symbol in the section of this position.
+fn file_of_symbol_in(alloc: Global, position: usize) -> Result<Vec<u8>, Fail> {
+    let symbols = vec![in alloc; function(b"f", Place::In(position))]?;
+    file_of(alloc, 65_280, symbols)
+}
+
+// The section of index 0xfeff is named by the symbol itself.
+#[test]
+fn a_symbol_below_the_reserved_indexes(rt: HostRuntime) -> Result<(), Fail> {
+    let file = file_of_symbol_in(rt.alloc(), 65_278)?;
+    let symbols = 144 + 64 * 65_281;
+    let fields = [
+        (94, 2, 0xfeff),
+        (symbols + 4, 4, 2),
+        (symbols + 40, 4, 65_282),
+        (symbols + 64 + 4, 4, 3),
+    ];
+    let names = b"\0f\0\0.symtab\0.strtab\0.shstrtab\0".as_slice();
+    assert_eq!(rt;
+        (has_fields(&file, 4_178_320, &fields), file.get(112..142)),
+        (true, Some(names))
+    );
+    Ok(())
+}
+
+// That of index 0xff00 by the index table.
+#[test]
+fn a_symbol_among_the_reserved_indexes(rt: HostRuntime) -> Result<(), Fail> {
+    let file = file_of_symbol_in(rt.alloc(), 65_279)?;
+    let symbols = 168 + 64 * 65_281;
+    let index_table = symbols + 64;
+    let fields = [
+        (94, 2, 0xffff),
+        (112, 4, 0),
+        (116, 4, 0xff00),
+        (symbols + 4, 4, 2),
+        (symbols + 40, 4, 65_283),
+        (index_table + 4, 4, 18),
+        (index_table + 24, 8, 112),
+        (index_table + 32, 8, 8),
+        (index_table + 40, 4, 65_281),
+        (index_table + 48, 8, 4),
+        (index_table + 56, 8, 4),
+    ];
+    let names = b"\0f\0\0.symtab\0.symtab_shndx\0.strtab\0.shstrtab\0".as_slice();
+    assert_eq!(rt;
+        (has_fields(&file, 4_178_408, &fields), file.get(120..164)),
+        (true, Some(names))
+    );
+    Ok(())
+}
+
+// An object of a million symbols, each of a name of its own.
+
+const COUNT: usize = 1_000_000;
+
+/// The letters of each name, the decimal digits of the symbol's position.
+const LETTERS: usize = 7;
+
+/// The names, one after the other.
+fn names(alloc: Global) -> Result<String, Fail> {
+    let mut names = String::new(alloc);
+    for position in 0..COUNT {
+        write!(names, "{position:07}")?;
+    }
+    Ok(names)
+}
+
+fn symbols<'a>(alloc: Global, names: &'a [u8]) -> Result<Vec<Symbol<'a>>, AllocError> {
+    let mut symbols = Vec::with_capacity(alloc, COUNT)?;
+    for name in names.chunks(LETTERS) {
+        symbols.push(function(name, Place::Abs))?;
+    }
+    Ok(symbols)
+}
+
+/// The file of an object of symbols of these names.
+fn file(alloc: Global, names: &[u8]) -> Result<Vec<u8>, Fail> {
+    let symbols = symbols(alloc, names)?;
+    let object = object(alloc, Order::Little, Vec::new(alloc), symbols)?;
+    let mut bytes = Vec::new(alloc);
+    write_object(alloc, &object, &mut bytes)?;
+    Ok(bytes)
+}
+
+/// That of all names.
+fn file_of_all(alloc: Global) -> Result<Vec<u8>, Fail> {
+    let names = names(alloc)?;
+    file(alloc, names.as_bytes())
+}
+
+#[test]
+fn a_million_symbols(rt: HostRuntime) -> Result<(), Fail> {
+    let file = file_of_all(rt.alloc())?;
+    // The header, the symbol table, two string tables, and at a multiple of 8 four section headers.
+    let length = 64 + 24 * 1_000_001 + 8_000_001 + 27 + 4 + 4 * 64;
+    // The last symbol's name is at 7,999,993 in the string table, and its eight bytes are the last ones there.
+    let place = [0xf9, 0x11, 0x7a, 0].as_slice();
+    assert_eq!(rt;
+        (
+            file.len(),
+            file.get(24_000_064..24_000_068),
+            file.get(32_000_081..32_000_089)
+        ),
+        (length, Some(place), Some(b"0999999\0".as_slice()))
+    );
     Ok(())
 }

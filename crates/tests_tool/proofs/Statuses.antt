@@ -8,17 +8,17 @@ use Rattle.std.specs.Io.KnownBytes.{Consumes}
 use Rattle.clap.specs.Simple.{subcommand_of}
 use Rattle.clap.specs.Walk.{Row, Text, walked}
 use Rattle.elf_field.specs.Bytes.{IsBytes}
-use Rattle.elf_image_rules.specs.ImageRules.{IsFault}
+use Rattle.elf_image_rules.specs.Rules.{IsFault}
 use Rattle.elf_tool_check.specs.Check.{CheckSays}
 use Rattle.elf_tool_program.specs.CheckSource.{IsSourceChecked}
 use Rattle.elf_tool_check.specs.Ending.{code_of, ending_of}
 use Rattle.elf_tool_check.specs.declared.ending.Status.{Status}
 use Rattle.elf_tool_text.specs.Engine.{IsFileCall, IsReadWhole, Report}
 use Rattle.elf_tool_show.specs.Show.{ShowSays}
-use Rattle.elf_tool_text.specs.declared.fault.Refusal.TheVariants.{File, Link, TooLong}
-use Rattle.elf_tool_text.specs.declared.fault.ToolFault.{ToolFault}
-use Rattle.elf_tool_text.specs.declared.fault.Verdict.{Verdict}
-use Rattle.elf_tool_text.specs.declared.fault.Verdict.TheVariants.{Done, Refused}
+use Rattle.elf_tool_text.specs.declared.engine.Refusal.TheVariants.{File, Link, TooLong}
+use Rattle.elf_tool_text.specs.declared.engine.ToolFault.{ToolFault}
+use Rattle.elf_tool_text.specs.declared.engine.Verdict.{Verdict}
+use Rattle.elf_tool_text.specs.declared.engine.Verdict.TheVariants.{Done, Refused}
 use Rattle.elf_tool_words.specs.Words.{is_set}
 use Rattle.elf_tool_words.specs.Command.{check, elfmap, map_command, rewrite, show}
 use Rattle.elf_tool_program.specs.Program.{EndsRun}

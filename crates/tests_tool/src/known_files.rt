@@ -1,8 +1,7 @@
 //! What the program's exit status says of a file whose bytes are known: over an opener that reports what it holds, and a reader that
 //! reports what remains.
 ghost use Rattle.std.specs.Prelude.{◌≡◌, ℕ, ◌≤◌, length, None, Some, true};
-ghost use Rattle.elf_image_rules.specs.HeaderRules.{MAX_LEN};
-ghost use Rattle.elf_image_rules.specs.ImageRules.{IsFault};
+ghost use Rattle.elf_image_rules.specs.Rules.{MAX_LEN, IsFault};
 
 use elf_image_stream::Bytes;
 use elf_tool_program::{OpenFault, Opener, run};

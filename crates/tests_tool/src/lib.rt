@@ -7,22 +7,12 @@ mod check_alone;
 #[cfg(test)]
 mod failing_calls;
 #[cfg(test)]
-mod file_names;
-#[cfg(test)]
 mod known_files;
-#[cfg(test)]
-mod lines;
 #[cfg(test)]
 mod link_calls;
 #[cfg(test)]
-mod many_sections;
-#[cfg(test)]
-mod many_segments;
+mod many_parts;
 #[cfg(test)]
 mod program;
 #[cfg(test)]
 mod rewrite_calls;
-#[cfg(test)]
-mod said;
-#[cfg(test)]
-mod seeking;

@@ -28,20 +28,23 @@ def known() -> dict[str, Definition]:
     return {name: it for path in paths for name, it in definitions(path)[0].items()}
 
 
-def section_of(path: str) -> str:
-    """The sections of the gABI that the comment at the head of a file names."""
-    head = re.match(r"(?:--.*\n)*", read_text(f"{TOP}/{path}"))
-    text = " ".join(re.sub(r"^-- *", "", head[0] if head else "", flags=re.M).split())
-    found = re.search(r"\(gABI ([^)]*)\)", text)
-    return found[1].rstrip(".") if found else ""
+def section_of(found: Definition) -> str:
+    """The sections of the gABI that the comment of a definition's part of its file names, or else the comment at the head of the file. A
+    part's comment has an empty line below."""
+    front = read_text(f"{TOP}/{found.path}").partition(found.text)[0]
+    comments = re.findall(r"((?:^--.*\n)+)(?=\n|(?:pub )?use )", front, re.M)
+    for comment in comments[-1:] + comments[:1]:
+        named = re.search(r"\(gABI ([^)]*)\)", " ".join(re.sub(r"^-- *", "", comment, flags=re.M).split()))
+        if named:
+            return named[1].rstrip(".")
+    return ""
 
 
 def listed() -> Iterator[tuple[str, str]]:
-    """Each line of the list but its head: the title of a section with no sentence, or a word with its own sentence, if it has one."""
+    """Of the list but its head: the title of a section and each word, with its own sentence if it has one."""
     for line in read_text(f"{TOP}/{WORDS}").splitlines()[1:]:
-        if line:
-            word, _, sentence = line.partition(": ")
-            yield word, sentence
+        front, _, sentence = line.partition(": ")
+        yield from [(front, "")] if line.startswith("## ") else [(word, sentence) for word in front.split()]
 
 
 def row(word: str, sentence: str) -> str:
@@ -49,7 +52,7 @@ def row(word: str, sentence: str) -> str:
     said = (found.comment or sentence).replace("|", r"\|")
     name = os.path.basename(found.path).removesuffix(".antt")
     place = f"[`{found.path.split('/')[1]}` {name}](../{found.path})"
-    return f"| `{word}` | {said} | {section_of(found.path)} | {place} |"
+    return f"| `{word}` | {said} | {section_of(found)} | {place} |"
 
 
 def page() -> str:

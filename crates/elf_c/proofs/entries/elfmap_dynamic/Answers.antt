@@ -3,15 +3,13 @@
 use Rattle.std.proofs.Common.{◌<◌, ℕ, false, ap, arith, length, refl, subst, sym, ◌∙◌}
 use Rattle.std.specs.Prelude.{IsTrue}
 use Rattle.elf_table_symbols.specs.Sections.{sections_in}
-use Rattle.elf_table_symbols.specs.declared.table_kind.TableKind.TheVariants.{DynamicArray}
-use Rattle.elf_table_lists.specs.DynamicArray.{dynamic_array_of, dynamic_entry_count}
-use Rattle.elf_c.specs.Entries.{dynamic_shape}
-use Rattle.elf_c.specs.Tables.{slot_bytes}
-use Rattle.elf_c.proofs.DynamicEntries.{entry_before_null}
-use Rattle.elf_c.proofs.EntryReads.{array_counted, array_counted_in, entry_by_numbers}
-use Rattle.elf_c.proofs.TableReads.{table_kind}
-use Rattle.elf_c.proofs.entries.elfmap_dynamic.Goals as goal
+use Rattle.elf_table_symbols.specs.declared.table_section.TableKind.TheVariants.{DynamicArray}
+use Rattle.elf_table_lists.specs.Dynamic.{dynamic_array_of, dynamic_entry_count}
+use Rattle.elf_c.specs.Tables.{dynamic_shape, slot_bytes}
+use Rattle.elf_c.proofs.ReadEntries.{entry_before_null, array_counted, array_counted_in, entry_by_numbers}
+use Rattle.elf_c.proofs.ReadTables.{table_kind}
 use Rattle.elf_c.proofs.entries.elfmap_dynamic.Goals.{then-not-is_of_kind-via-then-not-is_of_kind, then-not-is_of_kind-via-else-not-is_of_kind+then-index-min}
+use Rattle.elf_c.proofs.entries.elfmap_dynamic.Goals as goal
 
 pub returns-then-not-is_of_kind-clause-there : goal.returns-then-not-is_of_kind-clause-there
 returns-then-not-is_of_kind-clause-there c i is =

@@ -2,17 +2,16 @@
 -- causes: another kind of table, or an index past the last entry.
 use Rattle.std.proofs.Common.{◌≡◌, ◌<◌, ℕ, List, false, ap, arith, get_or, refl, ◌∙◌}
 use Rattle.std.specs.Prelude.{IsTrue}
-use Rattle.elf_field.specs.declared.order.Order.{Order}
-use Rattle.elf_table_symbols.specs.declared.table_kind.TableKind.TheVariants.{RelocationTable}
+use Rattle.elf_field.specs.declared.number.Order.{Order}
+use Rattle.elf_table_symbols.specs.declared.table_section.TableKind.TheVariants.{RelocationTable}
 use Rattle.elf_table_symbols.specs.Sections.{sections_in}
 use Rattle.elf_table_lists.specs.Relocations.{has_addends, no_relocation_entry, relocation_count, relocation_in, relocations_of}
-use Rattle.elf_c.specs.Entries.{relocation_shape}
+use Rattle.elf_c.specs.Tables.{relocation_shape, slot_bytes}
 use Rattle.elf_c.specs.Files.{order_named}
-use Rattle.elf_c.specs.Tables.{slot_bytes}
-use Rattle.elf_c.proofs.EntryReads.{relocation_by_numbers, relocations_counted}
-use Rattle.elf_c.proofs.TableReads.{table_kind}
-use Rattle.elf_c.proofs.entries.elfmap_relocation.Goals as goal
+use Rattle.elf_c.proofs.ReadEntries.{relocation_by_numbers, relocations_counted}
+use Rattle.elf_c.proofs.ReadTables.{table_kind}
 use Rattle.elf_c.proofs.entries.elfmap_relocation.Goals.{then-not-is_of_kind-via-then-not-is_of_kind, then-not-is_of_kind-via-else-not-is_of_kind+then-index-relocation_count}
+use Rattle.elf_c.proofs.entries.elfmap_relocation.Goals as goal
 
 pub returns-then-not-is_of_kind-clause-there : goal.returns-then-not-is_of_kind-clause-there
 returns-then-not-is_of_kind-clause-there c i is =

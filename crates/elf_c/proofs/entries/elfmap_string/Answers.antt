@@ -1,4 +1,4 @@
-use Rattle.elf_c.proofs.EntryReads.{array_strings}
+use Rattle.elf_c.proofs.ReadEntries.{array_strings}
 use Rattle.elf_c.proofs.entries.elfmap_string.Goals as goal
 
 pub returns-then-offset-bytes_of-clause-dynamic : goal.returns-then-offset-bytes_of-clause-dynamic

@@ -1,14 +1,13 @@
 -- What `symbol_of` reads by the numbers of the table is the symbol of the section there; `put` passes it on, or its absence.
 use Rattle.std.proofs.Common.{ℕ, List, ap, ◌∙◌}
-use Rattle.elf_field.specs.declared.order.Order.{Order}
-use Rattle.elf_table_symbols.specs.declared.table_kind.TableKind.TheVariants.{SymbolTable}
+use Rattle.elf_field.specs.declared.number.Order.{Order}
+use Rattle.elf_table_symbols.specs.declared.table_section.TableKind.TheVariants.{SymbolTable}
 use Rattle.elf_table_symbols.specs.Sections.{order, sections_in}
-use Rattle.elf_table_symbols.specs.SymbolRules.{entry}
-use Rattle.elf_c.specs.Entries.{symbol_record, symbol_told}
-use Rattle.elf_c.specs.Tables.{slot_bytes}
-use Rattle.elf_c.proofs.Absent.{put_told}
-use Rattle.elf_c.proofs.SymbolReads.{symbol_by_numbers, symbol_there}
-use Rattle.elf_c.proofs.TableReads.{table_content, table_order}
+use Rattle.elf_table_symbols.specs.Symbols.{entry}
+use Rattle.elf_c.specs.Tables.{symbol_record, symbol_told, slot_bytes}
+use Rattle.elf_c.proofs.ReadFiles.{put_told}
+use Rattle.elf_c.proofs.ReadEntries.{symbol_by_numbers, symbol_there}
+use Rattle.elf_c.proofs.ReadTables.{table_content, table_order}
 use Rattle.elf_c.proofs.entries.elfmap_symbol.Goals as goal
 
 pub returns-clause-there : goal.returns-clause-there

@@ -1,14 +1,12 @@
 -- The note's end lies in the content, which lies in the file, so no sum overflows; the note that is read in the content is the one in the
 -- file.
 use Rattle.std.proofs.Common.{◌≡◌, ◌≤◌, ℕ, List, ap, arith, length, subst, sym, ◌∙◌}
-use Rattle.elf_field.specs.declared.order.Order.{Order}
+use Rattle.elf_field.specs.declared.number.Order.{Order}
 use Rattle.elf_table_lists.specs.Notes.{note_at, note_end}
 use Rattle.elf_table_lists.proofs.Public.{note_in_file}
-use Rattle.elf_c_parts.specs.Room.{extent_in}
-use Rattle.elf_c.specs.Places.{NoteStandsAt}
-use Rattle.elf_c.specs.Tables.{slot_bytes}
-use Rattle.elf_c.proofs.NoteLengths.{note_end_above}
-use Rattle.elf_c.proofs.NoteReads.{length-bytes_in, note_end_in_file, note_stands_in_file}
+use Rattle.elf_c_parts.specs.Slots.{extent_in}
+use Rattle.elf_c.specs.Tables.{NoteStandsAt, slot_bytes}
+use Rattle.elf_c.proofs.ReadEntries.{note_end_above, length-bytes_in, note_end_in_file, note_stands_in_file}
 use Rattle.elf_c.proofs.notes.note_of.Goals as goal
 
 pub overflow_add-at : goal.overflow_add-at

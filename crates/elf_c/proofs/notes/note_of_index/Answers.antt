@@ -2,18 +2,16 @@
 -- if the index is below the number of notes, and it is that of the list (`note_there`, `note_by_numbers`). If no offset is found, an
 -- earlier note is cut, so there are fewer notes (`none_behind`).
 use Rattle.std.proofs.Common.{◌≡◌, ◌<◌, ◌≤◌, ◌+◌, ◌↔◌, ℕ, List, ap, length, subst, sym, ◌∙◌}
-use Rattle.elf_field.specs.declared.order.Order.{Order}
-use Rattle.elf_table_symbols.specs.declared.table_kind.TableKind.TheVariants.{NoteSection}
+use Rattle.elf_field.specs.declared.number.Order.{Order}
+use Rattle.elf_table_symbols.specs.declared.table_section.TableKind.TheVariants.{NoteSection}
 use Rattle.elf_table_symbols.specs.Sections.{content, order, sections_in}
 use Rattle.elf_table_lists.specs.Notes.{note_at, note_end, note_offset, notes_of}
-use Rattle.elf_c.specs.Entries.{note_told}
+use Rattle.elf_c.specs.Tables.{note_told, slot_bytes}
 use Rattle.elf_c.specs.Files.{order_named}
-use Rattle.elf_c.specs.Tables.{slot_bytes}
 use Rattle.elf_c.specs.declared.shapes.Note.{Note}
-use Rattle.elf_c.proofs.Absent.{none_there, some_same}
-use Rattle.elf_c.proofs.NoteLengths.{note_offset_after}
-use Rattle.elf_c.proofs.NoteReads.{none_behind, note_by_numbers, note_there}
-use Rattle.elf_c.proofs.TableReads.{table_content, table_kind, table_order}
+use Rattle.elf_c.proofs.ReadFiles.{none_there, some_same}
+use Rattle.elf_c.proofs.ReadEntries.{note_offset_after, none_behind, note_by_numbers, note_there}
+use Rattle.elf_c.proofs.ReadTables.{table_content, table_kind, table_order}
 use Rattle.elf_c.proofs.notes.note_of_index.Goals as goal
 
 -- an offset by the bytes that were read is the one by the numbers of the table

@@ -1,5 +1,5 @@
 use Rattle.std.proofs.Common.{sym, ◌∙◌}
-use Rattle.elf_c.proofs.NoteLengths.{note_offset_after, note_offset_zero}
+use Rattle.elf_c.proofs.ReadEntries.{note_offset_after, note_offset_zero}
 use Rattle.elf_c.proofs.notes.offset_of_note.Goals as goal
 
 pub loop-k-init : goal.loop-k-init

@@ -2,7 +2,7 @@ use Rattle.std.proofs.Common.{◌<◌, None, Option, Some, arith, refl, subst, s
 use Rattle.std.specs.Prelude.{SomeIff}
 use Rattle.elf_field.specs.declared.shdr.Shdr.{Shdr}
 use Rattle.elf_table_symbols.specs.Sections.{count, section, sections_in}
-use Rattle.elf_c.proofs.SectionList.{found_listed}
+use Rattle.elf_c.proofs.ReadFiles.{found_listed}
 use Rattle.elf_c.proofs.places.section_of.Goals as goal
 
 pub returns-then-index-file-clause-listed : goal.returns-then-index-file-clause-listed

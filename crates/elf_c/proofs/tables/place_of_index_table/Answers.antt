@@ -1,6 +1,6 @@
 use Rattle.std.proofs.Common.{arith}
 use Rattle.elf_table_symbols.specs.Sections.{sections_in}
-use Rattle.elf_c.proofs.IndexTables.{count_by_numbers, first_index_place, no_index_place}
+use Rattle.elf_c.proofs.ReadTables.{count_by_numbers, first_index_place, no_index_place}
 use Rattle.elf_c.proofs.tables.place_of_index_table.Goals as goal
 
 pub returns-in_default : goal.returns-in_default

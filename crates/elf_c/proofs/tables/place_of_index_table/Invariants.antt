@@ -1,6 +1,6 @@
 use Rattle.std.proofs.Common.{◌<◌, ℕ}
 use Rattle.elf_table_symbols.specs.Sections.{sections_in}
-use Rattle.elf_table_symbols.specs.IndexTable.{IsIndexTable}
+use Rattle.elf_table_symbols.specs.Symbols.{IsIndexTable}
 use Rattle.elf_c.specs.Files.{IsFileOf}
 use Rattle.elf_c.proofs.tables.place_of_index_table.Given as goal
 

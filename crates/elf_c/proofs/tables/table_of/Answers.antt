@@ -1,6 +1,6 @@
 use Rattle.std.proofs.Common.{ap, refl}
 use Rattle.elf_c_parts.specs.declared.room.Slot.{Slot}
-use Rattle.elf_c.proofs.TableNumbers.{table_gathered}
+use Rattle.elf_c.proofs.ReadTables.{table_gathered}
 use Rattle.elf_c.proofs.tables.table_of.Goals as goal
 
 pub returns : goal.returns

@@ -1,4 +1,4 @@
-use Rattle.elf_c.proofs.RuleNumbers.{fault_numbered}
+use Rattle.elf_c.proofs.ReadFiles.{fault_numbered}
 use Rattle.elf_c.proofs.verdicts.elfmap_verdict_in.Goals as goal
 
 pub returns-in-Ok-Some-clause-short : goal.returns-in-Ok-Some-clause-short

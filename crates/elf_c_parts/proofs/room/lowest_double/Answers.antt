@@ -2,7 +2,7 @@ use Rattle.std.proofs.Common.{◌<◌, rules}
 use Rattle.std.proofs.lemmas.List.Sorted.{All-permutation, IsNonDecreasingBy-from_sort_by_key, IsPermutation-map}
 use Rattle.elf_extent.specs.declared.extent.Extent.{Extent}
 use Rattle.elf_c_parts.specs.declared.room.Slot.{Slot}
-use Rattle.elf_c_parts.specs.Room.{extent_in}
+use Rattle.elf_c_parts.specs.Slots.{extent_in}
 use Rattle.elf_extent.proofs.Public.{lowest_moved}
 use Rattle.elf_c_parts.proofs.Slots.{ascending_slots}
 use Rattle.elf_c_parts.proofs.room.lowest_double.Goals as goal

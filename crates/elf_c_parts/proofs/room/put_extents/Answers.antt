@@ -3,11 +3,11 @@
 use Rattle.std.proofs.Common.{◌≤◌, ◌<◌, ap, arith, filter, length, refl, sym, ◌∙◌}
 use Rattle.std.proofs.lemmas.List.{take_all}
 use Rattle.elf_extent.specs.Extent.{holds_any}
-use Rattle.elf_image_rules.specs.FileExtents.{file_extents}
+use Rattle.elf_image_rules.specs.JudgedRecords.{file_extents}
 use Rattle.elf_c_parts.specs.declared.room.Slot.{Slot}
 use Rattle.elf_c_parts.proofs.Slots.{gathered_none, gathered_one}
-use Rattle.elf_c_parts.proofs.room.put_extents.Goals as goal
 use Rattle.elf_c_parts.proofs.room.put_extents.Goals.{then-extent-gt0, else-extent-gt0}
+use Rattle.elf_c_parts.proofs.room.put_extents.Goals as goal
 
 pub loop-index-preserved : goal.loop-index-preserved
 loop-index-preserved c =

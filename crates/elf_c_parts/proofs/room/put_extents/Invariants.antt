@@ -1,7 +1,7 @@
 use Rattle.std.proofs.Common.{◌≡◌, ◌≤◌, filter, map, take}
 use Rattle.elf_extent.specs.Extent.{holds_any}
-use Rattle.elf_image_rules.specs.FileExtents.{file_extents}
-use Rattle.elf_c_parts.specs.Room.{extent_in}
+use Rattle.elf_image_rules.specs.JudgedRecords.{file_extents}
+use Rattle.elf_c_parts.specs.Slots.{extent_in}
 use Rattle.elf_c_parts.proofs.room.put_extents.Given as goal
 
 abbrev pub invariant-loop-index : goal.invariant-loop-index

@@ -1,5 +1,5 @@
 use Rattle.std.proofs.Common.{None, Some, ap, ◌∙◌}
-use Rattle.elf_image_rules.specs.ImageRules.{extents_of_file}
+use Rattle.elf_image_rules.specs.Rules.{extents_of_file}
 use Rattle.elf_image_rules.proofs.Public.{fault_of_extents}
 use Rattle.elf_c_parts.proofs.room.verdict_in.Goals as goal
 

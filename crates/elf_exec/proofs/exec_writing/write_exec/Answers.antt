@@ -2,11 +2,10 @@
 -- the first bytes of it if the writer failed (`exec_cut`).
 use Rattle.std.proofs.Common.{◌<◌, ◌^◌, Ok, Err, sym, subst}
 use Rattle.elf_link_map.specs.Standing.{AreObjects, ObjectsFit}
-use Rattle.elf_link_relocate.specs.Linked.{LinkedValue}
-use Rattle.elf_link_relocate.specs.ReadyLink.{IsReadyLink}
+use Rattle.elf_link_relocate.specs.Linked.{LinkedValue, IsReadyLink}
 use Rattle.elf_exec.specs.Executable.{IsSoundLink}
 use Rattle.elf_exec.specs.ExecWriting.{WritesExec}
-use Rattle.elf_exec.proofs.ExecWritten.{exec_cut, exec_sent}
+use Rattle.elf_exec.proofs.ExecLaws.{exec_cut, exec_sent}
 use Rattle.elf_exec.proofs.exec_writing.write_exec.Goals as goal
 
 abbrev HasSoundLink : LinkedValue → Type 0

@@ -1,4 +1,4 @@
-use Rattle.elf_exec.proofs.OneExec.{one_exec}
+use Rattle.elf_exec.proofs.ExecLaws.{one_exec}
 use Rattle.elf_exec.proofs.laws.one_exec.Goals as goal
 
 pub returns : goal.returns

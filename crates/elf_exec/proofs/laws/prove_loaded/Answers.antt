@@ -1,6 +1,6 @@
 use Rattle.std.proofs.Common.{List, ℕ, subst}
 use Rattle.elf_image_type.proofs.Public.{one_list}
-use Rattle.elf_image_type.specs.Loads.{LoadsFirst}
+use Rattle.elf_image_type.specs.ImageView.{LoadsFirst}
 use Rattle.elf_exec.proofs.laws.prove_loaded.Goals as goal
 
 pub returns : goal.returns

@@ -1,6 +1,6 @@
 use Rattle.std.proofs.Common.{◌≡◌, map}
 use Rattle.std.specs.List.{filter, range_with_len}
-use Rattle.elf_exec.specs.Loads.{has_memory, load_at}
+use Rattle.elf_exec.specs.Executable.{has_memory, load_at}
 use Rattle.elf_exec.proofs.load.loads.Given as goal
 
 -- those of the first positions

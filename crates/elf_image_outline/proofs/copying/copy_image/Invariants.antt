@@ -1,6 +1,6 @@
 use Rattle.std.proofs.Common.{◌≡◌, length, take}
 use Rattle.std.specs.List.{flat_map}
-use Rattle.elf_image_outline.specs.Copying.{CopiedOut}
+use Rattle.elf_image_outline.specs.Outline.{CopiedOut}
 use Rattle.elf_image_outline.proofs.PartsOut.{blank_bytes, told_bytes}
 use Rattle.elf_image_outline.proofs.copying.copy_image.Given as goal
 

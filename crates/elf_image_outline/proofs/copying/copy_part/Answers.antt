@@ -5,13 +5,10 @@ use Rattle.std.proofs.Common.{[], ◌∷◌, ◌∙◌, sym, true}
 use Rattle.std.specs.Prelude.{replicate}
 use Rattle.std.specs.List.{flat_map}
 use Rattle.std.proofs.lemmas.List.{length-replicate}
-use Rattle.elf_field.specs.Ehdr.{ehdr_bytes}
-use Rattle.elf_field.specs.Phdr.{phdr_bytes}
-use Rattle.elf_field.specs.Shdr.{shdr_bytes}
+use Rattle.elf_field.specs.Headers.{ehdr_bytes, phdr_bytes, shdr_bytes}
 use Rattle.elf_image_rules.specs.Tables.{order_of}
 use Rattle.elf_image_outline.specs.Outline.{blank_image, image_in, placed_part}
-use Rattle.elf_image_outline.proofs.Out.{copies_as, copies_own, out_own}
-use Rattle.elf_image_outline.proofs.PartsOut.{content_part, gap_part, header_part, own_whole, part_fits, sections_part, segments_part, told_within, zeroed_part}
+use Rattle.elf_image_outline.proofs.PartsOut.{copies_as, copies_own, out_own, content_part, gap_part, header_part, own_whole, part_fits, sections_part, segments_part, told_within, zeroed_part}
 use Rattle.elf_image_outline.proofs.copying.copy_part.Goals as goal
 
 pub returns-in_err-write_records-in-Header-clause-copies : goal.returns-in_err-write_records-in-Header-clause-copies

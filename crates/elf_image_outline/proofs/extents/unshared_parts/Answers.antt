@@ -1,6 +1,5 @@
 use Rattle.std.proofs.Common.{◌∙◌, List, None, Some, refl, subst}
-use Rattle.elf_extent.specs.Extent.{Doubly}
-use Rattle.elf_extent.specs.Least.{IsLowest}
+use Rattle.elf_extent.specs.Extent.{Doubly, IsLowest}
 use Rattle.elf_extent.specs.declared.extent.Extent.{Extent}
 use Rattle.elf_image_outline.proofs.extents.unshared_parts.Goals as goal
 

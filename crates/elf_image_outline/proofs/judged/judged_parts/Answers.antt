@@ -3,13 +3,11 @@
 use Rattle.std.proofs.Common.{◌≡◌, ◌∙◌, List, None, ap₂, map, subst, sym}
 use Rattle.std.proofs.lemmas.Result.{IfErr-weaker}
 use Rattle.elf_extent.specs.Account.{Accounts}
-use Rattle.elf_extent.specs.Extent.{AreWithin, Doubly}
-use Rattle.elf_extent.specs.Least.{IsLowest}
+use Rattle.elf_extent.specs.Extent.{AreWithin, Doubly, IsLowest}
 use Rattle.elf_extent.specs.declared.extent.Extent.{Extent}
 use Rattle.elf_image_outline.specs.Image.{part_piece, value_extents}
 use Rattle.elf_image_outline.specs.Scanning.{IsSharedFault}
-use Rattle.elf_image_outline.proofs.Blank.{blank_sound, whole_names}
-use Rattle.elf_image_outline.proofs.TableRules.{ended_well, entries_run, extents_inside, none_shared, rule_broken, sharing_broken, stopped}
+use Rattle.elf_image_outline.proofs.Scanned.{blank_sound, whole_names, ended_well, entries_run, extents_inside, none_shared, rule_broken, sharing_broken, stopped}
 use Rattle.elf_image_outline.proofs.judged.judged_parts.Goals as goal
 
 pub returns-in_err-judge_entries-clause-err : goal.returns-in_err-judge_entries-clause-err

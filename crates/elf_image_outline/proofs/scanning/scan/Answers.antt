@@ -4,8 +4,7 @@
 use Rattle.std.proofs.Common.{◌∙◌, subst, sym}
 use Rattle.elf_image_outline.specs.Image.{IsImage}
 use Rattle.elf_image_outline.specs.Outline.{OutlineValue, image_in}
-use Rattle.elf_image_outline.proofs.NamesRead.{image_of_tables, stops_of_tables}
-use Rattle.elf_image_outline.proofs.ScanRules.{scans_fault}
+use Rattle.elf_image_outline.proofs.Scanned.{image_of_tables, stops_of_tables, scans_fault}
 use Rattle.elf_image_outline.proofs.Theorem.{image_is_sound}
 use Rattle.elf_image_outline.proofs.scanning.scan.Goals as goal
 

@@ -1,5 +1,4 @@
-use Rattle.elf_image_rules.proofs.Rows.{FirstIn-stop}
-use Rattle.elf_image_rules.proofs.ImageRules.{from_sections, from_segments, from_names}
+use Rattle.elf_image_rules.proofs.ImageRules.{FirstIn-stop, from_sections, from_segments, from_names}
 use Rattle.elf_image_rules.proofs.image_rules.judge_entries.Goals as goal
 
 pub returns-in_err-judge_sections : goal.returns-in_err-judge_sections

@@ -1,7 +1,6 @@
 use Rattle.std.proofs.Common.{subst}
-use Rattle.elf_image_rules.specs.StringTable.{AreEnds}
-use Rattle.elf_image_rules.proofs.Rows.{FirstIn-stop, FirstIn-handed}
-use Rattle.elf_image_rules.proofs.ImageRules.{from_section_table, from_program_table, from_entries}
+use Rattle.elf_image_rules.specs.Rules.{AreEnds}
+use Rattle.elf_image_rules.proofs.ImageRules.{FirstIn-stop, FirstIn-handed, from_section_table, from_program_table, from_entries}
 use Rattle.elf_image_rules.proofs.image_rules.judge_tables.Goals as goal
 
 pub returns-in_err-judge_section_table-clause-fault : goal.returns-in_err-judge_section_table-clause-fault

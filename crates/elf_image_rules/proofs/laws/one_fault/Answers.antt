@@ -1,4 +1,4 @@
-use Rattle.elf_image_rules.specs.ImageRules.{image_rules, rules_in}
+use Rattle.elf_image_rules.specs.Rules.{image_rules, rules_in}
 use Rattle.elf_image_rules.proofs.Public.{one_fault, some_fault}
 use Rattle.elf_image_rules.proofs.laws.one_fault.Goals as goal
 

@@ -2,10 +2,8 @@
 -- this order, so those that passed are kept.
 use Rattle.std.proofs.Common.{ℕ, inl, inr, refl, rules, subst}
 use Rattle.elf_field.specs.declared.shdr.Shdr.{Shdr}
-use Rattle.elf_extent.specs.Least.{Never, IsLeast}
-use Rattle.elf_image_rules.specs.NameRules.{section_name_rules, wrong_name_table_type}
-use Rattle.elf_image_rules.specs.StringTable.{UnclosedAt}
-use Rattle.elf_image_rules.specs.SectionRules.{IsNamePastEnd, SomeSectionHeader}
+use Rattle.elf_extent.specs.Extent.{Never, IsLeast}
+use Rattle.elf_image_rules.specs.Rules.{section_name_rules, wrong_name_table_type, UnclosedAt, IsNamePastEnd, SomeSectionHeader}
 use Rattle.elf_image_rules.proofs.name_rules.judge_names.Goals as goal
 
 pub returns-in-Some : goal.returns-in-Some

@@ -1,6 +1,6 @@
 use Rattle.std.proofs.Common.{◌∙◌, ap}
-use Rattle.elf_field.specs.declared.order.Order.{Order}
-use Rattle.elf_field.specs.Ehdr.{ehdr_at}
+use Rattle.elf_field.specs.declared.number.Order.{Order}
+use Rattle.elf_field.specs.Headers.{ehdr_at}
 use Rattle.elf_image_rules.specs.Tables.{header}
 use Rattle.elf_image_rules.proofs.tables.header_of.Goals as goal
 

@@ -1,5 +1,5 @@
 use Rattle.std.proofs.lemmas.Result.{err_from_is_err_and}
-use Rattle.elf_image_stream.proofs.SentChunks.{chunk_out, chunk_stopped, chunks_out}
+use Rattle.elf_image_stream.proofs.Written.{chunk_out, chunk_stopped, chunks_out}
 use Rattle.elf_image_stream.proofs.chunks.send_all.Goals as goal
 
 pub returns-in_err-all : goal.returns-in_err-all

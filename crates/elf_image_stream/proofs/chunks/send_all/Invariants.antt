@@ -1,6 +1,6 @@
 use Rattle.std.proofs.Common.{take}
 use Rattle.std.specs.List.{flat_map, range_with_len}
-use Rattle.elf_image_stream.specs.Chunks.{WentOut}
+use Rattle.elf_image_stream.specs.Output.{WentOut}
 use Rattle.elf_image_stream.proofs.chunks.send_all.Given as goal
 
 -- the first texts are out

@@ -1,5 +1,5 @@
 use Rattle.std.proofs.Common.{rules}
-use Rattle.elf_image_stream.proofs.Moved.{Appends-more}
+use Rattle.elf_image_stream.proofs.Sources.{Appends-more}
 use Rattle.elf_image_stream.proofs.output.write_whole.Goals as goal
 
 pub loop-written-preserved : goal.loop-written-preserved

@@ -1,7 +1,7 @@
 -- The front of the buffer stays what it held, with all that was read after it. A read adds its bytes (`read_more`). A read of no byte, or
 -- one that fails, adds none, and the function returns (`read_none`, `read_failed`).
 use Rattle.std.proofs.Common.{rules}
-use Rattle.elf_image_stream.proofs.Moved.{nothing_read, read_failed, read_more, read_none}
+use Rattle.elf_image_stream.proofs.Sources.{nothing_read, read_failed, read_more, read_none}
 use Rattle.elf_image_stream.proofs.reading.fill.Goals as goal
 
 pub loop-filled-preserved : goal.loop-filled-preserved

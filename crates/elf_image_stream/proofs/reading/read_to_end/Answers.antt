@@ -1,6 +1,6 @@
 use Rattle.std.proofs.Common.{[]}
 use Rattle.elf_image_stream.specs.Reading.{IsReadBehind}
-use Rattle.elf_image_stream.proofs.Moved.{behind_nothing}
+use Rattle.elf_image_stream.proofs.Sources.{behind_nothing}
 use Rattle.elf_image_stream.proofs.reading.read_to_end.Goals as goal
 
 pub returns-clause-taken : goal.returns-clause-taken

@@ -1,5 +1,5 @@
 use Rattle.std.proofs.Common.{rules}
-use Rattle.elf_image_stream.proofs.Moved.{gives_up_to}
+use Rattle.elf_image_stream.proofs.Sources.{gives_up_to}
 use Rattle.elf_image_stream.proofs.reading.resume.Goals as goal
 
 pub returns-clause-whole : goal.returns-clause-whole

@@ -1,5 +1,5 @@
 use Rattle.std.proofs.Common.{rules, ◌*◌}
-use Rattle.elf_image_stream.proofs.Tables.{all_more, extends_on}
+use Rattle.elf_image_stream.proofs.Sources.{all_more, extends_on}
 use Rattle.elf_image_stream.proofs.records.push_records.Goals as goal
 
 pub loop-i-preserved : goal.loop-i-preserved

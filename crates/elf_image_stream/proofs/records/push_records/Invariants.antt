@@ -1,6 +1,6 @@
 use Rattle.std.proofs.Common.{◌≡◌, ◌+◌, ◌*◌, length}
 use Rattle.std.specs.List.{AllByRecursion}
-use Rattle.elf_image_stream.specs.Reads.{Extends}
+use Rattle.elf_image_stream.specs.Source.{Extends}
 use Rattle.elf_image_stream.proofs.records.push_records.Given as goal
 
 -- so many records are after the others

@@ -1,6 +1,6 @@
 use Rattle.std.proofs.Common.{◌-◌, ◌≡◌, ◌≤◌, ℕ, List, Some, length}
 use Rattle.std.specs.List.{AllByRecursion}
-use Rattle.elf_image_stream.specs.Reads.{table_at}
+use Rattle.elf_image_stream.specs.Source.{table_at}
 use Rattle.elf_image_stream.proofs.records.read_records.Given as goal
 
 -- exactly the first records are read

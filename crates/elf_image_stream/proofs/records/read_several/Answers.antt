@@ -1,5 +1,5 @@
 use Rattle.std.proofs.Common.{rules, ◌≡◌, ◌∙◌, ◌*◌, ℕ, ap, drop, length, take}
-use Rattle.elf_image_stream.proofs.Tables.{table_on}
+use Rattle.elf_image_stream.proofs.Sources.{table_on}
 use Rattle.elf_image_stream.proofs.records.read_several.Goals as goal
 
 pub returns-clause-told : goal.returns-clause-told

@@ -3,8 +3,8 @@
 -- the length (`in_some_part`).
 use Rattle.std.proofs.Common.{◌≤◌, ap, arith, length, map, take_all, ◌∙◌}
 use Rattle.std.specs.List.{flat_map}
-use Rattle.elf_image_outline.proofs.Written.{bytes_in_parts}
-use Rattle.elf_image_type.proofs.LoadedBytes.{in_part, in_some_part, part_at, parts_end}
+use Rattle.elf_image_outline.proofs.PartsOut.{bytes_in_parts}
+use Rattle.elf_image_type.proofs.ImageLemmas.{in_part, in_some_part, part_at, parts_end}
 use Rattle.elf_image_type.proofs.loading.byte_at.Goals as goal
 
 pub overflow_sub-k : goal.overflow_sub-k

@@ -1,6 +1,6 @@
 use Rattle.std.proofs.Common.{◌≤◌, length, map, take}
 use Rattle.std.specs.List.{flat_map}
-use Rattle.elf_image_outline.proofs.Written.{bytes_in_parts}
+use Rattle.elf_image_outline.proofs.PartsOut.{bytes_in_parts}
 use Rattle.elf_image_type.proofs.loading.byte_at.Given as goal
 
 -- the parts so far end at the offset or below it

@@ -1,4 +1,4 @@
-use Rattle.elf_image_type.specs.Loads.{HaveNoAddress}
+use Rattle.elf_image_type.specs.ImageView.{HaveNoAddress}
 use Rattle.elf_image_type.proofs.loading.first_with_address.Given as goal
 
 abbrev pub invariant-loop-j : goal.invariant-loop-j

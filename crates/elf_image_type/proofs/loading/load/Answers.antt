@@ -1,6 +1,6 @@
 use Rattle.std.proofs.Common.{arith}
-use Rattle.elf_image_outline.proofs.Named.{len_short}
-use Rattle.elf_image_type.proofs.LoadedBytes.{segment_at_within}
+use Rattle.elf_image_outline.proofs.Edited.{len_short}
+use Rattle.elf_image_type.proofs.ImageLemmas.{segment_at_within}
 use Rattle.elf_image_type.proofs.loading.load.Goals as goal
 
 pub byte_at-requires-clause-within : goal.byte_at-requires-clause-within

@@ -1,5 +1,5 @@
 use Rattle.std.proofs.Common.{◌%◌, ap, get_or, ◌∙◌}
-use Rattle.elf_image_type.proofs.LoadedBytes.{in_table}
+use Rattle.elf_image_type.proofs.ImageLemmas.{in_table}
 use Rattle.elf_image_type.proofs.loading.table_byte.Goals as goal
 
 pub returns : goal.returns

@@ -1,5 +1,5 @@
 use Rattle.std.proofs.Common.{◌≡◌, ◌-◌, length, take, drop}
-use Rattle.elf_image_type.proofs.ZeroEnded.{before_zero, no_zero, rest_from}
+use Rattle.elf_image_type.proofs.ImageLemmas.{before_zero, no_zero, rest_from}
 use Rattle.elf_image_type.proofs.strings.string_at.Goals as goal
 
 pub returns-in-Some : goal.returns-in-Some

@@ -1,6 +1,6 @@
 use Rattle.std.proofs.Common.{ℕ, ◌<◌}
 use Rattle.elf_link_field.specs.declared.rule.RelocRule.{RelocRule}
-use Rattle.elf_link_field.specs.Rule.{IsOfKind}
+use Rattle.elf_link_field.specs.Field.{IsOfKind}
 use Rattle.elf_link_field.proofs.rule.rule_of.Given as goal
 
 abbrev pub invariant-loop-rule : goal.invariant-loop-rule

@@ -1,8 +1,7 @@
 use Rattle.std.proofs.Common.{◌≡◌, ◌<◌, ℕ, true, ap, sym, subst, ◌∙◌, length}
 use Rattle.elf_object_type.specs.Object.{SectionValue}
-use Rattle.elf_link_files.specs.Discarded.{is_comdat, signature_position}
-use Rattle.elf_link_files.specs.Files.{object_at, section_in}
-use Rattle.elf_link_files.proofs.ObjectFacts.{signature_there}
+use Rattle.elf_link_files.specs.Files.{is_comdat, signature_position, object_at, section_in}
+use Rattle.elf_link_files.proofs.MarkedFiles.{signature_there}
 use Rattle.elf_link_files.proofs.section_tests.comdat_signature.Goals as goal
 
 pub symbol_of-requires : goal.symbol_of-requires

@@ -1,11 +1,9 @@
 -- The names are in the order of their first entries, so the position of each there is where its binding is, and its number too.
 use Rattle.std.proofs.Common.{map, sym, subst}
-use Rattle.elf_link_names.specs.Slots.{name_position}
-use Rattle.elf_link_outputs.specs.PlacedView.{common_value}
-use Rattle.elf_link_map.specs.LinkMap.{AreBindings, AreNames}
-use Rattle.elf_link_map.specs.LinkMapView.{named_value}
-use Rattle.elf_link_map.proofs.BindingNumbers.{numbers_in}
-use Rattle.elf_link_map.proofs.Naming.{bindings_are, names_are, positions_are}
+use Rattle.elf_link_names.specs.Tables.{name_position}
+use Rattle.elf_link_outputs.specs.Placed.{common_value}
+use Rattle.elf_link_map.specs.LinkMap.{AreBindings, AreNames, named_value}
+use Rattle.elf_link_map.proofs.OneMap.{numbers_in, bindings_are, names_are, positions_are}
 use Rattle.elf_link_map.proofs.bindings.all_bindings.Goals as goal
 
 pub new-requires : goal.new-requires

@@ -1,8 +1,8 @@
 use Rattle.std.proofs.Common.{subst}
-use Rattle.elf_link_names.specs.Resolved.{name_in}
-use Rattle.elf_link_names.specs.declared.choice.Choice.{Choice}
+use Rattle.elf_link_names.specs.Resolution.{name_in}
+use Rattle.elf_link_names.specs.declared.name_rules.Choice.{Choice}
 use Rattle.elf_link_names.specs.Binds.{Binds}
-use Rattle.elf_link_map.proofs.PlacedCommons.{common_bound}
+use Rattle.elf_link_map.proofs.OneMap.{common_bound}
 use Rattle.elf_link_map.proofs.bindings.binding_at.Goals as goal
 
 pub returns-in-Common : goal.returns-in-Common

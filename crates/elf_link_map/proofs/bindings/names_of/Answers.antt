@@ -1,8 +1,8 @@
 use Rattle.std.proofs.Common.{map}
 use Rattle.std.proofs.lemmas.List.{map-append}
-use Rattle.elf_link_files.specs.Listing.{site_at}
+use Rattle.elf_link_files.specs.Rows.{site_at}
 use Rattle.elf_link_files.proofs.Public.{each_more}
-use Rattle.elf_link_outputs.specs.PlacedView.{common_value}
+use Rattle.elf_link_outputs.specs.Placed.{common_value}
 use Rattle.elf_link_map.specs.LinkMap.{no_name}
 use Rattle.elf_link_map.specs.Naming.{IsNamedAt}
 use Rattle.elf_link_map.proofs.bindings.names_of.Goals as goal

@@ -1,6 +1,6 @@
 use Rattle.std.proofs.Common.{map}
-use Rattle.elf_link_outputs.specs.PlacedView.{common_value}
-use Rattle.elf_link_map.specs.LinkMapView.{named_value}
+use Rattle.elf_link_outputs.specs.Placed.{common_value}
+use Rattle.elf_link_map.specs.LinkMap.{named_value}
 use Rattle.elf_link_map.specs.Naming.{AreNamedAt}
 use Rattle.elf_link_map.proofs.bindings.names_of.Given as goal
 

@@ -1,7 +1,6 @@
 use Rattle.elf_link_files.proofs.Public.{some_site}
-use Rattle.elf_link_names.specs.LinkRules.{input_rules}
-use Rattle.elf_link_map.proofs.OneLinkFault.{one_link_fault}
-use Rattle.elf_link_map.proofs.SomePlan.{some_link_fault}
+use Rattle.elf_link_names.specs.Binds.{input_rules}
+use Rattle.elf_link_map.proofs.Plans.{one_link_fault, some_link_fault}
 use Rattle.elf_link_map.proofs.laws.one_link_fault.Goals as goal
 
 pub returns : goal.returns

@@ -1,4 +1,4 @@
-use Rattle.elf_link_map.proofs.OneLinkMap.{one_link_map}
+use Rattle.elf_link_map.proofs.OneMap.{one_link_map}
 use Rattle.elf_link_map.proofs.SomeLinkMap.{some_link_map}
 use Rattle.elf_link_map.proofs.laws.one_link_map.Goals as goal
 

@@ -1,4 +1,4 @@
-use Rattle.elf_link_map.proofs.Apart.{parts_apart}
+use Rattle.elf_link_map.proofs.Standing.{parts_apart}
 use Rattle.elf_link_map.proofs.laws.parts_apart.Goals as goal
 
 pub returns : goal.returns

@@ -1,14 +1,12 @@
 -- The places are those of the resolution's objects, so what is made of them and of the bound names is the link map. A fault of placing is
 -- the link's (`link_fault`).
 use Rattle.std.proofs.Common.{IfErr, List, map, refl, rules, sym, subst}
-use Rattle.elf_link_outputs.specs.declared.common.Common.{Common}
-use Rattle.elf_link_outputs.specs.PlacedView.{common_value}
-use Rattle.elf_link_map.specs.LinkFaults.{IsLinkFault}
-use Rattle.elf_link_map.specs.LinkMap.{AreBindings}
+use Rattle.elf_link_outputs.specs.declared.placing.Common.{Common}
+use Rattle.elf_link_outputs.specs.Placed.{common_value}
+use Rattle.elf_link_map.specs.LinkMap.{IsLinkFault, AreBindings, plan_at}
 use Rattle.elf_link_map.specs.Naming.{AreCommonNames}
-use Rattle.elf_link_map.specs.PlacedFor.{plan_at}
-use Rattle.elf_link_map.proofs.PlacedCommons.{common_names}
-use Rattle.elf_link_map.proofs.Maps.{if_err_map, link_fault}
+use Rattle.elf_link_map.proofs.OneMap.{common_names}
+use Rattle.elf_link_map.proofs.Plans.{if_err_map, link_fault}
 use Rattle.elf_link_map.proofs.link.map_numbered.Goals as goal
 
 pub returns-in_err-placed-clause-err : goal.returns-in_err-placed-clause-err

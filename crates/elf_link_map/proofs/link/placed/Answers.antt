@@ -2,9 +2,9 @@
 -- (`placing_fault`).
 use Rattle.std.proofs.Common.{refl, rules, ◌∙◌}
 use Rattle.std.proofs.lemmas.Result.{IfOk-weaker}
-use Rattle.elf_link_outputs.specs.Plan.{Plan}
-use Rattle.elf_link_map.specs.PlacedFor.{IsAddressingFault}
-use Rattle.elf_link_map.proofs.Maps.{if_err_map, placed_at, placing_fault}
+use Rattle.elf_link_outputs.specs.Outputs.{Plan}
+use Rattle.elf_link_map.specs.LinkMap.{IsAddressingFault}
+use Rattle.elf_link_map.proofs.Plans.{if_err_map, placed_at, placing_fault}
 use Rattle.elf_link_map.proofs.link.placed.Goals as goal
 
 pub new-requires : goal.new-requires

@@ -1,5 +1,5 @@
 use Rattle.elf_link_names.proofs.ChosenCommons.{chosen_known}
-use Rattle.elf_link_names.proofs.Tabled.{common_known, common_unknown, strong_known, strong_unknown}
+use Rattle.elf_link_names.proofs.KnownNames.{common_known, common_unknown, strong_known, strong_unknown}
 use Rattle.elf_link_names.proofs.commons.chosen_of.Goals as goal
 
 pub returns-in-Some : goal.returns-in-Some

@@ -2,12 +2,11 @@
 -- order is that of the whole list, and where there is none each name is bound.
 use Rattle.std.proofs.Common.{List, Some, inr, rules, subst, ◌∙◌}
 use Rattle.std.proofs.lemmas.Result.{err_from_is_err_and}
+use Rattle.std.specs.Prelude.{None}
 use Rattle.elf_object_type.specs.Object.{ObjectValue}
 use Rattle.elf_link_files.specs.Rows.{FirstAmong}
-use Rattle.elf_link_names.specs.LinkRules.{input_rules}
-use Rattle.elf_link_names.specs.NameRules.{link_name_rules}
-use Rattle.elf_link_names.proofs.BoundNames.{all_bound}
-use Rattle.std.specs.Prelude.{None}
+use Rattle.elf_link_names.specs.Binds.{input_rules, link_name_rules}
+use Rattle.elf_link_names.proofs.Binds.{all_bound}
 use Rattle.elf_link_names.proofs.judge.judge.Goals as goal
 
 pub returns-in_err-judge_sections-clause-err : goal.returns-in_err-judge_sections-clause-err

@@ -3,11 +3,9 @@ use Rattle.std.proofs.Common.{◌≡◌, ℕ, [], length, map, subst, arith}
 use Rattle.std.proofs.lemmas.List.{map-append}
 use Rattle.elf_link_files.specs.Files.{object_at}
 use Rattle.elf_link_files.proofs.Public.{each_more}
-use Rattle.elf_link_names.specs.KnownNames.{AreKnownBefore}
-use Rattle.elf_link_names.specs.NameNumbers.{IsNumberRow}
-use Rattle.elf_link_names.specs.Slots.{name_position}
-use Rattle.elf_link_names.proofs.NameNumbers.{rows_kept}
-use Rattle.elf_link_names.proofs.Tabled.{names_file}
+use Rattle.elf_link_names.specs.KnownNames.{AreKnownBefore, IsNumberRow}
+use Rattle.elf_link_names.specs.Tables.{name_position}
+use Rattle.elf_link_names.proofs.KnownNames.{rows_kept, names_file}
 use Rattle.elf_link_names.proofs.known_names.known_names.Goals as goal
 
 pub loop-file-preserved : goal.loop-file-preserved

@@ -1,7 +1,6 @@
 use Rattle.std.proofs.Common.{map}
-use Rattle.elf_link_names.specs.KnownNames.{AreKnownBefore}
-use Rattle.elf_link_names.specs.NameNumbers.{AreNumberRows}
-use Rattle.elf_link_names.specs.Slots.{name_position}
+use Rattle.elf_link_names.specs.KnownNames.{AreKnownBefore, AreNumberRows}
+use Rattle.elf_link_names.specs.Tables.{name_position}
 use Rattle.elf_link_names.proofs.known_names.known_names.Given as goal
 
 abbrev pub invariant-loop-file : goal.invariant-loop-file

@@ -1,6 +1,5 @@
-use Rattle.elf_link_files.specs.Files.{symbol_in}
-use Rattle.elf_link_files.specs.Symbols.{IsStrong, IsWeak}
-use Rattle.elf_link_names.proofs.Tabled.{best_next}
+use Rattle.elf_link_files.specs.Files.{symbol_in, IsStrong, IsWeak}
+use Rattle.elf_link_names.proofs.KnownNames.{best_next}
 use Rattle.elf_link_names.proofs.known_names.note_symbol.Goals as goal
 
 pub returns-clause-known : goal.returns-clause-known

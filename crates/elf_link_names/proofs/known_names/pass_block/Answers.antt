@@ -1,9 +1,9 @@
 -- Symbol by symbol: a number joins the row before it, which still holds, since no name loses its position; nor do the lookups.
 use Rattle.std.proofs.Common.{arith}
 use Rattle.elf_link_files.proofs.Public.{each_more}
-use Rattle.elf_link_names.specs.NameNumbers.{IsNameNumber}
-use Rattle.elf_link_names.specs.Slots.{name_position}
-use Rattle.elf_link_names.proofs.NameNumbers.{keeps_on, row_kept}
+use Rattle.elf_link_names.specs.KnownNames.{IsNameNumber}
+use Rattle.elf_link_names.specs.Tables.{name_position}
+use Rattle.elf_link_names.proofs.KnownNames.{keeps_on, row_kept}
 use Rattle.elf_link_names.proofs.known_names.pass_block.Goals as goal
 
 pub loop-index-preserved : goal.loop-index-preserved

@@ -1,7 +1,6 @@
 use Rattle.std.proofs.Common.{◌≤◌}
-use Rattle.elf_link_names.specs.KnownNames.{AreKnownBefore}
-use Rattle.elf_link_names.specs.NameNumbers.{IsNumberRow, KeepsPositions}
-use Rattle.elf_link_names.specs.Slots.{name_position}
+use Rattle.elf_link_names.specs.KnownNames.{AreKnownBefore, IsNumberRow, KeepsPositions}
+use Rattle.elf_link_names.specs.Tables.{name_position}
 use Rattle.elf_link_names.proofs.known_names.pass_block.Given as goal
 
 abbrev pub invariant-loop-index : goal.invariant-loop-index

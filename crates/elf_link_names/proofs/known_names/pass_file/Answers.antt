@@ -1,7 +1,7 @@
 use Rattle.std.proofs.Common.{◌≡◌, ℕ, length, subst, arith}
 use Rattle.elf_link_files.specs.Files.{object_at}
 use Rattle.elf_link_names.specs.KnownNames.{AreKnownBefore}
-use Rattle.elf_link_names.specs.Slots.{name_position}
+use Rattle.elf_link_names.specs.Tables.{name_position}
 use Rattle.elf_link_names.proofs.known_names.pass_file.Goals as goal
 
 pub returns-clause-names : goal.returns-clause-names

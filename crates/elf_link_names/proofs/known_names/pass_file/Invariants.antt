@@ -1,8 +1,7 @@
 use Rattle.std.proofs.Common.{◌-◌, ◌≤◌, length}
 use Rattle.elf_link_files.specs.Files.{object_at}
-use Rattle.elf_link_names.specs.KnownNames.{AreKnownBefore}
-use Rattle.elf_link_names.specs.NameNumbers.{IsNumberRow, KeepsPositions}
-use Rattle.elf_link_names.specs.Slots.{name_position}
+use Rattle.elf_link_names.specs.KnownNames.{AreKnownBefore, IsNumberRow, KeepsPositions}
+use Rattle.elf_link_names.specs.Tables.{name_position}
 use Rattle.elf_link_names.proofs.known_names.pass_file.Given as goal
 
 -- the symbols so far are passed: as many as the row has numbers

@@ -8,9 +8,8 @@ use Rattle.elf_object_type.specs.Object.{SymbolValue, binding}
 use Rattle.elf_link_files.specs.Files.{symbol_in}
 use Rattle.elf_link_names.specs.declared.known_names.Known.{Known}
 use Rattle.elf_link_names.specs.KnownNames.{IsKnownBefore}
-use Rattle.elf_link_names.specs.Slots.{name_position}
-use Rattle.elf_link_names.proofs.NameNumbers.{keeps_new}
-use Rattle.elf_link_names.proofs.Tabled.{known_none, none_placed, names_again, names_local, names_new}
+use Rattle.elf_link_names.specs.Tables.{name_position}
+use Rattle.elf_link_names.proofs.KnownNames.{keeps_new, known_none, none_placed, names_again, names_local, names_new}
 use Rattle.elf_link_names.proofs.known_names.pass_symbol.Goals as goal
 
 pub returns-then-is_local-clause-names : goal.returns-then-is_local-clause-names

@@ -1,4 +1,4 @@
-use Rattle.elf_link_names.specs.Slots.{AreSlotsTaken, IsInNone}
+use Rattle.elf_link_names.specs.Tables.{AreSlotsTaken, IsInNone}
 use Rattle.elf_link_names.proofs.slots.look_from.Given as goal
 
 -- the slots so far are taken, and none of them is the name's

@@ -1,7 +1,7 @@
 use Rattle.std.proofs.Common.{sym, subst}
 use Rattle.elf_link_outputs.specs.declared.addresses.Target.{Target}
 use Rattle.elf_link_outputs.specs.Addresses.{HasNoValue, HasValue, IsTarget}
-use Rattle.elf_link_outputs.proofs.Starts.{no_value_lost, value_fixed}
+use Rattle.elf_link_outputs.proofs.Placings.{no_value_lost, value_fixed}
 use Rattle.elf_link_outputs.proofs.addresses.entry_value.Goals as goal
 
 pub returns-in-Lost : goal.returns-in-Lost

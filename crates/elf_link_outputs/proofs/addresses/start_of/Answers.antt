@@ -3,7 +3,7 @@ use Rattle.std.proofs.Common.{inl, inr, ◌≡◌, ℕ, ◌+◌, ◌<◌, ◌≤
 use Rattle.std.proofs.lemmas.Bool.{cases_lt}
 use Rattle.std.proofs.lemmas.List.{get_or_default}
 use Rattle.elf_link_outputs.specs.Addresses.{IsCursor}
-use Rattle.elf_link_outputs.proofs.Starts.{cursor_more, past_behind, past_end, past_here, starts_here, starts_match}
+use Rattle.elf_link_outputs.proofs.Placings.{cursor_more, past_behind, past_end, past_here, starts_here, starts_match}
 use Rattle.elf_link_outputs.proofs.addresses.start_of.Goals as goal
 
 pub returns-in_default : goal.returns-in_default

@@ -1,6 +1,5 @@
 use Rattle.std.proofs.Common.{map}
-use Rattle.elf_link_outputs.specs.Placed.{ArePlacedCommons}
-use Rattle.elf_link_outputs.specs.PlacedView.{common_value}
+use Rattle.elf_link_outputs.specs.Placed.{ArePlacedCommons, common_value}
 use Rattle.elf_link_outputs.proofs.placing.placed_commons.Given as goal
 
 abbrev pub invariant-loop-k : goal.invariant-loop-k

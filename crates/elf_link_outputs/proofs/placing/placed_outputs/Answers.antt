@@ -2,11 +2,10 @@
 use Rattle.std.proofs.Common.{◌≡◌, ℕ, ◌+◌, ◌^◌, ◌<◌, ◌≤◌, List, length, map, sym, ◌∙◌, subst, arith, rules}
 use Rattle.std.proofs.lemmas.List.{length-map, map-append}
 use Rattle.elf_link_files.specs.declared.site.Site.{Site}
-use Rattle.elf_link_files.specs.Listing.{AreIn}
+use Rattle.elf_link_files.specs.Rows.{AreIn}
 use Rattle.elf_link_files.proofs.Public.{each_more}
-use Rattle.elf_link_outputs.specs.Placed.{IsOutput, members_at, no_output, start_of}
-use Rattle.elf_link_outputs.specs.PlacedView.{output_value}
-use Rattle.elf_link_outputs.specs.Plan.{flat}
+use Rattle.elf_link_outputs.specs.Placed.{IsOutput, members_at, no_output, start_of, output_value}
+use Rattle.elf_link_outputs.specs.Outputs.{flat}
 use Rattle.elf_link_outputs.proofs.Placings.{item_is, start_more, within_all}
 use Rattle.elf_link_outputs.proofs.placing.placed_outputs.Goals as goal
 

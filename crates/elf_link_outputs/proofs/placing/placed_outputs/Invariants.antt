@@ -1,6 +1,5 @@
 use Rattle.std.proofs.Common.{◌≡◌, map}
-use Rattle.elf_link_outputs.specs.Placed.{ArePlacedOutputs, start_of}
-use Rattle.elf_link_outputs.specs.PlacedView.{output_value}
+use Rattle.elf_link_outputs.specs.Placed.{ArePlacedOutputs, start_of, output_value}
 use Rattle.elf_link_outputs.proofs.placing.placed_outputs.Given as goal
 
 abbrev pub invariant-loop-members : goal.invariant-loop-members

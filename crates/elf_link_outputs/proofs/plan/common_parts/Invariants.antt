@@ -1,5 +1,5 @@
 use Rattle.std.proofs.Common.{◌≡◌, map, take}
-use Rattle.elf_link_outputs.specs.Plan.{common_part}
+use Rattle.elf_link_outputs.specs.Outputs.{common_part}
 use Rattle.elf_link_outputs.proofs.plan.common_parts.Given as goal
 
 abbrev pub invariant-loop-common : goal.invariant-loop-common

@@ -1,11 +1,8 @@
 -- After the last file the fields found are all fields, and each applied entry has a relocation rule: no entry comes later.
 use Rattle.std.proofs.Common.{◌∙◌, List, ◌≡◌, ℕ, length, refl, subst, arith, ap}
 use Rattle.elf_object_type.specs.Object.{ObjectValue}
-use Rattle.elf_link_relocate.specs.Linking.{LinkingValue}
-use Rattle.elf_link_relocate.specs.Collecting.{entry_site}
-use Rattle.elf_link_relocate.specs.Found.{AreFoundBefore}
-use Rattle.elf_link_relocate.proofs.Collected.{fields_all, none_unruled}
-use Rattle.elf_link_relocate.proofs.Found.{found_none}
+use Rattle.elf_link_relocate.specs.Passes.{LinkingValue, entry_site, AreFoundBefore}
+use Rattle.elf_link_relocate.proofs.Collected.{fields_all, none_unruled, found_none}
 use Rattle.elf_link_relocate.proofs.collecting.all_fields.Goals as goal
 
 pub loop-file-init : goal.loop-file-init

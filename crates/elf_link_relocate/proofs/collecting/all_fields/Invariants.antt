@@ -1,5 +1,4 @@
-use Rattle.elf_link_relocate.specs.Collecting.{entry_site}
-use Rattle.elf_link_relocate.specs.Found.{AreFoundBefore}
+use Rattle.elf_link_relocate.specs.Passes.{entry_site, AreFoundBefore}
 use Rattle.elf_link_relocate.proofs.collecting.all_fields.Given as goal
 
 abbrev pub invariant-loop-file : goal.invariant-loop-file

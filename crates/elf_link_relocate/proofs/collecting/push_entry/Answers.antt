@@ -1,11 +1,9 @@
 -- The first rule of the entry's kind decides: without one rule 12 is broken here first, one without a field adds nothing, and any other
 -- makes a field with its entry.
 use Rattle.std.proofs.Common.{◌∙◌, refl, rules, ◌≡◌, ap}
-use Rattle.elf_object_type.specs.declared.relocation.Relocation.{Relocation}
-use Rattle.elf_link_relocate.specs.Linking.{LinkingValue}
-use Rattle.elf_link_relocate.proofs.Collected.{fields_past, first_unruled}
-use Rattle.elf_link_relocate.proofs.Found.{found_on}
-use Rattle.elf_link_relocate.proofs.Sites.{before_more, before_next}
+use Rattle.elf_object_type.specs.declared.relocations.Relocation.{Relocation}
+use Rattle.elf_link_relocate.specs.Passes.{LinkingValue}
+use Rattle.elf_link_relocate.proofs.Collected.{fields_past, first_unruled, found_on, before_more, before_next}
 use Rattle.elf_link_relocate.proofs.collecting.push_entry.Goals as goal
 
 pub returns-in_default-clause-err : goal.returns-in_default-clause-err

@@ -2,12 +2,8 @@ use Rattle.std.proofs.Common.{◌≡◌, ℕ, ◌+◌, ◌<◌, length, ap, ◌�
 use Rattle.elf_object_type.specs.Object.{ObjectValue}
 use Rattle.elf_link_files.specs.Files.{object_at}
 use Rattle.elf_link_files.proofs.Public.{object_is}
-use Rattle.elf_link_relocate.specs.Linking.{LinkingValue}
-use Rattle.elf_link_relocate.specs.Collecting.{entry_site}
-use Rattle.elf_link_relocate.specs.Found.{AreFoundBefore}
-use Rattle.elf_link_relocate.proofs.Collected.{fields_same}
-use Rattle.elf_link_relocate.proofs.Found.{found_on}
-use Rattle.elf_link_relocate.proofs.Sites.{in_file, next_file}
+use Rattle.elf_link_relocate.specs.Passes.{LinkingValue, entry_site, AreFoundBefore}
+use Rattle.elf_link_relocate.proofs.Collected.{fields_same, found_on, in_file, next_file}
 use Rattle.elf_link_relocate.proofs.collecting.push_file.Goals as goal
 
 pub returns-clause-ok : goal.returns-clause-ok

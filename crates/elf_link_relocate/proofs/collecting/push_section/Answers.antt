@@ -1,15 +1,14 @@
 -- A section whose body is no relocations, or is not applied, has no fields; else they are those of its entries, one after the other.
 use Rattle.std.proofs.Common.{◌≡◌, ℕ, ap, false, get_or, length, refl, subst, sym, true, ◌∙◌, arith, rules}
-use Rattle.elf_object_type.specs.declared.section.Body.{Body}
-use Rattle.elf_object_type.specs.declared.section.Section.{Section}
+use Rattle.elf_object_type.specs.declared.parts.Body.{Body}
+use Rattle.elf_object_type.specs.declared.parts.Section.{Section}
 use Rattle.elf_object_type.specs.Object.{BodyValue, SectionValue, no_relocation}
 use Rattle.elf_object_type.specs.ObjectView.{body_value, section_value}
 use Rattle.elf_link_files.specs.Files.{object_at, section_in}
-use Rattle.elf_link_relocate.specs.Linking.{LinkingValue}
-use Rattle.elf_link_relocate.specs.Entries.{entries_of, is_rela, target_of}
-use Rattle.elf_link_relocate.proofs.Bodies.{no_relocations, not_applied, section_done}
-use Rattle.elf_link_relocate.proofs.Found.{found_on}
-use Rattle.elf_link_relocate.proofs.ObjectFacts.{target_there}
+use Rattle.elf_link_relocate.specs.Passes.{LinkingValue}
+use Rattle.elf_link_relocate.specs.Fields.{entries_of, is_rela, target_of}
+use Rattle.elf_link_relocate.proofs.Collected.{no_relocations, not_applied, section_done, found_on}
+use Rattle.elf_link_relocate.proofs.Patches.{target_there}
 use Rattle.elf_link_relocate.proofs.collecting.push_section.Goals as goal
 
 -- the body of a section, as read by the link that the values have

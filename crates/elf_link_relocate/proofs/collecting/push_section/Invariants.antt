@@ -1,5 +1,4 @@
-use Rattle.elf_link_relocate.specs.Collecting.{entry_site}
-use Rattle.elf_link_relocate.specs.Found.{AreFoundBefore}
+use Rattle.elf_link_relocate.specs.Passes.{entry_site, AreFoundBefore}
 use Rattle.elf_link_relocate.proofs.collecting.push_section.Given as goal
 
 abbrev pub invariant-loop-entry : goal.invariant-loop-entry

@@ -1,5 +1,5 @@
-use Rattle.elf_link_relocate.specs.CopyView.{copies_view}
-use Rattle.elf_link_relocate.specs.Patching.{AreAllCopies}
+use Rattle.elf_link_relocate.specs.Views.{copies_view}
+use Rattle.elf_link_relocate.specs.Passes.{AreAllCopies}
 use Rattle.elf_link_relocate.proofs.copies.all_copies.Given as goal
 
 abbrev pub invariant-loop-file : goal.invariant-loop-file

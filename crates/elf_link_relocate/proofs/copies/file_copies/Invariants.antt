@@ -1,6 +1,6 @@
 use Rattle.std.proofs.Common.{map}
-use Rattle.elf_link_relocate.specs.CopyView.{copy_view}
-use Rattle.elf_link_relocate.specs.Patching.{AreCopies}
+use Rattle.elf_link_relocate.specs.Views.{copy_view}
+use Rattle.elf_link_relocate.specs.Passes.{AreCopies}
 use Rattle.elf_link_relocate.proofs.copies.file_copies.Given as goal
 
 abbrev pub invariant-loop-section : goal.invariant-loop-section

@@ -1,4 +1,4 @@
-use Rattle.elf_link_relocate.proofs.AnyOptions.{any_options}
+use Rattle.elf_link_relocate.proofs.Memories.{any_options}
 use Rattle.elf_link_relocate.proofs.laws.any_options.Goals as goal
 
 pub returns : goal.returns

@@ -1,4 +1,4 @@
-use Rattle.elf_link_relocate.proofs.OneByte.{one_byte}
+use Rattle.elf_link_relocate.proofs.Memories.{one_byte}
 use Rattle.elf_link_relocate.proofs.laws.one_byte.Goals as goal
 
 pub returns : goal.returns

@@ -1,5 +1,5 @@
 use Rattle.elf_link_files.proofs.Public.{one_found, some_site}
-use Rattle.elf_link_relocate.specs.RelocationRules.{applied_entry_rules}
+use Rattle.elf_link_relocate.specs.Fields.{applied_entry_rules}
 use Rattle.elf_link_relocate.proofs.laws.one_relocation_fault.Goals as goal
 
 pub returns : goal.returns

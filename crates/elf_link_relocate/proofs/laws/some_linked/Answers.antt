@@ -1,4 +1,4 @@
-use Rattle.elf_link_relocate.proofs.SomeLinked.{some_linked}
+use Rattle.elf_link_relocate.proofs.MemoryLaws.{some_linked}
 use Rattle.elf_link_relocate.proofs.laws.some_linked.Goals as goal
 
 pub returns : goal.returns

@@ -1,4 +1,4 @@
-use Rattle.elf_link_relocate.specs.Marking.{IsUnmarkedRow, row_view}
+use Rattle.elf_link_relocate.specs.Passes.{IsUnmarkedRow, row_view}
 use Rattle.elf_link_relocate.proofs.marks.file_marks.Given as goal
 
 abbrev pub invariant-loop-section : goal.invariant-loop-section

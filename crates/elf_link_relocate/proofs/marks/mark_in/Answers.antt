@@ -1,9 +1,9 @@
 use Rattle.std.proofs.Common.{◌≡◌, ◌<◌, List, Bool, [], length, ap, ◌∙◌, arith}
-use Rattle.elf_link_relocate.specs.Grid.{with}
 use Rattle.std.specs.Global.{Vec}
 use Rattle.std.proofs.lemmas.List.{with_items_is}
-use Rattle.elf_link_relocate.specs.Marking.{marks_view}
-use Rattle.elf_link_relocate.proofs.Grids.{view_item, view_row, view_set}
+use Rattle.elf_link_relocate.specs.Linked.{with}
+use Rattle.elf_link_relocate.specs.Passes.{marks_view}
+use Rattle.elf_link_relocate.proofs.Marked.{view_item, view_row, view_set}
 use Rattle.elf_link_relocate.proofs.marks.mark_in.Goals as goal
 
 bytes : Vec Bool → List Bool

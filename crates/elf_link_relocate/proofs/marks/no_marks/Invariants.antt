@@ -1,4 +1,4 @@
-use Rattle.elf_link_relocate.specs.Marking.{AreUnmarkedRows, marks_view}
+use Rattle.elf_link_relocate.specs.Passes.{AreUnmarkedRows, marks_view}
 use Rattle.elf_link_relocate.proofs.marks.no_marks.Given as goal
 
 abbrev pub invariant-loop-file : goal.invariant-loop-file

@@ -1,4 +1,4 @@
-use Rattle.elf_link_relocate.proofs.Ready.{if_ready}
+use Rattle.elf_link_relocate.proofs.MemoryLaws.{if_ready}
 use Rattle.elf_link_relocate.proofs.relocating.relocate.Goals as goal
 
 pub returns-clause-ready : goal.returns-clause-ready

@@ -3,13 +3,11 @@
 use Rattle.std.proofs.Common.{List, subst, sym}
 use Rattle.std.specs.Prelude.{None}
 use Rattle.elf_link_files.specs.Rows.{FirstAmong}
-use Rattle.elf_link_relocate.specs.Linking.{LinkingValue}
-use Rattle.elf_link_relocate.specs.RelocationRules.{applied_entry_rules}
-use Rattle.elf_link_relocate.specs.CopyView.{copies_view}
+use Rattle.elf_link_relocate.specs.Passes.{LinkingValue, AreJudged}
+use Rattle.elf_link_relocate.specs.Fields.{applied_entry_rules}
+use Rattle.elf_link_relocate.specs.Views.{copies_view}
 use Rattle.elf_link_relocate.specs.declared.field.Field.{Field}
-use Rattle.elf_link_relocate.specs.Judged.{AreJudged}
-use Rattle.elf_link_relocate.proofs.AnyOptions.{sound_of}
-use Rattle.elf_link_relocate.proofs.Memories.{linked_of}
+use Rattle.elf_link_relocate.proofs.Memories.{sound_of, linked_of}
 use Rattle.elf_link_relocate.proofs.Patches.{relocated_none}
 use Rattle.elf_link_relocate.proofs.relocating.relocate_numbered.Goals as goal
 

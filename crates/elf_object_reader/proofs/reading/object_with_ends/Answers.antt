@@ -1,13 +1,12 @@
 -- Without memory for the ends no rule is broken, since the object was made. The ends are those of the names in one string table
 -- (`tails_denoted`).
 use Rattle.std.proofs.Common.{◌≡◌, ℕ, Global, List, Vec, map, sym, subst, ◌∙◌}
-use Rattle.elf_object_reader.specs.Denotes.{Denotes, symbol_ends}
-use Rattle.elf_object_reader.specs.Kept.{symbol_table}
-use Rattle.elf_object_strings.specs.NameEnds.{AreTails}
+use Rattle.elf_object_reader.specs.Denotes.{Denotes, symbol_ends, symbol_table}
+use Rattle.elf_object_strings.specs.StringTable.{AreTails}
 use Rattle.elf_object_type.specs.Object.{ObjectValue, SymbolValue}
 use Rattle.elf_table_symbols.specs.Sections.{Sections, sections_of}
-use Rattle.elf_object_reader.proofs.SymbolEnds.{names_of, tails_denoted}
-use Rattle.elf_object_reader.proofs.Verdicts.{memory_wanted}
+use Rattle.elf_object_reader.proofs.DenotedSymbols.{names_of, tails_denoted}
+use Rattle.elf_object_reader.proofs.FileRules.{memory_wanted}
 use Rattle.elf_object_reader.proofs.reading.object_with_ends.Goals as goal
 
 abbrev IsRead : Sections → ObjectValue × Vec ℕ Global → Type 0

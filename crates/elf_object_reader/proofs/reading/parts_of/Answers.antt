@@ -3,7 +3,7 @@ use Rattle.elf_object_reader.specs.Denotes.{Denotes}
 use Rattle.elf_object_type.specs.ObjectView.{value_of}
 use Rattle.elf_object_type.specs.declared.parts.ObjectParts.{ObjectParts}
 use Rattle.elf_table_symbols.specs.Sections.{sections_of}
-use Rattle.elf_object_reader.proofs.Verdicts.{fault_behind, found_behind, front_fault, read_judged}
+use Rattle.elf_object_reader.proofs.FileRules.{fault_behind, found_behind, front_fault, read_judged}
 use Rattle.elf_object_reader.proofs.reading.parts_of.Goals as goal
 
 pub returns-in_err-judge_front : goal.returns-in_err-judge_front

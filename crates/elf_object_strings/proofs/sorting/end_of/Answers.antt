@@ -1,5 +1,5 @@
 use Rattle.std.proofs.Common.{◌∙◌}
-use Rattle.elf_object_strings.proofs.EndNumbers.{padded_end}
+use Rattle.elf_object_strings.proofs.Numbering.{padded_end}
 use Rattle.elf_object_strings.proofs.sorting.end_of.Goals as goal
 
 pub returns-clause-value : goal.returns-clause-value

@@ -1,6 +1,6 @@
 use Rattle.std.proofs.Common.{◌≡◌, ℕ, length, arith, subst}
 use Rattle.std.proofs.lemmas.List.{length-map}
-use Rattle.elf_object_strings.specs.Shared.{texts}
+use Rattle.elf_object_strings.specs.StringTable.{texts}
 use Rattle.elf_object_strings.proofs.Numbering.{AreNumberedTo, numbered_all}
 use Rattle.elf_object_strings.proofs.sorting.number_names.Goals as goal
 

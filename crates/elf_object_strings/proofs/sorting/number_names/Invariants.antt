@@ -1,4 +1,4 @@
-use Rattle.elf_object_strings.specs.Shared.{texts}
+use Rattle.elf_object_strings.specs.StringTable.{texts}
 use Rattle.elf_object_strings.proofs.Numbering.{AreNumberedTo}
 use Rattle.elf_object_strings.proofs.sorting.number_names.Given as goal
 

@@ -2,10 +2,7 @@
 -- than that offset (`offset_is`), so `offset_of` may be called.
 use Rattle.std.proofs.Common.{◌≡◌, ◌<◌, ◌++◌, ◌∙◌, Bor, List, [], ◌∷◌, ap, arith, get_or, length, map, subst, sym, take, ℕ}
 use Rattle.std.proofs.lemmas.List.{get_or-map, length-map, map_more}
-use Rattle.elf_object_strings.specs.Owners.{IsOwner}
-use Rattle.elf_object_strings.specs.Shared.{texts}
-use Rattle.elf_object_strings.specs.StringTable.{name_offset}
-use Rattle.elf_object_strings.specs.Writing.{HasEnds}
+use Rattle.elf_object_strings.specs.StringTable.{IsOwner, texts, name_offset, HasEnds}
 use Rattle.elf_object_strings.proofs.Written.{offset_from, offset_is}
 use Rattle.elf_object_strings.proofs.table.offsets_of.Goals as goal
 

@@ -1,6 +1,5 @@
 use Rattle.std.proofs.Common.{◌≡◌, map, take}
-use Rattle.elf_object_strings.specs.Shared.{texts}
-use Rattle.elf_object_strings.specs.StringTable.{name_offset}
+use Rattle.elf_object_strings.specs.StringTable.{texts, name_offset}
 use Rattle.elf_object_strings.proofs.table.offsets_of.Given as goal
 
 abbrev pub invariant-loop-i : goal.invariant-loop-i

@@ -1,5 +1,5 @@
-use Rattle.elf_object_strings.specs.Shared.{texts}
-use Rattle.elf_object_strings.proofs.Joined.{holds_of, least_of, shares_of}
+use Rattle.elf_object_strings.specs.StringTable.{texts}
+use Rattle.elf_object_strings.proofs.Names.{holds_of, least_of, shares_of}
 use Rattle.elf_object_strings.proofs.table.shared_table_at.Goals as goal
 
 pub returns-in-Ok-clause-shares : goal.returns-in-Ok-clause-shares

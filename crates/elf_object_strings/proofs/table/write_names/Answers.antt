@@ -1,7 +1,6 @@
 use Rattle.std.proofs.Common.{◌≡◌, ◌<◌, Bor, List, [], ap, arith, get_or, length, nat_eq, rules, sym, ℕ, ◌-◌}
 use Rattle.std.proofs.lemmas.List.{get_or-map, length-map}
-use Rattle.elf_object_strings.specs.Shared.{texts}
-use Rattle.elf_object_strings.specs.Writing.{with_name}
+use Rattle.elf_object_strings.specs.StringTable.{texts, with_name}
 use Rattle.elf_object_strings.proofs.Written.{written_all, written_more}
 use Rattle.elf_object_strings.proofs.table.write_names.Goals as goal
 

@@ -1,4 +1,4 @@
-use Rattle.elf_object_strings.specs.Shared.{texts}
+use Rattle.elf_object_strings.specs.StringTable.{texts}
 use Rattle.elf_object_strings.proofs.Written.{IsWrittenTo}
 use Rattle.elf_object_strings.proofs.table.write_names.Given as goal
 

@@ -1,6 +1,6 @@
 use Rattle.std.proofs.Common.{◌≤◌, arith}
 use Rattle.elf_object_type.specs.ObjectView.{value_of}
-use Rattle.elf_object_type.proofs.ObjectRuleLemmas.{fault_in_groups, fault_in_sections, found_in_symbols}
+use Rattle.elf_object_type.proofs.KeepsObjectRules.{fault_in_groups, fault_in_sections, found_in_symbols}
 use Rattle.elf_object_type.proofs.object_rules.judge.Goals as goal
 
 pub returns-in-Err-clause-err : goal.returns-in-Err-clause-err

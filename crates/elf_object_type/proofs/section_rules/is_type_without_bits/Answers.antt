@@ -1,7 +1,7 @@
 use Rattle.std.specs.Prelude.{nat_eq}
 use Rattle.std.proofs.lemmas.Bool.Decides.{Decides-eqb}
 use Rattle.std.proofs.lemmas.List.Elements.{Decides-contains, contains_decides}
-use Rattle.elf_object_type.specs.SectionRules.{types_without_bits}
+use Rattle.elf_object_type.specs.ObjectRules.{types_without_bits}
 use Rattle.elf_object_type.proofs.section_rules.is_type_without_bits.Goals as goal
 
 pub returns : goal.returns

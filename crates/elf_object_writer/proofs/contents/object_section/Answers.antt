@@ -2,7 +2,7 @@ use Rattle.std.proofs.Common.{◌≡◌, sym, ap, subst, ◌∙◌}
 use Rattle.elf_object_type.specs.Object.{section_at}
 use Rattle.elf_object_type.specs.ObjectView.{section_value}
 use Rattle.elf_object_writer.specs.PlacedObject.{HasShortNumbers}
-use Rattle.elf_object_writer.proofs.OwnSections.{section_read, short_numbers}
+use Rattle.elf_object_writer.proofs.HeaderTables.{section_read, short_numbers}
 use Rattle.elf_object_writer.proofs.contents.object_section.Goals as goal
 
 pub returns : goal.returns

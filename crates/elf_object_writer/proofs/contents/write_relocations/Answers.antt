@@ -1,4 +1,4 @@
-use Rattle.elf_object_writer.proofs.RelocationsBack.{relocations_back}
+use Rattle.elf_object_writer.proofs.Going.{relocations_back}
 use Rattle.elf_object_writer.proofs.contents.write_relocations.Goals as goal
 
 pub returns-in-Some : goal.returns-in-Some

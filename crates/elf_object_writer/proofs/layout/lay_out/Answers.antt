@@ -1,4 +1,4 @@
-use Rattle.elf_object_writer.proofs.SharedNames.{shared_names}
+use Rattle.elf_object_writer.proofs.PlainSections.{shared_names}
 use Rattle.elf_object_writer.proofs.layout.lay_out.Goals as goal
 
 pub returns-clause-names : goal.returns-clause-names

@@ -3,7 +3,7 @@
 use Rattle.std.proofs.Common.{◌≡◌, ◌-◌, length, rules, arith}
 use Rattle.std.specs.Prelude.{vec_len}
 use Rattle.elf_extent.proofs.Public.{fits_length}
-use Rattle.elf_object_writer.proofs.LayoutParts.{too_long_at, whole_end}
+use Rattle.elf_object_writer.proofs.CanonicalLayout.{too_long_at, whole_end}
 use Rattle.elf_object_writer.proofs.layout.layout_of.Goals as goal
 
 pub index-requires : goal.index-requires

@@ -1,4 +1,4 @@
-use Rattle.elf_object_writer.proofs.LayoutParts.{overflow_long}
+use Rattle.elf_object_writer.proofs.CanonicalLayout.{overflow_long}
 use Rattle.elf_object_writer.proofs.layout.place_parts.Goals as goal
 
 pub returns-in-Err-Overflow-clause-err : goal.returns-in-Err-Overflow-clause-err

@@ -5,9 +5,8 @@ use Rattle.std.proofs.lemmas.List.{length-map}
 use Rattle.elf_field.specs.Abi.{SHN_LORESERVE}
 use Rattle.elf_object_type.specs.ObjectView.{section_value}
 use Rattle.elf_object_type.specs.Object.{SectionValue, SymbolValue}
-use Rattle.elf_object_writer.specs.PlainSections.{is_far}
-use Rattle.elf_object_writer.proofs.FewSections.{none_far}
-use Rattle.elf_object_writer.proofs.NamesOf.{far_symbols}
+use Rattle.elf_object_writer.specs.Laid.{is_far}
+use Rattle.elf_object_writer.proofs.PlainSections.{none_far, far_symbols}
 use Rattle.elf_object_writer.proofs.name_tables.has_index_table.Goals as goal
 
 pub returns-then-sections : goal.returns-then-sections

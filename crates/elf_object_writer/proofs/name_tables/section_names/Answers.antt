@@ -1,7 +1,7 @@
 use Rattle.std.proofs.Common.{refl, sym, ap, ◌∙◌}
-use Rattle.elf_object_writer.proofs.NamesOf.{names_with_index_table, names_without_index_table}
-use Rattle.elf_object_writer.proofs.name_tables.section_names.Goals as goal
+use Rattle.elf_object_writer.proofs.PlainSections.{names_with_index_table, names_without_index_table}
 use Rattle.elf_object_writer.proofs.name_tables.section_names.Goals.{then-has_index_table+in_ok-push-2, else-has_index_table}
+use Rattle.elf_object_writer.proofs.name_tables.section_names.Goals as goal
 
 pub returns : goal.returns
 returns c = elim c.if-has_index_table.branch [

@@ -1,5 +1,5 @@
 use Rattle.elf_table_lists.proofs.Public.{no_note_entry, note_entry, note_in_file}
-use Rattle.elf_table_all.proofs.EntriesInFile.{dynamic_in_file, rel_in_file, rela_in_file, symbol_in_file, word_in_file}
+use Rattle.elf_table_all.proofs.TableLinks.{dynamic_in_file, rel_in_file, rela_in_file, symbol_in_file, word_in_file}
 use Rattle.elf_table_all.proofs.laws.entries_in_file.Goals as goal
 
 pub returns : goal.returns

@@ -1,7 +1,6 @@
 use Rattle.elf_image_rules.proofs.Public.{one_fault, some_fault}
-use Rattle.elf_table_symbols.specs.StringRules.{string_table_rules}
-use Rattle.elf_table_symbols.specs.SymbolRules.{symbol_table_rules}
-use Rattle.elf_table_all.specs.TableRules.{table_rules}
+use Rattle.elf_table_symbols.specs.Symbols.{string_table_rules, symbol_table_rules}
+use Rattle.elf_table_all.specs.Tables.{table_rules}
 use Rattle.elf_table_all.proofs.laws.one_table_fault.Goals as goal
 
 pub returns-clause-strings : goal.returns-clause-strings

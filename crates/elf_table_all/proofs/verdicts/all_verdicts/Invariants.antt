@@ -1,5 +1,5 @@
 use Rattle.elf_table_symbols.specs.Sections.{sections_of}
-use Rattle.elf_table_all.specs.TableVerdicts.{AreVerdicts}
+use Rattle.elf_table_all.specs.Tables.{AreVerdicts}
 use Rattle.elf_table_all.proofs.verdicts.all_verdicts.Given as goal
 
 abbrev pub invariant-loop-i : goal.invariant-loop-i

@@ -1,5 +1,5 @@
 use Rattle.elf_table_symbols.specs.Sections.{sections_of}
-use Rattle.elf_table_symbols.specs.LinkedVerdicts.{AreSymbolVerdicts}
+use Rattle.elf_table_symbols.specs.Symbols.{AreSymbolVerdicts}
 use Rattle.elf_table_all.proofs.verdicts.symbol_verdicts.Given as goal
 
 abbrev pub invariant-loop-i : goal.invariant-loop-i

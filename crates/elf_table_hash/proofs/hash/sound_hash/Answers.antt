@@ -3,13 +3,11 @@
 use Rattle.std.proofs.Common.{None, sym, subst}
 use Rattle.elf_image_rules.proofs.Public.{FirstIn-behind, FirstIn-front}
 use Rattle.elf_image_rules.specs.Rows.{FirstIn}
-use Rattle.elf_table_symbols.specs.declared.table_kind.TableKind.TheVariants.{HashTable}
-use Rattle.elf_table_symbols.specs.OwnRules.{own_rules}
-use Rattle.elf_table_symbols.specs.Sections.{section, sections_of}
+use Rattle.elf_table_symbols.specs.declared.table_section.TableKind.TheVariants.{HashTable}
+use Rattle.elf_table_symbols.specs.Sections.{own_rules, section, sections_of}
 use Rattle.elf_table_symbols.proofs.Public.{link_there}
-use Rattle.elf_table_symbols.specs.SymbolRules.{symbol_table_rules}
-use Rattle.elf_table_hash.specs.HashParts.{HashPartsValue, hash_parts, hash_parts_value}
-use Rattle.elf_table_hash.specs.HashRules.{chain_rules, hash_rules, hash_table_rules, word_rules}
+use Rattle.elf_table_symbols.specs.Symbols.{symbol_table_rules}
+use Rattle.elf_table_hash.specs.HashRules.{HashPartsValue, hash_parts, hash_parts_value, chain_rules, hash_rules, hash_table_rules, word_rules}
 use Rattle.elf_table_hash.proofs.HashSound.{valid_when}
 use Rattle.elf_table_hash.proofs.hash.sound_hash.Goals as goal
 

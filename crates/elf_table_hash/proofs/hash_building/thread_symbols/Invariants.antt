@@ -1,6 +1,6 @@
 use Rattle.std.proofs.Common.{◌≡◌, ◌≤◌, length, map}
 use Rattle.elf_table_hash.specs.HashTable.{nbucket, nchain}
-use Rattle.elf_table_hash.specs.HashThreads.{IsThreaded}
+use Rattle.elf_table_hash.specs.ChainDepths.{IsThreaded}
 use Rattle.elf_table_hash.proofs.hash_building.thread_symbols.Given as goal
 
 abbrev pub invariant-symbols : goal.invariant-symbols

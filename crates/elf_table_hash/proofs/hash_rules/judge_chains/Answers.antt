@@ -1,12 +1,10 @@
 -- Rule 68 first: offsets rise with the buckets, so the first bucket whose chain does not end has the lowest offset. If all chains end, the
 -- result is what the search for rule 69 finds.
 use Rattle.std.proofs.Common.{ℕ, inl, inr, refl, arith}
-use Rattle.elf_extent.specs.Least.{IsLeast, Never}
-use Rattle.elf_table_symbols.specs.Below.{Below}
-use Rattle.elf_table_hash.specs.Chains.{Ends}
-use Rattle.elf_table_hash.specs.HashParts.{HashPartsValue, hash_parts_value}
-use Rattle.elf_table_hash.specs.HashRules.{bucket_at, chain_rules, endless_chain}
-use Rattle.elf_table_hash.specs.HashTable.{bucket, chain, nbucket}
+use Rattle.elf_extent.specs.Extent.{IsLeast, Never}
+use Rattle.elf_table_symbols.specs.Sections.{Below}
+use Rattle.elf_table_hash.specs.HashTable.{Ends, bucket, chain, nbucket}
+use Rattle.elf_table_hash.specs.HashRules.{HashPartsValue, hash_parts_value, bucket_at, chain_rules, endless_chain}
 use Rattle.elf_table_hash.proofs.hash_rules.judge_chains.Goals as goal
 
 -- the first bucket whose chain does not end has the lowest offset

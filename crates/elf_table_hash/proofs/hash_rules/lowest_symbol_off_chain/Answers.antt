@@ -1,7 +1,6 @@
 use Rattle.std.proofs.Common.{◌≡◌, inl, inr, subst, arith}
 use Rattle.std.proofs.lemmas.Bool.{cases_lt}
-use Rattle.elf_table_hash.specs.Chains.{IsOn}
-use Rattle.elf_table_hash.specs.HashTable.{bucket_of, chain, name_of}
+use Rattle.elf_table_hash.specs.HashTable.{IsOn, bucket_of, chain, name_of}
 use Rattle.elf_table_hash.proofs.hash_rules.lowest_symbol_off_chain.Goals as goal
 
 pub loop-s-preserved : goal.loop-s-preserved

@@ -1,6 +1,5 @@
 use Rattle.std.proofs.Common.{ℕ, ◌<◌}
-use Rattle.elf_table_hash.specs.Chains.{IsOn}
-use Rattle.elf_table_hash.specs.HashTable.{bucket_of, chain, name_of}
+use Rattle.elf_table_hash.specs.HashTable.{IsOn, bucket_of, chain, name_of}
 use Rattle.elf_table_hash.proofs.hash_rules.lowest_symbol_off_chain.Given as goal
 
 abbrev pub invariant-loop-s : goal.invariant-loop-s

@@ -1,7 +1,7 @@
 use Rattle.std.proofs.Common.{◌≡◌, ◌-◌, ◌+◌, ◌∙◌, arith, drop, length, min, sym, take}
 use Rattle.std.proofs.lemmas.List.{length-drop}
 use Rattle.std.proofs.lemmas.Slice.Eq.{bytes_eq-Decides}
-use Rattle.elf_table_hash.proofs.NearStrings.{near_back, near_same, rest_from}
+use Rattle.elf_table_hash.proofs.HashSound.{near_back, near_same, rest_from}
 use Rattle.elf_table_hash.proofs.hash_words.is_string_at.Goals as goal
 
 pub returns : goal.returns

@@ -1,4 +1,4 @@
-use Rattle.elf_table_lists.proofs.DynamicLists.{dynamic_array_is}
+use Rattle.elf_table_lists.proofs.EntryLists.{dynamic_array_is}
 use Rattle.elf_table_lists.proofs.dynamic.sound_dynamic.Goals as goal
 
 pub returns : goal.returns

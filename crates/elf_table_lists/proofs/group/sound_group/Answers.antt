@@ -1,7 +1,7 @@
 use Rattle.std.proofs.Common.{refl, arith}
 use Rattle.elf_table_symbols.specs.Sections.{sections_of}
 use Rattle.elf_table_lists.specs.Groups.{group_of}
-use Rattle.elf_table_lists.proofs.GroupLists.{sound_group}
+use Rattle.elf_table_lists.proofs.EntryLists.{sound_group}
 use Rattle.elf_table_lists.proofs.group.sound_group.Goals as goal
 
 pub invariant_of-result : goal.invariant_of-result

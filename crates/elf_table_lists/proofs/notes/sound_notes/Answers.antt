@@ -1,7 +1,6 @@
 use Rattle.std.proofs.Common.{refl}
-use Rattle.elf_table_lists.specs.NoteRules.{note_section_rules}
-use Rattle.elf_table_lists.specs.Notes.{notes_of}
-use Rattle.elf_table_lists.proofs.NoteFaults.{sound_notes}
+use Rattle.elf_table_lists.specs.Notes.{note_section_rules, notes_of}
+use Rattle.elf_table_lists.proofs.NoteLists.{sound_notes}
 use Rattle.elf_table_lists.proofs.notes.sound_notes.Goals as goal
 
 pub invariant_of-result : goal.invariant_of-result

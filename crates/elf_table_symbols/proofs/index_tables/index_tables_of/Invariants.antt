@@ -1,4 +1,4 @@
-use Rattle.elf_table_symbols.specs.IndexTable.{AreIndexTables}
+use Rattle.elf_table_symbols.specs.Symbols.{AreIndexTables}
 use Rattle.elf_table_symbols.specs.Sections.{sections_of}
 use Rattle.elf_table_symbols.proofs.index_tables.index_tables_of.Given as goal
 

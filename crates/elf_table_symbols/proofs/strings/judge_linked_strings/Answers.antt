@@ -1,5 +1,5 @@
 use Rattle.std.proofs.Common.{inl, refl}
-use Rattle.elf_table_symbols.specs.StringRules.{linked_string_rules}
+use Rattle.elf_table_symbols.specs.Symbols.{linked_string_rules}
 use Rattle.elf_table_symbols.proofs.strings.judge_linked_strings.Goals as goal
 
 pub returns-in-Some : goal.returns-in-Some

@@ -1,6 +1,5 @@
 use Rattle.std.proofs.Common.{◌≡◌, ℕ, ◌≤◌, inl, inr, refl, arith}
-use Rattle.elf_table_symbols.specs.SymbolParts.{SymbolPartsValue, parts_value}
-use Rattle.elf_table_symbols.specs.SymbolRules.{entry_count, symbol_entry_rules, wrong_local_count}
+use Rattle.elf_table_symbols.specs.Symbols.{SymbolPartsValue, parts_value, entry_count, symbol_entry_rules, wrong_local_count}
 use Rattle.elf_table_symbols.proofs.symbol_rules.judge_entries.Goals as goal
 
 -- rule 46 is kept

@@ -1,5 +1,5 @@
 use Rattle.std.proofs.Common.{inl, refl}
-use Rattle.elf_table_symbols.specs.SymbolRules.{place_rules}
+use Rattle.elf_table_symbols.specs.Symbols.{place_rules}
 use Rattle.elf_table_symbols.proofs.symbol_rules.judge_places.Goals as goal
 
 pub returns-in-Some : goal.returns-in-Some

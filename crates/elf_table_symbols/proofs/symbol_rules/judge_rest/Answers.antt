@@ -2,10 +2,8 @@
 -- the index tables that are handed in is that of the table's parts (`first_index_table`).
 use Rattle.std.proofs.Common.{◌≡◌, ℕ, Option, Some, length, ap, sym, ◌∙◌}
 use Rattle.elf_image_rules.proofs.Public.{FirstIn-later, FirstIn-stop}
-use Rattle.elf_table_symbols.specs.IndexTable.{AreIndexTables, index_table, index_words}
+use Rattle.elf_table_symbols.specs.Symbols.{AreIndexTables, index_table, index_words, SymbolPartsValue, symbol_parts, rest_rules}
 use Rattle.elf_table_symbols.specs.Sections.{Sections, content, count}
-use Rattle.elf_table_symbols.specs.SymbolParts.{SymbolPartsValue, symbol_parts}
-use Rattle.elf_table_symbols.specs.SymbolRules.{rest_rules}
 use Rattle.elf_table_symbols.specs.declared.index_tables.IndexTables.{IndexTables}
 use Rattle.elf_table_symbols.proofs.IndexTableLemmas.{first_index_table}
 use Rattle.elf_table_symbols.proofs.symbol_rules.judge_rest.Goals as goal

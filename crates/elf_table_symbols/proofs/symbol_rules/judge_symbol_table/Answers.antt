@@ -1,10 +1,8 @@
 use Rattle.std.proofs.Common.{subst}
 use Rattle.elf_image_rules.proofs.Public.{FirstIn-later, FirstIn-stop}
-use Rattle.elf_image_rules.specs.Broken.{fault_of}
-use Rattle.elf_image_rules.specs.Rows.{FirstIn}
+use Rattle.elf_image_rules.specs.Rows.{fault_of, FirstIn}
 use Rattle.elf_table_symbols.specs.Sections.{sections_of}
-use Rattle.elf_table_symbols.specs.SymbolParts.{SymbolPartsValue}
-use Rattle.elf_table_symbols.specs.SymbolRules.{rest_rules, symbol_table_rules}
+use Rattle.elf_table_symbols.specs.Symbols.{SymbolPartsValue, rest_rules, symbol_table_rules}
 use Rattle.elf_table_symbols.proofs.symbol_rules.judge_symbol_table.Goals as goal
 
 pub returns-in_err-judge_own_rules : goal.returns-in_err-judge_own_rules

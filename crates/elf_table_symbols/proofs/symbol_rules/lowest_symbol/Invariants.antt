@@ -1,6 +1,5 @@
 use Rattle.std.proofs.Common.{ℕ, ◌<◌}
-use Rattle.elf_table_symbols.specs.SymbolParts.{parts_value}
-use Rattle.elf_table_symbols.specs.SymbolRules.{BreaksSymbolEntry, entry}
+use Rattle.elf_table_symbols.specs.Symbols.{parts_value, BreaksSymbolEntry, entry}
 use Rattle.elf_table_symbols.proofs.symbol_rules.lowest_symbol.Given as goal
 
 abbrev pub invariant-loop-j : goal.invariant-loop-j

@@ -1,5 +1,5 @@
 use Rattle.std.proofs.Common.{ℕ, ◌<◌}
-use Rattle.elf_table_symbols.specs.SymbolRules.{IsWrongIndexWord, entry, word}
+use Rattle.elf_table_symbols.specs.Symbols.{IsWrongIndexWord, entry, word}
 use Rattle.elf_table_symbols.proofs.symbol_rules.lowest_wrong_index_word.Given as goal
 
 abbrev pub invariant-loop-j : goal.invariant-loop-j

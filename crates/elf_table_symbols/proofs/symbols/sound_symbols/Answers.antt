@@ -1,6 +1,5 @@
 use Rattle.std.proofs.Common.{ap, ◌∙◌}
-use Rattle.elf_table_symbols.specs.SymbolParts.{SymbolPartsValue}
-use Rattle.elf_table_symbols.specs.Symbols.{symbols_in, symbols_of}
+use Rattle.elf_table_symbols.specs.Symbols.{SymbolPartsValue, symbols_in, symbols_of}
 use Rattle.elf_table_symbols.proofs.IndexTableLemmas.{first_index_table}
 use Rattle.elf_table_symbols.proofs.SymbolLists.{readable, sound_link}
 use Rattle.elf_table_symbols.proofs.symbols.sound_symbols.Goals as goal

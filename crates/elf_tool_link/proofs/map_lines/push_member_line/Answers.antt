@@ -1,5 +1,5 @@
 use Rattle.std.proofs.Common.{rules}
-use Rattle.elf_tool_link.specs.MapLines.{member_line}
+use Rattle.elf_tool_link.specs.Map.{member_line}
 use Rattle.elf_tool_text.proofs.Public.{line_ended}
 use Rattle.elf_tool_link.proofs.map_lines.push_member_line.Goals as goal
 

@@ -1,7 +1,7 @@
 use Rattle.std.proofs.Common.{Bor, List, map, subst, sym, ℕ}
 use Rattle.std.specs.Prelude.{None}
 use Rattle.elf_object_type.specs.Object.{ObjectValue}
-use Rattle.elf_link_map.specs.LinkFaults.{FirstOfLink}
+use Rattle.elf_link_map.specs.LinkMap.{FirstOfLink}
 use Rattle.elf_tool_link.specs.ObjectFiles.{AreObjectFiles}
 use Rattle.elf_tool_link.proofs.mapped.mapped_files.Goals as goal
 

@@ -2,7 +2,7 @@
 -- of all files.
 use Rattle.std.proofs.Common.{◌≡◌, ◌∙◌, ◌≤◌, ◌++◌, [], ◌∷◌, Bor, List, ℕ, Option, Some, IfSome, ap, arith, get_or, length, map, rules, subst, sym}
 use Rattle.std.proofs.lemmas.List.{get_or-map, length-map, map-append}
-use Rattle.elf_tool_program.proofs.Opened.{bytes_more}
+use Rattle.elf_tool_program.proofs.Sources.{bytes_more}
 use Rattle.elf_tool_program.proofs.opening.open_all.Goals as goal
 
 abbrev now : Bor (List ℕ) → List ℕ

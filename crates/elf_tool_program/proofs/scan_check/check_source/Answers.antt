@@ -1,6 +1,6 @@
 use Rattle.std.proofs.Common.{◌∙◌}
 use Rattle.std.proofs.lemmas.Result.{err_from_is_err_and}
-use Rattle.elf_tool_program.proofs.Scanned.{said_in_part, said_whole}
+use Rattle.elf_tool_program.proofs.Sources.{said_in_part, said_whole}
 use Rattle.elf_tool_program.proofs.scan_check.check_source.Goals as goal
 
 pub returns-in_err-send-clause-said : goal.returns-in_err-send-clause-said

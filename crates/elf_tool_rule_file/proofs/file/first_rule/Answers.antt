@@ -1,7 +1,6 @@
 use Rattle.std.proofs.Common.{subst}
-use Rattle.elf_tool_rule_file.specs.RuleLine.{IsRuleLine}
-use Rattle.elf_tool_rule_file.proofs.Cuts.{no_cut, one_cut}
-use Rattle.elf_tool_rule_file.proofs.Words.{no_feed}
+use Rattle.elf_tool_rule_file.specs.RuleFile.{IsRuleLine}
+use Rattle.elf_tool_rule_file.proofs.RuleFiles.{no_cut, one_cut, no_feed}
 use Rattle.elf_tool_rule_file.proofs.file.first_rule.Goals as goal
 
 pub returns-in_err-line : goal.returns-in_err-line

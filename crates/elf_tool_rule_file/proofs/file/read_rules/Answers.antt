@@ -1,5 +1,5 @@
 use Rattle.std.proofs.Common.{◌<◌, ◌++◌, ◌∷◌, [], arith, length}
-use Rattle.elf_tool_rule_file.proofs.Lines.{begins_with_rule, line_passed, rules_more}
+use Rattle.elf_tool_rule_file.proofs.RuleFiles.{begins_with_rule, line_passed, rules_more}
 use Rattle.elf_tool_rule_file.proofs.file.read_rules.Goals as goal
 
 pub returns-in_default-push-clause-err : goal.returns-in_default-push-clause-err

@@ -1,5 +1,5 @@
 use Rattle.std.proofs.Common.{◌≡◌, ◌++◌, ℕ, List, length}
-use Rattle.elf_tool_rule_file.specs.File.{AreRules}
+use Rattle.elf_tool_rule_file.specs.RuleFile.{AreRules}
 use Rattle.elf_tool_rule_file.proofs.file.read_rules.Given as goal
 
 -- what is before the rest are the lines of the rules that there are

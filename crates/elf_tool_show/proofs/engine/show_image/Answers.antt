@@ -6,13 +6,11 @@ use Rattle.std.proofs.lemmas.List.Folds.{flat_map-map}
 use Rattle.std.proofs.lemmas.Result.{err_from_is_err_and}
 use Rattle.elf_field.specs.declared.ehdr.Ehdr.{Ehdr}
 use Rattle.elf_image_outline.specs.Image.{ImageValue, PlacedPart}
-use Rattle.elf_image_outline.specs.declared.part.Part.{Part}
-use Rattle.elf_table_all.specs.TableVerdicts.{TablesValue}
-use Rattle.elf_tool_show.specs.TableLines.{all_table_lines}
-use Rattle.elf_tool_text.specs.Output.{Buffers, IsCutShort}
-use Rattle.elf_tool_show.specs.Show.{part_lines, section_lines, segment_lines, show_text}
-use Rattle.elf_tool_show.specs.ShowLines.{file_line, part_line}
-use Rattle.elf_tool_text.specs.declared.output.Output.{Output}
+use Rattle.elf_image_outline.specs.declared.outline.Part.{Part}
+use Rattle.elf_table_all.specs.Tables.{TablesValue}
+use Rattle.elf_tool_show.specs.Show.{all_table_lines, part_lines, section_lines, segment_lines, show_text, file_line, part_line}
+use Rattle.elf_tool_text.specs.Engine.{Buffers, IsCutShort}
+use Rattle.elf_tool_text.specs.declared.engine.Output.{Output}
 use Rattle.elf_tool_text.proofs.Public.{all_out, all_cut, buffers_both, buffers_line, buffers_none, cut_later, cut_longer}
 use Rattle.elf_tool_show.proofs.engine.show_image.Goals as goal
 

@@ -1,8 +1,8 @@
 use Rattle.std.proofs.Common.{refl}
 use Rattle.std.proofs.lemmas.Result.{err_from_is_err_and}
-use Rattle.elf_image_outline.specs.declared.part.Part.{Part}
-use Rattle.elf_image_outline.specs.declared.part.Owner.TheVariants.{Header}
-use Rattle.elf_tool_show.specs.ShowLines.{part_line}
+use Rattle.elf_image_outline.specs.declared.outline.Part.{Part}
+use Rattle.elf_image_outline.specs.declared.outline.Owner.TheVariants.{Header}
+use Rattle.elf_tool_show.specs.Show.{part_line}
 use Rattle.elf_tool_text.proofs.Public.{line_refused, line_buffered, line_cut}
 use Rattle.elf_tool_show.proofs.engine.show_parts.Goals as goal
 

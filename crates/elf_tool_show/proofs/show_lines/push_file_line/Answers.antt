@@ -1,5 +1,5 @@
 use Rattle.std.proofs.Common.{rules}
-use Rattle.elf_tool_show.specs.ShowLines.{file_line}
+use Rattle.elf_tool_show.specs.Show.{file_line}
 use Rattle.elf_tool_text.proofs.Public.{line_ended}
 use Rattle.elf_tool_show.proofs.show_lines.push_file_line.Goals as goal
 

@@ -1,5 +1,5 @@
 use Rattle.std.proofs.Common.{rules}
-use Rattle.elf_tool_show.specs.ShowLines.{part_line}
+use Rattle.elf_tool_show.specs.Show.{part_line}
 use Rattle.elf_tool_text.proofs.Public.{line_appended}
 use Rattle.elf_tool_show.proofs.show_lines.push_part_line.Goals as goal
 

@@ -1,7 +1,7 @@
 use Rattle.std.proofs.Common.{[], ◌∷◌, rules}
 use Rattle.std.specs.Fmt.{decimal}
 use Rattle.elf_tool_text.specs.Line.{hexadecimal, name_text}
-use Rattle.elf_tool_show.specs.ShowLines.{section_line}
+use Rattle.elf_tool_show.specs.Show.{section_line}
 use Rattle.elf_tool_text.proofs.Public.{line_ended_behind}
 use Rattle.elf_tool_show.proofs.show_lines.push_section_line.Goals as goal
 

@@ -1,5 +1,5 @@
 use Rattle.std.proofs.Common.{rules}
-use Rattle.elf_tool_show.specs.ShowLines.{segment_line}
+use Rattle.elf_tool_show.specs.Show.{segment_line}
 use Rattle.elf_tool_text.proofs.Public.{line_appended}
 use Rattle.elf_tool_show.proofs.show_lines.push_segment_line.Goals as goal
 

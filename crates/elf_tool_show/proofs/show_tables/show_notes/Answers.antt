@@ -1,12 +1,28 @@
 -- One pass of the loop takes one note from those that are left and adds its line to those sent. If that fails, a beginning of all lines was
 -- sent. If no note is left, all lines are sent.
-use Rattle.std.proofs.Common.{◌+◌, ◌∙◌, ap, refl, sym}
+use Rattle.std.proofs.Common.{◌≡◌, ◌∙◌, ℕ, ◌+◌, ◌<◌, ◌≤◌, List, [], ◌∷◌, length, drop, get_or, ap, arith, length-drop, refl, sym}
+use Rattle.std.proofs.lemmas.List.{drop_more}
 use Rattle.std.proofs.lemmas.Result.{err_from_is_err_and}
-use Rattle.elf_table_lists.specs.NoteView.{note_value}
-use Rattle.elf_tool_show.specs.TableLines.{note_line, note_lines}
+use Rattle.elf_table_lists.specs.Notes.{note_value}
+use Rattle.elf_tool_show.specs.Show.{note_line, note_lines}
 use Rattle.elf_tool_text.proofs.Public.{all_lines_buffered, buffers_none, line_buffered, line_cut, line_refused}
-use Rattle.elf_tool_show.proofs.Left.{first_left, none_left, some_left, still_left}
 use Rattle.elf_tool_show.proofs.show_tables.show_notes.Goals as goal
+
+-- What an iterator has left of a list, when so many of its elements are taken.
+
+module _ {X : Type 0} (xs : List X) (n : ℕ) where
+  none_left : [] ≡ drop n xs → length xs ≤ n
+  none_left none = let long = ap length none ∙ length-drop n xs in omega arith
+
+  module _ (x : X) (rest : List X) (left : x ∷ rest ≡ drop n xs) where
+    some_left : n < length xs
+    some_left = let long = ap length left ∙ length-drop n xs in omega arith
+
+    first_left : x ≡ get_or xs n x
+    first_left = let more = drop_more xs n x some_left in cc
+
+    still_left : rest ≡ drop (n + 1) xs
+    still_left = let more = drop_more xs n x some_left in cc
 
 pub loop-note-init : goal.loop-note-init
 loop-note-init g c = (0, buffers_none _ _, c.into_iter-note-iterator.ensures.into_iter_gives ∙ c.iter-note-items.ensures)

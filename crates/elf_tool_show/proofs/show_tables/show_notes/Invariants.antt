@@ -1,7 +1,7 @@
 use Rattle.std.proofs.Common.{◌≡◌, ℕ, drop, take}
 use Rattle.std.specs.List.{flat_map}
-use Rattle.elf_tool_text.specs.Output.{Buffers}
-use Rattle.elf_tool_show.specs.TableLines.{note_line}
+use Rattle.elf_tool_text.specs.Engine.{Buffers}
+use Rattle.elf_tool_show.specs.Show.{note_line}
 use Rattle.elf_tool_show.proofs.show_tables.show_notes.Given as goal
 
 -- the lines of the first notes are sent, and the others are left

@@ -1,7 +1,7 @@
 use Rattle.std.proofs.Common.{length, take}
 use Rattle.std.specs.List.{flat_map, range_with_len}
-use Rattle.elf_tool_text.specs.Output.{Buffers}
-use Rattle.elf_tool_show.specs.TableLines.{table_text}
+use Rattle.elf_tool_text.specs.Engine.{Buffers}
+use Rattle.elf_tool_show.specs.Show.{table_text}
 use Rattle.elf_tool_show.proofs.show_tables.show_tables.Given as goal
 
 -- the lines of the tables in the first sections are sent

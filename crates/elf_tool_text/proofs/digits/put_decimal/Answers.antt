@@ -1,5 +1,5 @@
 use Rattle.std.proofs.Common.{arith}
-use Rattle.elf_tool_text.proofs.DigitByDigit.{few_digits}
+use Rattle.elf_tool_text.proofs.TextLines.{few_digits}
 use Rattle.elf_tool_text.proofs.digits.put_decimal.Goals as goal
 
 pub put_digits-requires-clause-room : goal.put_digits-requires-clause-room

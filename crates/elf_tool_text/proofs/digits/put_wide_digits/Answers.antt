@@ -3,7 +3,7 @@
 use Rattle.std.proofs.Common.{◌≡◌, ◌∙◌, ◌-◌, ◌/◌, ℕ, ◌∷◌, false, ap, arith, drop, rules, set, sym}
 use Rattle.std.proofs.lemmas.List.{drop_all, length-set}
 use Rattle.std.specs.Fmt.{digits, digits_onto}
-use Rattle.elf_tool_text.proofs.DigitByDigit.{last_digit, more_digits, put_before}
+use Rattle.elf_tool_text.proofs.TextLines.{last_digit, more_digits, put_before}
 use Rattle.elf_tool_text.proofs.digits.put_wide_digits.Goals as goal
 
 pub loop-start-init : goal.loop-start-init

@@ -2,7 +2,7 @@ use Rattle.std.proofs.Common.{◌≡◌, ◌∙◌, IfOk, [], ◌∷◌, ◌++�
 use Rattle.std.proofs.lemmas.Result.{IfOk-weaker}
 use Rattle.std.specs.Fmt.{decimal}
 use Rattle.elf_tool_text.specs.Line.{refused_line}
-use Rattle.elf_tool_text.proofs.Words.{line_in_a_row, to_the_end}
+use Rattle.elf_tool_text.proofs.TextLines.{line_in_a_row, to_the_end}
 use Rattle.elf_tool_text.proofs.line.refused_line.Goals as goal
 
 pub returns : goal.returns

@@ -1,4 +1,4 @@
-use Rattle.elf_tool_text.proofs.LineByLine.{all_lines, line_more}
+use Rattle.elf_tool_text.proofs.TextLines.{all_lines, line_more}
 use Rattle.elf_tool_text.proofs.lines.push_lines.Goals as goal
 
 pub loop-j-preserved : goal.loop-j-preserved

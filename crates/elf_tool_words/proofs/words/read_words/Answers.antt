@@ -1,7 +1,7 @@
 use Rattle.std.proofs.Common.{map}
 use Rattle.clap.specs.Matches.{found_of}
 use Rattle.clap.specs.Walk.{rows_of}
-use Rattle.elf_tool_words.proofs.Entered.{entered_is, is_command, never_none}
+use Rattle.elf_tool_words.proofs.WordLists.{entered_is, is_command, never_none}
 use Rattle.elf_tool_words.proofs.words.read_words.Goals as goal
 
 pub unreachable-requires : goal.unreachable-requires

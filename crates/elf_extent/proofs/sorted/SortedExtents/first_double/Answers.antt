@@ -1,6 +1,4 @@
-use Rattle.elf_extent.proofs.Holders.{lowest_sorted, nonempty_sorted}
-use Rattle.elf_extent.proofs.MembersLemmas.{ascending_extents}
-use Rattle.elf_extent.proofs.Overlaps.{disjoint_where_none}
+use Rattle.elf_extent.proofs.ExtentLists.{lowest_sorted, nonempty_sorted, ascending_extents, disjoint_where_none}
 use Rattle.elf_extent.proofs.sorted.SortedExtents.first_double.Goals as goal
 
 pub sweep-requires-clause-ascending : goal.sweep-requires-clause-ascending

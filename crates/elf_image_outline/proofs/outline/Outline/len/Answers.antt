@@ -1,4 +1,4 @@
-use Rattle.elf_image_outline.proofs.Named.{len_short}
+use Rattle.elf_image_outline.proofs.Edited.{len_short}
 use Rattle.elf_image_outline.proofs.outline.Outline.len.Goals as goal
 
 pub returns-clause-short : goal.returns-clause-short

@@ -1,9 +1,8 @@
 use Rattle.std.proofs.Common.{[], subst, sym, true}
-use Rattle.elf_image_outline.specs.Outline.{blank_image}
-use Rattle.elf_image_outline.specs.OutlineView.{outline_view}
-use Rattle.elf_image_outline.specs.Parts.{AreParts}
+use Rattle.elf_image_outline.specs.Outline.{blank_image, outline_view}
+use Rattle.elf_image_outline.specs.Image.{AreParts}
 use Rattle.elf_image_outline.proofs.Edited.{parts-placed}
-use Rattle.elf_image_outline.proofs.PartsOfImage.{are_parts}
+use Rattle.elf_image_outline.proofs.Standing.{are_parts}
 use Rattle.elf_image_outline.proofs.outline.Outline.parts.Goals as goal
 
 pub returns-clause-parts : goal.returns-clause-parts

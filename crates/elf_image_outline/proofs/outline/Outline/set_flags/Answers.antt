@@ -1,6 +1,6 @@
 use Rattle.std.proofs.Common.{arith}
-use Rattle.elf_image_outline.specs.OutlineView.{outline_view}
-use Rattle.elf_image_outline.proofs.Blank.{blank-flagged, of-flagged}
+use Rattle.elf_image_outline.specs.Outline.{outline_view}
+use Rattle.elf_image_outline.proofs.Scanned.{blank-flagged, of-flagged}
 use Rattle.elf_image_outline.proofs.outline.Outline.set_flags.Goals as goal
 
 pub invariant_of-self : goal.invariant_of-self

@@ -1,7 +1,6 @@
 use Rattle.std.proofs.Common.{subst, sym}
 use Rattle.elf_image_outline.specs.Image.{IsSoundImage}
-use Rattle.elf_image_outline.specs.OutlineView.{outline_view}
-use Rattle.elf_image_outline.specs.Outline.{contents_in}
+use Rattle.elf_image_outline.specs.Outline.{outline_view, contents_in}
 use Rattle.elf_image_outline.proofs.Edited.{image-zeroed, sound-with_zero_gaps}
 use Rattle.elf_image_outline.proofs.outline.Outline.zero_gaps.Goals as goal
 

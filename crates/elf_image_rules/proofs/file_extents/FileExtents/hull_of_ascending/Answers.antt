@@ -3,8 +3,8 @@
 -- are the extents from index 3 on.
 use Rattle.std.proofs.Common.{rules, ◌<◌, length, arith}
 use Rattle.std.proofs.lemmas.Option.{slice_get_within}
-use Rattle.elf_image_rules.specs.FileExtents.{file_extents}
-use Rattle.elf_image_rules.proofs.Extents.{length-file_extents}
+use Rattle.elf_image_rules.specs.JudgedRecords.{file_extents}
+use Rattle.elf_image_rules.proofs.Clean.{length-file_extents}
 use Rattle.elf_image_rules.proofs.file_extents.FileExtents.hull_of_ascending.Goals as goal
 
 pub content-extent-requires : goal.content-extent-requires

@@ -1,6 +1,6 @@
 use Rattle.std.proofs.Common.{◌+◌}
-use Rattle.elf_image_rules.specs.FileExtents.{file_extents}
-use Rattle.elf_image_rules.proofs.Extents.{HasAscended}
+use Rattle.elf_image_rules.specs.JudgedRecords.{file_extents}
+use Rattle.elf_image_rules.proofs.Clean.{HasAscended}
 use Rattle.elf_image_rules.proofs.file_extents.FileExtents.hull_of_ascending.Given as goal
 
 abbrev pub invariant-loop-section : goal.invariant-loop-section

@@ -1,5 +1,5 @@
 use Rattle.std.proofs.Common.{ap, sym, ◌∙◌, ◌+◌, ℕ}
-use Rattle.elf_image_rules.proofs.Extents.{length-file_extents}
+use Rattle.elf_image_rules.proofs.Clean.{length-file_extents}
 use Rattle.elf_image_rules.proofs.file_extents.FileExtents.len.Goals as goal
 
 pub returns : goal.returns

@@ -1,8 +1,8 @@
 use Rattle.std.proofs.Common.{ℕ, Option, ◌+◌, ◌≡◌, arith, subst, sym}
-use Rattle.elf_extent.specs.Least.{IsLowest}
-use Rattle.elf_image_rules.specs.FileExtents.{file_extents}
-use Rattle.elf_image_rules.specs.OverlapRule.{DoublyBelow}
-use Rattle.elf_image_rules.proofs.Extents.{doubly_next}
+use Rattle.elf_extent.specs.Extent.{IsLowest}
+use Rattle.elf_image_rules.specs.JudgedRecords.{file_extents}
+use Rattle.elf_image_rules.specs.Rules.{DoublyBelow}
+use Rattle.elf_image_rules.proofs.Clean.{doubly_next}
 use Rattle.elf_image_rules.proofs.file_extents.FileExtents.lowest_double.Goals as goal
 
 pub loop-index-preserved : goal.loop-index-preserved

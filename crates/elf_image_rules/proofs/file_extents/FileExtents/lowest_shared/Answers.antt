@@ -1,8 +1,8 @@
 use Rattle.std.proofs.Common.{ℕ, ◌+◌, Option, subst, sym, arith, ◌≡◌}
-use Rattle.elf_extent.specs.Least.{IsLowest}
-use Rattle.elf_image_rules.specs.FileExtents.{file_extents}
-use Rattle.elf_image_rules.specs.OverlapRule.{SharedBelow}
-use Rattle.elf_image_rules.proofs.Extents.{shared_more}
+use Rattle.elf_extent.specs.Extent.{IsLowest}
+use Rattle.elf_image_rules.specs.JudgedRecords.{file_extents}
+use Rattle.elf_image_rules.specs.Rules.{SharedBelow}
+use Rattle.elf_image_rules.proofs.Clean.{shared_more}
 use Rattle.elf_image_rules.proofs.file_extents.FileExtents.lowest_shared.Goals as goal
 
 pub loop-other-preserved : goal.loop-other-preserved

@@ -1,6 +1,6 @@
-use Rattle.elf_extent.specs.Least.{IsLowest}
-use Rattle.elf_image_rules.specs.FileExtents.{file_extents}
-use Rattle.elf_image_rules.specs.OverlapRule.{SharedBelow}
+use Rattle.elf_extent.specs.Extent.{IsLowest}
+use Rattle.elf_image_rules.specs.JudgedRecords.{file_extents}
+use Rattle.elf_image_rules.specs.Rules.{SharedBelow}
 use Rattle.elf_image_rules.proofs.file_extents.FileExtents.lowest_shared.Given as goal
 
 abbrev pub invariant-loop-other : goal.invariant-loop-other

@@ -1,6 +1,6 @@
-use Rattle.elf_extent.specs.Least.{IsLowest}
-use Rattle.elf_image_rules.specs.FileExtents.{file_extents}
-use Rattle.elf_image_rules.specs.OverlapRule.{DoublyBelow}
+use Rattle.elf_extent.specs.Extent.{IsLowest}
+use Rattle.elf_image_rules.specs.JudgedRecords.{file_extents}
+use Rattle.elf_image_rules.specs.Rules.{DoublyBelow}
 use Rattle.elf_image_rules.proofs.file_extents.FileExtents.lowest_with_contents.Given as goal
 
 abbrev pub invariant-loop-index : goal.invariant-loop-index

@@ -1,5 +1,5 @@
 use Rattle.std.proofs.Common.{arith}
-use Rattle.elf_image_rules.proofs.Extents.{three_first}
+use Rattle.elf_image_rules.proofs.Clean.{three_first}
 use Rattle.elf_image_rules.proofs.file_extents.FileExtents.meets_hull.Goals as goal
 
 pub at-requires : goal.at-requires

@@ -1,6 +1,6 @@
 use Rattle.std.proofs.Common.{◌<◌, arith, subst, sym}
 use Rattle.elf_image_rules.specs.declared.tables.Counts.{Counts}
-use Rattle.elf_image_rules.proofs.Kept.{kept_sections}
+use Rattle.elf_image_rules.proofs.Clean.{kept_sections}
 use Rattle.elf_image_rules.proofs.judged_records.JudgedRecords.section.Goals as goal
 
 pub section_at-requires : goal.section_at-requires

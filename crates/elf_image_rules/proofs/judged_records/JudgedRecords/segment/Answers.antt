@@ -1,6 +1,6 @@
 use Rattle.std.proofs.Common.{◌<◌, arith, subst, sym}
 use Rattle.elf_image_rules.specs.declared.tables.Counts.{Counts}
-use Rattle.elf_image_rules.proofs.Kept.{kept_segments}
+use Rattle.elf_image_rules.proofs.Clean.{kept_segments}
 use Rattle.elf_image_rules.proofs.judged_records.JudgedRecords.segment.Goals as goal
 
 pub segment_at-requires : goal.segment_at-requires

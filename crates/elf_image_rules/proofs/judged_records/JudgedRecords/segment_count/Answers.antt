@@ -1,7 +1,7 @@
 use Rattle.std.proofs.Common.{◌<◌, ◌≤◌, length, subst}
 use Rattle.elf_field.specs.declared.ehdr.Ehdr.{Ehdr}
 use Rattle.elf_image_rules.specs.Tables.{phdr_offset}
-use Rattle.elf_image_rules.proofs.Kept.{kept_segments, kept_short}
+use Rattle.elf_image_rules.proofs.Clean.{kept_segments, kept_short}
 use Rattle.elf_image_rules.proofs.judged_records.JudgedRecords.segment_count.Goals as goal
 
 pub returns-clause-inside : goal.returns-clause-inside

@@ -1,7 +1,6 @@
 use Rattle.std.proofs.Common.{List, subst}
 use Rattle.elf_extent.specs.declared.extent.Extent.{Extent}
-use Rattle.elf_extent.specs.Extent.{Doubly}
-use Rattle.elf_extent.specs.Least.{IsLowest}
+use Rattle.elf_extent.specs.Extent.{Doubly, IsLowest}
 use Rattle.elf_image_rules.specs.JudgedRecords.{file_of}
 use Rattle.elf_image_rules.proofs.ImageRules.{fault_of_extents}
 use Rattle.elf_image_rules.proofs.judged_records.JudgedRecords.shared_byte.Goals as goal

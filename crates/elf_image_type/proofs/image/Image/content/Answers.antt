@@ -1,5 +1,5 @@
 use Rattle.std.proofs.Common.{refl}
-use Rattle.elf_image_outline.proofs.Named.{content_inside, content_size, len_short}
+use Rattle.elf_image_outline.proofs.Edited.{content_inside, content_size, len_short}
 use Rattle.elf_image_type.proofs.image.Image.content.Goals as goal
 
 pub returns-clause-size : goal.returns-clause-size

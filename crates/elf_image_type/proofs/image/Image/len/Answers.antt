@@ -1,5 +1,5 @@
-use Rattle.elf_image_type.specs.View.{view_of}
-use Rattle.elf_image_outline.proofs.Named.{len_short}
+use Rattle.elf_image_type.specs.ImageView.{view_of}
+use Rattle.elf_image_outline.proofs.Edited.{len_short}
 use Rattle.elf_image_type.proofs.image.Image.len.Goals as goal
 
 pub returns-clause-short : goal.returns-clause-short

@@ -1,7 +1,6 @@
 use Rattle.std.proofs.Common.{ℕ, List, subst}
 use Rattle.elf_image_outline.specs.Image.{joined}
-use Rattle.elf_image_type.specs.Loads.{LoadsFirst}
-use Rattle.elf_image_type.specs.View.{view_of}
+use Rattle.elf_image_type.specs.ImageView.{LoadsFirst, view_of}
 use Rattle.elf_image_outline.proofs.Theorem.{joined_is_image, one_list}
 use Rattle.elf_image_type.proofs.image.Image.load.Goals as goal
 

@@ -1,5 +1,5 @@
 use Rattle.std.proofs.Common.{arith, refl}
-use Rattle.elf_image_outline.proofs.Named.{names_held, names_index}
+use Rattle.elf_image_outline.proofs.Edited.{names_held, names_index}
 use Rattle.elf_image_type.proofs.image.Image.names.Goals as goal
 
 pub index-requires : goal.index-requires

@@ -1,9 +1,8 @@
 use Rattle.std.proofs.Common.{◌≡◌, ◌∙◌, map, sym, subst}
-use Rattle.elf_image_outline.specs.Image.{PlacedPart}
-use Rattle.elf_image_outline.specs.Parts.{AreParts}
-use Rattle.elf_image_type.specs.View.{view_of}
+use Rattle.elf_image_outline.specs.Image.{PlacedPart, AreParts}
+use Rattle.elf_image_type.specs.ImageView.{view_of}
 use Rattle.elf_image_outline.proofs.Edited.{parts-placed}
-use Rattle.elf_image_outline.proofs.PartsOfImage.{are_parts}
+use Rattle.elf_image_outline.proofs.Standing.{are_parts}
 use Rattle.elf_image_type.proofs.image.Image.parts.Goals as goal
 
 pub returns-clause-value : goal.returns-clause-value

@@ -1,7 +1,7 @@
 use Rattle.std.proofs.Common.{arith, refl}
 use Rattle.std.proofs.lemmas.List.{map-set}
-use Rattle.elf_image_outline.specs.Edits.{IsReplaceable}
-use Rattle.elf_image_type.specs.View.{view_of}
+use Rattle.elf_image_outline.specs.Image.{IsReplaceable}
+use Rattle.elf_image_type.specs.ImageView.{view_of}
 use Rattle.elf_image_outline.proofs.Edited.{sound-replaced}
 use Rattle.elf_image_type.proofs.image.Image.replace.Goals as goal
 

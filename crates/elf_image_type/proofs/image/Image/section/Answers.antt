@@ -1,4 +1,4 @@
-use Rattle.elf_image_outline.proofs.Named.{header_inside, len_short}
+use Rattle.elf_image_outline.proofs.Edited.{header_inside, len_short}
 use Rattle.elf_image_type.proofs.image.Image.section.Goals as goal
 
 pub returns-clause-inside : goal.returns-clause-inside

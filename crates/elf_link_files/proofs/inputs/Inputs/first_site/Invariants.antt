@@ -1,6 +1,6 @@
 use Rattle.std.proofs.Common.{ℕ, ◌<◌}
 use Rattle.elf_link_files.specs.Files.{object_at}
-use Rattle.elf_link_files.specs.SiteTests.{BreaksSiteTest, counted}
+use Rattle.elf_link_files.specs.FileRules.{BreaksSiteTest, counted}
 use Rattle.elf_link_files.proofs.inputs.Inputs.first_site.Given as goal
 
 abbrev pub invariant-loop-file : goal.invariant-loop-file

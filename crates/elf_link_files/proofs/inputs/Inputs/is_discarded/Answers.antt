@@ -1,6 +1,6 @@
 use Rattle.std.proofs.Common.{false, sym, ◌∙◌, arith}
 use Rattle.std.proofs.lemmas.List.{length-map}
-use Rattle.elf_link_files.proofs.Items.{item_read}
+use Rattle.elf_link_files.proofs.SiteLists.{item_read}
 use Rattle.elf_link_files.proofs.inputs.Inputs.is_discarded.Goals as goal
 
 pub returns : goal.returns

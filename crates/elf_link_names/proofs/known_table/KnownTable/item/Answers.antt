@@ -2,8 +2,8 @@
 use Rattle.std.proofs.Common.{◌≡◌, true, false, List, length, rules, sym, ◌∙◌, subst, arith, vec_len}
 use Rattle.std.specs.Prelude.{slice_get}
 use Rattle.elf_link_names.specs.declared.known_table.Large.{Large}
-use Rattle.elf_link_names.specs.KnownTable.{is_of}
-use Rattle.elf_link_names.proofs.KnownTable.{length-known_from, own_within, read_own, read_small}
+use Rattle.elf_link_names.specs.Tables.{is_of}
+use Rattle.elf_link_names.proofs.Tables.{length-known_from, own_within, read_own, read_small}
 use Rattle.elf_link_names.proofs.known_table.KnownTable.item.Goals as goal
 
 pub index-row-requires : goal.index-row-requires

@@ -1,5 +1,5 @@
 use Rattle.std.proofs.Common.{◌≡◌, length, rules, sym, ◌∙◌}
-use Rattle.elf_link_names.proofs.KnownTable.{length-known_from}
+use Rattle.elf_link_names.proofs.Tables.{length-known_from}
 use Rattle.elf_link_names.proofs.known_table.KnownTable.len.Goals as goal
 
 pub returns : goal.returns

@@ -7,8 +7,8 @@ use Rattle.elf_link_names.specs.declared.known_names.Known.{Known}
 use Rattle.elf_link_names.specs.declared.known_table.Large.{Large}
 use Rattle.elf_link_names.specs.declared.known_table.Row.{Row}
 use Rattle.elf_link_names.specs.KnownNames.{marked_known}
-use Rattle.elf_link_names.specs.KnownTable.{is_of, known_from}
-use Rattle.elf_link_names.proofs.KnownTable.{length-known_from, own_named, own_within, read_own, read_small, set_own, set_small}
+use Rattle.elf_link_names.specs.Tables.{is_of, known_from}
+use Rattle.elf_link_names.proofs.Tables.{length-known_from, own_named, own_within, read_own, read_small, set_own, set_small}
 use Rattle.elf_link_names.proofs.known_table.KnownTable.mark.Goals as goal
 
 pub index-requires : goal.index-requires

@@ -1,5 +1,5 @@
 use Rattle.std.proofs.Common.{◌≡◌, length, rules, arith}
-use Rattle.elf_link_names.proofs.KnownTable.{from_push}
+use Rattle.elf_link_names.proofs.Tables.{from_push}
 use Rattle.elf_link_names.proofs.known_table.KnownTable.push.Goals as goal
 
 pub returns : goal.returns

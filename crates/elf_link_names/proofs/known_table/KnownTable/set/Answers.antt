@@ -3,8 +3,8 @@
 use Rattle.std.proofs.Common.{◌≡◌, true, List, length, refl, rules, sym, ◌∙◌, subst, arith, vec_len}
 use Rattle.std.specs.Prelude.{slice_get}
 use Rattle.elf_link_names.specs.declared.known_table.Large.{Large}
-use Rattle.elf_link_names.specs.KnownTable.{is_of}
-use Rattle.elf_link_names.proofs.KnownTable.{from_set, length-known_from, own_within, set_own}
+use Rattle.elf_link_names.specs.Tables.{is_of}
+use Rattle.elf_link_names.proofs.Tables.{from_set, length-known_from, own_within, set_own}
 use Rattle.elf_link_names.proofs.known_table.KnownTable.set.Goals as goal
 
 pub index-requires : goal.index-requires

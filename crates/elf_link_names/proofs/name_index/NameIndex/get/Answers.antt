@@ -2,8 +2,7 @@
 -- Else no entry has it, and the map decides.
 use Rattle.std.proofs.Common.{ℕ, ap, rules, sym}
 use Rattle.std.specs.Prelude.{Option}
-use Rattle.elf_link_names.specs.Ordered.{position_by}
-use Rattle.elf_link_names.specs.Slots.{name_position, or_else}
+use Rattle.elf_link_names.specs.Tables.{position_by, name_position, or_else}
 use Rattle.elf_link_names.proofs.Tables.{absent_free, absent_taken, here_position, no_position, not_behind}
 use Rattle.elf_link_names.proofs.name_index.NameIndex.get.Goals as goal
 

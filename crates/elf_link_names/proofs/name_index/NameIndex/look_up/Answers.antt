@@ -1,5 +1,4 @@
-use Rattle.elf_link_names.specs.Ordered.{position_by}
-use Rattle.elf_link_names.specs.Slots.{name_position, upper_of as upper_of_hash}
+use Rattle.elf_link_names.specs.Tables.{position_by, name_position, upper_of as upper_of_hash}
 use Rattle.elf_link_names.proofs.Tables.{looked_up}
 use Rattle.elf_link_names.proofs.name_index.NameIndex.look_up.Goals as goal
 

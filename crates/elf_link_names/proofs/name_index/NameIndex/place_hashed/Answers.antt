@@ -3,8 +3,7 @@
 use Rattle.std.proofs.Common.{◌≡◌, ◌+◌, ap, length, rules, sym}
 use Rattle.std.specs.Prelude.{Option, ℕ}
 use Rattle.elf_link_names.specs.declared.slots.Entry.{Entry}
-use Rattle.elf_link_names.specs.Ordered.{position_by}
-use Rattle.elf_link_names.specs.Slots.{name_position, or_else}
+use Rattle.elf_link_names.specs.Tables.{position_by, name_position, or_else}
 use Rattle.elf_link_names.proofs.Tables.{absent_free, absent_taken, entered, here_position, no_position, not_behind, placed_behind, placed_free, tables_behind, tables_same}
 use Rattle.elf_link_names.proofs.name_index.NameIndex.place_hashed.Goals as goal
 

@@ -1,8 +1,8 @@
 use Rattle.std.proofs.Common.{◌≡◌, length, sym, subst, arith, ℕ, List}
-use Rattle.elf_link_files.specs.Listing.{UpTo}
-use Rattle.elf_link_files.specs.declared.chosen.Chosen.{Chosen}
-use Rattle.elf_link_names.specs.ChosenCommons.{AreChosenIn}
-use Rattle.elf_link_names.specs.Listing.{chosen_commons}
+use Rattle.elf_link_files.specs.Rows.{UpTo}
+use Rattle.elf_link_files.specs.declared.site.Chosen.{Chosen}
+use Rattle.elf_link_names.specs.Resolution.{AreChosenIn}
+use Rattle.elf_link_names.specs.Binds.{chosen_commons}
 use Rattle.elf_link_names.proofs.ChosenCommons.{chosen_all, chosen_none}
 use Rattle.elf_link_names.proofs.name_table.NameTable.chosen_commons.Goals as goal
 

@@ -1,6 +1,6 @@
 use Rattle.std.proofs.Common.{ℕ, ◌<◌, length}
 use Rattle.elf_link_files.specs.Files.{object_at}
-use Rattle.elf_link_names.specs.NameRules.{BreaksName}
+use Rattle.elf_link_names.specs.Binds.{BreaksName}
 use Rattle.elf_link_names.proofs.name_table.NameTable.first_name.Given as goal
 
 abbrev pub invariant-loop-file : goal.invariant-loop-file

@@ -1,8 +1,8 @@
 use Rattle.std.proofs.Common.{inl, inr, ap, sym, subst}
-use Rattle.elf_image_rules.specs.declared.broken.Broken.{Broken}
+use Rattle.elf_image_rules.specs.declared.image_rules.Broken.{Broken}
 use Rattle.elf_link_files.specs.declared.site.Site.{Site}
 use Rattle.elf_link_files.specs.Rows.{IsFirstAt}
-use Rattle.elf_link_names.specs.NameRules.{undefined_name}
+use Rattle.elf_link_names.specs.Binds.{undefined_name}
 use Rattle.elf_link_names.proofs.name_table.NameTable.judge_names.Goals as goal
 
 pub returns-in-Some-first_name : goal.returns-in-Some-first_name

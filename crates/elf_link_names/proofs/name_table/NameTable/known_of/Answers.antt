@@ -4,9 +4,9 @@ use Rattle.std.proofs.Common.{ℕ, ◌<◌, List, length, map, sym, subst, arith
 use Rattle.std.proofs.lemmas.List.{length-map}
 use Rattle.elf_link_files.specs.Files.{symbol_in}
 use Rattle.elf_link_names.specs.KnownNames.{IsKnownWhole, first_site, known_at}
-use Rattle.elf_link_names.specs.Slots.{name_position}
-use Rattle.elf_link_names.proofs.Numbers.{number_by}
-use Rattle.elf_link_names.proofs.Tabled.{whole_at, whole_firsts}
+use Rattle.elf_link_names.specs.Tables.{name_position}
+use Rattle.elf_link_names.proofs.ChosenCommons.{number_by}
+use Rattle.elf_link_names.proofs.KnownNames.{whole_at, whole_firsts}
 use Rattle.elf_link_names.proofs.name_table.NameTable.known_of.Goals as goal
 
 pub item-requires : goal.item-requires

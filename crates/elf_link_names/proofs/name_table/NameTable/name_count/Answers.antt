@@ -1,6 +1,6 @@
 use Rattle.std.proofs.Common.{◌≡◌, length, rules}
-use Rattle.elf_link_names.specs.Slots.{name_position}
-use Rattle.elf_link_names.proofs.Numbers.{count_is}
+use Rattle.elf_link_names.specs.Tables.{name_position}
+use Rattle.elf_link_names.proofs.ChosenCommons.{count_is}
 use Rattle.elf_link_names.proofs.name_table.NameTable.name_count.Goals as goal
 
 pub returns : goal.returns

@@ -1,7 +1,7 @@
 use Rattle.elf_link_files.specs.Files.{symbol_in}
-use Rattle.elf_link_names.specs.Slots.{name_position}
-use Rattle.elf_link_names.proofs.NameNumbers.{number_read}
-use Rattle.elf_link_names.proofs.Numbers.{number_is}
+use Rattle.elf_link_names.specs.Tables.{name_position}
+use Rattle.elf_link_names.proofs.KnownNames.{number_read}
+use Rattle.elf_link_names.proofs.ChosenCommons.{number_is}
 use Rattle.elf_link_names.proofs.name_table.NameTable.number_of.Goals as goal
 
 pub returns : goal.returns

@@ -1,8 +1,8 @@
 use Rattle.std.proofs.Common.{◌≡◌, length, subst, arith, ℕ}
 use Rattle.elf_link_files.specs.Files.{object_at}
-use Rattle.elf_link_files.specs.Listing.{UpTo}
-use Rattle.elf_link_names.specs.ChosenCommons.{AreChosenIn}
-use Rattle.elf_link_names.specs.Listing.{chosen_commons}
+use Rattle.elf_link_files.specs.Rows.{UpTo}
+use Rattle.elf_link_names.specs.Resolution.{AreChosenIn}
+use Rattle.elf_link_names.specs.Binds.{chosen_commons}
 use Rattle.elf_link_names.proofs.ChosenCommons.{chosen_file}
 use Rattle.elf_link_names.proofs.name_table.NameTable.push_chosen_of.Goals as goal
 

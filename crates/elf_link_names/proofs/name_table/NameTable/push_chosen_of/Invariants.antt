@@ -1,6 +1,6 @@
-use Rattle.elf_link_files.specs.Listing.{UpTo}
-use Rattle.elf_link_names.specs.ChosenCommons.{AreChosenIn}
-use Rattle.elf_link_names.specs.Listing.{chosen_commons}
+use Rattle.elf_link_files.specs.Rows.{UpTo}
+use Rattle.elf_link_names.specs.Resolution.{AreChosenIn}
+use Rattle.elf_link_names.specs.Binds.{chosen_commons}
 use Rattle.elf_link_names.proofs.name_table.NameTable.push_chosen_of.Given as goal
 
 abbrev pub invariant-loop-index : goal.invariant-loop-index

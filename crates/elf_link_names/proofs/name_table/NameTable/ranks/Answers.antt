@@ -1,5 +1,5 @@
 use Rattle.std.proofs.Common.{◌≡◌, length, rules, arith, vec_len}
-use Rattle.elf_link_names.proofs.Numbers.{number_by, ranks_more}
+use Rattle.elf_link_names.proofs.ChosenCommons.{number_by, ranks_more}
 use Rattle.elf_link_names.proofs.name_table.NameTable.ranks.Goals as goal
 
 pub index_mut-requires : goal.index_mut-requires

@@ -1,9 +1,9 @@
 use Rattle.std.proofs.Common.{◌<◌, map, length, sym, subst, arith}
 use Rattle.std.proofs.lemmas.List.{length-map}
-use Rattle.elf_link_names.specs.Slots.{name_position}
+use Rattle.elf_link_names.specs.Tables.{name_position}
 use Rattle.elf_link_names.specs.KnownNames.{IsKnownWhole, first_site}
-use Rattle.elf_link_names.specs.Numbers.{numbered}
-use Rattle.elf_link_names.proofs.Tabled.{whole_at}
+use Rattle.elf_link_names.specs.Resolution.{numbered}
+use Rattle.elf_link_names.proofs.KnownNames.{whole_at}
 use Rattle.elf_link_names.proofs.resolution.Resolution.choice.Goals as goal
 
 pub returns : goal.returns

@@ -1,8 +1,7 @@
 use Rattle.std.proofs.Common.{◌≡◌, ◌<◌, map, length, get_or, sym, ◌∙◌, subst, arith}
 use Rattle.std.proofs.lemmas.List.{get_or_default}
-use Rattle.elf_link_names.specs.ChosenCommons.{IsCommonOf}
+use Rattle.elf_link_names.specs.Resolution.{IsCommonOf, numbered}
 use Rattle.elf_link_names.specs.KnownNames.{first_site}
-use Rattle.elf_link_names.specs.Numbers.{numbered}
 use Rattle.elf_link_names.proofs.resolution.Resolution.common_position.Goals as goal
 
 pub returns : goal.returns

@@ -1,5 +1,5 @@
-use Rattle.elf_link_names.specs.Slots.{name_position}
-use Rattle.elf_link_names.proofs.Tabled.{whole_firsts, whole_places}
+use Rattle.elf_link_names.specs.Tables.{name_position}
+use Rattle.elf_link_names.proofs.KnownNames.{whole_firsts, whole_places}
 use Rattle.elf_link_names.proofs.resolution.Resolution.into_parts.Goals as goal
 
 pub returns-clause-firsts : goal.returns-clause-firsts

@@ -1,10 +1,10 @@
 use Rattle.std.proofs.Common.{List, map, length, subst}
-use Rattle.elf_link_files.specs.declared.chosen.Chosen.{Chosen}
-use Rattle.elf_link_names.specs.Slots.{name_position}
+use Rattle.elf_link_files.specs.declared.site.Chosen.{Chosen}
+use Rattle.elf_link_names.specs.Tables.{name_position}
 use Rattle.elf_link_names.specs.KnownNames.{first_site}
-use Rattle.elf_link_names.specs.Numbers.{AreRanks}
+use Rattle.elf_link_names.specs.Resolution.{AreRanks}
 use Rattle.elf_link_names.proofs.ChosenCommons.{chosen_symbols, have_chosen}
-use Rattle.elf_link_names.proofs.Tabled.{whole_firsts}
+use Rattle.elf_link_names.proofs.KnownNames.{whole_firsts}
 use Rattle.elf_link_names.proofs.resolution.Resolution.new.Goals as goal
 
 pub invariant_of-result : goal.invariant_of-result

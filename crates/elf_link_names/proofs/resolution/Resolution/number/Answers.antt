@@ -1,6 +1,6 @@
 use Rattle.std.proofs.Common.{◌≡◌, rules}
-use Rattle.elf_link_names.specs.Slots.{name_position}
-use Rattle.elf_link_names.proofs.Numbers.{number_found}
+use Rattle.elf_link_names.specs.Tables.{name_position}
+use Rattle.elf_link_names.proofs.ChosenCommons.{number_found}
 use Rattle.elf_link_names.proofs.resolution.Resolution.number.Goals as goal
 
 pub returns : goal.returns

@@ -1,9 +1,8 @@
 use Rattle.std.proofs.Common.{◌≡◌, ℕ, List, ap, length, subst, arith}
 use Rattle.elf_link_files.specs.declared.site.Site.{Site}
-use Rattle.elf_link_files.specs.Listing.{Lists}
-use Rattle.elf_link_outputs.specs.Outputs.{Picks, is_no_bits, live, section_at_site}
-use Rattle.elf_link_outputs.specs.Planned.{SectionsValue}
-use Rattle.elf_link_outputs.proofs.Picked.{picked_done}
+use Rattle.elf_link_files.specs.Rows.{Lists}
+use Rattle.elf_link_outputs.specs.Outputs.{Picks, is_no_bits, live, section_at_site, SectionsValue}
+use Rattle.elf_link_outputs.proofs.Grouped.{picked_done}
 use Rattle.elf_link_outputs.proofs.outputs.LiveSections.all_of_kind.Goals as goal
 
 pub returns : goal.returns

@@ -1,6 +1,6 @@
 use Rattle.std.proofs.Common.{◌≡◌, ap}
 use Rattle.std.proofs.lemmas.Result.{IfOk-weaker}
-use Rattle.elf_link_outputs.specs.Planned.{SectionsValue}
+use Rattle.elf_link_outputs.specs.Outputs.{SectionsValue}
 use Rattle.elf_link_outputs.proofs.outputs.LiveSections.groups_of_kind.Goals as goal
 
 pub returns : goal.returns

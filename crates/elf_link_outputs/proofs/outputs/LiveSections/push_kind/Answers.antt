@@ -1,9 +1,8 @@
 use Rattle.std.proofs.Common.{◌≡◌, ap, true, false, refl, subst}
 use Rattle.elf_link_files.specs.declared.site.Site.{Site}
-use Rattle.elf_link_files.specs.Listing.{Lists}
-use Rattle.elf_link_outputs.specs.Outputs.{is_no_bits, live, section_at_site}
-use Rattle.elf_link_outputs.specs.Planned.{SectionsValue}
-use Rattle.elf_link_outputs.proofs.Picked.{picked_more, picked_past}
+use Rattle.elf_link_files.specs.Rows.{Lists}
+use Rattle.elf_link_outputs.specs.Outputs.{is_no_bits, live, section_at_site, SectionsValue}
+use Rattle.elf_link_outputs.proofs.Grouped.{picked_more, picked_past}
 use Rattle.elf_link_outputs.proofs.outputs.LiveSections.push_kind.Goals as goal
 
 pub returns-then-not-is_of_kind : goal.returns-then-not-is_of_kind

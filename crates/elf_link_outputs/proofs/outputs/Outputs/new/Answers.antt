@@ -1,7 +1,7 @@
 use Rattle.std.proofs.Common.{map, ap, ◌∙◌}
 use Rattle.std.proofs.lemmas.List.{map-append}
 use Rattle.elf_link_outputs.proofs.Grouped.{outputs_all}
-use Rattle.elf_link_outputs.proofs.Openers.{members_in, outputs_live, outputs_some}
+use Rattle.elf_link_outputs.proofs.OutputLists.{members_in, outputs_live, outputs_some}
 use Rattle.elf_link_outputs.proofs.outputs.Outputs.new.Goals as goal
 
 pub invariant_of-result : goal.invariant_of-result

@@ -1,9 +1,8 @@
 use Rattle.std.proofs.Common.{◌≡◌, sym, ◌∙◌, ap, map, subst, rules}
-use Rattle.elf_link_files.specs.Listing.{AreIn}
-use Rattle.elf_link_outputs.specs.Plan.{output_parts}
-use Rattle.elf_link_outputs.specs.Planned.{OutputsValue}
+use Rattle.elf_link_files.specs.Rows.{AreIn}
+use Rattle.elf_link_outputs.specs.Outputs.{output_parts, OutputsValue}
 use Rattle.elf_link_outputs.proofs.Placings.{flat_more}
-use Rattle.elf_link_outputs.proofs.Plans.{item_in}
+use Rattle.elf_link_outputs.proofs.OutputLists.{item_in}
 use Rattle.elf_link_outputs.proofs.outputs.Outputs.parts.Goals as goal
 
 pub push_parts-requires : goal.push_parts-requires

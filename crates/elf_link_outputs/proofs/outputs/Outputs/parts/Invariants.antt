@@ -1,6 +1,6 @@
 use Rattle.std.proofs.Common.{◌≡◌, take}
 use Rattle.std.specs.List.{flat_map}
-use Rattle.elf_link_outputs.specs.Plan.{output_parts}
+use Rattle.elf_link_outputs.specs.Outputs.{output_parts}
 use Rattle.elf_link_outputs.proofs.outputs.Outputs.parts.Given as goal
 
 abbrev pub invariant-loop-members : goal.invariant-loop-members

@@ -1,6 +1,6 @@
 use Rattle.std.proofs.Common.{◌∙◌, ap, map, List, rules}
 use Rattle.elf_link_files.specs.declared.site.Site.{Site}
-use Rattle.elf_link_outputs.specs.Planned.{OutputsValue}
+use Rattle.elf_link_outputs.specs.Outputs.{OutputsValue}
 use Rattle.elf_link_outputs.proofs.Placings.{flat_more}
 use Rattle.elf_link_outputs.proofs.outputs.Outputs.sites.Goals as goal
 

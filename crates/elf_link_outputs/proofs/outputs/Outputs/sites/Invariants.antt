@@ -1,5 +1,5 @@
 use Rattle.std.proofs.Common.{◌≡◌, take}
-use Rattle.elf_link_outputs.specs.Plan.{flat}
+use Rattle.elf_link_outputs.specs.Outputs.{flat}
 use Rattle.elf_link_outputs.proofs.outputs.Outputs.sites.Given as goal
 
 abbrev pub invariant-loop-members : goal.invariant-loop-members

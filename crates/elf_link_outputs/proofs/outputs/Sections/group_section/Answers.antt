@@ -1,7 +1,6 @@
 use Rattle.std.proofs.Common.{◌≡◌, ap, arith, length, map, rules, subst, vec_len}
 use Rattle.std.proofs.lemmas.List.{length-map}
-use Rattle.elf_link_outputs.specs.OutputGroups.{AreInOrder}
-use Rattle.elf_link_outputs.specs.Planned.{SectionsValue}
+use Rattle.elf_link_outputs.specs.Outputs.{AreInOrder, SectionsValue}
 use Rattle.elf_link_outputs.proofs.Grouped.{grouped_next}
 use Rattle.elf_link_outputs.proofs.outputs.Sections.group_section.Goals as goal
 

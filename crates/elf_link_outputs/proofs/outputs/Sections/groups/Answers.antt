@@ -1,7 +1,5 @@
 use Rattle.std.proofs.Common.{◌≡◌, ℕ, length, map, ap, refl, subst, arith}
-use Rattle.elf_link_outputs.specs.OutputGroups.{AreGrouped}
-use Rattle.elf_link_outputs.specs.Ranks.{rank_by}
-use Rattle.elf_link_outputs.specs.Planned.{SectionsValue}
+use Rattle.elf_link_outputs.specs.Outputs.{AreGrouped, rank_by, SectionsValue}
 use Rattle.elf_link_outputs.proofs.Grouped.{grouped_all, grouped_none}
 use Rattle.elf_link_outputs.proofs.outputs.Sections.groups.Goals as goal
 

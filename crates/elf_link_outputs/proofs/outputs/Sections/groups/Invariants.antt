@@ -1,6 +1,5 @@
 use Rattle.std.proofs.Common.{map}
-use Rattle.elf_link_outputs.specs.OutputGroups.{AreGrouped}
-use Rattle.elf_link_outputs.specs.Ranks.{rank_by}
+use Rattle.elf_link_outputs.specs.Outputs.{AreGrouped, rank_by}
 use Rattle.elf_link_outputs.proofs.outputs.Sections.groups.Given as goal
 
 abbrev pub invariant-loop-k : goal.invariant-loop-k

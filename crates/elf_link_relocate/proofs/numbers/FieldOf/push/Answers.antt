@@ -1,6 +1,6 @@
 use Rattle.std.proofs.Common.{◌≡◌, ℕ, length, ap, ◌∙◌, arith}
-use Rattle.elf_link_relocate.specs.Found.{first_of}
-use Rattle.elf_link_relocate.proofs.Found.{found_more}
+use Rattle.elf_link_relocate.specs.Passes.{first_of}
+use Rattle.elf_link_relocate.proofs.Collected.{found_more}
 use Rattle.elf_link_relocate.proofs.numbers.FieldOf.push.Goals as goal
 
 pub returns-in-Ok-clause-ok : goal.returns-in-Ok-clause-ok

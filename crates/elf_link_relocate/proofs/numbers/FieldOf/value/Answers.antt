@@ -1,12 +1,12 @@
 use Rattle.std.proofs.Common.{◌≡◌, List, Option, ap, ℕ, subst, sym}
 use Rattle.std.specs.Prelude.{IfSome}
-use Rattle.elf_object_type.specs.declared.relocation.Relocation.{Relocation}
+use Rattle.elf_object_type.specs.declared.relocations.Relocation.{Relocation}
 use Rattle.elf_object_type.specs.Object.{ObjectValue}
 use Rattle.elf_object_type.specs.ObjectRules.{IsObject}
 use Rattle.elf_link_files.specs.Files.{object_at}
-use Rattle.elf_link_relocate.specs.Linking.{LinkingValue}
-use Rattle.elf_link_relocate.specs.ValuesView.{IsFileSymbol}
-use Rattle.elf_link_relocate.proofs.ObjectFacts.{symbol_in_file}
+use Rattle.elf_link_relocate.specs.Passes.{LinkingValue}
+use Rattle.elf_link_relocate.specs.Views.{IsFileSymbol}
+use Rattle.elf_link_relocate.proofs.Patches.{symbol_in_file}
 use Rattle.elf_link_relocate.proofs.numbers.FieldOf.value.Goals as goal
 
 pub reference-requires : goal.reference-requires

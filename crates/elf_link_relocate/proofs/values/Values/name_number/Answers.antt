@@ -1,8 +1,8 @@
 use Rattle.std.proofs.Common.{map, subst, ℕ}
 use Rattle.std.specs.Global.{Vec}
-use Rattle.elf_link_map.specs.BindingNumbers.{AreBindingNumbers}
-use Rattle.elf_link_relocate.specs.Linking.{LinkingValue}
-use Rattle.elf_link_relocate.proofs.NameValues.{number_stands}
+use Rattle.elf_link_map.specs.Naming.{AreBindingNumbers}
+use Rattle.elf_link_relocate.specs.Passes.{LinkingValue}
+use Rattle.elf_link_relocate.proofs.Patches.{number_stands}
 use Rattle.elf_link_relocate.proofs.values.Values.name_number.Goals as goal
 
 pub returns : goal.returns

@@ -1,5 +1,5 @@
-use Rattle.elf_link_relocate.specs.FieldTests.{BreaksFieldTest}
-use Rattle.elf_link_relocate.proofs.AtFields.{first_at_field, none_at_field}
+use Rattle.elf_link_relocate.specs.Passes.{BreaksFieldTest}
+use Rattle.elf_link_relocate.proofs.Collected.{first_at_field, none_at_field}
 use Rattle.elf_link_relocate.proofs.values.Values.refuse_first.Goals as goal
 
 pub returns-in-Some-clause-err : goal.returns-in-Some-clause-err

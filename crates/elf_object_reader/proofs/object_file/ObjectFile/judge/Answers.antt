@@ -1,6 +1,6 @@
 use Rattle.elf_image_rules.proofs.Public.{FirstIn-later, FirstIn-sooner}
 use Rattle.elf_object_reader.specs.FileRules.{rules_behind}
-use Rattle.elf_object_reader.proofs.Verdicts.{verdict_later, verdict_told}
+use Rattle.elf_object_reader.proofs.FileRules.{verdict_later, verdict_told}
 use Rattle.elf_object_reader.proofs.object_file.ObjectFile.judge.Goals as goal
 
 pub returns-in_err-judge_symbols : goal.returns-in_err-judge_symbols

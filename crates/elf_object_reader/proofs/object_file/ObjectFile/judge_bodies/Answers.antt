@@ -1,9 +1,9 @@
 use Rattle.std.proofs.Common.{arith}
 use Rattle.elf_image_rules.proofs.Public.{FirstIn-handed}
-use Rattle.elf_object_reader.specs.ObjectFile.{sections_of_file}
-use Rattle.elf_object_reader.proofs.BodyRuns.{bodies_fault, bodies_next, bodies_passed}
-use Rattle.elf_object_reader.proofs.object_file.ObjectFile.judge_bodies.Goals as goal
+use Rattle.elf_object_reader.specs.FileRules.{sections_of_file}
+use Rattle.elf_object_reader.proofs.FileRules.{bodies_fault, bodies_next, bodies_passed}
 use Rattle.elf_object_reader.proofs.object_file.ObjectFile.judge_bodies.Goals.{then-is_kept+in_ok-judge_body, else-is_kept}
+use Rattle.elf_object_reader.proofs.object_file.ObjectFile.judge_bodies.Goals as goal
 
 pub returns-in_err-judge_body : goal.returns-in_err-judge_body
 returns-in_err-judge_body c =

@@ -2,9 +2,8 @@ use Rattle.std.proofs.Common.{ℕ, ◌-◌, Option, length}
 use Rattle.std.specs.Prelude.{filter}
 use Rattle.std.specs.List.{range_with_len}
 use Rattle.elf_image_rules.specs.Rows.{FirstIn}
-use Rattle.elf_object_reader.specs.FileRules.{rules_of_bodies}
-use Rattle.elf_object_reader.specs.Kept.{is_kept, kept}
-use Rattle.elf_object_reader.specs.ObjectFile.{sections_of_file}
+use Rattle.elf_object_reader.specs.FileRules.{rules_of_bodies, sections_of_file}
+use Rattle.elf_object_reader.specs.Denotes.{is_kept, kept}
 use Rattle.elf_object_reader.proofs.object_file.ObjectFile.judge_bodies.Given as goal
 
 -- what the tables of the sections that are left break is what all break

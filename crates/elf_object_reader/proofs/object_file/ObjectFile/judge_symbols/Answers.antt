@@ -1,9 +1,9 @@
 -- The symbol table that is left out is a section of the image, so its verdict is that of the rules of symbol tables. Where these are kept,
 -- rule 75 decides. Without a symbol table no rule is broken.
 use Rattle.elf_image_rules.proofs.Public.{FirstIn-handed}
-use Rattle.elf_object_reader.specs.ObjectFile.{sections_of_file}
-use Rattle.elf_object_reader.proofs.JudgedTables.{symbols_ready, symbols_there, symbols_told}
-use Rattle.elf_object_reader.proofs.SymbolRuns.{no_symbols_kept, outside_found, symbols_fault, symbols_kept}
+use Rattle.elf_object_reader.specs.FileRules.{sections_of_file}
+use Rattle.elf_object_reader.proofs.KeptTypes.{symbols_ready, symbols_there, symbols_told}
+use Rattle.elf_object_reader.proofs.FileRules.{no_symbols_kept, outside_found, symbols_fault, symbols_kept}
 use Rattle.elf_object_reader.proofs.object_file.ObjectFile.judge_symbols.Goals as goal
 
 pub returns-in_default : goal.returns-in_default

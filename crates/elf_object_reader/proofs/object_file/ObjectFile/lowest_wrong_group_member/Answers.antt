@@ -1,10 +1,10 @@
 -- One pass of the loop keeps its invariant: the members of the groups so far are marked, and the lowest wrong one is found. It goes by
 -- cases on whether the section is a group (`GroupMembers`). After the last section, this is the lowest one of all.
 use Rattle.std.proofs.Common.{◌≡◌, length, arith}
-use Rattle.elf_object_reader.specs.ObjectFile.{sections_of_file}
-use Rattle.elf_object_reader.proofs.GroupMembers.{marks_passed, wrong_next, wrong_passed}
-use Rattle.elf_object_reader.proofs.object_file.ObjectFile.lowest_wrong_group_member.Goals as goal
+use Rattle.elf_object_reader.specs.FileRules.{sections_of_file}
+use Rattle.elf_object_reader.proofs.FileRules.{marks_passed, wrong_next, wrong_passed}
 use Rattle.elf_object_reader.proofs.object_file.ObjectFile.lowest_wrong_group_member.Goals.{then-section-eq-SHT_GROUP, else-section-eq-SHT_GROUP}
+use Rattle.elf_object_reader.proofs.object_file.ObjectFile.lowest_wrong_group_member.Goals as goal
 
 pub loop-i-preserved : goal.loop-i-preserved
 loop-i-preserved c =

@@ -1,8 +1,6 @@
 use Rattle.std.proofs.Common.{length}
-use Rattle.elf_extent.specs.Least.{IsLowest}
-use Rattle.elf_object_reader.specs.FileRules.{IsMemberBefore, wrong_group_member_before}
-use Rattle.elf_object_reader.specs.MemberMarks.{AreMarks}
-use Rattle.elf_object_reader.specs.ObjectFile.{sections_of_file}
+use Rattle.elf_extent.specs.Extent.{IsLowest}
+use Rattle.elf_object_reader.specs.FileRules.{IsMemberBefore, wrong_group_member_before, AreMarks, sections_of_file}
 use Rattle.elf_object_reader.proofs.object_file.ObjectFile.lowest_wrong_group_member.Given as goal
 
 abbrev pub invariant-loop-i : goal.invariant-loop-i

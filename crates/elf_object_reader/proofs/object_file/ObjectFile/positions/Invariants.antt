@@ -1,7 +1,7 @@
 use Rattle.std.proofs.Common.{◌≡◌, map}
 use Rattle.std.specs.List.{range_with_len}
-use Rattle.elf_object_reader.specs.Kept.{position_of}
-use Rattle.elf_object_reader.specs.ObjectFile.{sections_of_file}
+use Rattle.elf_object_reader.specs.Denotes.{position_of}
+use Rattle.elf_object_reader.specs.FileRules.{sections_of_file}
 use Rattle.elf_object_reader.proofs.object_file.ObjectFile.positions.Given as goal
 
 abbrev pub invariant-loop-i : goal.invariant-loop-i

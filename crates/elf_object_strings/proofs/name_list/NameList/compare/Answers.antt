@@ -1,6 +1,6 @@
 use Rattle.std.proofs.Common.{ℕ, List, length, sym, ap₂, ◌∙◌}
 use Rattle.std.specs.Ordering.{nat_cmp}
-use Rattle.elf_object_strings.proofs.NameTails.{tails_order}
+use Rattle.elf_object_strings.proofs.Ends.{tails_order}
 use Rattle.elf_object_strings.proofs.name_list.NameList.compare.Goals as goal
 
 pub returns-then-have_one_end : goal.returns-then-have_one_end

@@ -1,6 +1,6 @@
 use Rattle.std.proofs.Common.{List, [], ℕ, ◌≤◌, get_or, length, subst}
-use Rattle.elf_object_strings.specs.Owners.{IsSuffix}
-use Rattle.elf_object_strings.proofs.NameTails.{tail_by_length}
+use Rattle.elf_object_strings.specs.StringTable.{IsSuffix}
+use Rattle.elf_object_strings.proofs.Ends.{tail_by_length}
 use Rattle.elf_object_strings.proofs.name_list.NameList.is_tail.Goals as goal
 
 pub returns-then-have_one_end : goal.returns-then-have_one_end

@@ -1,6 +1,6 @@
 use Rattle.std.proofs.Common.{◌∙◌}
-use Rattle.elf_object_type.specs.EqualityLaws.{object_decides}
-use Rattle.elf_object_type.proofs.Equality.{parts_same}
+use Rattle.elf_object_type.specs.Equality.{object_decides}
+use Rattle.elf_object_type.proofs.PartsOfObjects.{parts_same}
 use Rattle.elf_object_type.proofs.object.ObjectPartialEq.eq.Goals as goal
 
 pub returns-clause-parts : goal.returns-clause-parts

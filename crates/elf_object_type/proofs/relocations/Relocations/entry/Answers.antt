@@ -1,6 +1,6 @@
 use Rattle.std.proofs.Common.{◌<◌, sym, ◌∙◌}
-use Rattle.elf_object_type.specs.RelocationTable.{table_count}
-use Rattle.elf_object_type.proofs.RelocationTables.{length_table_relocations, table_relocation_get}
+use Rattle.elf_object_type.specs.Object.{table_count}
+use Rattle.elf_object_type.proofs.PartsOfObjects.{length_table_relocations, table_relocation_get}
 use Rattle.elf_object_type.proofs.relocations.Relocations.entry.Goals as goal
 
 pub entry-requires : goal.entry-requires

@@ -1,5 +1,5 @@
 use Rattle.std.proofs.Common.{sym, ◌∙◌}
-use Rattle.elf_object_type.proofs.RelocationTables.{length_table_relocations}
+use Rattle.elf_object_type.proofs.PartsOfObjects.{length_table_relocations}
 use Rattle.elf_object_type.proofs.relocations.Relocations.len.Goals as goal
 
 pub returns-in-Table : goal.returns-in-Table

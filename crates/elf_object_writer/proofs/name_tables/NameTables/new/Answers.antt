@@ -2,10 +2,9 @@
 -- names in the first list, and the two tables are the tables of the object's names.
 use Rattle.std.proofs.Common.{◌≡◌, ℕ, List, map, ap, sym, subst, ◌∙◌}
 use Rattle.elf_object_type.specs.Object.{SymbolValue}
-use Rattle.elf_object_writer.specs.PlainSections.{section_names, symbol_names}
-use Rattle.elf_object_strings.specs.NameEnds.{AreTails}
-use Rattle.elf_object_strings.specs.StringTable.{name_offset, string_table}
-use Rattle.elf_object_writer.proofs.NamesOf.{names_of_symbols, now_of}
+use Rattle.elf_object_writer.specs.Laid.{section_names, symbol_names}
+use Rattle.elf_object_strings.specs.StringTable.{AreTails, name_offset, string_table}
+use Rattle.elf_object_writer.proofs.PlainSections.{names_of_symbols, now_of}
 use Rattle.elf_object_writer.proofs.name_tables.NameTables.new.Goals as goal
 
 pub shared_table_at-requires : goal.shared_table_at-requires

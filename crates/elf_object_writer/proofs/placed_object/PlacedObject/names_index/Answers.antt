@@ -1,5 +1,5 @@
 use Rattle.std.proofs.Common.{sym, ◌∙◌}
-use Rattle.elf_object_writer.proofs.ShortLayout.{names_at_is}
+use Rattle.elf_object_writer.proofs.CanonicalLayout.{names_at_is}
 use Rattle.elf_object_writer.proofs.placed_object.PlacedObject.names_index.Goals as goal
 
 pub returns-clause-value : goal.returns-clause-value

@@ -1,5 +1,5 @@
 use Rattle.std.proofs.Common.{arith}
-use Rattle.elf_object_writer.proofs.PlacedSections.{index_table_at, name_table_at, own_at, strings_at, symbols_at}
+use Rattle.elf_object_writer.proofs.PlainSections.{index_table_at, name_table_at, own_at, strings_at, symbols_at}
 use Rattle.elf_object_writer.proofs.placed_object.PlacedObject.section.Goals as goal
 
 pub returns-then-position-own : goal.returns-then-position-own

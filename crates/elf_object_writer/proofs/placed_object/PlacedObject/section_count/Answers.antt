@@ -1,6 +1,6 @@
 use Rattle.std.proofs.Common.{length, ap, arith}
 use Rattle.elf_object_writer.specs.PlacedObject.{PlacedValue}
-use Rattle.elf_object_writer.proofs.ShortLayout.{few_sections}
+use Rattle.elf_object_writer.proofs.CanonicalLayout.{few_sections}
 use Rattle.elf_object_writer.proofs.placed_object.PlacedObject.section_count.Goals as goal
 
 pub returns-clause-few : goal.returns-clause-few

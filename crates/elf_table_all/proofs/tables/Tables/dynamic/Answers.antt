@@ -1,4 +1,4 @@
-use Rattle.elf_table_all.proofs.AskedRules.{sound_rules}
+use Rattle.elf_table_all.proofs.TableLinks.{sound_rules}
 use Rattle.elf_table_all.proofs.tables.Tables.dynamic.Goals as goal
 
 pub sound_dynamic-requires-clause-sound : goal.sound_dynamic-requires-clause-sound

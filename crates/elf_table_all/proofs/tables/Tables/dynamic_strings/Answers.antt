@@ -1,6 +1,5 @@
 use Rattle.elf_table_symbols.specs.Sections.{sections_of}
-use Rattle.elf_table_all.proofs.AskedRules.{sound_rules}
-use Rattle.elf_table_all.proofs.TableLinks.{dynamic_link}
+use Rattle.elf_table_all.proofs.TableLinks.{sound_rules, dynamic_link}
 use Rattle.elf_table_all.proofs.tables.Tables.dynamic_strings.Goals as goal
 
 pub content-requires : goal.content-requires

@@ -1,4 +1,4 @@
-use Rattle.elf_table_all.proofs.AskedRules.{sound_rules}
+use Rattle.elf_table_all.proofs.TableLinks.{sound_rules}
 use Rattle.elf_table_all.proofs.tables.Tables.group.Goals as goal
 
 pub sound_group-requires-clause-sound : goal.sound_group-requires-clause-sound

@@ -1,9 +1,8 @@
 -- A sound group links to a sound symbol table, and its signature is one of its symbols.
 use Rattle.std.proofs.Common.{Some}
-use Rattle.elf_table_symbols.specs.declared.table_kind.TableKind.TheVariants.{SymbolTable}
+use Rattle.elf_table_symbols.specs.declared.table_section.TableKind.TheVariants.{SymbolTable}
 use Rattle.elf_table_symbols.specs.Sections.{sections_of}
-use Rattle.elf_table_all.proofs.AskedRules.{sound_rules}
-use Rattle.elf_table_all.proofs.TableLinks.{group_link, group_signature, group_symbols, group_symbols_sound, none_kept}
+use Rattle.elf_table_all.proofs.TableLinks.{sound_rules, group_link, group_signature, group_symbols, group_symbols_sound, none_kept}
 use Rattle.elf_table_all.proofs.tables.Tables.signature_name.Goals as goal
 
 pub symbols-symbols-requires : goal.symbols-symbols-requires

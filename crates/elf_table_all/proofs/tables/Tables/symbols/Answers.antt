@@ -1,4 +1,4 @@
-use Rattle.elf_table_all.proofs.AskedRules.{sound_rules}
+use Rattle.elf_table_all.proofs.TableLinks.{sound_rules}
 use Rattle.elf_table_all.proofs.tables.Tables.symbols.Goals as goal
 
 pub sound_symbols-requires-clause-sound : goal.sound_symbols-requires-clause-sound

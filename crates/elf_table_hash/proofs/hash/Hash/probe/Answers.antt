@@ -1,4 +1,4 @@
-use Rattle.elf_table_hash.proofs.ProbeLemmas.{probe_some}
+use Rattle.elf_table_hash.proofs.HashSound.{probe_some}
 use Rattle.elf_table_hash.proofs.hash.Hash.probe.Goals as goal
 
 pub returns-clause-some : goal.returns-clause-some

@@ -1,6 +1,6 @@
 use Rattle.std.proofs.Common.{◌∙◌, arith}
 use Rattle.std.proofs.lemmas.List.{get_or_default}
-use Rattle.elf_table_hash.proofs.ChainDepthLemmas.{depth_short}
+use Rattle.elf_table_hash.proofs.Chains.{depth_short}
 use Rattle.elf_table_hash.proofs.hash_chains.KnownChains.at.Goals as goal
 
 pub returns-clause-short : goal.returns-clause-short

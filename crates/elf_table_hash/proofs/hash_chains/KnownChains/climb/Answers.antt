@@ -1,6 +1,5 @@
 use Rattle.std.proofs.Common.{sym, ◌∙◌}
-use Rattle.elf_table_hash.proofs.ChainDepthLemmas.{seen_more, seen_twice}
-use Rattle.elf_table_hash.proofs.ChainLemmas.{path_push}
+use Rattle.elf_table_hash.proofs.Chains.{seen_more, seen_twice, path_push}
 use Rattle.elf_table_hash.proofs.hash_chains.KnownChains.climb.Goals as goal
 
 pub returns-then-seen-s-clause-endless : goal.returns-then-seen-s-clause-endless

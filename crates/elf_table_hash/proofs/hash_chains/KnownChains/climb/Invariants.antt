@@ -1,8 +1,7 @@
 use Rattle.std.proofs.Common.{◌<◌, Bool, cond}
 use Rattle.std.specs.List.{sum_by}
 use Rattle.elf_table_hash.specs.ChainDepths.{AreSeen}
-use Rattle.elf_table_hash.specs.Chains.{IsPath}
-use Rattle.elf_table_hash.specs.HashTable.{chain, nchain}
+use Rattle.elf_table_hash.specs.HashTable.{IsPath, chain, nchain}
 use Rattle.elf_table_hash.proofs.hash_chains.KnownChains.climb.Given as goal
 
 abbrev pub invariant-steps : goal.invariant-steps

@@ -1,4 +1,4 @@
-use Rattle.elf_table_hash.proofs.ChainDepthLemmas.{leads_join}
+use Rattle.elf_table_hash.proofs.Chains.{leads_join}
 use Rattle.elf_table_hash.proofs.hash_chains.KnownChains.far_of.Goals as goal
 
 pub returns-then-here-farther-clause-leads : goal.returns-then-here-farther-clause-leads

@@ -4,10 +4,8 @@
 use Rattle.std.proofs.Common.{◌≢◌, get_or, ap, eq-eqb, subst, arith, ◌<◌, inr, refl, sym, ◌∙◌}
 use Rattle.std.proofs.lemmas.Bool.{eqb-true, false≢true}
 use Rattle.elf_table_hash.specs.ChainDepths.{Leads}
-use Rattle.elf_table_hash.specs.Chains.{Ends}
-use Rattle.elf_table_hash.specs.HashTable.{chain}
-use Rattle.elf_table_hash.proofs.ChainLemmas.{on_from_path}
-use Rattle.elf_table_hash.proofs.ChainDepthLemmas.{known_along, known_ends, leads_join, on_behind, on_same, on_some, zero_depth}
+use Rattle.elf_table_hash.specs.HashTable.{Ends, chain}
+use Rattle.elf_table_hash.proofs.Chains.{on_from_path, known_along, known_ends, leads_join, on_behind, on_same, on_some, zero_depth}
 use Rattle.elf_table_hash.proofs.hash_chains.KnownChains.is_on.Goals as goal
 
 pub returns-then-symbol-eq0 : goal.returns-then-symbol-eq0

@@ -1,7 +1,6 @@
 use Rattle.std.proofs.Common.{◌<◌, get_or}
 use Rattle.elf_table_hash.specs.ChainDepths.{IsDepthKnown, Leads}
-use Rattle.elf_table_hash.specs.Chains.{IsOn}
-use Rattle.elf_table_hash.specs.HashTable.{chain, nchain}
+use Rattle.elf_table_hash.specs.HashTable.{IsOn, chain, nchain}
 use Rattle.elf_table_hash.proofs.hash_chains.KnownChains.is_on.Given as goal
 
 abbrev pub invariant-steps : goal.invariant-steps

@@ -1,5 +1,5 @@
 use Rattle.std.proofs.Common.{◌≢◌, [], ◌∷◌, get_or, ap, refl, arith}
-use Rattle.elf_table_hash.proofs.ChainDepthLemmas.{next_depth, zero_depth}
+use Rattle.elf_table_hash.proofs.Chains.{next_depth, zero_depth}
 use Rattle.elf_table_hash.proofs.hash_chains.KnownChains.leap.Goals as goal
 
 pub returns-clause-leads : goal.returns-clause-leads

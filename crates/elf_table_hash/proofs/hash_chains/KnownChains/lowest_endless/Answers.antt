@@ -3,7 +3,7 @@
 -- chain is known too.
 use Rattle.std.proofs.Common.{◌≡◌, ◌∙◌, inl, inr, refl, arith}
 use Rattle.std.proofs.lemmas.Bool.{cases_lt}
-use Rattle.elf_table_hash.proofs.ChainDepthLemmas.{known_ends, known_kept, seen_settled}
+use Rattle.elf_table_hash.proofs.Chains.{known_ends, known_kept, seen_settled}
 use Rattle.elf_table_hash.proofs.hash_chains.KnownChains.lowest_endless.Goals as goal
 
 pub returns-in-None-clause-lowest : goal.returns-in-None-clause-lowest

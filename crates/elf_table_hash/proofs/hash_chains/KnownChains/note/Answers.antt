@@ -2,12 +2,10 @@
 -- `starts_more`). The symbol is below the number of symbols, because `start` leads to it, so it is an index of each list (`places`). Its
 -- depth does not overflow, because known chains are short.
 use Rattle.std.proofs.Common.{ℕ, ◌<◌, arith, vec_len}
-use Rattle.elf_table_hash.specs.ChainDepths.{Leads}
+use Rattle.elf_table_hash.specs.ChainDepths.{Leads, AreKnownChains}
 use Rattle.elf_table_hash.specs.HashTable.{chain, nchain}
-use Rattle.elf_table_hash.specs.KnownChains.{AreKnownChains}
 use Rattle.elf_table_hash.specs.declared.hash_chains.KnownChains.TheInside.{Inside}
-use Rattle.elf_table_hash.proofs.ChainLemmas.{end_below}
-use Rattle.elf_table_hash.proofs.ChainDepthLemmas.{depths_more, jumps_more, starts_more}
+use Rattle.elf_table_hash.proofs.Chains.{end_below, depths_more, jumps_more, starts_more}
 use Rattle.elf_table_hash.proofs.hash_chains.KnownChains.note.Goals as goal
 
 -- the symbol has its place in each list

@@ -2,9 +2,8 @@
 -- requires; after it the symbol's chain is known too. Each symbol that was on the stack is still there, or known (`waiting`).
 use Rattle.std.proofs.Common.{◌≡◌, ◌≢◌, ℕ, ◌+◌, ◌<◌, ◌⊎◌, List, [], ◌∷◌, ◌++◌, length, get_or, set, inl, inr, refl, subst, arith, get_or-set_same}
 use Rattle.elf_table_hash.specs.ChainDepths.{IsAmongSymbols}
-use Rattle.elf_table_hash.specs.Chains.{IsPath}
-use Rattle.elf_table_hash.proofs.ChainLemmas.{path_last}
-use Rattle.elf_table_hash.proofs.ChainDepthLemmas.{deep_more, in_push}
+use Rattle.elf_table_hash.specs.HashTable.{IsPath}
+use Rattle.elf_table_hash.proofs.Chains.{path_last, deep_more, in_push}
 use Rattle.elf_table_hash.proofs.hash_chains.KnownChains.settle.Goals as goal
 
 -- what the symbol popped leads to, and what leads to it

@@ -1,7 +1,6 @@
 use Rattle.std.proofs.Common.{◌≡◌, ℕ, ◌<◌, ◌⊎◌, get_or, vec_len}
 use Rattle.elf_table_hash.specs.ChainDepths.{IsDepthKnown, IsAmongSymbols}
-use Rattle.elf_table_hash.specs.Chains.{IsPath}
-use Rattle.elf_table_hash.specs.HashTable.{chain}
+use Rattle.elf_table_hash.specs.HashTable.{IsPath, chain}
 use Rattle.elf_table_hash.proofs.hash_chains.KnownChains.settle.Given as goal
 
 abbrev pub invariant-steps : goal.invariant-steps

@@ -4,12 +4,11 @@
 use Rattle.std.proofs.Common.{inl, inr, ℕ, ◌+◌, ◌/◌, ◌<◌, ◌≤◌, List, length, refl, ap, ◌∙◌, arith}
 use Rattle.std.proofs.lemmas.Bool.{cases_lt}
 use Rattle.elf_field.specs.Abi.{WORD_SIZE}
-use Rattle.elf_field.specs.declared.order.Order.{Order}
+use Rattle.elf_field.specs.declared.number.Order.{Order}
 use Rattle.elf_table_symbols.specs.Sections.{section, sections_of}
 use Rattle.elf_table_symbols.proofs.Public.{sound_link}
-use Rattle.elf_table_hash.specs.WordLists.{names_in}
-use Rattle.elf_table_hash.proofs.HashSound.{hash_content, hash_type, names_of_section}
-use Rattle.elf_table_hash.proofs.WordListLemmas.{length_names, length_words}
+use Rattle.elf_table_hash.specs.HashTable.{names_in}
+use Rattle.elf_table_hash.proofs.HashSound.{hash_content, hash_type, names_of_section, length_names, length_words}
 use Rattle.elf_table_hash.proofs.hash_parts.HashParts.new.Goals as goal
 
 pub content-strings-requires : goal.content-strings-requires

@@ -1,5 +1,5 @@
 use Rattle.std.proofs.Common.{sym, arith}
-use Rattle.elf_table_hash.proofs.WordListLemmas.{length_words, word_get}
+use Rattle.elf_table_hash.proofs.HashSound.{length_words, word_get}
 use Rattle.elf_table_hash.proofs.hash_words.HashWords.get.Goals as goal
 
 pub word-requires : goal.word-requires

@@ -1,5 +1,5 @@
 use Rattle.std.proofs.Common.{sym}
-use Rattle.elf_table_hash.proofs.WordListLemmas.{length_words}
+use Rattle.elf_table_hash.proofs.HashSound.{length_words}
 use Rattle.elf_table_hash.proofs.hash_words.HashWords.len.Goals as goal
 
 pub returns : goal.returns

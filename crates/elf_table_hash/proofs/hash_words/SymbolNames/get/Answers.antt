@@ -1,5 +1,5 @@
 use Rattle.std.proofs.Common.{sym}
-use Rattle.elf_table_hash.proofs.WordListLemmas.{length_names, name_get}
+use Rattle.elf_table_hash.proofs.HashSound.{length_names, name_get}
 use Rattle.elf_table_hash.proofs.hash_words.SymbolNames.get.Goals as goal
 
 pub entry-symbol-requires : goal.entry-symbol-requires

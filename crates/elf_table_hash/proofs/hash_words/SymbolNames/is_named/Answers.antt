@@ -1,4 +1,4 @@
-use Rattle.elf_table_hash.proofs.WordListLemmas.{length_names, name_get}
+use Rattle.elf_table_hash.proofs.HashSound.{length_names, name_get}
 use Rattle.elf_table_hash.proofs.hash_words.SymbolNames.is_named.Goals as goal
 
 pub entry-symbol-requires : goal.entry-symbol-requires

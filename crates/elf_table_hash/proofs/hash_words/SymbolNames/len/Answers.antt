@@ -1,5 +1,5 @@
 use Rattle.std.proofs.Common.{sym}
-use Rattle.elf_table_hash.proofs.WordListLemmas.{length_names}
+use Rattle.elf_table_hash.proofs.HashSound.{length_names}
 use Rattle.elf_table_hash.proofs.hash_words.SymbolNames.len.Goals as goal
 
 pub returns : goal.returns

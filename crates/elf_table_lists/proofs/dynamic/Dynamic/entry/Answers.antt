@@ -1,5 +1,5 @@
 use Rattle.std.proofs.Common.{sym, arith}
-use Rattle.elf_table_lists.proofs.DynamicLists.{dynamic_get, length_dynamic}
+use Rattle.elf_table_lists.proofs.EntryLists.{dynamic_get, length_dynamic}
 use Rattle.elf_table_lists.proofs.dynamic.Dynamic.entry.Goals as goal
 
 pub dynamic_entry-requires : goal.dynamic_entry-requires

@@ -1,5 +1,5 @@
 use Rattle.std.proofs.Common.{sym}
-use Rattle.elf_table_lists.proofs.DynamicLists.{length_dynamic}
+use Rattle.elf_table_lists.proofs.EntryLists.{length_dynamic}
 use Rattle.elf_table_lists.proofs.dynamic.Dynamic.len.Goals as goal
 
 pub returns : goal.returns

@@ -1,5 +1,5 @@
 use Rattle.std.proofs.Common.{sym}
-use Rattle.elf_table_lists.proofs.GroupLists.{length_members, member_get}
+use Rattle.elf_table_lists.proofs.EntryLists.{length_members, member_get}
 use Rattle.elf_table_lists.proofs.group.Group.entry.Goals as goal
 
 pub member-requires : goal.member-requires

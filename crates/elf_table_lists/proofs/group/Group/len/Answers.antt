@@ -1,5 +1,5 @@
 use Rattle.std.proofs.Common.{sym}
-use Rattle.elf_table_lists.proofs.GroupLists.{length_members}
+use Rattle.elf_table_lists.proofs.EntryLists.{length_members}
 use Rattle.elf_table_lists.proofs.group.Group.len.Goals as goal
 
 pub returns : goal.returns

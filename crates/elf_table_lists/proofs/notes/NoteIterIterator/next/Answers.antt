@@ -1,5 +1,5 @@
 use Rattle.std.proofs.Common.{rules, sym, ◌∙◌, arith}
-use Rattle.elf_table_lists.proofs.NotePlaces.{end_above, first_whole, no_note_left, note_left, rest_whole}
+use Rattle.elf_table_lists.proofs.NoteLists.{end_above, first_whole, no_note_left, note_left, rest_whole}
 use Rattle.elf_table_lists.proofs.notes.NoteIterIterator.next.Goals as goal
 
 pub returns-then-self-clause-steps : goal.returns-then-self-clause-steps

@@ -1,0 +1,170 @@
+-- The calls of the library for C that run a command on files in memory.
+use Rattle.std.specs.Prelude.{◌≡◌, ◌<◌, ◌≤◌, ◌+◌, ℕ, List, ◌∷◌, ◌++◌, length, map, ◌≢◌, ◌⊎◌, None, Option, Some, option_copied, drop}
+use Rattle.std.specs.List.{All}
+use Rattle.elf_c_engines.specs.declared.calls.CallFault.TheVariants.{BadRules, BadFiles, OutOfMemory}
+use Rattle.elf_c_engines.specs.declared.calls.CallFault.{CallFault}
+use Rattle.elf_c_engines.specs.declared.calls.Outcome.{Outcome}
+use Rattle.elf_c_engines.specs.declared.exports.LinkOptions.{LinkOptions}
+use Rattle.elf_c_parts.specs.Slots.{extent_in}
+use Rattle.elf_c_parts.specs.declared.room.Slot.{Slot}
+use Rattle.elf_image_rules.specs.Tables.{bytes_in}
+use Rattle.elf_link_field.specs.declared.rule.RelocRule.{RelocRule}
+use Rattle.elf_link_files.specs.declared.fault.Options.{Options}
+use Rattle.elf_tool_link.specs.Link.{FilesLink}
+use Rattle.elf_tool_link.specs.Map.{MapSays}
+use Rattle.elf_tool_rule_file.specs.RuleFile.{AreRules, IsBadLine}
+use Rattle.elf_tool_text.specs.declared.engine.Refusal.TheVariants.{File, Link, TooLong}
+use Rattle.elf_tool_text.specs.declared.engine.Verdict.TheVariants.{Done, Refused}
+use Rattle.elf_tool_text.specs.declared.engine.Verdict.{Verdict}
+
+-- Files that lie in bytes, by their extents.
+
+-- an extent lies in so many bytes
+abbrev pub LiesWithin : ℕ → Slot → Type 0
+LiesWithin n place = place.start + place.len ≤ n
+
+-- each extent lies in the bytes, and these are the bytes of each
+pub record AreFilesIn (b : List ℕ) (places : List Slot) (files : List (List ℕ)) : Type 0 where
+  pub within : All (LiesWithin (length b)) places
+  pub bytes : files ≡ map (λ place. bytes_in b (extent_in place)) places
+
+-- the extent of file k passes the end of so many bytes, and none before it does
+pub record IsFirstOutside (n : ℕ) (places : List Slot) (k : ℕ) : Type 0 where
+  pub before : List Slot
+  pub place : Slot
+  pub behind : List Slot
+  pub places_are : places ≡ before ++ place ∷ behind
+  pub within : All (LiesWithin n) before
+  pub outside : n < place.start + place.len
+  pub index : k ≡ length before
+
+-- What `map` and `link` make of files that lie in bytes, by the text of a file of relocation rules.
+
+-- an engine says so of the files that lie in the bytes
+abbrev pub SaysOfFiles : (List (List ℕ) → Verdict → List ℕ → Type 0) → List ℕ → List Slot → Verdict → List ℕ → Type 0
+SaysOfFiles Says b places verdict text = (files : List (List ℕ)) × AreFilesIn b places files × Says files verdict text
+
+-- or the first file doesn't that is reported, or an allocation failed
+abbrev pub LacksFile : List ℕ → List Slot → CallFault → Type 0
+LacksFile b places OutOfMemory = Unit {0}
+LacksFile b places (BadFiles file) = IsFirstOutside (length b) places file
+LacksFile b places (BadRules line) = ⊥
+
+-- a text gives no relocation rules: the first line is reported that is bad, or an allocation failed
+abbrev pub LacksRules : List ℕ → CallFault → Type 0
+LacksRules rules OutOfMemory = Unit {0}
+LacksRules rules (BadRules line) = IsBadLine rules line
+LacksRules rules (BadFiles file) = ⊥
+
+-- ---- `map`
+
+abbrev pub map_options : LinkOptions → Options
+map_options options = record { base = options.base; page = options.page; entry = None }
+
+-- its relocation rules: none, or those of the text where the options ask for them
+abbrev pub UsesRules : LinkOptions → List ℕ → Option (List RelocRule) → Type 0
+UsesRules options text rules =
+    ((options.uses_rules ≡ 0) × (rules ≡ None))
+    ⊎ ((options.uses_rules ≢ 0) × ((table : List RelocRule) × AreRules text table × (rules ≡ Some table)))
+
+-- what it says by these rules of the files that lie in the bytes
+abbrev pub MapCallSays : List ℕ → List Slot → LinkOptions → List ℕ → Verdict → List ℕ → Type 0
+MapCallSays b places options text verdict lines =
+    (rules : Option (List RelocRule)) × UsesRules options text rules × SaysOfFiles (MapSays (map_options options) rules) b places verdict lines
+
+-- why it says nothing: bad rules, which are looked at only where they are asked for; then a file that doesn't lie in the bytes
+abbrev pub MapCallFails : List ℕ → List Slot → LinkOptions → List ℕ → CallFault → Type 0
+MapCallFails b places options text OutOfMemory = Unit {0}
+MapCallFails b places options text (BadRules line) = (options.uses_rules ≢ 0) × IsBadLine text line
+MapCallFails b places options text (BadFiles file) =
+    ((rules : Option (List RelocRule)) × UsesRules options text rules) × IsFirstOutside (length b) places file
+
+-- ---- `link`
+
+-- its options, with the name of an entry symbol
+abbrev pub AreLinkOptions : LinkOptions → List ℕ → Options → Type 0
+AreLinkOptions options entry opt = (opt.base ≡ options.base) × (opt.page ≡ options.page) × (option_copied opt.entry ≡ Some entry)
+
+-- what it says by the rules of a text of the files that lie in the bytes
+abbrev pub LinkCallSays : List ℕ → List Slot → LinkOptions → List ℕ → List ℕ → Verdict → List ℕ → Type 0
+LinkCallSays b places options entry text verdict file =
+    (rules : List RelocRule) × AreRules text rules
+    × ((opt : Options) × AreLinkOptions options entry opt × SaysOfFiles (FilesLink opt rules) b places verdict file)
+
+-- why it says nothing: bad rules; then a file that doesn't lie in the bytes
+abbrev pub LinkCallFails : List ℕ → List Slot → List ℕ → CallFault → Type 0
+LinkCallFails b places text OutOfMemory = Unit {0}
+LinkCallFails b places text (BadRules line) = IsBadLine text line
+LinkCallFails b places text (BadFiles file) = ((rules : List RelocRule) × AreRules text rules) × IsFirstOutside (length b) places file
+
+-- How a call ends: its status, the numbers beside it, and what the buffer holds then.
+
+-- the status of a verdict: done, a file is refused, the files don't link, or what is to be written is too long for a file
+abbrev pub verdict_status : Verdict → ℕ
+verdict_status Done = 0
+verdict_status (Refused (File file rule at)) = 1
+verdict_status (Refused (Link rule file index entry)) = 2
+verdict_status (Refused TooLong) = 3
+
+-- that of a buffer that is too small
+abbrev pub small_room_status : ℕ
+small_room_status = 4
+
+-- that of a call without output
+abbrev pub fault_status : CallFault → ℕ
+fault_status OutOfMemory = 5
+fault_status (BadRules line) = 6
+fault_status (BadFiles file) = 7
+
+-- a length, and nothing beside it
+abbrev pub length_alone : ℕ → Outcome
+length_alone n = record { length = n; at = 0; file = 0; index = 0; rule = 0 }
+
+-- the numbers of a verdict on a text of so many bytes: what is refused, by which rule and where
+abbrev pub verdict_numbers : Verdict → ℕ → Outcome
+verdict_numbers Done n = length_alone n
+verdict_numbers (Refused (File file rule at)) n = record { length = n; at = at; file = file; index = 0; rule = rule }
+verdict_numbers (Refused (Link rule file index entry)) n = record { length = n; at = entry; file = file; index = index; rule = rule }
+verdict_numbers (Refused TooLong) n = length_alone n
+
+-- those of a call without output: which line is bad, or the extent of which file
+abbrev pub fault_numbers : CallFault → Outcome
+fault_numbers OutOfMemory = length_alone 0
+fault_numbers (BadRules line) = record { length = 0; at = line; file = 0; index = 0; rule = 0 }
+fault_numbers (BadFiles file) = record { length = 0; at = 0; file = file; index = 0; rule = 0 }
+
+-- the text fits: it is at the beginning of the buffer, whose other bytes are unchanged, and status and numbers are the verdict's
+pub record IsPutInto (verdict : Verdict) (text old new : List ℕ) (outcome : Outcome) (code : ℕ) : Type 0 where
+  pub fits : length text ≤ length old
+  pub room : new ≡ text ++ drop (length text) old
+  pub status : code ≡ verdict_status verdict
+  pub numbers : outcome ≡ verdict_numbers verdict (length text)
+
+-- it does not fit: the buffer is unchanged, and the numbers say how long it has to be
+pub record IsTooSmallFor (text old new : List ℕ) (outcome : Outcome) (code : ℕ) : Type 0 where
+  pub short : length old < length text
+  pub room : new ≡ old
+  pub status : code ≡ small_room_status
+  pub numbers : outcome ≡ length_alone (length text)
+
+-- the output of an engine is returned to a caller whose buffer held `old` and holds `new`
+abbrev pub IsTold : Verdict → List ℕ → List ℕ → List ℕ → Outcome → ℕ → Type 0
+IsTold verdict text old new outcome status = IsPutInto verdict text old new outcome status ⊎ IsTooSmallFor text old new outcome status
+
+-- a call ends without output, and the buffer is unchanged
+pub record IsWithoutAnswer (fault : CallFault) (old new : List ℕ) (outcome : Outcome) (code : ℕ) : Type 0 where
+  pub room : new ≡ old
+  pub status : code ≡ fault_status fault
+  pub numbers : outcome ≡ fault_numbers fault
+
+-- a call of an engine: it returns a verdict and a text of the engine, or no output, for a fault that can come
+abbrev pub IsEngineCall : (Verdict → List ℕ → Type 0) → (CallFault → Type 0) → List ℕ → List ℕ → Outcome → ℕ → Type 0
+IsEngineCall Says Fails old new outcome status =
+    ((verdict : Verdict) × (text : List ℕ) × Says verdict text × IsTold verdict text old new outcome status)
+    ⊎ ((fault : CallFault) × Fails fault × IsWithoutAnswer fault old new outcome status)
+
+-- the only fault is out of memory
+abbrev pub IsWantOfMemory : CallFault → Type 0
+IsWantOfMemory OutOfMemory = Unit {0}
+IsWantOfMemory (BadRules line) = ⊥
+IsWantOfMemory (BadFiles file) = ⊥

@@ -1,5 +1,0 @@
-use Rattle.elf_c_parts.proofs.PartSlots.{ascending_parts}
-use Rattle.elf_c_parts.proofs.members.lowest_double.Goals as goal
-
-pub sweep-requires-clause-ascending : goal.sweep-requires-clause-ascending
-sweep-requires-clause-ascending c = ascending_parts c.args.members.now c.requires.ascending

@@ -1,6 +1,0 @@
-use Rattle.std.proofs.Common.{◌≡◌, map, take}
-use Rattle.elf_exec.specs.ExecLaid.{load_part}
-use Rattle.elf_exec.proofs.placing.load_parts.Given as goal
-
-abbrev pub invariant-loop-load : goal.invariant-loop-load
-invariant-loop-load l = l.parts.items ≡ map (load_part l.page) (take l.load-index l.loads)

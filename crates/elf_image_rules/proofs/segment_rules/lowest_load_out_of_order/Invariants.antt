@@ -1,5 +1,0 @@
-use Rattle.elf_image_rules.proofs.LoadOrder.{IsInOrder}
-use Rattle.elf_image_rules.proofs.segment_rules.lowest_load_out_of_order.Given as goal
-
-abbrev pub invariant-loop-i : goal.invariant-loop-i
-invariant-loop-i g l = IsInOrder (g.T.Records.segments l.records) l.floor l.i

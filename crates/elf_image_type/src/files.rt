@@ -1,0 +1,112 @@
+//! Images from bytes, and bytes from images.
+ghost use Rattle.std.specs.Prelude.{◌≡◌, IfErr, IfOk, map, ◌<◌, ℕ, List, length};
+ghost use Rattle.elf_image_rules.specs.Tables.{bytes_in, content_extent};
+ghost use Rattle.elf_image_outline.specs.Image.{IsImage, IsSoundImage, joined, part_bytes};
+ghost use Rattle.elf_image_outline.specs.Scanning.{IsParseFault};
+ghost use Rattle.elf_image_outline.specs.Outline.{image_of, placed_part};
+ghost use Rattle.elf_image_stream.specs.Output.{Writes};
+
+use crate::image::Image;
+use elf_field::Shdr;
+use elf_image_outline::{Outline, Owner, Part, outline_of};
+use elf_image_rules::judge_records;
+use elf_image_rules::tables::content_of;
+use elf_image_stream::output::{write_records, write_whole, write_zeros};
+use elf_image_stream::{Fault, WriteFault};
+use std::alloc::{AllocError, Global};
+use std::io::Write;
+
+// From a file's bytes to its image.
+
+/// The image that these bytes are: an ELF-64 file that breaks no rule, its tables copied once and
+/// its names and contents borrowed for as long as the bytes live.
+///
+/// [`Fault::Rule`] is the first of rules 1 to 33 that the bytes break, at the lowest offset where
+/// they break it. [`Fault::OutOfMemory`] comes only if they keep rules 1 to 32: the tables are
+/// copied, and the extents sorted for rule 33. [`Fault::Io`] never comes. Sorting takes n log n
+/// comparisons; all else is linear in the records.
+pub fn parse<'a>(alloc: Global, bytes: &'a [u8]) -> Result<Image<'a>, Fault>
+    ensures ok { IfOk result (λ image. IsImage image bytes.entry.now) }
+    ensures err { IfErr result (λ fault. IsParseFault bytes.entry.now fault) }
+{
+    // These rules take no memory, so that running out of it never hides one that is broken.
+    let records = judge_records(bytes)?;
+    let outline = outline_of(alloc, &records)?;
+    let contents = contents_of(alloc, bytes, outline.sections())?;
+    Ok(Image::new(outline, bytes, contents))
+}
+
+/// The content of each section, borrowed from the file.
+fn contents_of<'a>(
+    alloc: Global,
+    bytes: &'a [u8],
+    entries: &[Shdr],
+) -> Result<Vec<&'a [u8]>, AllocError>
+    ensures { IfOk result (λ v. map (λ c. c.now) v.items ≡ map (λ s. bytes_in bytes.entry.now (content_extent s)) entries.now) }
+{
+    let mut contents = Vec::new(alloc);
+    for entry in entries {
+        contents.push(content_of(bytes, entry))?;
+    }
+    Ok(contents)
+}
+
+// An image onto a writer.
+
+/// Writes the bytes that represent the image: exactly these, or exactly their first `written` and a
+/// [`WriteFault`].
+///
+/// Any error of the writer, an interruption too, is the fault, and so is a write that takes 0 bytes of
+/// a rest that is not empty. Contents and gaps are offered whole. Nothing is flushed, and no memory is
+/// taken. Linear in the length of the file.
+pub fn write<W: Write>(image: &Image<'_>, writer: &mut W) -> Result<(), WriteFault>
+    ensures { (b : List ℕ) × IsImage image.now b ×
+        Writes (W.contents writer.old) (W.contents writer.new) b result }
+{
+    write_parts(&image.outline, &image.contents, image.file, writer)
+}
+
+fn write_parts<W: Write>(
+    outline: &Outline,
+    contents: &[&[u8]],
+    file: &[u8],
+    writer: &mut W,
+) -> Result<(), WriteFault>
+    requires { IsSoundImage (image_of outline.now (map (λ content. content.now) contents.now) file.now) }
+    ensures { Writes (W.contents writer.old) (W.contents writer.new)
+        (joined (image_of outline.now (map (λ content. content.now) contents.now) file.now)) result }
+{
+    for part in outline.parts() {
+        match write_part(outline, contents, file, *part, writer) {
+            Ok(()) => {}
+            Err(fault) => return Err(fault.after(part.start)),
+        }
+    }
+    Ok(())
+}
+
+// One part, which has as many bytes as its length says.
+fn write_part<W: Write>(
+    outline: &Outline,
+    contents: &[&[u8]],
+    file: &[u8],
+    part: Part,
+    writer: &mut W,
+) -> Result<(), WriteFault>
+    requires some { 0 < part.len }
+    requires whole { let v = image_of outline.now (map (λ content. content.now) contents.now) file.now in
+        length (part_bytes v (placed_part outline.now.zeroed file.now part)) ≡ part.len }
+    ensures { let v = image_of outline.now (map (λ content. content.now) contents.now) file.now in
+        Writes (W.contents writer.old) (W.contents writer.new)
+        (part_bytes v (placed_part outline.now.zeroed file.now part)) result }
+{
+    let start = part.start as usize;
+    match part.owner {
+        Owner::Header => write_records(writer, outline.order(), &[outline.header()]),
+        Owner::SectionTable => write_records(writer, outline.order(), outline.sections()),
+        Owner::ProgramTable => write_records(writer, outline.order(), outline.segments()),
+        Owner::Content(i) => write_whole(writer, contents[i]),
+        Owner::Gap if outline.is_zeroed() => write_zeros(writer, part.len),
+        Owner::Gap => write_whole(writer, &file[start..start + part.len as usize]),
+    }
+}

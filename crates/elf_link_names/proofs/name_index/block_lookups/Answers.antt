@@ -1,0 +1,29 @@
+use Rattle.std.proofs.Common.{◌≡◌, ℕ, ◌<◌, ◌+◌, ◌-◌, ◌∙◌, ap, arith, get_or, length, subst}
+use Rattle.std.proofs.lemmas.List.{length-set}
+use Rattle.elf_object_type.specs.Object.{SymbolValue}
+use Rattle.elf_link_files.specs.Files.{symbol_in}
+use Rattle.elf_link_names.specs.Tables.{IsSymbolHash, IsSymbolLookup, no_lookup, name_position}
+use Rattle.elf_link_names.proofs.Tables.{block_next, found_of}
+use Rattle.elf_link_names.proofs.name_index.block_lookups.Goals as goal
+
+pub loop-index-preserved : goal.loop-index-preserved
+loop-index-preserved c =
+    let before = c.loop-index.invariant in
+    let fs = c.args.inputs.now in
+    let step = c.loop-index.index - c.args.start in
+    let here : c.args.start + step ≡ c.loop-index.index = (let behind = before.behind in omega arith) in
+    let hash = subst (λ (i : ℕ). IsSymbolHash fs c.args.file i (get_or c.block_hashes-hashes.result step 0)) here
+    (c.block_hashes-hashes.ensures step (let behind = before.behind in omega arith)) in
+    let within : step < length c.loop-index.lookups = (let behind = before.behind in let room = before.room in omega arith) in
+    record {
+      behind = (let behind = before.behind in omega arith);
+      room = length-set c.loop-index.lookups step c.look_up.result ∙ before.room;
+      lookups = block_next no_lookup (IsSymbolLookup fs (name_position c.args.positions.now) c.args.file) c.args.start c.loop-index.index
+          c.loop-index.lookups c.look_up.result before.behind within
+          (λ not_local. (
+            c.look_up.ensures.hash ∙ hash not_local,
+            found_of (name_position c.args.positions.now) _ c.symbol.result.name.now (symbol_in fs c.args.file c.loop-index.index).name c.look_up.result.position
+                (ap (λ (s : SymbolValue). s.name) c.symbol.ensures) c.look_up.ensures.position,
+          ))
+          before.lookups;
+    }

@@ -1,6 +1,0 @@
-use Rattle.std.proofs.Common.{map}
-use Rattle.elf_link_outputs.specs.Planning.{AreFilled}
-use Rattle.elf_link_outputs.proofs.address_rows.fill.Given as goal
-
-abbrev pub invariant-loop-k : goal.invariant-loop-k
-invariant-loop-k l = AreFilled l.objects l.sites l.places l.k (map (λ row. row.items) l.rows.items)

@@ -1,0 +1,284 @@
+-- What the passes over the entries and the fields of a link look at, collect and return.
+use Rattle.std.specs.Prelude.{List, ◌≡◌, ℕ, ◌<◌, pos, get_or, length, Some, ℤ, ◌↔◌, Bool, true, false, MatchOption, Option, None, [], map, replicate, ◌+◌, ◌≤◌, ◌⊎◌, slice_index}
+use Rattle.std.specs.Global.{Vec}
+use Rattle.elf_extent.specs.Extent.{Never}
+use Rattle.elf_extent.specs.declared.extent.Extent.{Extent}
+use Rattle.elf_field.specs.declared.number.Order.{Order}
+use Rattle.elf_image_rules.specs.Rows.{Row}
+use Rattle.elf_image_rules.specs.declared.image_rules.Broken.{Broken}
+use Rattle.elf_link_field.specs.Field.{AreTaken, IsMarked, size_of, patched}
+use Rattle.elf_link_field.specs.declared.rule.Form.TheVariants.{Abs}
+use Rattle.elf_link_field.specs.declared.rule.Range.TheVariants.{Signed}
+use Rattle.elf_link_field.specs.declared.rule.RelocRule.{RelocRule}
+use Rattle.elf_link_field.specs.declared.rule.Width.TheVariants.{W1}
+use Rattle.elf_link_files.specs.Files.{object_at}
+use Rattle.elf_link_files.specs.Rows.{Before, IsFirstAt, AreEach}
+use Rattle.elf_link_files.specs.declared.fault.LinkFault.TheVariants.{Rule, OutOfMemory}
+use Rattle.elf_link_files.specs.declared.fault.LinkFault.{LinkFault}
+use Rattle.elf_link_files.specs.declared.site.Site.{Site}
+use Rattle.elf_link_map.specs.LinkMap.{LinkMapValue}
+use Rattle.elf_link_relocate.specs.Fields.{HasField, no_rule, AtField, IsFieldOutOfRange, IsUnplaced, IsValueOutOfRange, target_at, IsWithin, field_start, number_at, HasOffset, Share, content_in, fields_overlap, field_address}
+use Rattle.elf_link_relocate.specs.Linked.{IsGrid, IsSectionOf, item, with, HasLiveBits, number_byte}
+use Rattle.elf_link_relocate.specs.declared.field.Field.{Field}
+use Rattle.elf_link_relocate.specs.declared.field.FieldTest.TheVariants.{FieldOutOfRange, Unplaced, ValueOutOfRange}
+use Rattle.elf_link_relocate.specs.declared.field.FieldTest.{FieldTest}
+use Rattle.elf_link_relocate.specs.declared.field.Fields.{Fields}
+use Rattle.elf_link_relocate.specs.declared.field.Judged.{Judged}
+use Rattle.elf_object_type.specs.Object.{ObjectValue}
+
+-- What contracts see of a link while its fields are looked at: its objects, their map, and the relocation rules.
+
+pub record LinkingValue : Type 0 where
+  pub objects : List ObjectValue
+  pub map : LinkMapValue
+  pub rules : List RelocRule
+
+-- and of a field of it
+pub record FieldOfValue : Type 0 where
+  pub objects : List ObjectValue
+  pub map : LinkMapValue
+  pub rules : List RelocRule
+  pub field : Field
+
+-- and of a list of fields of it
+pub record FieldListValue : Type 0 where
+  pub objects : List ObjectValue
+  pub map : LinkMapValue
+  pub rules : List RelocRule
+  pub fields : List Field
+
+-- The fields before a site: what the code has listed on its way through the entries.
+
+abbrev pub entry_site : ℕ → ℕ → ℕ → Site
+entry_site f s e = record { file = f; index = s; entry = e }
+
+-- the one used for a field that isn't there
+abbrev pub no_field : Field
+no_field = record {
+  site = entry_site 0 0 0;
+  rule = record { kind = 0; form = Abs; width = W1; range = Signed };
+  target = 0;
+  offset = 0;
+  number = pos 0;
+}
+
+abbrev pub field_at : List Field → ℕ → Field
+field_at ds k = get_or ds k no_field
+
+-- the list has each field before the site, by the relocation rule of its kind, and in order; and each entry before it has one
+pub record AreFieldsBefore (fs : List ObjectValue) (rules : List RelocRule) (stop : Site) (ds : List Field) : Type 0 where
+  pub each : (k : ℕ) → k < length ds → HasField fs rules (field_at ds k).site (field_at ds k).rule
+  pub before : (k : ℕ) → k < length ds → Before (field_at ds k).site stop
+  pub all : (p : Site) (r : RelocRule) → HasField fs rules p r → Before p stop → (k : ℕ) × (k < length ds) × ((field_at ds k).site ≡ p)
+  pub order : (j k : ℕ) → j < k → k < length ds → Before (field_at ds j).site (field_at ds k).site
+  pub ruled : (p : Site) → no_rule fs rules p → Before p stop → ⊥
+
+-- the list has each field, and in order
+pub record AreFields (fs : List ObjectValue) (rules : List RelocRule) (ds : List Field) : Type 0 where
+  pub each : (k : ℕ) → k < length ds → HasField fs rules (field_at ds k).site (field_at ds k).rule
+  pub all : (p : Site) (r : RelocRule) → HasField fs rules p r → (k : ℕ) × (k < length ds) × ((field_at ds k).site ≡ p)
+  pub order : (j k : ℕ) → j < k → k < length ds → Before (field_at ds j).site (field_at ds k).site
+
+-- What the passes over all entries and all fields return.
+
+-- rule 12 is broken nowhere; or it is the fault, at its first site
+abbrev pub NoneUnruled : List ObjectValue → List RelocRule → Type 0
+NoneUnruled fs rules = Never (no_rule fs rules)
+
+abbrev pub IsRuleFault : List ObjectValue → List RelocRule → LinkFault → Type 0
+IsRuleFault fs rules (Rule number file index entry) = (number ≡ 12) × IsFirstAt (no_rule fs rules) (entry_site file index entry)
+IsRuleFault fs rules OutOfMemory = Unit {0}
+
+-- what breaks each rule of one field: rules 13, 14 and 16
+abbrev pub BreaksFieldTest : List ObjectValue → LinkMapValue → FieldTest → Site → RelocRule → Type 0
+BreaksFieldTest fs m Unplaced = IsUnplaced fs m
+BreaksFieldTest fs m FieldOutOfRange = IsFieldOutOfRange fs
+BreaksFieldTest fs m ValueOutOfRange = IsValueOutOfRange fs m
+
+-- the field at position k of the list
+abbrev pub Holds : (Site → RelocRule → Type 0) → List Field → ℕ → Type 0
+Holds P ds k = P (field_at ds k).site (field_at ds k).rule
+
+-- none of the list, or the one at position k, and none before it
+abbrev pub HasNone : (Site → RelocRule → Type 0) → List Field → Type 0
+HasNone P ds = (k : ℕ) → k < length ds → Holds P ds k → ⊥
+
+abbrev pub IsFirst : (Site → RelocRule → Type 0) → List Field → ℕ → Type 0
+IsFirst P ds k = (k < length ds) × Holds P ds k × ((j : ℕ) → j < k → Holds P ds j → ⊥)
+
+-- the number of the rule that a test is
+abbrev pub test_number : FieldTest → ℕ
+test_number Unplaced = 13
+test_number FieldOutOfRange = 14
+test_number ValueOutOfRange = 16
+
+-- its row
+abbrev pub test_row : List ObjectValue → LinkMapValue → List RelocRule → FieldTest → Row Site
+test_row fs m rules test = AtField fs rules (BreaksFieldTest fs m test)
+
+-- the rule of a test is the fault, at its first site
+abbrev pub IsTestFault : List ObjectValue → LinkMapValue → List RelocRule → FieldTest → Broken Site → Type 0
+IsTestFault fs m rules test broken = (broken.rule ≡ test_number test) × IsFirstAt (test_row fs m rules test) broken.at
+
+-- What is known of a link while its fields are looked at.
+
+-- the section that a field carries, and the offset there, are those of its entry
+pub record IsInTarget (fs : List ObjectValue) (d : Field) : Type 0 where
+  pub target : d.target ≡ target_at fs d.site
+  pub offset : d.offset ≡ field_start fs d.site
+
+-- and the number is its number, where it has one and ends within its target
+pub record IsRead (fs : List ObjectValue) (m : LinkMapValue) (d : Field) : Type 0 where
+  pub place : IsInTarget fs d
+  pub number : IsWithin fs d.site d.rule → (z : ℤ) → number_at fs m d.site d.rule ≡ Some z → z ≡ d.number
+
+abbrev pub AreFieldsRead : List ObjectValue → LinkMapValue → List Field → Type 0
+AreFieldsRead fs m ds = (k : ℕ) → k < length ds → IsRead fs m (field_at ds k)
+
+-- The fields before a site with what they carry, and the first ones that break the rules of one field.
+
+-- the first position of a list that is n long and gets one more
+abbrev pub first_of : Option ℕ → Bool → ℕ → Option ℕ
+first_of (Some k) broken n = Some k
+first_of None true n = Some n
+first_of None false n = None
+
+-- the field of the entry at a site, and which rules it breaks
+pub record IsJudgedField (fs : List ObjectValue) (m : LinkMapValue) (rules : List RelocRule) (p : Site) (j : Judged) : Type 0 where
+  pub site : j.field.site ≡ p
+  pub has : HasField fs rules j.field.site j.field.rule
+  pub read : IsRead fs m j.field
+  pub unplaced : (j.unplaced ≡ true) ↔ BreaksFieldTest fs m Unplaced j.field.site j.field.rule
+  pub out_of_range : (j.out_of_range ≡ true) ↔ BreaksFieldTest fs m FieldOutOfRange j.field.site j.field.rule
+  pub refused : (j.refused ≡ true) ↔ BreaksFieldTest fs m ValueOutOfRange j.field.site j.field.rule
+
+-- the first field of the list that breaks a rule, or none
+abbrev pub IsFirstBroken : List ObjectValue → LinkMapValue → List Field → FieldTest → Option ℕ → Type 0
+IsFirstBroken fs m ds test first = MatchOption first (HasNone (BreaksFieldTest fs m test) ds) (IsFirst (BreaksFieldTest fs m test) ds)
+
+-- the first one that breaks each rule
+pub record AreFirsts (fs : List ObjectValue) (m : LinkMapValue) (found : Fields) : Type 0 where
+  pub unplaced : IsFirstBroken fs m found.list.items Unplaced found.unplaced
+  pub out_of_range : IsFirstBroken fs m found.list.items FieldOutOfRange found.out_of_range
+  pub refused : IsFirstBroken fs m found.list.items ValueOutOfRange found.refused
+
+-- the fields before the site, with what they carry
+pub record AreFoundBefore (fs : List ObjectValue) (m : LinkMapValue) (rules : List RelocRule) (stop : Site) (found : Fields) : Type 0 where
+  pub before : AreFieldsBefore fs rules stop found.list.items
+  pub read : AreFieldsRead fs m found.list.items
+  pub firsts : AreFirsts fs m found
+
+-- Marks on the bytes that fields have, a mark for each byte of each section.
+
+-- a grid of lists, as contracts see it
+abbrev pub marks_view : List (Vec (Vec Bool)) → List (List (List Bool))
+marks_view rows = map (λ row. map (λ marks. marks.items) row.items) rows
+
+abbrev pub row_view : List (Vec Bool) → List (List Bool)
+row_view row = map (λ marks. marks.items) row
+
+-- no byte of the first n sections of a file has a mark; and none of those of the first n files
+abbrev pub IsUnmarkedRow : List ObjectValue → ℕ → ℕ → List (List Bool) → Type 0
+IsUnmarkedRow fs f = AreEach [] (λ s marks. marks ≡ replicate (length (content_in fs f s)) false)
+
+abbrev pub AreUnmarkedRows : List ObjectValue → ℕ → List (List (List Bool)) → Type 0
+AreUnmarkedRows fs = AreEach [] (λ f. IsUnmarkedRow fs f (length (object_at fs f).sections))
+
+-- a field is in section s of file f
+abbrev pub IsFieldIn : List ObjectValue → Field → ℕ → ℕ → Type 0
+IsFieldIn fs d f s = (d.site.file ≡ f) × (target_at fs d.site ≡ s)
+
+-- one of the first n fields has the byte at offset x of it
+abbrev pub IsCovered : List ObjectValue → List Field → ℕ → ℕ → ℕ → ℕ → Type 0
+IsCovered fs ds n f s x = (j : ℕ) × (j < n) × IsFieldIn fs (field_at ds j) f s × HasOffset fs (field_at ds j).site (field_at ds j).rule x
+
+-- the bytes of the first n fields have marks, and no others
+pub record AreMarksFor (fs : List ObjectValue) (ds : List Field) (n : ℕ) (rows : List (List (List Bool))) : Type 0 where
+  pub grid : IsGrid fs rows
+  pub long : (f s : ℕ) → IsSectionOf fs f s → length (item [] rows f s) ≡ length (content_in fs f s)
+  pub right : (f s x : ℕ) → IsSectionOf fs f s → (get_or (item [] rows f s) x false ≡ true) ↔ IsCovered fs ds n f s x
+
+-- field k shares a byte with one before it
+abbrev pub SharesBefore : List ObjectValue → List Field → ℕ → Type 0
+SharesBefore fs ds k = (j : ℕ) × (j < k) × Share fs (field_at ds j).site (field_at ds j).rule (field_at ds k).site (field_at ds k).rule
+
+abbrev pub HasNoOverlap : List ObjectValue → List Field → Type 0
+HasNoOverlap fs ds = (k : ℕ) → k < length ds → SharesBefore fs ds k → ⊥
+
+abbrev pub IsFirstOverlappingField : List ObjectValue → List Field → ℕ → Type 0
+IsFirstOverlappingField fs ds k = (k < length ds) × SharesBefore fs ds k × ((j : ℕ) → j < k → SharesBefore fs ds j → ⊥)
+
+-- each field ends within its target
+abbrev pub AllWithin : List ObjectValue → List Field → Type 0
+AllWithin fs ds = (k : ℕ) → k < length ds → IsWithin fs (field_at ds k).site (field_at ds k).rule
+
+-- the field of n bytes at offset x of section s of file f has marks now; `taken` says whether one of them had one before
+abbrev pub IsMarkedIn : List (List (List Bool)) → ℕ → ℕ → ℕ → ℕ → Bool → List (List (List Bool)) → Type 0
+IsMarkedIn old f s x n taken new =
+    (after : List Bool) × (new ≡ with old f s after) × ((taken ≡ true) ↔ AreTaken (item [] old f s) x n) × IsMarked (item [] old f s) x n after
+
+-- The fields of a link that breaks none of rules 12 to 16.
+
+-- all fields, with what they carry; each has a number, ends within its target, and shares no byte with another
+pub record AreJudged (fs : List ObjectValue) (m : LinkMapValue) (rules : List RelocRule) (ds : List Field) : Type 0 where
+  pub fields : AreFields fs rules ds
+  pub read : AreFieldsRead fs m ds
+  pub placed : HasNone (IsUnplaced fs m) ds
+  pub within : AllWithin fs ds
+  pub apart : HasNoOverlap fs ds
+
+-- rule 15 is the fault, at its first site
+abbrev pub IsOverlapFault : List ObjectValue → List RelocRule → LinkFault → Type 0
+IsOverlapFault fs rules (Rule number file index entry) = (number ≡ 15) × IsFirstAt (fields_overlap fs rules) (entry_site file index entry)
+IsOverlapFault fs rules OutOfMemory = Unit {0}
+
+-- The bytes of fields in memory, and fields in ascending order.
+
+-- those of a field: from its address on, as many as its width says
+abbrev pub field_extent : List ObjectValue → LinkMapValue → Field → Extent
+field_extent fs m d = record { start = field_address fs m d.site; len = size_of d.rule.width }
+
+-- a field is after another one: in a later file, in a later section of its file, or after its end in its section
+abbrev pub StandsBehind : Field → Field → Type 0
+StandsBehind d e =
+    (d.site.file < e.site.file) ⊎
+    ((d.site.file ≡ e.site.file) × ((d.target < e.target) ⊎ ((d.target ≡ e.target) × (d.offset + size_of d.rule.width ≤ e.offset))))
+
+-- each of the first n fields but the first one is after the one before it
+abbrev pub AreAscending : List Field → ℕ → Type 0
+AreAscending ds n = (k : ℕ) → k + 1 < n → StandsBehind (field_at ds k) (field_at ds (k + 1))
+
+-- Copies of the live sections with bits, with numbers in their fields.
+
+-- the first n fields hold their numbers in section s of file f, and its other bytes are those of the input
+pub record IsRelocated (fs : List ObjectValue) (m : LinkMapValue) (ds : List Field) (n f s : ℕ) (after : List ℕ) : Type 0 where
+  pub long : length after ≡ length (content_in fs f s)
+  pub inside : (j : ℕ) → j < n → IsFieldIn fs (field_at ds j) f s → (z : ℤ) → number_at fs m (field_at ds j).site (field_at ds j).rule ≡ Some z →
+      (k : ℕ) → k < size_of (field_at ds j).rule.width → slice_index after (field_start fs (field_at ds j).site + k) ≡ number_byte fs (field_at ds j).site (field_at ds j).rule z k
+  pub outside : (x : ℕ) → (IsCovered fs ds n f s x → ⊥) → slice_index after x ≡ slice_index (content_in fs f s) x
+
+-- each live section with bits has a copy, relocated so far, and no other section has one
+pub record AreRelocated (fs : List ObjectValue) (m : LinkMapValue) (ds : List Field) (n : ℕ) (rows : List (List (Option (List ℕ)))) : Type 0 where
+  pub grid : IsGrid fs rows
+  pub each : (f s : ℕ) → HasLiveBits fs f s → (after : List ℕ) × (item None rows f s ≡ Some after) × IsRelocated fs m ds n f s after
+  pub others : (f s : ℕ) (after : List ℕ) → item None rows f s ≡ Some after → HasLiveBits fs f s
+
+-- the copy of a section: its bytes, where it is live and has bits
+abbrev pub IsCopy : List ObjectValue → ℕ → ℕ → Option (List ℕ) → Type 0
+IsCopy fs f s copy = MatchOption copy (¬ HasLiveBits fs f s) (λ bytes. HasLiveBits fs f s × (bytes ≡ content_in fs f s))
+
+-- the copies of the first n sections of a file; and those of the first n files
+abbrev pub AreCopies : List ObjectValue → ℕ → ℕ → List (Option (List ℕ)) → Type 0
+AreCopies fs f = AreEach None (IsCopy fs f)
+
+abbrev pub AreAllCopies : List ObjectValue → ℕ → List (List (Option (List ℕ))) → Type 0
+AreAllCopies fs = AreEach [] (λ f. AreCopies fs f (length (object_at fs f).sections))
+
+-- a section has a copy, and a field of n bytes at offset x is in it
+abbrev pub HasRoom : List (List (Option (List ℕ))) → ℕ → ℕ → ℕ → ℕ → Type 0
+HasRoom rows f s x n = (copy : List ℕ) × (item None rows f s ≡ Some copy) × (x + n ≤ length copy)
+
+-- the copy of section s of file f holds the number in the field of n bytes at offset x now
+abbrev pub IsPatchedIn : Order → List (List (Option (List ℕ))) → ℕ → ℕ → ℕ → ℕ → ℤ → List (List (Option (List ℕ))) → Type 0
+IsPatchedIn o old f s x n z new =
+    (copy : List ℕ) × (item None old f s ≡ Some copy) × (new ≡ with old f s (Some (patched o copy x n z)))

@@ -1,5 +1,0 @@
-use Rattle.elf_object_writer.proofs.Public.{one_layout, some_layout}
-use Rattle.elf_object_file.proofs.layout_laws.one_layout.Goals as goal
-
-pub returns : goal.returns
-returns c = record { some = some_layout; one = one_layout }

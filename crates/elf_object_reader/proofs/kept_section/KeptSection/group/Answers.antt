@@ -1,5 +1,0 @@
-use Rattle.elf_object_reader.proofs.JudgedTables.{group_ready}
-use Rattle.elf_object_reader.proofs.kept_section.KeptSection.group.Goals as goal
-
-pub group-requires : goal.group-requires
-group-requires c = group_ready c.args.self.now c.requires

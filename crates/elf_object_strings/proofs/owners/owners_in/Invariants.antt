@@ -1,9 +1,0 @@
-use Rattle.elf_object_strings.specs.Runs.{AreRuns, HaveOwners}
-use Rattle.elf_object_strings.specs.Sorting.{indexes_in, names_by_ends}
-use Rattle.elf_object_strings.proofs.owners.owners_in.Given as goal
-
-abbrev pub invariant-loop-position : goal.invariant-loop-position
-invariant-loop-position l = record {
-  runs : AreRuns (names_by_ends l.sorted) l.starts.items l.position;
-  owned : HaveOwners l.list (names_by_ends l.sorted) (indexes_in l.sorted) l.owners.items l.position;
-}

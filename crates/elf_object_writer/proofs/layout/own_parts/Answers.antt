@@ -1,0 +1,25 @@
+use Rattle.std.proofs.Common.{List, map, take_all, ap, subst, ◌∙◌}
+use Rattle.elf_object_type.specs.declared.parts.Section.{Section}
+use Rattle.elf_object_writer.specs.Laid.{content_part, saturated, own_section}
+use Rattle.elf_object_type.specs.Object.{SectionValue}
+use Rattle.elf_object_type.specs.ObjectView.{section_value}
+use Rattle.elf_object_type.specs.ObjectRules.{IsWrongBitsType}
+use Rattle.elf_object_writer.proofs.PlainSections.{own_parts_are, section_read}
+use Rattle.elf_object_type.proofs.Public.{no_wrong_bits_type}
+use Rattle.elf_object_writer.proofs.layout.own_parts.Goals as goal
+
+pub content_part-requires : goal.content_part-requires
+content_part-requires c = λ wrong.
+    let o = c.args.object.now in
+    let read =
+    section_read o c.sections-section-items.result.now c.loop-section.section-index c.section-item.result c.sections-section-items.ensures c.loop-section-test.true c.section-item.is in
+    no_wrong_bits_type o c.prove_rules.ensures.kept c.loop-section.section-index read.1 (subst (λ (s : SectionValue). IsWrongBitsType s.body) read.0 wrong)
+
+pub returns : goal.returns
+returns c =
+    let o = c.args.object.now in
+    let items = c.sections-section-items.result.now in
+    c.loop-section.invariant
+    ∙ ap (map (λ (s : Section). saturated (content_part (own_section o (section_value s))))) (take_all c.loop-section.section-index items c.loop-section-test.false)
+    ∙ own_parts_are o items
+    ∙ ap (λ (ss : List SectionValue). map saturated (map content_part (map (own_section o) ss))) c.sections-section-items.ensures

@@ -1,6 +1,0 @@
-use Rattle.elf_table_symbols.specs.Sections.{sections_of}
-use Rattle.elf_table_all.specs.AllIndexTables.{AreAllIndexTables}
-use Rattle.elf_table_all.proofs.index_tables.AllIndexTables.new.Given as goal
-
-abbrev pub invariant-loop-j : goal.invariant-loop-j
-invariant-loop-j l = AreAllIndexTables (sections_of l.image) l.j l.all

@@ -1,7 +1,0 @@
-use Rattle.std.proofs.Common.{ℕ, ◌<◌}
-use Rattle.elf_table_lists.specs.DynamicArray.{dynamic_entry}
-use Rattle.elf_table_lists.specs.DynamicRules.{IsDynamicStringPastEnd}
-use Rattle.elf_table_lists.proofs.dynamic_rules.lowest_dynamic_string_past_end.Given as goal
-
-abbrev pub invariant-loop-j : goal.invariant-loop-j
-invariant-loop-j l = (k : ℕ) → k < l.j → IsDynamicStringPastEnd l.size (dynamic_entry l.order l.table k) → ⊥

@@ -1,8 +1,0 @@
-use Rattle.elf_table_symbols.specs.Sections.{sections_of}
-use Rattle.elf_table_lists.proofs.GroupMembers.{ascending_lowest}
-use Rattle.elf_table_lists.proofs.group_rules.lowest_wrong_member.Goals as goal
-
-pub returns-then-is_ascending-clause-found : goal.returns-then-is_ascending-clause-found
-returns-then-is_ascending-clause-found c =
-    let above = rw (c.order.ensures, c.content-words.ensures.bytes) at (c.is_ascending.ensures.0 c.if-is_ascending.true) in
-    ascending_lowest (sections_of c.args.table.image.now) c.args.table.index _ above c.lowest_unfit.ensures

@@ -1,0 +1,44 @@
+-- Files and their verdicts, as contracts see them.
+use Rattle.std.specs.Prelude.{ℕ, List, None, Some, Result, Ok, Err, ◌≡◌, ◌≤◌, Option, map, option_map}
+use Rattle.std.specs.BTreeMap.{BTreeMap, get}
+use Rattle.std.specs.List.{range_with_len}
+use Rattle.std.specs.Ordering.{nat_cmp}
+use Rattle.elf_image_rules.specs.Rows.{FirstIn, Ruled}
+use Rattle.elf_image_rules.specs.declared.image_rules.Broken.{Broken}
+use Rattle.elf_image_stream.specs.declared.fault.Fault.TheVariants.{OutOfMemory, Io, Rule}
+use Rattle.elf_image_stream.specs.declared.fault.Fault.{Fault}
+use Rattle.elf_table_symbols.specs.declared.verdicts.Verdicts.TheInside.{Inside}
+
+-- What a call that makes a table of a section returns: the table if none of its rules is broken, otherwise the first one
+-- that is, at its lowest offset.
+
+-- of a call that takes no memory: the table is this value, by its view
+abbrev pub IsJudged : {T : Type 0} → List {1} (Ruled ℕ) → (T → Type 0) → Result T Fault → Type 0
+IsJudged rules Is (Ok table) = FirstIn rules None × Is table
+IsJudged rules Is (Err (Rule rule at)) = FirstIn rules (Some (rule, at))
+IsJudged rules Is (Err OutOfMemory) = ⊥
+IsJudged rules Is (Err (Io at)) = ⊥
+
+-- of a call that takes memory: it is refused only where no rule of `front` is broken, which are tested before any is taken
+abbrev pub IsJudgedBehind : {T : Type 0} → List {1} (Ruled ℕ) → List {1} (Ruled ℕ) → (T → Type 0) → Result T Fault → Type 0
+IsJudgedBehind front rules Is (Ok table) = FirstIn rules None × Is table
+IsJudgedBehind front rules Is (Err (Rule rule at)) = FirstIn rules (Some (rule, at))
+IsJudgedBehind front rules Is (Err OutOfMemory) = FirstIn front None
+IsJudgedBehind front rules Is (Err (Io at)) = ⊥
+
+-- What contracts see of the verdicts on the first sections of an image.
+
+-- a broken rule that is noted, and where it is broken; None where none is
+abbrev pub fault_in : Option (Broken ℕ) → Option (ℕ × ℕ)
+fault_in = option_map (λ (broken : Broken ℕ). (broken.rule, broken.at))
+
+-- the verdicts on so many sections, by the broken rules that are noted
+abbrev pub verdicts_on : ℕ → BTreeMap ℕ (Broken ℕ) → List (Option (ℕ × ℕ))
+verdicts_on count broken = map (λ i. fault_in (get nat_cmp broken i)) (range_with_len 0 count)
+
+abbrev pub verdicts_view : Inside → List (Option (ℕ × ℕ))
+verdicts_view a = verdicts_on a.count a.broken
+
+-- no rule is noted for a further section
+abbrev pub AreOfFirst : Inside → Type 0
+AreOfFirst a = (i : ℕ) → a.count ≤ i → get nat_cmp a.broken i ≡ None

@@ -1,2 +1,0 @@
--- A lemma on what is left of a list.
-pub mod Left

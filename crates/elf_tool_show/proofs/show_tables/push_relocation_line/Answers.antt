@@ -1,0 +1,9 @@
+use Rattle.std.proofs.Common.{rules}
+use Rattle.elf_tool_show.specs.Show.{relocation_line}
+use Rattle.elf_tool_text.proofs.Public.{line_appended}
+use Rattle.elf_tool_show.proofs.show_tables.push_relocation_line.Goals as goal
+
+pub returns : goal.returns
+unfolding relocation_line
+returns c =
+    line_appended c.extend_from_slice.result c.args.text.now.items c.as_bytes.result.now _ _ _ (search rules) (search rules)

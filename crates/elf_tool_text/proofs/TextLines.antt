@@ -1,0 +1,300 @@
+-- Text that is made digit by digit, word by word and line by line.
+use Rattle.std.proofs.Common.{◌≡◌, ◌∙◌, ℕ, List, [], ◌∷◌, ◌++◌, Result, Ok, Err, OnOk, codes, ap, refl, sym, append_assoc, ◌+◌, ◌-◌, ◌≤◌, Option, take, drop, subst, arith, zero, suc, ◌*◌, ◌/◌, ◌%◌, ◌^◌, ◌<◌, Bool, true, false, length, set, get_or, take_all}
+use Rattle.std.specs.List.{join_with_byte, flat_map, range_with_len}
+use Rattle.std.proofs.lemmas.List.{append-nil, take-append-drop, drop-set, length-append, length-drop, take_more}
+use Rattle.std.proofs.lemmas.List.Concat.{flat_map-append}
+use Rattle.std.proofs.Math.Seq.{take-add}
+use Rattle.std.proofs.Math.Bool.{cond}
+use Rattle.std.proofs.Math.Dec.{eqb}
+use Rattle.std.proofs.lemmas.Bool.{eq-eqb, eqb-false, ne_eqb}
+use Rattle.std.proofs.Math.Nat.{div-lt_iff_lt-mul, mul-le-mul_left, pow-suc, pow-zero}
+use Rattle.std.specs.Fmt.{digit_glyph, digits, digits_onto}
+use Rattle.hex.specs.Hex.{encode_lower, encode_with, lower_digits}
+use Rattle.elf_image_stream.proofs.Public.{both_out, stopped_later, stopped_longer, is_index, line_at, no_index}
+use Rattle.elf_image_stream.specs.Output.{Sends, StoppedIn, WentOut}
+use Rattle.elf_image_stream.specs.declared.fault.WriteFault.{WriteFault}
+use Rattle.elf_tool_text.specs.Engine.{Prints}
+use Rattle.elf_tool_text.specs.Line.{blank, further_words, line}
+use Rattle.elf_tool_text.specs.declared.engine.ToolFault.TheVariants.{Read, Write, OutOfMemory}
+use Rattle.elf_tool_text.specs.declared.engine.ToolFault.{ToolFault}
+use Rattle.elf_tool_text.specs.declared.engine.Verdict.{Verdict}
+
+-- Lines that are made word by word. Appending a blank and a word for each further word, and then the line feed, gives the text with the
+-- line of these words after it, in whichever pieces it is appended.
+
+-- a text with more words after it, one call after the other
+abbrev pub words_on : List ℕ → List (List ℕ) → List ℕ
+words_on text [] = text
+words_on text (w ∷ ws) = words_on (text ++ blank ∷ w) ws
+
+-- the words of a line are the first one and those after it
+joined_words : (w : List ℕ) (ws : List (List ℕ)) → join_with_byte blank (w ∷ ws) ≡ w ++ further_words ws
+joined_words w [] = sym (append-nil w)
+joined_words w (v ∷ vs) = ap (λ (s : List ℕ). w ++ blank ∷ s) (joined_words v vs)
+
+-- words that come one after the other are after the text
+words_behind : (text : List ℕ) (ws : List (List ℕ)) → words_on text ws ≡ text ++ further_words ws
+words_behind text [] = sym (append-nil text)
+words_behind text (w ∷ ws) = words_behind (text ++ blank ∷ w) ws ∙ append_assoc text (blank ∷ w) (further_words ws)
+
+-- a line that is begun, given its words, and ended
+pub whole_line : (text w : List ℕ) (ws : List (List ℕ)) → words_on (text ++ w) ws ++ codes "\n" ≡ text ++ line (w ∷ ws)
+unfolding line
+whole_line text w ws =
+    ap (λ (s : List ℕ). s ++ codes "\n") (words_behind (text ++ w) ws ∙ append_assoc text w (further_words ws))
+    ∙ append_assoc text (w ++ further_words ws) (codes "\n")
+    ∙ ap (λ (s : List ℕ). text ++ (s ++ codes "\n")) (sym (joined_words w ws))
+
+-- the same of the answer of its last call
+pub line_ended : {T E : Type 0} (result : Result T E) (text last new w : List ℕ) (ws : List (List ℕ)) → OnOk result (new ≡ last ++ codes "\n")
+    → last ≡ words_on (text ++ w) ws → OnOk result (new ≡ text ++ line (w ∷ ws))
+line_ended (Ok done) text last new w ws ended same = ended ∙ ap (λ (s : List ℕ). s ++ codes "\n") same ∙ whole_line text w ws
+line_ended (Err fault) text last new w ws ended same = tt
+
+-- words after others are after the text too
+further_behind : (text : List ℕ) (ws vs : List (List ℕ)) → words_on text ws ++ further_words vs ≡ words_on text (ws ++ vs)
+further_behind text ws vs =
+    ap (λ (s : List ℕ). s ++ further_words vs) (words_behind text ws)
+    ∙ append_assoc text (further_words ws) (further_words vs)
+    ∙ ap (λ (s : List ℕ). text ++ s) (sym (flat_map-append (λ (word : List ℕ). blank ∷ word) ws vs))
+    ∙ sym (words_behind text (ws ++ vs))
+
+-- a line whose last words come as a list
+pub line_ended_by : {T E : Type 0} (result : Result T E) (text last new w : List ℕ) (ws vs : List (List ℕ)) → OnOk result (new ≡ last ++ codes "\n")
+    → last ≡ words_on (text ++ w) ws ++ further_words vs → OnOk result (new ≡ text ++ line (w ∷ (ws ++ vs)))
+line_ended_by result text last new w ws vs ended same = line_ended result text last new w (ws ++ vs) ended (same ∙ further_behind (text ++ w) ws vs)
+
+-- ---- a line as one text
+
+-- words after others, and the line feed
+abbrev pub to_the_end : List (List ℕ) → List ℕ
+to_the_end [] = codes "\n"
+to_the_end (w ∷ ws) = blank ∷ (w ++ to_the_end ws)
+
+behind_to_the_end : (ws : List (List ℕ)) → to_the_end ws ≡ further_words ws ++ codes "\n"
+behind_to_the_end [] = refl
+behind_to_the_end (w ∷ ws) =
+    ap (λ (s : List ℕ). blank ∷ (w ++ s)) (behind_to_the_end ws) ∙ sym (append_assoc (blank ∷ w) (further_words ws) (codes "\n"))
+
+pub line_in_a_row : (w : List ℕ) (ws : List (List ℕ)) → w ++ to_the_end ws ≡ line (w ∷ ws)
+unfolding line
+line_in_a_row w ws =
+    ap (λ (s : List ℕ). w ++ s) (behind_to_the_end ws)
+    ∙ sym (append_assoc w (further_words ws) (codes "\n"))
+    ∙ ap (λ (s : List ℕ). s ++ codes "\n") (sym (joined_words w ws))
+
+-- a line that is put together in one piece
+pub line_appended : {T E : Type 0} (result : Result T E) (text put new w : List ℕ) (ws : List (List ℕ)) → OnOk result (new ≡ text ++ put)
+    → put ≡ w ++ to_the_end ws → OnOk result (new ≡ text ++ line (w ∷ ws))
+line_appended (Ok done) text put new w ws appended same = appended ∙ ap (λ (s : List ℕ). text ++ s) (same ∙ line_in_a_row w ws)
+line_appended (Err fault) text put new w ws appended same = tt
+
+-- ---- a line whose first words come in one piece
+
+word_more : (text : List ℕ) (ws : List (List ℕ)) (v : List ℕ) → words_on text (ws ++ v ∷ []) ≡ words_on text ws ++ blank ∷ v
+word_more text [] v = refl
+word_more text (w ∷ ws) v = word_more (text ++ blank ∷ w) ws v
+
+-- the last word is after them
+pub line_ended_behind : {T E : Type 0} (result : Result T E) (text put last new w : List ℕ) (ws : List (List ℕ)) (v : List ℕ) → OnOk result (new ≡ last ++ codes "\n")
+    → last ≡ (text ++ put) ++ blank ∷ v → put ≡ w ++ further_words ws → OnOk result (new ≡ text ++ line (w ∷ (ws ++ v ∷ [])))
+line_ended_behind result text put last new w ws v ended same is =
+    line_ended result text last new w (ws ++ v ∷ []) ended (
+    same
+    ∙ ap (λ (s : List ℕ). s ++ blank ∷ v) (
+    ap (λ (s : List ℕ). text ++ s) is ∙ sym (append_assoc text w (further_words ws)) ∙ sym (words_behind (text ++ w) ws)
+    )
+    ∙ sym (word_more (text ++ w) ws v)
+    )
+
+-- A line that is sent word by word is the line, with a blank between two words and the line feed at its end. Digits that are encoded block
+-- by block are the digits of all bytes; if that stops, a beginning of them was sent. One small fact is on verdicts of other texts
+-- (`said_as`).
+
+-- ---- a line word by word
+
+pub stopped_in_line : (a c : Option (List ℕ)) (out written : ℕ) (w : List ℕ) (ws : List (List ℕ)) → StoppedIn a c out (w ++ to_the_end ws) written →
+    StoppedIn a c out (line (w ∷ ws)) written
+stopped_in_line a c out written w ws stop = subst (λ (s : List ℕ). StoppedIn a c out s written) (line_in_a_row w ws) stop
+
+pub sends_line : (a c : Option (List ℕ)) (out : ℕ) (w : List ℕ) (ws : List (List ℕ)) (result : Result ℕ WriteFault) → Sends a c out (w ++ to_the_end ws) result →
+    Sends a c out (line (w ∷ ws)) result
+sends_line a c out w ws result sends = subst (λ (s : List ℕ). Sends a c out s result) (line_in_a_row w ws) sends
+
+-- ---- digits block by block
+
+encode-append : (xs ys : List ℕ) → encode_lower (xs ++ ys) ≡ encode_lower xs ++ encode_lower ys
+unfolding encode_with
+encode-append [] ys = refl
+encode-append (x ∷ xs) ys = ap (λ (s : List ℕ). encode_with lower_digits (x ∷ []) ++ s) (encode-append xs ys)
+
+module _ (bytes : List ℕ) (next end : ℕ) (a b c : Option (List ℕ)) (out mid : ℕ) (order : next ≤ end) (before : WentOut a b out (encode_lower (take next bytes)) mid) where
+  block_more : encode_lower (take end bytes) ≡ encode_lower (take next bytes) ++ encode_lower (take (end - next) (drop next bytes))
+  block_more =
+      let same : next + (end - next) ≡ end = omega arith in
+      ap (λ (k : ℕ). encode_lower (take k bytes)) (sym same) ∙ ap (λ (s : List ℕ). encode_lower s) (take-add next (end - next) bytes)
+      ∙ encode-append (take next bytes) (take (end - next) (drop next bytes))
+
+  pub block_out : (all : ℕ) → WentOut b c mid (encode_lower (take (end - next) (drop next bytes))) all → WentOut a c out (encode_lower (take end bytes)) all
+  block_out all went =
+      subst (λ (s : List ℕ). WentOut a c out s all) (sym block_more)
+      (both_out a b c out mid all (encode_lower (take next bytes)) (encode_lower (take (end - next) (drop next bytes))) before went)
+
+  pub block_stopped : (written : ℕ) → StoppedIn b c mid (encode_lower (take (end - next) (drop next bytes))) written → StoppedIn a c out (encode_lower bytes) written
+  block_stopped written stop =
+      let all : encode_lower bytes ≡ encode_lower (take end bytes) ++ encode_lower (drop end bytes) =
+      ap (λ (s : List ℕ). encode_lower s) (sym (take-append-drop end bytes)) ∙ encode-append (take end bytes) (drop end bytes) in
+      subst (λ (s : List ℕ). StoppedIn a c out s written) (sym all)
+      (stopped_longer a c out written (encode_lower (take end bytes)) (encode_lower (drop end bytes))
+      (subst (λ (s : List ℕ). StoppedIn a c out s written) (sym block_more)
+      (stopped_later a b c out mid written (encode_lower (take next bytes)) (encode_lower (take (end - next) (drop next bytes))) before stop)))
+
+-- ---- what is said of other words
+
+pub said_as : (P Q : Verdict → List ℕ → Type 0) (old new : Option (List ℕ)) (result : Result Verdict ToolFault) →
+    ((v : Verdict) (t : List ℕ) → P v t → Q v t) → Prints P old new result → Prints Q old new result
+said_as P Q old new (Ok v) into (t, says, went) = (t, into v t says, went)
+said_as P Q old new (Err (Read at)) into says = absurd says
+said_as P Q old new (Err (Write written)) into (v, t, says, cut) = (v, t, into v t says, cut)
+said_as P Q old new (Err OutOfMemory) into says = says
+
+-- The digits of a number, put from the last one to the first: each step puts the last digit in front and divides by the base. A number has
+-- at least one digit, so a place is left for it. By induction, a number below the base to the power k has at most k digits.
+
+-- the last digit, in front of what is put
+abbrev with_last : ℕ → ℕ → List ℕ → List ℕ
+with_last base n acc = digit_glyph false (n % base) ∷ acc
+
+module _ (base n : ℕ) (acc : List ℕ) where
+  one_digit : (k : ℕ) (none : Bool) → eqb (n / base) 0 ≡ none
+      → digits_onto (suc k) base false n acc ≡ cond none (with_last base n acc) (digits_onto k base false (n / base) (with_last base n acc))
+  one_digit k none is = ap (λ (b : Bool). cond b (with_last base n acc) (digits_onto k base false (n / base) (with_last base n acc))) is
+
+  -- it is the first digit too
+  pub last_digit : (k : ℕ) → 0 < k → n / base ≡ 0 → digits_onto k base false n acc ≡ with_last base n acc
+  last_digit zero some none = absurd (omega arith)
+  last_digit (suc k) some none = one_digit k true (eq-eqb (n / base) 0 none)
+
+  -- others are before it
+  pub more_digits : (k : ℕ) → 0 < k → (n / base ≡ 0 → ⊥) → digits_onto k base false n acc ≡ digits_onto (k - 1) base false (n / base) (with_last base n acc)
+  more_digits zero some rest = absurd (omega arith)
+  more_digits (suc k) some rest =
+      one_digit k false (ne_eqb (n / base) 0 rest)
+      ∙ ap (λ (j : ℕ). digits_onto j base false (n / base) (with_last base n acc)) {x = k} {y = suc k - 1} (omega arith)
+
+-- what is put at a place is in front of what was after it
+pub put_before : (out : List ℕ) (i x : ℕ) → 0 < i → i ≤ length out → drop (i - 1) (set out (i - 1) x) ≡ x ∷ drop i out
+put_before out i x some within =
+    drop-set out (i - 1) x (omega arith) ∙ ap (λ (j : ℕ). x ∷ drop j out) {x = i - 1 + 1} {y = i} (omega arith)
+
+-- ---- after what is put is what was there
+
+module _ (base : ℕ) where
+  abbrev IsBehind : ℕ → ℕ → List ℕ → Type 0
+  IsBehind k n acc = digits_onto k base false n acc ≡ digits_onto k base false n [] ++ acc
+
+  next_behind : (k n : ℕ) (acc : List ℕ) → ((acc : List ℕ) → IsBehind k (n / base) acc) → (none : Bool) → eqb (n / base) 0 ≡ none → IsBehind (suc k) n acc
+  next_behind k n acc before true is =
+      one_digit base n acc k true is ∙ ap (λ (s : List ℕ). s ++ acc) (sym (one_digit base n [] k true is))
+  next_behind k n acc before false is =
+      let last : List ℕ = with_last base n [] in
+      one_digit base n acc k false is ∙ before (with_last base n acc) ∙ sym (append_assoc (digits_onto k base false (n / base) []) last acc)
+      ∙ ap (λ (s : List ℕ). s ++ acc) (sym (before last) ∙ sym (one_digit base n [] k false is))
+
+  pub digits_behind : (k n : ℕ) (acc : List ℕ) → IsBehind k n acc
+  digits_behind zero n acc = refl
+  digits_behind (suc k) n acc = next_behind k n acc (digits_behind k (n / base)) (eqb (n / base) 0) refl
+
+  pub digits_behind_all : (n : ℕ) (acc : List ℕ) → digits_onto 64 base false n acc ≡ digits base false n ++ acc
+  unfolding digits
+  digits_behind_all n acc = digits_behind 64 n acc
+
+  -- a number has a digit, so there is a place before those that are put
+  some_digit : (k n : ℕ) (none : Bool) → eqb (n / base) 0 ≡ none → 0 < length (digits_onto (suc k) base false n [])
+  some_digit k n true is = rw (one_digit base n [] k true is) (omega arith)
+  some_digit k n false is =
+      rw (one_digit base n [] k false is, digits_behind k (n / base) (with_last base n []), length-append (digits_onto k base false (n / base) []) (with_last base n []))
+      (omega arith)
+
+  pub place_before : (k n : ℕ) (put all tail : List ℕ) → 0 < k → digits_onto k base false n put ≡ all ++ tail → length put < length all + length tail
+  place_before zero n put all tail some is = absurd (omega arith)
+  place_before (suc k) n put all tail some is =
+      let counts : length (digits_onto (suc k) base false n []) + length put ≡ length all + length tail =
+      sym (length-append (digits_onto (suc k) base false n []) put) ∙ ap length (sym (digits_behind (suc k) n put) ∙ is) ∙ length-append all tail in
+      omega (arith, counts, some_digit k n (eqb (n / base) 0) refl)
+
+-- so there is one where all digits have room
+pub place_left : (base k n start end : ℕ) (out old all : List ℕ) → 0 < k → digits_onto k base false n (drop start out) ≡ all ++ drop end old
+    → length out ≡ length old → end ≤ length old → length all ≤ end → start ≤ end → 0 < start
+place_left base k n start end out old all some is same inside room before =
+    let less = place_before base k n (drop start out) all (drop end old) some is in
+    omega (arith, less, same, inside, room, before, length-drop start out, length-drop end old)
+
+ap-lt : {n m o : ℕ} → m ≡ o → n < m → n < o
+ap-lt is less = omega (arith, is, less)
+
+-- what is left of a number is some only where a place is left for it
+pub places_left : (m k : ℕ) → (m ≡ 0 → ⊥) → m < 2 ^ k → 0 < k
+places_left m zero some small = absurd (some (omega (arith, small)))
+places_left m (suc k) some small = omega arith
+
+-- what is left of a number fits a place less
+pub fits_less : (base n k : ℕ) → 2 ≤ base → 0 < k → n < 2 ^ k → n / base < 2 ^ (k - 1)
+fits_less base n zero least some small = absurd (omega arith)
+fits_less base n (suc k) least some small =
+    let twice : n < 2 ^ k * 2 = rw (← pow-suc 2 k) small in
+    let much : 2 ^ k * 2 ≤ 2 ^ k * base = mul-le-mul_left (2 ^ k) least in
+    ap-lt (ap (λ (j : ℕ). 2 ^ j) {x = k} {y = suc k - 1} (omega arith)) ((div-lt_iff_lt-mul (omega arith)).1 (omega (arith, twice, much)))
+
+-- ---- a small number has few digits
+
+rest_fits : (base n k : ℕ) → 0 < base → 0 < k → n < base ^ k → n / base < base ^ (k - 1)
+rest_fits base n zero some least small = absurd (omega arith)
+rest_fits base n (suc k) some least small =
+    ap-lt (ap (λ (j : ℕ). base ^ j) {x = k} {y = suc k - 1} (omega arith)) ((div-lt_iff_lt-mul some).1 (rw (← pow-suc base k) small))
+
+some_place : (base m k : ℕ) → (m ≡ 0 → ⊥) → m < base ^ k → 0 < k
+some_place base m zero some small =
+    let one : base ^ 0 ≡ 1 = pow-zero base in
+    absurd (some (omega (arith, one, small)))
+some_place base m (suc k) some small = omega arith
+
+module _ (base : ℕ) (some : 0 < base) where
+  abbrev HasFew : ℕ → ℕ → ℕ → Type 0
+  HasFew k j n = length (digits_onto j base false n []) ≤ k
+
+  few_by : (k j n : ℕ) → 0 < k → n < base ^ k → ((m : ℕ) → 0 < k - 1 → m < base ^ (k - 1) → HasFew (k - 1) j m) → (none : Bool) → eqb (n / base) 0 ≡ none → HasFew k (suc j) n
+  few_by k j n least small fewer true is = rw (one_digit base n [] j true is) (omega arith)
+  few_by k j n least small fewer false is =
+      let fits = rest_fits base n k some least small in
+      let left = some_place base (n / base) (k - 1) (eqb-false (n / base) 0 is) fits in
+      rw (one_digit base n [] j false is, digits_behind base j (n / base) (with_last base n []), length-append (digits_onto j base false (n / base) []) (with_last base n []))
+      (omega (arith, fewer (n / base) left fits))
+
+  few_onto : (j k n : ℕ) → 0 < k → n < base ^ k → HasFew k j n
+  few_onto zero k n least small = omega arith
+  few_onto (suc j) k n least small = few_by k j n least small (λ m left fits. few_onto j (k - 1) m left fits) (eqb (n / base) 0) refl
+
+  pub few_digits : (k n : ℕ) → 0 < k → n < base ^ k → length (digits base false n) ≤ k
+  unfolding digits
+  few_digits k n least small = few_onto 64 k n least small
+
+-- Of lines that are made one after the other.
+
+-- one more line
+pub line_more : (f : ℕ → List ℕ) (text old new : List ℕ) (j end n : ℕ) → j < end → end ≡ n → new ≡ old ++ f j
+    → old ≡ text ++ flat_map f (take j (range_with_len 0 n)) → new ≡ text ++ flat_map f (take (j + 1) (range_with_len 0 n))
+line_more f text old new j end n below same pushed before =
+    let within = is_index j end n below same in
+    let xs = range_with_len 0 n in
+    let is : f j ≡ f (get_or xs j 0) = line_at f j end n (f j) below same refl in
+    let more : flat_map f (take (j + 1) xs) ≡ flat_map f (take j xs) ++ f j =
+    ap (flat_map f) (take_more xs j 0 within) ∙ flat_map-append f (take j xs) (get_or xs j 0 ∷ [])
+    ∙ ap (λ (s : List ℕ). flat_map f (take j xs) ++ s) (append-nil (f (get_or xs j 0)) ∙ sym is) in
+    pushed ∙ ap (λ (s : List ℕ). s ++ f j) before ∙ append_assoc text (flat_map f (take j xs)) (f j) ∙ ap (λ (s : List ℕ). text ++ s) (sym more)
+
+-- all of them
+pub all_lines : (f : ℕ → List ℕ) (text new : List ℕ) (j end n : ℕ) → end ≤ j → end ≡ n → new ≡ text ++ flat_map f (take j (range_with_len 0 n))
+    → new ≡ text ++ flat_map f (range_with_len 0 n)
+all_lines f text new j end n past same before =
+    before ∙ ap (λ (xs : List ℕ). text ++ flat_map f xs) (take_all j (range_with_len 0 n) (no_index j end n past same))

@@ -1,0 +1,212 @@
+//! What a command reads, writes and fails with.
+ghost use Rattle.std.specs.Prelude.{◌≡◌, Some, ◌+◌, ◌≤◌, ◌⊎◌, [], map, take, vec_len, IfErr, IfOk, IfSome, OnOk, ◌<◌, length};
+ghost use Rattle.std.specs.Io.KnownBytes.{Consumes, IsAtEnd};
+ghost use Rattle.elf_image_rules.specs.Rules.{MAX_LEN};
+ghost use Rattle.elf_tool_text.specs.Engine.{IsReadFaultAfter, AreRead, IsReadingFault, IsBuffered};
+
+use elf_image_stream::{Fault, WriteFault, read_to_end, send};
+use std::alloc::{AllocError, AllocFailed, Global};
+use std::error::Error;
+use std::fmt;
+use std::io::{Read, Write};
+
+// How an engine ends: with a verdict on what it read, or with a fault of its surroundings.
+
+/// What an engine found, once all that it says is written.
+#[derive(Clone, Copy, Debug, PartialEq, Eq)]
+pub enum Verdict {
+    /// Nothing is refused.
+    Done,
+    /// This is refused.
+    Refused(Refusal),
+}
+
+/// What an engine refuses.
+#[derive(Clone, Copy, Debug, PartialEq, Eq)]
+pub enum Refusal {
+    /// A file breaks the refusal rule of this number, first at this offset in it. Files count from
+    /// 0, in the order of the command line.
+    File {
+        file: usize,
+        rule: u16,
+        at: u64,
+    },
+    /// Files that do not link: the rule of this number is broken at this entry, which counts from 0 at that index of that file.
+    Link {
+        rule: u16,
+        file: usize,
+        index: usize,
+        entry: usize,
+    },
+    /// The file to be written would be longer than 2^30 bytes.
+    TooLong,
+}
+
+impl fmt::Display for Refusal {
+    ghost use Rattle.elf_tool_text.specs.Engine.{refusal_text};
+
+    ghost output = { λ refusal. Some (refusal_text refusal) };
+
+    fn fmt<W: fmt::Write>(&self, f: &mut fmt::Formatter<W>) -> fmt::Result {
+        match self {
+            Refusal::File { rule, at, .. } => write!(f, "refused {rule} {at}"),
+            Refusal::Link {
+                rule,
+                file,
+                index,
+                entry,
+            } => write!(f, "refused {rule} {file} {index} {entry}"),
+            Refusal::TooLong => write!(f, "too long"),
+        }
+    }
+}
+
+/// What can stop an engine.
+#[derive(Clone, Copy, Debug, PartialEq, Eq)]
+pub enum ToolFault {
+    /// A call of a reader failed, after it had given `at` bytes.
+    Read { at: u64 },
+    /// A call of the writer failed or took nothing, with exactly the first `written` bytes of the
+    /// text out: at least so many where it is [`u64::MAX`].
+    Write { written: u64 },
+    /// An allocation failed.
+    OutOfMemory,
+}
+
+impl fmt::Display for ToolFault {
+    ghost use Rattle.elf_tool_text.specs.Engine.{fault_text};
+
+    ghost output = { λ fault. Some (fault_text fault) };
+
+    fn fmt<W: fmt::Write>(&self, f: &mut fmt::Formatter<W>) -> fmt::Result {
+        match self {
+            ToolFault::Read { at } => write!(f, "read failed at {at}"),
+            ToolFault::Write { written } => write!(f, "write failed after {written}"),
+            ToolFault::OutOfMemory => write!(f, "out of memory"),
+        }
+    }
+}
+
+impl Error for ToolFault {}
+
+impl From<AllocError> for ToolFault {
+    ghost use Rattle.elf_tool_text.specs.declared.engine.ToolFault.TheVariants.{OutOfMemory};
+
+    ghost from_gives = { λ _ fault. fault ≡ OutOfMemory };
+
+    fn from(_refused: AllocError) -> ToolFault {
+        ToolFault::OutOfMemory
+    }
+}
+
+impl<T: Drop> From<AllocFailed<T>> for ToolFault {
+    ghost use Rattle.elf_tool_text.specs.declared.engine.ToolFault.TheVariants.{OutOfMemory};
+
+    ghost from_gives = { λ _ fault. fault ≡ OutOfMemory };
+
+    fn from(_refused: AllocFailed<T>) -> ToolFault {
+        ToolFault::OutOfMemory
+    }
+}
+
+impl From<WriteFault> for ToolFault {
+    ghost use Rattle.elf_tool_text.specs.declared.engine.ToolFault.TheVariants.{Write};
+
+    ghost from_gives = { λ failed fault. fault ≡ Write failed.written };
+
+    fn from(failed: WriteFault) -> ToolFault {
+        ToolFault::Write {
+            written: failed.written,
+        }
+    }
+}
+
+// What the engines read.
+
+/// All bytes of a file, into `buf`, which is empty at the call; of a file longer than 2^30 bytes the first 2^30 + 1. A failed read is
+/// [`ToolFault::Read`] with the count of bytes read before it, an allocation that fails
+/// [`ToolFault::OutOfMemory`].
+pub fn read_input<R: Read>(reader: &mut R, buf: &mut Vec<u8>) -> Result<(), ToolFault>
+    requires { buf.old.items ≡ [] }
+    ensures taken { Consumes (R.remaining reader.old) (R.remaining reader.new) buf.new.items }
+    ensures limit { vec_len buf.new ≤ MAX_LEN + 1 }
+    ensures ok { OnOk result (IsAtEnd (R.remaining reader.new) ⊎ (vec_len buf.new ≡ MAX_LEN + 1)) }
+    ensures fault { IfErr result (λ e. IsReadFaultAfter e (vec_len buf.new)) }
+    ensures whole { OnOk result (IfSome (R.remaining reader.old)
+        (λ bytes. buf.new.items ≡ take (MAX_LEN + 1) bytes)) }
+{
+    match read_to_end(reader, buf) {
+        Ok(()) => Ok(()),
+        Err(Fault::Io { at }) => Err(ToolFault::Read { at }),
+        Err(Fault::OutOfMemory) => Err(ToolFault::OutOfMemory),
+        // No rule is tested while the file is read.
+        Err(Fault::Rule { .. }) => unreachable!(),
+    }
+}
+
+/// All bytes of each of several files, as [`read_input`] reads them, one after the other: the next one is not begun before all of the
+/// one before it is read. The first fault ends it.
+pub fn read_inputs<R: Read>(alloc: Global, readers: &mut [R]) -> Result<Vec<Vec<u8>>, ToolFault>
+    ensures ok { IfOk result (λ files.
+        AreRead (map R.remaining readers.old) (map R.remaining readers.new) (map (λ f. f.items) files.items)) }
+    ensures fault { IfErr result (IsReadingFault (map R.remaining readers.old) (map R.remaining readers.new)) }
+{
+    let mut files = Vec::new(alloc);
+    for i in 0..readers.len() {
+        let mut file = Vec::new(alloc);
+        read_input(&mut readers[i], &mut file)?;
+        let Ok(()) = files.push(file) else {
+            return Err(ToolFault::OutOfMemory);
+        };
+    }
+    Ok(files)
+}
+
+// A text that is written in large pieces.
+
+/// How many bytes at least are written at once, but for the last piece.
+const PIECE: usize = 65536;
+
+/// The end of a text that is not yet written, and how many bytes of the text were written before.
+#[derive(Drop)]
+pub struct Output {
+    /// What is not yet written.
+    pub pending: Vec<u8>,
+    /// How many bytes are written: [`u64::MAX`] if they are more.
+    pub written: u64,
+}
+
+impl Output {
+    /// Nothing was written, and nothing is pending.
+    pub fn new(alloc: Global) -> Output
+        ensures pending { result.pending.items ≡ [] }
+        ensures written { result.written ≡ 0 }
+    {
+        Output {
+            pending: Vec::new(alloc),
+            written: 0,
+        }
+    }
+
+    /// Writes what is pending if it is a large piece. Fails as [`flush`](Output::flush) does.
+    pub fn flush_piece<W: Write>(&mut self, writer: &mut W) -> Result<(), ToolFault>
+        ensures buffered { IsBuffered (W.contents writer.old) (W.contents writer.new) self.old self.new [] result }
+        ensures short { OnOk result (length self.new.pending.items < PIECE) }
+    {
+        if self.pending.len() < PIECE {
+            return Ok(());
+        }
+        self.flush(writer)
+    }
+
+    /// Writes all that is pending. If the writer fails, [`ToolFault::Write`] has the count of all bytes that are written: [`u64::MAX`] if
+    /// they are more.
+    pub fn flush<W: Write>(&mut self, writer: &mut W) -> Result<(), ToolFault>
+        ensures buffered { IsBuffered (W.contents writer.old) (W.contents writer.new) self.old self.new [] result }
+        ensures empty { OnOk result (self.new.pending.items ≡ []) }
+    {
+        self.written = send(writer, self.written, &self.pending)?;
+        self.pending.clear();
+        Ok(())
+    }
+}

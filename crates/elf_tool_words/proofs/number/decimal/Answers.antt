@@ -1,8 +1,0 @@
-use Rattle.std.proofs.Common.{◌∙◌, rules}
-use Rattle.elf_tool_words.specs.Number.{is_decimal_digit}
-use Rattle.elf_tool_words.proofs.Numbers.{decimal, parsed}
-use Rattle.elf_tool_words.proofs.number.decimal.Goals as goal
-
-pub returns : goal.returns
-returns c =
-    c.ok.ensures.value ∙ parsed 10 is_decimal_digit decimal c.args.text.now c.from_str_radix.result (search rules) c.from_str_radix.ensures.value

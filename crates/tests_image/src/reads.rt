@@ -1,0 +1,198 @@
+//! Records and whole files that are read.
+use elf_field::{Order, Rel};
+use elf_image_stream::{
+    Bytes, Failed, Failures, ReadFault, RecordsFault, Seeking, Source, read_ends, read_exactly,
+    read_record, read_records,
+};
+use std::alloc::Global;
+use std::io::Cursor;
+use std::process::Abort;
+use std::test::Fail;
+use tests_files::PartialSource;
+
+// Records of a source.
+
+/// How many relocations the table has, of 16 bytes each: two arrays of 4,096 bytes, and a part of one.
+const COUNT: usize = 600;
+
+/// A table after 3 other bytes: relocation `i` has offset `i`, and zeros else.
+fn table(alloc: Global) -> Result<Vec<u8>, Fail> {
+    let mut bytes = Vec::new(alloc);
+    bytes.extend_from_slice(&[0; 3])?;
+    for i in 0..COUNT {
+        bytes.extend_from_slice(&(i as u64).to_le_bytes())?;
+        bytes.extend_from_slice(&[0; 8])?;
+    }
+    Ok(bytes)
+}
+
+/// Whether the offsets are 0, 1 and so on.
+fn ascend(relocations: &[Rel]) -> bool {
+    relocations
+        .iter()
+        .enumerate()
+        .all(|(i, relocation)| relocation.r_offset == i as u64)
+}
+
+#[test]
+fn a_record_is_read(rt: HostRuntime) -> Result<(), Fail> {
+    let bytes = table(rt.alloc())?;
+    let relocation: Result<Rel, _> = read_record(&mut Bytes(&bytes), Order::Little, 3 + 16 * 5);
+    assert_eq!(rt; relocation.map(|it| it.r_offset), Ok(5));
+    Ok(())
+}
+
+/// Whether the table is read whole by a source that gives so many bytes a call, and in how many calls.
+fn table_read(alloc: Global, bytes: &[u8], piece: usize) -> Result<(bool, u64), Fail> {
+    let mut source = PartialSource::new(bytes, piece);
+    let relocations = read_records(alloc, &mut source, Order::Little, 3, COUNT)?;
+    let is_whole = relocations.len() == COUNT && ascend(&relocations);
+    Ok((is_whole, source.calls))
+}
+
+#[test]
+fn a_table_is_read_in_three_calls_or_a_byte_a_call(rt: HostRuntime) -> Result<(), Fail> {
+    let bytes = table(rt.alloc())?;
+    let reads = [
+        table_read(rt.alloc(), &bytes, 4096)?,
+        table_read(rt.alloc(), &bytes, 1)?,
+    ];
+    assert_eq!(rt; reads, [(true, 3), (true, 16 * COUNT as u64)]);
+    Ok(())
+}
+
+#[test]
+fn a_fault_is_told_with_its_offset(rt: HostRuntime) -> Result<(), Fail> {
+    let bytes = table(rt.alloc())?;
+    let mut source = PartialSource::new(&bytes, 4096);
+    source.failing = 2;
+    let relocations: Result<Vec<Rel>, _> = read_records(
+        rt.alloc(),
+        &mut source,
+        Order::Little,
+        3,
+        COUNT,
+    );
+    let is_told = matches!(relocations, Err(RecordsFault::Io { at: 4099 }));
+    assert_eq!(rt; (is_told, source.calls), (true, 2));
+    Ok(())
+}
+
+// Whole reads.
+
+/// What a call that asks for three bytes at this offset comes to, and the bytes.
+fn given(at: u64) -> (Result<usize, Failed>, [u8; 3]) {
+    let mut buf = [0; 3];
+    let answer = Bytes(b"abcde").read_at(at, &mut buf);
+    (answer, buf)
+}
+
+// Bytes in memory, and what seeks.
+#[test]
+fn bytes_are_read_at_any_offset(rt: HostRuntime) {
+    let mut file = Seeking::new(Cursor::new(b"abcde".as_slice()));
+    let mut end = [0; 2];
+    let mut front = [0; 2];
+    let answers = [file.read_at(3, &mut end), file.read_at(0, &mut front)];
+    assert_eq!(rt;
+        (
+            [Bytes(b"abcde").length(), file.length()],
+            [given(1), given(4), given(5), given(u64::MAX)],
+            (answers, end, front)
+        ),
+        (
+            [Ok(5); 2],
+            [
+                (Ok(3), *b"bcd"),
+                (Ok(1), *b"e\0\0"),
+                (Ok(0), [0; 3]),
+                (Ok(0), [0; 3])
+            ],
+            ([Ok(2); 2], *b"de", *b"ab")
+        )
+    );
+}
+
+// A byte a call, and nothing is asked for an empty buffer.
+#[test]
+fn a_byte_a_call_is_read_whole(rt: HostRuntime) {
+    let mut source = PartialSource::new(b"abcdefgh", 1);
+    let mut buf = [0; 4];
+    let none = (read_exactly(&mut source, 2, &mut []), source.calls);
+    let four = (read_exactly(&mut source, 2, &mut buf), source.calls);
+    assert_eq!(rt; (none, four, buf), ((Ok(()), 0), (Ok(()), 4), *b"cdef"));
+}
+
+/// What a read of four bytes comes to whose call of this number fails, or gives none, and how many calls there were.
+fn failed(failing: u64, gives_none: bool) -> (Result<(), ReadFault>, u64) {
+    let mut source = PartialSource::new(b"abcdefgh", 1);
+    source.failing = failing;
+    source.gives_none = gives_none;
+    let answer = read_exactly(&mut source, 2, &mut [0; 4]);
+    (answer, source.calls)
+}
+
+// No byte where some were to come is a fault too, and so is the end of the bytes.
+#[test]
+fn a_failed_call_is_not_tried_again(rt: HostRuntime) {
+    let past = read_exactly(&mut Bytes(b"abcde"), 3, &mut [0; 4]);
+    assert_eq!(rt;
+        (failed(3, false), failed(2, true), past),
+        (
+            (Err(ReadFault { at: 4 }), 3),
+            (Err(ReadFault { at: 3 }), 2),
+            Err(ReadFault { at: 5 })
+        )
+    );
+}
+
+/// The ends of so many bytes from this offset on, and how many calls they took.
+fn ends(at: u32, len: u32) -> (Result<(u64, u8, u8), ReadFault>, u64) {
+    let mut source = PartialSource::new(b"abcde", 8);
+    let ends = read_ends(&mut source, u64::from(at), u64::from(len)).map(|ends| (
+        ends.len, ends.first, ends.last,
+    ));
+    (ends, source.calls)
+}
+
+#[test]
+fn the_ends_of_a_table_are_two_bytes(rt: HostRuntime) {
+    assert_eq!(rt;
+        [ends(1, 3), ends(4, 1), ends(9, 0)],
+        [
+            (Ok((3, b'b', b'd')), 2),
+            (Ok((1, b'e', b'e')), 1),
+            (Ok((0, 0, 0)), 0)
+        ]
+    );
+}
+
+#[test]
+fn a_failed_call_is_told(rt: HostRuntime) {
+    let mut source = PartialSource::new(b"abcde", 8);
+    source.failing = 1;
+    let mut buf = [0; 2];
+    let answers = [source.read_at(0, &mut buf), source.read_at(0, &mut buf)];
+    assert_eq!(rt; answers, [Err(Failed), Ok(2)]);
+}
+
+// A read of no byte is a failure if the buffer is not empty. Failures are counted modulo 2^64.
+#[test]
+fn failures_are_counted(rt: HostRuntime) {
+    let one = Failures { count: 1, last: 9 };
+    let most = Failures {
+        count: u64::MAX,
+        last: 7,
+    };
+    let none = Failures::NONE;
+    let counted = [
+        none.and_read(9, 4, &Ok(1)),
+        none.and_read(9, 0, &Ok(0)),
+        none.and_read(9, 4, &Ok(0)),
+        none.and_read(9, 4, &Err(Failed)),
+        none.and_read(9, 0, &Err(Failed)),
+        most.and_one_at(7),
+    ];
+    let over = Failures { count: 0, last: 7 };
+    assert_eq!(rt; counted, [none, none, one, one, one, over]);
+}

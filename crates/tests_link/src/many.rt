@@ -1,0 +1,180 @@
+//! Links of many names and many addends.
+ghost use Rattle.std.specs.Prelude.{◌<◌};
+
+use crate::parts::{
+    DIGITS, GLOBAL, data, holds, list, mapped, numbered, object, push_number, rule, symbol,
+};
+use elf_field::Order;
+use elf_link_field::{Form, Range, Width};
+use elf_link_map::{Binding, LinkFault, LinkMap};
+use elf_link_relocate::relocate;
+use elf_object_type::{Body, Info, Object, ObjectFault, Place, Relocation, Section, Symbol};
+use std::alloc::{AllocError, Global};
+use std::test::Fail;
+
+// Forty thousand fields of one, two, four and eight bytes, whose addends are in them.
+
+/// How many groups of four fields there are, side by side.
+const GROUPS: usize = 10_000;
+
+/// The bytes of a group.
+const SIZE: u64 = 15;
+
+/// The value of the symbol.
+const VALUE: u64 = 50;
+
+/// Adds the number of a group, in one, two, four and eight bytes.
+fn push_group(order: Order, number: u64, bytes: &mut Vec<u8>) -> Result<(), AllocError> {
+    push_number(order, number, 1, bytes)?;
+    push_number(order, number, 2, bytes)?;
+    push_number(order, number, 4, bytes)?;
+    push_number(order, number, 8, bytes)
+}
+
+/// The bytes of all groups, where the addends of each are a number from 0 down to -99, and this is added to them.
+fn groups(alloc: Global, order: Order, value: u64) -> Result<Vec<u8>, AllocError> {
+    let mut bytes = Vec::new(alloc);
+    for group in 0..GROUPS {
+        let addend = 0_u64.wrapping_sub(group as u64 % 100);
+        push_group(order, value.wrapping_add(addend), &mut bytes)?;
+    }
+    Ok(bytes)
+}
+
+/// Adds the entries of a group.
+fn push_entries(group: usize, entries: &mut Vec<Relocation>) -> Result<(), AllocError>
+    requires { group < 10000 }
+{
+    for (kind, behind) in [(1, 0), (2, 1), (3, 3), (4, 7)] {
+        entries.push(Relocation {
+            offset: (SIZE * group as u64).wrapping_add(behind),
+            symbol: Some(0),
+            kind,
+            addend: 0,
+        })?;
+    }
+    Ok(())
+}
+
+/// The entries of all groups.
+fn entries(alloc: Global) -> Result<Vec<Relocation>, AllocError> {
+    let mut entries = Vec::new(alloc);
+    for group in 0..GROUPS {
+        push_entries(group, &mut entries)?;
+    }
+    Ok(entries)
+}
+
+/// A section of relocations without addends beside them.
+fn rel<'a>(entries: Vec<Relocation>) -> Section<'a> {
+    Section {
+        name: b".rel",
+        flags: 0,
+        addr: 0,
+        align: 8,
+        entsize: 16,
+        link: None,
+        info: Info::Number(0),
+        body: Body::Relocs {
+            rela: false,
+            target: 0,
+            entries: entries.into(),
+        },
+    }
+}
+
+/// A section of these bytes with the relocations, and the symbol.
+fn file(alloc: Global, order: Order, content: &[u8]) -> Result<Object<'_>, ObjectFault> {
+    let sections = list(alloc, [data(b".data", content), rel(entries(alloc)?)])?;
+    let symbols = list(alloc, [symbol(b"x", GLOBAL, Place::Abs, VALUE)])?;
+    object(alloc, order, sections, symbols)
+}
+
+/// Whether the link of these objects leaves these bytes in section 0 of the first one.
+fn leaves(alloc: Global, objects: &[Object<'_>], bytes: &[u8]) -> Result<bool, LinkFault> {
+    let rules = [
+        rule(1, Form::Abs, Width::W1, Range::Signed),
+        rule(2, Form::Abs, Width::W2, Range::Signed),
+        rule(3, Form::Abs, Width::W4, Range::Signed),
+        rule(4, Form::Abs, Width::W8, Range::Signed),
+    ];
+    let map = mapped(alloc, objects, 0x1000, None)?;
+    let linked = relocate(alloc, &map, objects, &rules)?;
+    Ok(holds(&linked, bytes))
+}
+
+/// Whether each field holds the symbol's value and the addend that was in it.
+fn holds_sums(alloc: Global, order: Order) -> Result<bool, Fail> {
+    let content = groups(alloc, order, 0)?;
+    let wanted = groups(alloc, order, VALUE)?;
+    let objects = [file(alloc, order, &content)?];
+    Ok(leaves(alloc, &objects, &wanted)?)
+}
+
+#[test]
+fn forty_thousand_addends_in_their_fields(rt: HostRuntime) -> Result<(), Fail> {
+    for order in [Order::Little, Order::Big] {
+        let holds = holds_sums(rt.alloc(), order)?;
+        assert!(rt; holds);
+    }
+    Ok(())
+}
+
+// An object of a million symbols, each of a name of its own.
+
+const COUNT: usize = 1_000_000;
+
+/// The symbols of these names.
+fn symbols(alloc: Global, names: &[u8]) -> Result<Vec<Symbol<'_>>, AllocError> {
+    let mut symbols = Vec::with_capacity(alloc, COUNT)?;
+    for name in names.chunks(DIGITS) {
+        symbols.push(symbol(name, GLOBAL, Place::Abs, 0))?;
+    }
+    Ok(symbols)
+}
+
+/// The link map of an object of all symbols.
+fn linked(alloc: Global, names: &[u8]) -> Result<LinkMap<'_>, Fail> {
+    let symbols = symbols(alloc, names)?;
+    let objects = [object(alloc, Order::Little, Vec::new(alloc), symbols)?];
+    Ok(mapped(alloc, &objects, 0x1000, None)?)
+}
+
+/// The first position whose name is not bound to the symbol there.
+fn first_wrong(link: &LinkMap<'_>) -> Option<usize> {
+    let names = link.names();
+    for position in 0..names.len() {
+        let definition = Binding::Strong {
+            file: 0,
+            symbol: position,
+        };
+        if names[position].binding != definition {
+            return Some(position);
+        }
+    }
+    None
+}
+
+/// How many names the link has, the first one that is bound otherwise, and the bindings of the last one and of none.
+fn told(link: &LinkMap<'_>) -> (usize, Option<usize>, [Option<Binding>; 2]) {
+    let bindings = [link.binding(b"0999999"), link.binding(b"1000000")];
+    (link.names().len(), first_wrong(link), bindings)
+}
+
+/// The same of the link of all symbols.
+fn told_of_all(alloc: Global) -> Result<(usize, Option<usize>, [Option<Binding>; 2]), Fail> {
+    let names = numbered(alloc, COUNT)?;
+    let link = linked(alloc, names.as_bytes())?;
+    Ok(told(&link))
+}
+
+#[test]
+fn a_million_names(rt: HostRuntime) -> Result<(), Fail> {
+    let last = Binding::Strong {
+        file: 0,
+        symbol: 999_999,
+    };
+    let told = told_of_all(rt.alloc())?;
+    assert_eq!(rt; told, (COUNT, None, [Some(last), None]));
+    Ok(())
+}
