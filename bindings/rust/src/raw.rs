@@ -395,35 +395,35 @@ pub(crate) fn header(bytes: &[u8]) -> Option<Header> {
     is_there.then_some(header)
 }
 
-pub(crate) fn section(numbers: &Numbers, bytes: &[u8], index: u64) -> Option<SectionHeader> {
-    let (at, len) = (bytes.as_ptr(), bytes.len());
-    let mut section = SectionHeader::default();
+/// A call that puts what it finds in a file into the last struct; false where there is nothing.
+type Finder<Of, Found> = unsafe extern "C" fn(&Of, *const u8, usize, u64, &mut Found) -> bool;
+
+fn found<Of, Found: Default>(
+    call: Finder<Of, Found>,
+    of: &Of,
+    bytes: &[u8],
+    place: u64,
+) -> Option<Found> {
+    let mut found = Found::default();
     // SAFETY: a slice, what is borrowed as `&`, and what only this call sees.
-    let is_there = unsafe { elfmap_section(numbers, at, len, index, &mut section) };
-    is_there.then_some(section)
+    let is_there = unsafe { call(of, bytes.as_ptr(), bytes.len(), place, &mut found) };
+    is_there.then_some(found)
+}
+
+pub(crate) fn section(numbers: &Numbers, bytes: &[u8], index: u64) -> Option<SectionHeader> {
+    found(elfmap_section, numbers, bytes, index)
 }
 
 pub(crate) fn segment(numbers: &Numbers, bytes: &[u8], index: u64) -> Option<ProgramHeader> {
-    let (at, len) = (bytes.as_ptr(), bytes.len());
-    let mut segment = ProgramHeader::default();
-    // SAFETY: a slice, what is borrowed as `&`, and what only this call sees.
-    let is_there = unsafe { elfmap_segment(numbers, at, len, index, &mut segment) };
-    is_there.then_some(segment)
+    found(elfmap_segment, numbers, bytes, index)
 }
 
 pub(crate) fn name(numbers: &Numbers, bytes: &[u8], index: u64) -> Option<Extent> {
-    let (at, len) = (bytes.as_ptr(), bytes.len());
-    let mut name = Extent::default();
-    // SAFETY: a slice, what is borrowed as `&`, and what only this call sees.
-    let is_there = unsafe { elfmap_name(numbers, at, len, index, &mut name) };
-    is_there.then_some(name)
+    found(elfmap_name, numbers, bytes, index)
 }
 
 pub(crate) fn load(numbers: &Numbers, bytes: &[u8], address: u64) -> Option<u8> {
-    let mut byte = 0;
-    // SAFETY: a slice, what is borrowed as `&`, and what only this call sees.
-    let is_there = unsafe { elfmap_load(numbers, bytes.as_ptr(), bytes.len(), address, &mut byte) };
-    is_there.then_some(byte)
+    found(elfmap_load, numbers, bytes, address)
 }
 
 /// How many parts the buffer then has. If it is too small: [`SHORT_ROOM`], and how many are needed.
@@ -449,51 +449,27 @@ pub(crate) fn parts(bytes: &[u8], buffer: &mut [Piece]) -> Result<u64, Fault> {
 }
 
 pub(crate) fn table(numbers: &Numbers, bytes: &[u8], index: u64) -> Option<Table> {
-    let (at, len) = (bytes.as_ptr(), bytes.len());
-    let mut table = Table::default();
-    // SAFETY: a slice, what is borrowed as `&`, and what only this call sees.
-    let is_there = unsafe { elfmap_table(numbers, at, len, index, &mut table) };
-    is_there.then_some(table)
+    found(elfmap_table, numbers, bytes, index)
 }
 
 pub(crate) fn symbol(table: &Table, bytes: &[u8], index: u64) -> Option<SymbolEntry> {
-    let (at, len) = (bytes.as_ptr(), bytes.len());
-    let mut symbol = SymbolEntry::default();
-    // SAFETY: a slice, what is borrowed as `&`, and what only this call sees.
-    let is_there = unsafe { elfmap_symbol(table, at, len, index, &mut symbol) };
-    is_there.then_some(symbol)
+    found(elfmap_symbol, table, bytes, index)
 }
 
 pub(crate) fn relocation(table: &Table, bytes: &[u8], index: u64) -> Option<Relocation> {
-    let (at, len) = (bytes.as_ptr(), bytes.len());
-    let mut relocation = Relocation::default();
-    // SAFETY: a slice, what is borrowed as `&`, and what only this call sees.
-    let is_there = unsafe { elfmap_relocation(table, at, len, index, &mut relocation) };
-    is_there.then_some(relocation)
+    found(elfmap_relocation, table, bytes, index)
 }
 
 pub(crate) fn dynamic(table: &Table, bytes: &[u8], index: u64) -> Option<Dynamic> {
-    let (at, len) = (bytes.as_ptr(), bytes.len());
-    let mut entry = Dynamic::default();
-    // SAFETY: a slice, what is borrowed as `&`, and what only this call sees.
-    let is_there = unsafe { elfmap_dynamic(table, at, len, index, &mut entry) };
-    is_there.then_some(entry)
+    found(elfmap_dynamic, table, bytes, index)
 }
 
 pub(crate) fn string(table: &Table, bytes: &[u8], offset: u64) -> Option<Extent> {
-    let (at, len) = (bytes.as_ptr(), bytes.len());
-    let mut place = Extent::default();
-    // SAFETY: a slice, what is borrowed as `&`, and what only this call sees.
-    let is_there = unsafe { elfmap_string(table, at, len, offset, &mut place) };
-    is_there.then_some(place)
+    found(elfmap_string, table, bytes, offset)
 }
 
 pub(crate) fn note_at(table: &Table, bytes: &[u8], offset: u64) -> Option<NoteEntry> {
-    let (at, len) = (bytes.as_ptr(), bytes.len());
-    let mut note = NoteEntry::default();
-    // SAFETY: a slice, what is borrowed as `&`, and what only this call sees.
-    let is_there = unsafe { elfmap_note_at(table, at, len, offset, &mut note) };
-    is_there.then_some(note)
+    found(elfmap_note_at, table, bytes, offset)
 }
 
 pub(crate) fn find(table: &Table, bytes: &[u8], name: &[u8]) -> Option<u32> {
