@@ -8,15 +8,17 @@ import contextlib
 import json
 import os
 import re
+import struct
 import subprocess
 import sys
 import tempfile
 import time
 import unittest
 from pathlib import Path
+from unittest import mock
 
 from elfmap import _hints, _names, _rules, _words, build, explain
-from elfmap._link_words import Linked
+from elfmap._link_words import Linked, link_words
 
 from tests.made import BROKEN_SYMBOLS, ENVIRONMENT, GNU, GOOD, LONG, SHARING, FolderCase
 from tests.made import Made, archive_member, relocations, setUpModule, symbols, text, thin  # noqa: F401
@@ -116,6 +118,110 @@ class LineTest(Case):
         self.assertEqual(lines, [b"file 1 refused 33 114", b"file 2 refused 2 51 150"])
         self.assertIn("the table in section 2 .symtab", explained(lines[1].decode(), ["good.o", "bad.o", "tables.o"]))
 
+    def test_an_empty_line_is_between_explanations(self):
+        out = self.explain("bad.o", stdin=b"refused 33 114\nok 1 2 3\nrefused 33 115\n")[1]
+        self.assertEqual([it.partition("\n")[0] for it in out.split("\n\n")], ["refused 33 114", "refused 33 115"])
+
+    def test_a_file_that_shrinks(self):
+        """On a terminal: it is told, the others are checked, and the status is 3."""
+        with contextlib.ExitStack() as stack:
+            named = [explain.named_file(it, stack) for it in ("good.o", "bad.o")]
+            os.truncate("good.o", 70)
+            explainer = explain.Explainer(named, stack.enter_context(explain.Files()))
+            with mock.patch.object(explain, "complain") as said:
+                self.assertEqual(list(explainer.refusals()), [b"file 1 refused 33 114"])
+        said.assert_called_once_with("elfmap-explain", b"good.o: it became shorter while it was read")
+        self.assertTrue(explainer.lost)
+
+    def test_many_sections_that_share_a_byte(self):
+        made = Made(*((b".data", 1, b"\1", {}) for _ in range(100)))
+        content = bytearray(made.data)
+        for index in range(1, 101):
+            content[made.at(index, "offset") : made.at(index, "offset") + 8] = (64).to_bytes(8, "little")
+        self.put(many__o=bytes(content))
+        found = explained("refused 33 64", ["many.o"])
+        self.assertEqual((found.count(".data [0x40, 0x41)"), "many.o, offset 64 (0x40): 84 more sections" in found), (16, True), found)
+
+    def place(self, made, at):
+        """What is said of an offset."""
+        self.put(made__o=bytes(made.data))
+        return re.search(
+            r"offset \d+ \(0x[0-9a-f]+\): (?:the content of .*?\): )?(.*?) what to do", explained(f"refused 33 {at}", ["made.o"])
+        )[1]
+
+    def test_the_parts_of_notes(self):
+        """Names and descriptors are padded to four bytes; each note has 12 bytes before them."""
+        notes = struct.pack("<3I", 4, 5, 1) + b"abc\0" + b"12345\0\0\0" + struct.pack("<3I", 2, 0, 3) + b"d\0\0\0"
+        made = Made(text(), (b".note", 7, notes, {}))
+        start = made.starts[2]
+        for at, words in (
+            (0, "note 0: namesz, which is 4"),
+            (4, "note 0: descsz, which is 5"),
+            (8, "note 0: type, which is 1"),
+            (12, "note 0: its name"),
+            (15, "note 0: its name"),
+            (16, "note 0: its descriptor"),
+            (23, "note 0: its descriptor"),
+            (24, "note 1: namesz, which is 2"),
+            (36, "note 1: its name"),
+        ):
+            self.assertEqual(self.place(made, start + at), words, at)
+
+    def test_the_words_of_a_hash_table(self):
+        """The counts of buckets and chain words, the buckets, and a word for each symbol."""
+        table = (b".hash", 5, struct.pack("<6I", 2, 2, 1, 0, 0, 0), dict(link=3, entsize=4))
+        made = Made(text(), table, symbols(4, (1, 0x10, 1)), (b".strtab", 3, b"\0f\0", {}))
+        start = made.starts[2]
+        for at, words in enumerate(
+            (
+                "the number of buckets, 2",
+                "the number of chain words, 2",
+                "bucket 0, which begins with symbol 1 f",
+                "bucket 1, which begins with symbol 0 (no name)",
+                "the chain word of symbol 0 (no name): 0",
+                "the chain word of symbol 1 f: 0",
+            )
+        ):
+            self.assertEqual(self.place(made, start + 4 * at), words)
+
+    def test_the_entries_of_a_dynamic_array(self):
+        made = Made(text(), (b".dynamic", 6, struct.pack("<4Q", 1, 7, 0, 0), dict(link=3, entsize=16)), (b".dynstr", 3, b"\0", {}))
+        self.assertEqual(self.place(made, made.starts[2]), "entry 0, of tag 1: d_tag, which is 1")
+        self.assertEqual(self.place(made, made.starts[2] + 8), "entry 0, of tag 1: d_un, which is 7")
+
+    def test_symbols_of_no_section(self):
+        made = Made(text(), symbols(3, (1, 0x10, 0xFFF1), (1, 0x10, 1)), (b".strtab", 3, b"\0f\0", {}))
+        self.assertEqual(self.place(made, made.starts[2] + 24 + 8), "symbol 1 f: st_value, which is 0")
+        self.assertEqual(self.place(made, made.starts[2] + 48 + 8), "symbol 2 f, defined in section 1 .text: st_value, which is 0")
+
+    def test_the_relocations_of_each_type(self):
+        """Without addends an entry has 16 bytes."""
+        rows = (b".rel.text", 9, struct.pack("<4Q", 0, 1 << 32 | 2, 8, 1 << 32 | 2), dict(link=2, info=1, entsize=16))
+        made = Made(text(), symbols(3, (1, 0x10, 0)), (b".strtab", 3, b"\0f\0", {}), rows)
+        own = "relocation 1, of symbol 1 f, at 0x8 of section 1 .text, of type 2 (R_X86_64_PC32)"
+        self.assertEqual(self.place(made, made.starts[4] + 16), own)
+        linked = Linked("a.o", _words.Words(bytes(made.data)))
+        self.assertEqual(link_words([linked], 12, 0, 1, 1), f"a.o, section 4 .rel.text: {own}")
+
+    def test_the_definition_before(self):
+        """It is global, and neither undefined nor common; its name may lie anywhere in the string table."""
+
+        def file(path, *symbol, strings=b"\0main\0"):
+            made = Made(text(), symbols(3, symbol), (b".strtab", 3, strings, {}))
+            return Linked(path, _words.Words(bytes(made.data)))
+
+        at = (1 << 20) - 2
+        far = b"\0" + b"x" * (at - 2) + b"\0main\0"
+        last = file("last.o", 1, 0x10, 1)
+        for before, words in (
+            ([file("0.o", 1, 0x11, 0xFFF2, 8), file("1.o", 1, 0x10, 1)], "1.o has it at symbol 1"),
+            ([file("0.o", 1, 0x20, 1), file("1.o", 1, 0x10, 1)], "1.o has it at symbol 1"),
+            ([file("0.o", 1, 0x10, 0), file("1.o", 1, 0x10, 1)], "1.o has it at symbol 1"),
+            ([file("0.o", at, 0x10, 1, strings=far), file("1.o", 1, 0x10, 1)], "0.o has it at symbol 1"),
+        ):
+            found = link_words([*before, last], 8, 2, 0, 0)
+            self.assertEqual(found, f"two definitions of main, the second one at symbol 1 of last.o; {words}")
+
     def test_no_refusal(self):
         self.assertEqual(self.explain("good.o", stdin=b"ok 680 3 0\n"), (0, "no refusal\n", ""))
 
@@ -174,8 +280,9 @@ class FindingTest(Case):
         self.assertIn("section 2 .data", found)
 
     def test_control_characters_in_text(self):
-        os.rename("bad.o", "a\nb.o")
-        self.assertIn("section 2 .data", self.said(stdin=FINDING.replace(b"bad.o", b"a\\x0ab.o")))
+        for name, told in (("a\nb.o", b"a\\x0ab.o"), ("a\x7fb.o", b"a\\x7fb.o")):
+            self.put(**{name: SHARING})
+            self.assertIn("section 2 .data", self.said(stdin=FINDING.replace(b"bad.o", told)))
 
     def test_members(self):
         self.assertIn("section 2 .data", self.said(stdin=FINDING.replace(b"bad.o", b"lib.a(" + LONG + b")")))
@@ -184,6 +291,24 @@ class FindingTest(Case):
         for name in (b"lib.a(none)", b"none(lib.a)", b"bad.o(x)", b"lib.a()"):
             status, out, _ = self.explain(stdin=FINDING.replace(b"bad.o", name))
             self.assertEqual((status, "can't be read" in out), (3, True))
+
+    def test_members_of_several_archives(self):
+        """Of members of one name the first is meant. A directory may have brackets in its name, an archive may be cut short later on."""
+        many = b"!<arch>\n" + archive_member(b"x.o", SHARING) + archive_member(b"x.o", GOOD)
+        self.put(**{"many__a": many, "a(b)/lib__a": GNU, "cut__a": GNU[:-3]})
+        names = b"lib.a(" + LONG + b")", b"many.a(x.o)", b"lib.a(" + LONG + b")", b"a(b)/lib.a(" + LONG + b")", b"cut.a(" + LONG + b")"
+        status, out, err = self.explain(stdin=b"".join(FINDING.replace(b"bad.o", it) + b"\n" for it in names))
+        self.assertEqual((status, err, out.count("section 2 .data [0x72, 0x76)")), (0, "", 5), out)
+
+    def test_members_that_a_thin_archive_names_in_another(self):
+        front = b"!<thin>\n" + archive_member(b"/", b"lib.a/\n")
+        origin = GNU.index(archive_member(b"/0", SHARING, b""))
+        self.put(outer__a=front + archive_member(b"/0:%d" % origin, b"", b""))
+        self.assertIn("section 2 .data", self.said(stdin=FINDING.replace(b"bad.o", b"outer.a(lib.a(" + LONG + b"))")))
+
+    def test_an_object_that_would_be_too_long(self):
+        found = self.said(stdin=b"bad.o: offset 0x0: OBJECT_TOO_LONG (0): ")
+        self.assertIn("the canonical layout of its object is longer than 2^30 bytes", found)
 
     def test_what_is_no_file(self):
         os.mkfifo("pipe")
@@ -236,6 +361,10 @@ class HintTest(Case):
         self.assertIn(f"e_shoff, which is 0x40, points astray: a table of 3 section headers is at {made.table:#x}", self.hints(data, 13))
         cut = bytes(made.data[:-64])
         self.assertIn("the file was cut short", self.hints(cut, 15))
+        # A table of one section header, at the bytes of .text.
+        astray = bytearray(data)
+        astray[60] = 1
+        self.assertIn("e_shoff, which is 0x40, points astray: what is there looks like no section header 0", self.hints(astray, 13))
         # One byte of section header 0 was written: it is where it belongs.
         self.assertEqual(self.hints(made.with_bytes(made.table + 4, b"\1"), 13), "")
 
@@ -267,10 +396,60 @@ class HintTest(Case):
             found = " ".join(_hints.link_hints([self.linked(machine, b"f", kind)], 12, 0, 1, 0))
             self.assertIn(words, found)
 
+    def test_names_of_compilers(self):
+        for name, words in (
+            (b"__stack_chk_fail", "compile it with -fno-stack-protector"),
+            (b"_Unwind_Resume", "compile it with -fno-exceptions"),
+            (b"__tls_get_addr", "thread-local variables, which elfmap does not link"),
+        ):
+            self.assertIn(words, " ".join(_hints.link_hints([self.linked(name=name)], 9, 0, 0, 0)))
+
+    def test_what_other_files_begin_with(self):
+        """By the formats: LLVM's bitcode and its wrapper, Mach-O, gzip (RFC 1952), xz and zstd (RFC 8878). One may be short."""
+        for front, words in (
+            (b"!<thin>\n", "it is a thin archive"),
+            (b"BC\xc0\xde", "it is LLVM bitcode: compile without -flto"),
+            (b"\xde\xc0\x17\x0b", "it is LLVM bitcode: compile without -flto"),
+            (b"#!/bin/sh\n", "it is a script"),
+            (b"MZ", "it is a program for Windows"),
+            (b"\xcf\xfa\xed\xfe", "it is a Mach-O file"),
+            (b"\x1f\x8b\x08", "it is compressed by gzip: decompress it first"),
+            (b"\xfd7zXZ\0", "it is compressed by xz: decompress it first"),
+            (b"\x28\xb5\x2f\xfd", "it is compressed by zstd: decompress it first"),
+        ):
+            self.assertIn(words, self.hints(front, 2))
+            self.assertIn(words, self.hints(front.ljust(100, b"x"), 3))
+
     def test_other_files(self):
         self.assertIn("it is an archive: elfmap-lint checks its members", self.hints(GNU, 3))
         self.assertIn("-m64", self.hints(b"\x7fELF\1" + bytes(80), 4))
         self.assertIn("the file is an executable", self.hints(Made(text()).with_bytes(16, b"\2"), 70))
+
+
+class KnownNamesTest(unittest.TestCase):
+    """Some that are met often, by the lists of the gABI and of the supplements for processors."""
+
+    def test_machines(self):
+        for number, name in (
+            (3, "386"),
+            (8, "MIPS"),
+            (21, "PPC64"),
+            (22, "S390"),
+            (40, "ARM"),
+            (183, "AARCH64"),
+            (243, "RISCV"),
+            (258, "LOONGARCH"),
+        ):
+            self.assertEqual(_names.machine_words(number), f"{number} (EM_{name})")
+
+    def test_section_types_of_processors(self):
+        for number, machine, name in (
+            (0x70000001, 62, "X86_64_UNWIND"),
+            (0x70000003, 243, "RISCV_ATTRIBUTES"),
+            (0x70000001, 183, "0x70000001"),
+            (1, 62, "PROGBITS"),
+        ):
+            self.assertEqual(_names.section_type(number, machine), name)
 
 
 @unittest.skipUnless(ELF_H.is_file(), "elf.h is not installed")

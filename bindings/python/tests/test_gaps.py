@@ -1,6 +1,7 @@
 """elfmap-gaps: the gaps of files that are made here by hand, and how it ends."""
 
 import os
+import struct
 import subprocess
 import sys
 import unittest
@@ -68,6 +69,32 @@ class GapsTest(FolderCase):
         sections = [(b".s", 1, b"\1", {}) for _ in range(500)]
         self.put(a__o=bytes(Made(*sections).data))
         self.assertEqual(self.gaps("a.o")[1][0], "7 a.o: [0x41, 0x48) between .s and .s, zeros")
+
+    def test_twenty_of_many(self):
+        self.put(a__o=bytes(Made(*((b".s", 1, b"\1", {}) for _ in range(30))).data))
+        lines = self.gaps("a.o")[1]
+        self.assertEqual(len(lines), 20 + 1)
+        # The last one is between the last section and the names.
+        self.assertEqual(lines[:20], [f"7 a.o: [{it + 1:#x}, {it + 8:#x}) between .s and .s, zeros" for it in range(64, 64 + 20 * 8, 8)])
+
+    def test_a_section_without_a_name(self):
+        self.put(a__o=Made(text(), (b"", 1, bytes(8), {})).with_field(1, "size", 0x13))
+        self.assertEqual(self.gaps("a.o")[1][0], "37 a.o: [0x53, 0x78) between .text and section 2, not only zeros")
+
+    def test_program_headers(self):
+        """They are after a gap of eight bytes, which ends with a byte that is not zero."""
+        data = bytearray(Made(text()).with_bytes(16, b"\2"))
+        start = len(data) + 8
+        data[32:40], data[54:58] = start.to_bytes(8, "little"), struct.pack("<HH", 56, 1)
+        self.put(run=bytes(data) + bytes(7) + b"\1" + struct.pack("<IIQQQQQQ", 1, 4, 0, 0, 0, 0, 0, 1))
+        lines = [f"8 run: [{len(data):#x}, {start:#x}) between the section headers and the program headers, not only zeros"]
+        self.assertEqual(self.gaps("--most", "1", "run")[1][:1], lines)
+
+    def test_a_full_device(self):
+        self.put(good__o=GOOD)
+        with open("/dev/full", "wb") as out:
+            ran = subprocess.run([*PROGRAM, "good.o"], stdout=out, stderr=subprocess.PIPE, env=ENVIRONMENT)
+        self.assertEqual((ran.returncode, ran.stderr), (3, b"elfmap-gaps: no space left on device\n"))
 
     def test_names_of_any_bytes(self):
         Path(os.fsdecode(b"\xff\n.o")).write_bytes(GAPPED)

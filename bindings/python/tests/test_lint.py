@@ -18,23 +18,30 @@ import sys
 import tempfile
 import unittest
 from pathlib import Path
+from types import SimpleNamespace
 from unittest import mock
 from urllib.parse import unquote_to_bytes
 from xml.etree import ElementTree
 
 import elfmap
-from elfmap import _archives, _checks, _findings, _formats
-from elfmap import _rules, _sources, _walk, _words, _workers, lint
+from elfmap import _archives, _checks, _findings, _formats, _library
+from elfmap import _rules, _sources, _walk, _words, _workers, build, lint
 from elfmap._inspect import Depth, Inspector
 
 from tests.made import BROKEN_SYMBOLS, BSD, CLASS_32, ENVIRONMENT, GNU, GOOD, LONG, SHARING
 from tests.made import FolderCase, Made, archive_member, relocations, setUpModule, symbols, text, thin  # noqa: F401
+
+sys.path.insert(0, str(build.REPOSITORY / "tools" / "lib"))
+from elfmap_tools.cases import cases_of  # noqa: E402
 
 PROGRAM = [sys.executable, "-m", "elfmap.lint"]
 SHARED = (
     b"offset 0x72: SHARED_BYTE (33): the content of .text [0x40, 0x73) and of .data [0x72, 0x76) "
     b"share byte 0x72; every byte of a file belongs to one of its parts"
 )
+# Its canonical layout has a byte at 2^30.
+TOO_LONG_OBJECT = bytes(Made((b".text", 1, b"\x90", dict(align=1 << 30))).data)
+TOO_LONG = b"offset 0x0: OBJECT_TOO_LONG (0): the canonical layout of its object would be longer than 2^30 bytes; split the file"
 
 
 class Case(FolderCase):
@@ -140,6 +147,19 @@ class WordsTest(Case):
         self.put(bad__o=Made(text(b"\xff\n")).with_field(1, "align", 3))
         self.assertIn("section 1 \\xff\\n of type PROGBITS", self.told("bad.o")[0])
 
+    def test_a_name_across_what_is_read_at_once(self):
+        name, most = b".a_name_of_some_letters", 1 << 16
+        # The name begins 5 bytes before the end of the first 64 KiB: after the header, a content, one of a byte and two empty names.
+        made = Made((b"", 1, bytes(most - 8 - 64), {}), text(name, b"\x90")).with_field(2, "align", 3)
+        self.assertEqual(made.index(name), most - 5)
+        self.put(bad__o=made)
+        self.assertIn("the section header of section 2 .a_name_of_some_letters of type PROGBITS: sh_addralign", self.told("bad.o")[0])
+
+    def test_a_section_without_a_name(self):
+        self.put(bad__o=Made(text(b"")).with_field(1, "align", 3))
+        line = json.loads(self.told("--format", "jsonl", "bad.o")[0])
+        self.assertEqual((line["sections"], "section 1 (no name) of type PROGBITS" in line["message"]), (["section 1"], True))
+
     def test_each_rule_has_a_reason(self):
         self.assertTrue(all(map(_words.reason, _rules.RULES)))
 
@@ -167,8 +187,119 @@ class DepthTest(Case):
     def test_each_table_with_its_own_fault(self):
         parts = [text(), symbols(3, (1, 0x10, 1)), (b".strtab", 3, b"\0f\0", {}), relocations(2, 9), relocations(2, 1, 8)]
         self.put(bad__o=bytes(Made(*parts).data))
-        found = [it.split(": ")[2] for it in self.told("--tables", "bad.o")[:-1]]
-        self.assertEqual(found, ["WRONG_RELOCATION_SYMBOL (54)"] * 2)
+        lines = self.told("--tables", "bad.o")
+        self.assertEqual([it.split(": ")[2] for it in lines[:-1]], ["WRONG_RELOCATION_SYMBOL (54)"] * 2)
+        self.assertEqual(lines[-1], "2 findings in 1 of 1 ELF file")
+        # As an object the file breaks a rule once.
+        self.assertEqual(self.told("--object", "bad.o")[-1], "1 finding in 1 of 1 ELF file")
+
+    def test_each_rule_of_tables(self):
+        """The files of cases/explain.txt that break one: what `elfmap show` prints is found, each fault once."""
+        cases, seen = cases_of(str(build.REPOSITORY / "cases/explain.txt")), set()
+        for case in cases.cases:
+            kind, number, _ = case.note.split(" ", 2)
+            if kind != "table":
+                continue
+            content = bytes(cases.files[case.needs[0].partition("=")[2]])
+            shown = re.findall(rb"^refused \d+ (\d+) (\d+)$", case.out, re.M)
+            self.put(bad__o=content)
+            lines = [json.loads(it) for it in self.told("--tables", "--format", "jsonl", "bad.o")[:-1]]
+            with self.subTest(rule=number):
+                self.assertIn(number.encode(), {rule for rule, _ in shown})
+                found = sorted((it["rule"], it["offset"]) for it in lines)
+                self.assertEqual(found, sorted({(int(rule), int(at)) for rule, at in shown}))
+            seen.add(int(number))
+        self.assertEqual(seen, set(range(41, 70)))
+
+    def test_relocations_without_addends(self):
+        header = "the section header of section 4 .rel.text of type REL; its link is section 2 .symtab of type SYMTAB"
+        entry = "the content of section 4 .rel.text [0xb0, 0xc0): relocation 0, of symbol 9, which isn't there"
+        for info, symbol, words in (
+            (99, 1, f"WRONG_TARGET (53): {header}; it relocates section 99, which isn't there: sh_info, which is 99; "),
+            (1, 9, f"WRONG_RELOCATION_SYMBOL (54): {entry}, at 0x0 of section 1 .text, of type 2 (R_X86_64_PC32); "),
+        ):
+            rows = (b".rel.text", 9, struct.pack("<QQ", 0, symbol << 32 | 2), dict(link=2, info=info, entsize=16))
+            self.put(bad__o=bytes(Made(text(), symbols(3, (1, 0x10, 1)), (b".strtab", 3, b"\0f\0", {}), rows).data))
+            lines = self.told("--tables", "bad.o")
+            self.assertEqual((len(lines), words in lines[0]), (2, True), lines)
+
+    def test_a_fault_in_the_names_of_symbols(self):
+        """The table is named by its own section, wherever the offset is."""
+        made = Made(text(), symbols(3, (1, 0x10, 1)), (b".strtab", 3, b"\0f", {}))
+        self.put(bad__o=bytes(made.data))
+        line = json.loads(self.told("--tables", "--format", "jsonl", "bad.o")[0])
+        start = made.starts[3]
+        words = (
+            f"the table in section 2 .symtab of type SYMTAB; the content of section 3 .strtab [{start:#x}, {start + 2:#x}): byte 1: 0x66; "
+            "the string table has bytes, and the first or the last one isn't 0; a string table begins and ends with a zero"
+        )
+        self.assertEqual((line["rule"], line["offset"], line["sections"]), (41, start + 1, [".symtab", ".strtab"]))
+        self.assertEqual(line["message"], words)
+
+    def test_a_fault_of_dynamic_symbols_is_theirs(self):
+        """A hash table before them has all rules of its symbols."""
+        hashes = (b".hash", 5, struct.pack("<5I", 1, 2, 1, 0, 0), dict(link=2, entsize=4))
+        names = (b".dynstr", 3, b"\0f\0", {})
+        made = Made(hashes, (b".dynsym", 11, symbols(3, (1, 0x10, 99))[2], dict(link=3, info=1, entsize=24)), names)
+        self.put(bad__o=bytes(made.data))
+        line = json.loads(self.told("--tables", "--format", "jsonl", "bad.o")[0])
+        self.assertEqual((line["rule"], line["offset"], line["sections"]), (51, made.starts[2] + 24 + 6, [".dynsym"]))
+        self.assertTrue(line["message"].startswith("the content of section 2 .dynsym ["))
+
+    def test_an_object_that_would_be_too_long(self):
+        self.put(bad__o=TOO_LONG_OBJECT)
+        self.assertEqual(self.lint("bad.o")[0], 0)
+        self.assertSaid(["--object", "bad.o"], 1, [b"bad.o: " + TOO_LONG, b"1 finding in 1 of 1 ELF file"])
+        log = json.loads(self.lint("--object", "--format", "sarif", "bad.o")[1])
+        self.assert_sarif(log)
+        self.assertEqual(log["runs"][0]["results"][0]["ruleId"], "OBJECT_TOO_LONG")
+
+    def test_there_is_no_memory(self):
+        self.put(good__o=GOOD)
+        for word, call in (("--tables", "elfmap_refused_tables"), ("--object", "elfmap_rewrite")):
+            with mock.patch.object(_library.library(), call, return_value=_library.NO_MEMORY):
+                status, out, said = self.lint(word, "good.o")
+            self.assertEqual((status, out), (3, b"0 findings in 0 of 0 ELF files; 1 unreadable\n"))
+            self.assertEqual(said, b"elfmap-lint: good.o: there is no memory for its tables\n")
+
+    def test_an_index_table_of_a_long_file(self):
+        """Symbol 1 has an index of its own, so its word has to be 0."""
+        index_table = (b".symtab_shndx", 18, struct.pack("<2I", 0, 7), dict(link=2, entsize=4))
+        made = Made((b".filler", 1, bytes(1 << 17), {}), symbols(3, (1, 0x10, 1)), (b".strtab", 3, b"\0f\0", {}), index_table)
+        self.put(bad__o=bytes(made.data))
+        for words in (["--tables"], ["--object"]):
+            lines = self.told(*words, "bad.o")
+            self.assertTrue(lines[0].startswith(f"bad.o: offset {made.starts[4] + 4:#x}: WRONG_INDEX_WORD (52): "), lines)
+
+    def test_more_sections_than_the_header_counts(self):
+        """0xff01 sections: their count, and the index of the names, are in section header 0. The table is after what is read whole."""
+        table, count, last = 1 << 17, 0xFF01, 0xFF00
+        data = bytearray(table + 64 * count)
+        data[:64] = struct.pack("<16sHHIQQQIHHHHHH", b"\x7fELF\2\1\1", 1, 62, 1, 0, 0, table, 0, 64, 0, 0, 64, 0, 0xFFFF)
+        names = b"\0.text\0.shstrtab\0"
+        data[64 : 64 + len(names)] = names
+
+        def put(index, *fields):
+            data[table + 64 * index : table + 64 * (index + 1)] = struct.pack("<IIQQQQIIQQ", *fields)
+
+        put(0, 0, 0, 0, 0, 0, count, last, 0, 0, 0)
+        put(last, 7, 3, 0, 0, 64, len(names), 0, 0, 1, 0)
+        put(last - 1, 1, 1, 0, 0, 0, 0, 0, 0, 1, 0)
+        self.put(many__o=bytes(data))
+        self.assertSaid(["many.o"], 0, [b"0 findings in 0 of 1 ELF file"])
+        put(last - 1, 1, 1, 0, 0, 0, 0, 0, 0, 3, 0)
+        self.put(many__o=bytes(data))
+        at = table + 64 * (last - 1) + 48
+        words = "the section header of section 65279 .text of type PROGBITS: sh_addralign, which is 3; "
+        self.assertTrue(self.told("many.o")[0].startswith(f"many.o: offset {at:#x}: WRONG_SECTION_ALIGNMENT (22): {words}"))
+
+    def test_program_headers_after_what_is_read_whole(self):
+        start = 1 << 17
+        header = struct.pack("<16sHHIQQQIHHHHHH", b"\x7fELF\2\1\1", 2, 62, 1, 0, start, 0, 0, 64, 56, 10, 0, 0, 0)
+        rows = b"".join(struct.pack("<IIQQQQQQ", 1, 4, 0, 0, 0, 0, 0, it) for it in [1] * 9 + [3])
+        self.put(bad=header.ljust(start, b"\0") + rows)
+        words = f"bad: offset {start + 9 * 56 + 48:#x}: WRONG_SEGMENT_ALIGNMENT (27): program header 9: p_align, which is 3; "
+        self.assertTrue(self.told("bad")[0].startswith(words))
 
     def test_what_an_object_needs(self):
         executable = Made(text()).with_bytes(16, b"\2")
@@ -259,6 +390,19 @@ class FormatTest(Case):
         summary = b"2 findings in 2 of 4 ELF files; skipped: 2 not ELF"
         self.assertSaid(["a"], 1, [b"a/bad.o: " + SHARED, member, summary])
 
+    def test_members_of_an_archive_are_files(self):
+        self.put(two__a=b"!<arch>\n" + archive_member(b"one.o", SHARING) + archive_member(b"other.o", SHARING))
+        self.assertEqual(self.told("two.a")[-1], "2 findings in 2 of 2 ELF files")
+
+    def test_each_format_has_records(self):
+        for it, count in (("text", 3), ("jsonl", 3), ("github", 3)):
+            out = self.lint("-0", "--format", it, "a")[1]
+            self.assertEqual((out.count(b"\0"), out.count(b"\n"), out[-1:]), (count, 0, b"\0"), it)
+
+    def test_a_path_with_a_delete(self):
+        os.rename("a/bad.o", "a/b\x7f.o")
+        self.assertEqual(self.lint("a")[1].splitlines()[0], b"a/b\\x7f.o: " + SHARED)
+
     def test_records_that_end_by_zero(self):
         os.rename("a/bad.o", b"a/b\n\xff")
         records = self.lint("-0", "a")[1].split(b"\0")
@@ -296,6 +440,54 @@ class FormatTest(Case):
         self.assertFalse(run["invocations"][0]["executionSuccessful"])
         self.assertIn("none: no such file", run["invocations"][0]["toolExecutionNotifications"][0]["message"]["text"])
 
+    def test_sarif_of_a_member(self):
+        results = json.loads(self.lint("--format", "sarif", "a")[1])["runs"][0]["results"]
+        sections = [{"name": ".text", "kind": "section"}, {"name": ".data", "kind": "section"}]
+        member = {"name": f"a/lib.a({LONG.decode()})", "kind": "member"}
+        self.assertEqual([it["locations"][0]["logicalLocations"] for it in results], [sections, [member, *sections]])
+        self.assertEqual({it["level"] for it in results}, {"error"})
+
+    def test_sarif_of_sections_of_one_name(self):
+        """The schema asks for locations that differ."""
+        self.put(**{"a/bad__o": Made(text(), text()).with_field(2, "offset", 0x72)})
+        log = json.loads(self.lint("--format", "sarif", "a/bad.o")[1])
+        self.assert_sarif(log)
+        found = log["runs"][0]["results"][0]["locations"][0]["logicalLocations"]
+        self.assertEqual(found, [{"name": ".text", "kind": "section"}])
+
+    def test_sarif_of_a_file_that_ends_early(self):
+        """There is no byte at its end (3.30: a region is a part of its file)."""
+        self.put(**{"a/short__o": GOOD[:63]})
+        results = json.loads(self.lint("--format", "sarif", "a")[1])["runs"][0]["results"]
+        regions = {it["ruleId"]: it["locations"][0]["physicalLocation"]["region"] for it in results}
+        self.assertEqual(regions["TOO_SHORT"], {"byteOffset": 63})
+        self.assertEqual(regions["SHARED_BYTE"]["byteLength"], 1)
+
+    def test_sarif_of_an_absolute_path(self):
+        path = os.path.abspath("a/bad.o")
+        result = json.loads(self.lint("--format", "sarif", path)[1])["runs"][0]["results"][0]
+        uri = result["locations"][0]["physicalLocation"]["artifactLocation"]["uri"]
+        self.assertEqual((uri[:8], unquote_to_bytes(uri[7:])), ("file:///", os.fsencode(path)))
+
+    def test_junit_of_members_of_one_name(self):
+        """A path is one test case, with all that is said of it."""
+        self.put(thin__a=thin(b"none.o", b"none.o"))
+        (case,) = ElementTree.fromstring(self.lint("--format", "junit", "thin.a")[1])[0]
+        self.assertEqual((case.get("name"), len(case)), ("thin.a(none.o)", 1))
+        self.assertEqual(case[0].get("message"), "; ".join(["no such file or directory"] * 2))
+
+    def test_junit_of_many_findings(self):
+        """Two relocations of two tables are of symbols that aren't there. What is suppressed has passed."""
+        parts = [text(), symbols(3, (1, 0x10, 1)), (b".strtab", 3, b"\0f\0", {}), relocations(2, 9), relocations(2, 1, 8)]
+        self.put(**{"a/tables__o": bytes(Made(*parts).data)})
+        suite = ElementTree.fromstring(self.lint("--tables", "--ignore", "33", "--format", "junit", "a")[1])[0]
+        cases = {it.get("name"): it for it in suite}
+        names = {"a/bad.o", "a/good.o", "a/lib.a(good.o)", f"a/lib.a({LONG.decode()})", "a/tables.o"}
+        self.assertEqual((set(cases), suite.get("tests"), suite.get("failures")), (names, "5", "1"))
+        self.assertEqual({name for name, it in cases.items() if len(it)}, {"a/tables.o"})
+        lines = cases["a/tables.o"][0].text.splitlines()
+        self.assertEqual([it.split(": ")[1] for it in lines], ["WRONG_RELOCATION_SYMBOL (54)"] * 2)
+
     def test_junit(self):
         os.rename("a/bad.o", b"a/\xff<&\"'>\x01.o")
         root = ElementTree.fromstring(self.lint("--format", "junit", "a", "none")[1])
@@ -317,6 +509,13 @@ class FormatTest(Case):
         lines = self.told("--format", "github", "a")
         message = f"a/b:,%25\\n: {SHARED.decode()}"
         self.assertEqual(lines[0], f"::error file=a/b%3A%2C%25%0A,title=SHARED_BYTE (33)::{message}")
+
+    def test_github_of_a_member_and_of_what_is_unreadable(self):
+        member = f"a/lib.a({LONG.decode()})"
+        lines = self.told("--format", "github", "a", "none")
+        self.assertEqual(lines[1], f"::error file=a/lib.a,title=SHARED_BYTE (33)::{member}: {SHARED.decode()}")
+        self.assertEqual(lines[2], "::error file=none,title=unreadable::none: no such file or directory")
+        self.assertEqual(len(lines), 4)
 
     def test_one_document_has_no_records(self):
         for it in ("sarif", "junit"):
@@ -345,6 +544,10 @@ class OptionTest(Case):
         self.assertEqual(self.paths("--exclude", "a/b/*", "a"), ["a/bad.o"])
         self.assertEqual(self.paths("--exclude", "*.o", "--exclude", "b", "a"), [])
 
+    def test_what_is_named_is_excluded_too(self):
+        self.assertEqual(self.paths("--exclude", "b", "a/b/", "a/bad.o"), ["a/bad.o"])
+        self.assertSaid(["--exclude", "*.o", "a/bad.o", "a/b/bad.o"], 0, [b"0 findings in 0 of 0 ELF files"])
+
     def test_class_32(self):
         self.assertIn("skipped: 1 of class 32", self.told("a")[-1])
         lines = self.told("--class32=fail", "a/b/narrow")
@@ -358,6 +561,17 @@ class OptionTest(Case):
         for rule in ("34", "NO_RULE", "", "0", "²"):
             self.assertEqual(self.lint("--ignore", rule, "a")[0], 2)
 
+    def test_a_rule_is_ignored_where_one_of_its_globs_matches(self):
+        self.put(**{"a/x:y__o": SHARING, "a/lib__a": GNU})
+        member = f"a/lib.a({LONG.decode()})"
+        every = ["a/b/bad.o", "a/bad.o", member, "a/x:y.o"]
+        self.assertEqual(self.paths("a"), every)
+        self.assertEqual(self.paths("--ignore", "33:a/b/*", "--ignore", "33:a/bad.o", "a"), every[2:])
+        self.assertEqual(self.paths("--ignore", "33:x:y.o", "a"), every[:3])
+        # A member is of its own name, and of that of the archive.
+        for glob in ("lib.a", "lib.a(*)", "a/lib.a"):
+            self.assertEqual(self.paths("--ignore", f"33:{glob}", "a"), [*every[:2], every[3]])
+
     def test_a_baseline(self):
         status, out, _ = self.lint("--write-baseline", "known.json", "a/b")
         self.assertEqual((status, out[:10]), (0, b"0 findings"))
@@ -365,6 +579,38 @@ class OptionTest(Case):
         # The same file, built again: the finding is at another place.
         self.put(**{"a/b/bad__o": Made(text(content=bytes(0x35)), (b".data", 1, bytes(4), {})).with_field(2, "offset", 0x74)})
         self.assertEqual(self.lint("--baseline", "known.json", "a/b")[0], 0)
+
+    def test_a_baseline_has_so_many_findings_of_a_path_a_rule_and_sections(self):
+        names = [text(), symbols(3, (1, 0x10, 1)), (b".strtab", 3, b"\0f\0", {})]
+        aligned = Made(text())
+        # What the first file breaks is known; of the second one each finding is told.
+        for one, other, told in (
+            (SHARING, Made(text(), (b".rodata", 1, b"\1\2\3\4", {})).with_field(2, "offset", 0x72), "SHARED_BYTE (33)"),
+            (aligned.with_field(1, "align", 3), Made(text(b".init")).with_field(1, "align", 3), "WRONG_SECTION_ALIGNMENT (22)"),
+            (aligned.with_field(1, "align", 3), Made((b".text", 1, b"", dict(align=2, addr=1))).data, "MISALIGNED_SECTION (23)"),
+            (
+                Made(*names, relocations(2, 9)).data,
+                Made(*names, relocations(2, 9), relocations(2, 1, 8)).data,
+                "WRONG_RELOCATION_SYMBOL (54)",
+            ),
+        ):
+            self.put(x__o=bytes(one))
+            self.assertEqual(self.lint("--tables", "--write-baseline", "known.json", "x.o")[0], 0)
+            self.assertSaid(["--tables", "--baseline", "known.json", "x.o"], 0, [b"0 findings in 0 of 1 ELF file, 1 suppressed"])
+            self.put(x__o=bytes(other))
+            lines = self.told("--tables", "--baseline", "known.json", "x.o")
+            self.assertEqual((len(lines), f": {told}: " in lines[0]), (2, True), lines)
+        # The same finding of another path is none that was known.
+        self.put(**{"x__o": SHARING, "c/x__o": SHARING})
+        self.lint("--write-baseline", "known.json", "x.o")
+        self.assertEqual(self.paths("--baseline", "known.json", "c"), ["c/x.o"])
+
+    def test_a_baseline_is_written_anew(self):
+        """It has all that is found, also what the one before had."""
+        self.lint("--write-baseline", "known.json", "a/b")
+        status, out, _ = self.lint("--baseline", "known.json", "--write-baseline", "known.json", "a")
+        self.assertEqual((status, out), (0, b"0 findings in 0 of 2 ELF files, 2 suppressed; skipped: 1 of class 32\n"))
+        self.assertEqual([it["path"] for it in json.loads(Path("known.json").read_bytes())["findings"]], ["a/b/bad.o", "a/bad.o"])
 
     def test_a_baseline_of_any_path(self):
         os.rename("a/bad.o", b"a/\xff")
@@ -382,6 +628,15 @@ class OptionTest(Case):
         self.assertEqual(self.lint("-o", "out", "a"), (1, b"", b""))
         self.assertEqual(Path("out").read_bytes(), lines)
         self.assertEqual(stat.S_IMODE(os.stat("out").st_mode) & 0o600, 0o600)
+
+    def test_an_output_file_by_a_link_and_for_all(self):
+        """The file that a link names is written, with the mode of a file that a shell makes."""
+        os.symlink("file", "link")
+        before = os.umask(0o027)
+        self.addCleanup(os.umask, before)
+        self.assertEqual(self.lint("-o", "link", "a")[0], 1)
+        self.assertTrue(os.path.islink("link"))
+        self.assertEqual((Path("file").read_bytes(), stat.S_IMODE(os.stat("file").st_mode)), (self.lint("a")[1], 0o640))
 
     def test_an_output_file_as_a_whole_or_not_at_all(self):
         def cut(report, end):
@@ -410,6 +665,22 @@ class OptionTest(Case):
     def test_standard_input(self):
         self.assertSaid(["-"], 1, [b"-: " + SHARED, b"1 finding in 1 of 1 ELF file"], stdin=SHARING)
         self.assertIn("-(" + LONG.decode() + ")", self.paths("-", stdin=GNU))
+
+    def test_standard_input_beside_other_paths(self):
+        self.assertEqual(self.paths("-", "a", stdin=SHARING), ["-", "a/b/bad.o", "a/bad.o"])
+
+    def test_standard_input_from_where_it_is(self):
+        Path("whole").write_bytes(b"a line\n" + SHARING)
+        with open("whole", "rb", buffering=0) as it:
+            it.readline()
+            ran = subprocess.run([*PROGRAM, "-"], stdin=it, stdout=subprocess.PIPE, env=ENVIRONMENT)
+        self.assertEqual((ran.returncode, ran.stdout.splitlines()[0]), (1, b"-: " + SHARED))
+
+    def test_a_long_pipe_as_standard_input(self):
+        data = b"!<arch>\n" + archive_member(b"long", bytes(3 << 20)) + archive_member(b"bad.o", SHARING)
+        ran = subprocess.run([*PROGRAM, "-"], input=data, stdout=subprocess.PIPE, stderr=subprocess.PIPE, env=ENVIRONMENT)
+        lines = [b"-(bad.o): " + SHARED, b"1 finding in 1 of 1 ELF file; skipped: 1 not ELF"]
+        self.assertEqual((ran.returncode, ran.stdout.splitlines(), ran.stderr), (1, lines, b""))
 
     def test_a_pipe_as_standard_input(self):
         ran = subprocess.run([*PROGRAM, "-"], input=SHARING, stdout=subprocess.PIPE, env=ENVIRONMENT)
@@ -466,6 +737,8 @@ class StatusTest(Case):
         self.put(text=b"no ELF file")
         self.assertEqual(self.lint("text")[0], 0)
         self.assertEqual(self.lint("--fail-on-empty", "text")[0], 1)
+        self.put(good__o=GOOD)
+        self.assertSaid(["--fail-on-empty", "good.o"], 0, [b"0 findings in 0 of 1 ELF file"])
 
     def test_a_pipe_that_is_closed(self):
         self.put(bad__o=SHARING)
@@ -474,6 +747,21 @@ class StatusTest(Case):
         ran = subprocess.run([*PROGRAM, "bad.o"], stdout=writing, stderr=subprocess.PIPE, env=ENVIRONMENT)
         os.close(writing)
         self.assertEqual((ran.returncode, ran.stderr), (1, b""))
+
+    def test_a_file_that_can_not_be_read_on(self):
+        """Whatever fails while a file is checked, the file is told."""
+        self.put(good__o=GOOD)
+        broken = mock.Mock(side_effect=OSError(5, "Input/output error"))
+        for patch, reason in (
+            (mock.patch.object(_sources, "os", SimpleNamespace(**{**vars(os), "pread": broken})), b"input/output error"),
+            (mock.patch.object(_sources, "os", SimpleNamespace(**{**vars(os), "preadv": broken})), b"input/output error"),
+            (mock.patch("mmap.mmap", side_effect=OSError(12, "Cannot allocate memory")), b"there is no memory for a file of this length"),
+            (mock.patch.object(_checks.Checks, "faults", side_effect=MemoryError), b"there is no memory for it"),
+        ):
+            with patch:
+                found = self.lint("good.o")
+            lines = b"0 findings in 0 of 0 ELF files; 1 unreadable\n", b"elfmap-lint: good.o: " + reason + b"\n"
+            self.assertEqual(found, (3, *lines))
 
     def test_a_full_device(self):
         self.put(bad__o=SHARING)
@@ -503,6 +791,20 @@ class ArchiveTest(Case):
     def test_names_of_bsd(self):
         self.assertEqual(self.members(BSD), ([(LONG, SHARING), (b"good.o", GOOD)], True))
 
+    def test_indexes_are_no_members(self):
+        """Those of GNU, also of 64 bits, and those of BSD, also with a long name."""
+        good = archive_member(b"good.o", GOOD)
+        for name, content in (
+            (b"/", bytes(20)),
+            (b"/SYM64/", bytes(20)),
+            (b"__.SYMDEF", bytes(20)),
+            (b"#1/20", b"__.SYMDEF SORTED\0\0\0\0" + bytes(20)),
+        ):
+            data = b"!<arch>\n" + archive_member(name, content, b"") + good
+            self.assertEqual(self.members(data), ([(b"good.o", GOOD)], True), name)
+            self.put(lib__a=data)
+            self.assertSaid(["lib.a"], 0, [b"0 findings in 0 of 1 ELF file"])
+
     def test_cut_anywhere(self):
         for data in (GNU, BSD):
             whole, _ = self.members(data)
@@ -524,6 +826,8 @@ class ArchiveTest(Case):
         for name in (b"/9", b"#1/99999"):
             data = b"!<arch>\n" + archive_member(name, b"x", b"")
             self.assertEqual(self.members(data), ([], False))
+        # The long names end where this one begins.
+        self.assertEqual(self.members(b"!<arch>\n" + archive_member(b"/", b"a.o/\n") + archive_member(b"/5", b"x", b"")), ([], False))
 
     def test_thin(self):
         os.makedirs("a/b")
@@ -545,6 +849,16 @@ class ArchiveTest(Case):
         status, out, said = self.lint("--follow-thin", "a/lib.a")
         self.assertEqual((status, said, out.count(SHARED)), (1, b"", 3))
 
+    def test_the_directory_of_a_thin_archive(self):
+        """Another one may have a name that begins as its name does; and a link to it is the same one."""
+        good = thin(b"good.o")
+        self.put(**{"a/lib__a": thin(b"../ab/bad.o"), "ab/bad__o": SHARING, "a/good__a": good, "a/good__o": GOOD})
+        status, out, said = self.lint("a/lib.a")
+        self.assertEqual((status, out), (3, b"0 findings in 0 of 0 ELF files; 1 unreadable\n"))
+        self.assertIn(b"a/lib.a(../ab/bad.o): it is outside of the archive's directory", said)
+        os.symlink("a", "link")
+        self.assertEqual(self.lint("link/good.a"), (0, b"0 findings in 0 of 1 ELF file\n", b""))
+
     def test_a_thin_archive_of_what_is_no_file(self):
         os.mkfifo("pipe")
         self.put(lib__a=thin(b"pipe", b"."))
@@ -560,6 +874,20 @@ class ArchiveTest(Case):
         status, out, said = self.lint("outer.a")
         self.assertEqual(out.splitlines()[0], b"outer.a(inner.a(" + LONG + b")): " + SHARED)
         self.assertIn(b"damaged at offset 0x9", said)
+
+    def test_a_thin_archive_of_members_of_two_others(self):
+        table = archive_member(b"/", b"one.a/\ntwo.a/\n")
+        outer = b"!<thin>\n" + table + b"".join(archive_member(it, b"", b"") for it in (b"/0:8", b"/7:8", b"/0:8"))
+        inner = {name: b"!<arch>\n" + archive_member(*it) for name, it in (("one__a", (b"good.o", GOOD)), ("two__a", (b"bad.o", SHARING)))}
+        self.put(outer__a=outer, **inner)
+        self.assertSaid(["outer.a"], 1, [b"outer.a(two.a(bad.o)): " + SHARED, b"1 finding in 1 of 3 ELF files"])
+
+    def test_a_thin_archive_of_its_own_members(self):
+        front = b"!<thin>\n" + archive_member(b"/", b"own.a/\n")
+        self.put(own__a=front + archive_member(b"/0:%d" % len(front), b"", b""))
+        status, out, said = self.lint("own.a")
+        self.assertEqual((status, out), (3, b"0 findings in 0 of 0 ELF files; 1 unreadable\n"))
+        self.assertIn(b"there is no member that the thin archive names", said)
 
     @unittest.skipUnless(shutil.which("ar"), "ar is not installed")
     def test_those_of_ar(self):
@@ -604,7 +932,7 @@ class TreeTest(Case):
         os.makedirs("a/b")
         self.put(**{"a/b/bad__o": SHARING})
         summary = b"1 finding in 1 of 1 ELF file"
-        for words in (["a", "a/b"], ["a/b", "a"], ["a", "a", "a/b/bad.o", "a/b/bad.o"]):
+        for words in (["a", "a/b"], ["a/b", "a"], ["a", "a", "a/b/bad.o", "a/b/bad.o"], ["a", "a"]):
             self.assertSaid(words, 1, [b"a/b/bad.o: " + SHARED, summary])
 
     def test_a_gibibyte_of_zeros(self):
@@ -623,6 +951,24 @@ class TreeTest(Case):
         self.assertEqual(records[:-2], sorted(records[:-2]))
         for it in ("text", "jsonl", "sarif", "junit", "github"):
             self.assertEqual(self.lint("--format", it, ".")[0], 1)
+
+    def test_the_magic_number_alone(self):
+        self.put(**{"a/bad": b"\x7fELF"})
+        words = "a/bad: offset 0x4: TOO_SHORT (2): the file ends there, with 4 bytes; "
+        for path in ("a", "a/bad"):
+            self.assertTrue(self.told(path)[0].startswith(words), path)
+        self.put(short=b"\x7fEL")
+        self.assertSaid(["short"], 0, [b"0 findings in 0 of 0 ELF files; skipped: 1 not ELF"])
+
+    def test_a_file_whose_status_can_not_be_read(self):
+        """In a folder that may be listed, and not searched."""
+        os.mkdir("a")
+        entry = mock.Mock(path=b"a/x.o", stat=mock.Mock(side_effect=PermissionError(13, "Permission denied")))
+        entries, report = mock.MagicMock(), _findings.Report()
+        entries.__enter__.return_value = [entry]
+        with mock.patch("os.scandir", return_value=entries):
+            self.assertEqual(list(_walk.Walk([b"a"], _findings.Globs([]), report)), [])
+        self.assertEqual(report.unreadable, [(b"a/x.o", "permission denied")])
 
     def test_a_file_that_vanishes(self):
         report = Inspector(Depth()).files([b"none"])
@@ -670,6 +1016,20 @@ class WorkersTest(Case):
         pool.run(iter([[b"a", b"b"], [b"c", b"bad", b"d"], [b"e"]]))
         self.assertEqual(report.checked, 5)
         self.assertEqual(report.unreadable, [(b"bad", "the process that checked it ended by signal 9")])
+
+    def test_a_check_that_fails(self):
+        """The file is told, whatever it is that ends the check of it."""
+
+        def work(paths):
+            if b"bad" in paths:
+                raise ValueError
+            return _findings.Report(checked=len(paths))
+
+        report = _findings.Report()
+        with contextlib.redirect_stderr(io.StringIO()):
+            _workers.Pool(lambda: work, 2, report.add).run(iter([[b"a", b"b"], [b"bad", b"d"], [b"e"]]))
+        self.assertEqual(report.checked, 4)
+        self.assertEqual(report.unreadable, [(b"bad", "the check of it failed")])
 
     def test_none_is_left(self):
         _workers.Pool(lambda: lambda paths: _findings.Report(), 3, lambda it: None).run(iter([[b"a"]] * 5))

@@ -39,6 +39,83 @@ class Case(FolderCase):
         self.assertEqual((status, texts[0]), (0, "a title"))
         self.assertIn("64 bytes in 1 part, 0 of them in 0 gaps; relocatable, EM_X86_64, little-endian", texts)
 
+    def test_a_path_and_a_section(self):
+        """The title is the name of the file; what a section holds is told by its type, or else by its flags."""
+        sections = [(f".s{it}".encode(), 1, b"\1", dict(flags=flags)) for it, flags in enumerate((6, 3, 2, 0))]
+        self.put(**{"a/b__o": bytes(Made(*sections).data)})
+        texts = self.draw("a/b.o")[1]
+        self.assertEqual(texts[0], "b.o")
+        rows = {name: texts[texts.index(name) + 1] for name in (".s0", ".s1", ".s2", ".s3", ".shstrtab")}
+        self.assertEqual(rows, {".s0": "code", ".s1": "data", ".s2": "constants", ".s3": "other", ".shstrtab": "strings"})
+
+    def test_types_of_files(self):
+        for number, name in ((0, "no type"), (1, "relocatable"), (2, "executable"), (3, "shared"), (4, "core"), (9, "type 9")):
+            head = picture.read(HEADER.replace("little 1", f"little {number}").splitlines())[1]
+            self.assertEqual(head, f"{name}, EM_X86_64, little-endian")
+
+    def test_gaps(self):
+        """A line has the first 16 bytes alone; the head has how many bytes all gaps have."""
+        gaps = (5, "0000000000"), (16, "00" * 16), (20, "00" * 16), (7, "00112233445566"), (6, "001122334455")
+        starts = [64 + sum(size for size, _ in gaps[:it]) for it in range(len(gaps))]
+        lines = HEADER + "".join(f"part {at:#x} {size:#x} gap {front}\n" for at, (size, front) in zip(starts, gaps))
+        texts = self.draw("-", stdin=lines.encode())[1]
+        self.assertIn("118 bytes in 6 parts, 54 of them in 5 gaps; relocatable, EM_X86_64, little-endian", texts)
+        held = [texts[at + 3] for at in (texts.index(hex(start)) for start in starts)]
+        self.assertEqual(held, ["zeros", "zeros", "16 zeros, …", "001122334455…", "001122334455"])
+
+    def test_segments_of_a_file_without_sections(self):
+        """Two loadable segments of the file, each of which ends one byte before what is after it, and one of memory alone."""
+        lines = (
+            "file little 2 62 0x400000 0x0\npart 0x0 0x40 header\npart 0x40 0xa8 segments\npart 0xe8 0x118 gap 00\n"
+            "segment 0 1 0x5 0x100 0x400100 0x400100 0x7f 0x7f 0x1000\n"
+            "segment 1 1 0x4 0x180 0x401180 0x401180 0x7f 0x7f 0x1000\n"
+            "segment 2 1 0x6 0x200 0x402200 0x402200 0x0 0x300 0x1000\n"
+        )
+        parts, head = picture.read(lines.splitlines())
+        self.assertEqual(head, "executable, EM_X86_64, little-endian")
+        self.assertEqual(
+            [(it.start, it.length, it.owner, it.name, it.holds) for it in parts],
+            [
+                (0, 0x40, "header", "", ""),
+                (0x40, 0xA8, "program table", "", ""),
+                (0xE8, 0x18, "gap", "", ""),
+                (0x100, 0x7F, "segment 0", "0x400100 to 0x40017f", "code RX"),
+                (0x17F, 1, "gap", "", ""),
+                (0x180, 0x7F, "segment 1", "0x401180 to 0x4011ff", "constants R"),
+                (0x1FF, 1, "gap", "", ""),
+                (0x200, 0, "segment 2", "0x402200 to 0x402500", "zeros in memory RW"),
+            ],
+        )
+        # Of the first one more bytes are in memory than in the file.
+        parts, _ = picture.read(lines.replace("0x400100 0x7f 0x7f", "0x400100 0x7f 0x8f").splitlines())
+        self.assertEqual(parts[3].name, "0x400100 to 0x40018f")
+
+    def bars(self, lines):
+        """Of each row where its bar begins, and how wide it is: the last ones that have a title."""
+        parts, head = picture.read(lines.splitlines())
+        drawn = [it for it in ElementTree.fromstring(picture.picture("", parts, head)).iter() if it.tag.endswith("}rect") and len(it)]
+        return [(float(it.get("x")), float(it.get("width"))) for it in drawn[len(parts) :]]
+
+    def test_bars_are_drawn_to_scale(self):
+        """The file is 520 points long, from 640 on."""
+        self.assertEqual(self.bars(HEADER + "part 0x40 0xc0 gap 00\n"), [(640, 130), (770, 390)])
+        short = "part 0x40 0xfffbf gap 00\npart 0xfffff 0x1 gap 00\n"
+        self.assertEqual(self.bars(HEADER + short), [(640, 2), (640.03, 519.97), (1158, 2)])
+
+    def test_words_that_are_too_long(self):
+        self.assertEqual([picture.cut("abcdefghij", it) for it in (4, 5, 9, 10)], ["a…ij", "ab…ij", "abcd…ghij", "abcdefghij"])
+
+    def test_the_largest_parts(self):
+        """Of 401 parts the largest have rows; all others, which are beside each other, have one together."""
+        starts = [64 + sum(range(1, it)) for it in range(1, 402)]
+        lines = HEADER + "".join(f"part {at:#x} {size:#x} gap 00\n" for size, at in zip(range(1, 401), starts))
+        parts, _ = picture.read(lines.splitlines())
+        rows = picture.folded(parts)
+        self.assertEqual(sum(it.length for it in rows), starts[-1])
+        self.assertEqual([it.start for it in rows], [0, *(it.start for it in rows[1:])])
+        self.assertEqual([it.length for it in rows[-149:]], [*range(252, 401)])
+        self.assertLessEqual(len(rows), 150 + 2)
+
     def test_many_parts(self):
         lines = HEADER + "".join(f"part {hex(64 + k)} 0x1 gap 00\n" for k in range(1000)) + "part 0x428 0x100 gap 00\n"
         parts, head = picture.read(lines.splitlines())

@@ -9,6 +9,7 @@ import contextlib
 import io
 import os
 import shutil
+import struct
 import subprocess
 import sys
 import tempfile
@@ -134,6 +135,92 @@ class ObjectTest(Case):
         found = self.differ(an_object(more=[one, other]), an_object(more=[other, one]))
         self.assertEqual(found, ["the order of sections: the first one that differs is .one in a.o, and .other in b.o"])
 
+    def test_another_order_of_symbols(self):
+        def ordered(*names):
+            table = symbols(3, *((it, 0x10, 1) for it in names))
+            return bytes(Made((b".text", 1, bytes(4), {}), table, (b".strtab", 3, b"\0answer\0other\0", {})).data)
+
+        found = self.differ(ordered(1, 8), ordered(8, 1))
+        self.assertEqual(found, ["the order of symbols: the first one that differs is answer in a.o, and other in b.o"])
+
+    def test_a_byte_after_what_is_compared_at_once(self):
+        content = bytearray(1 << 18)
+        before = an_object(content=bytes(content))
+        content[0x20005] = 1
+        found = self.differ(before, an_object(content=bytes(content)))
+        self.assertEqual(found, ["section .text: offset 0x20005 is 0x00 in a.o, and 0x01 in b.o"])
+
+    def test_each_field_of_a_symbol(self):
+        """Each difference by itself; of that of the section the name is told, or the word for a reserved index."""
+        for one, other, words in (
+            ((1, 0x10, 1), (1, 0x20, 1), "its binding is GLOBAL in a.o, and WEAK in b.o"),
+            ((1, 0x11, 1), (1, 0x12, 1), "its type is OBJECT in a.o, and FUNC in b.o"),
+            ((1, 0x10, 1, 4), (1, 0x10, 1, 8), "its value is 0x4 in a.o, and 0x8 in b.o"),
+            ((1, 0x10, 1), (1, 0x10, 0xFFF1), "its section is .text in a.o, and absolute in b.o"),
+            ((1, 0x11, 0xFFF2, 8), (1, 0x11, 0xFFF1, 8), "its section is common in a.o, and absolute in b.o"),
+        ):
+            self.assertEqual(self.differ(an_object(symbol=one), an_object(symbol=other)), [f"symbol answer: {words}"])
+        made = Made(text(), symbols(3, (1, 0x10, 1)), STRINGS)
+        at = made.starts[2] + 24
+        for place, words in ((5, "st_other is 0 in a.o, and 2 in b.o"), (16, "its size is 0 in a.o, and 2 in b.o")):
+            self.assertEqual(self.differ(bytes(made.data), made.with_bytes(at + place, b"\2")), [f"symbol answer: {words}"])
+
+    def test_each_field_of_a_section(self):
+        for one, other, words in (
+            (dict(align=1), dict(align=4), "its alignment is 1 in a.o, and 4 in b.o"),
+            (dict(addr=0), dict(addr=16), "its address is 0x0 in a.o, and 0x10 in b.o"),
+            (dict(flags=2), dict(flags=6), "sh_flags is 0x2 in a.o, and 0x6 in b.o"),
+            (dict(entsize=1), dict(entsize=2), "sh_entsize is 1 in a.o, and 2 in b.o"),
+            (dict(info=7), dict(info=8), "sh_info is 7 in a.o, and 8 in b.o"),
+            (dict(link=1), dict(link=5), "sh_link is .text in a.o, and .one in b.o"),
+            (dict(link=0), dict(link=5), "sh_link is none in a.o, and .one in b.o"),
+        ):
+            pair = (an_object(more=[(b".one", 1, b"\1", {}), (b".data", 1, b"\1", it)]) for it in (one, other))
+            self.assertEqual(self.differ(*pair), [f"section .data: {words}"])
+
+    def test_relocations_of_each_type(self):
+        """Those without addends, and those of another section."""
+
+        def rel(at):
+            rows = (b".rel.text", 9, struct.pack("<QQ", at, 1 << 32 | 2), dict(link=2, info=1, entsize=16))
+            return bytes(Made(text(), symbols(3, (1, 0x10, 1)), STRINGS, rows).data)
+
+        first, second = (f"R_X86_64_PC32 at {it:#x} of .text to answer +0x0" for it in (0, 4))
+        self.assertEqual(self.differ(rel(0), rel(4)), [f"section .rel.text: relocation 0 is {first} in a.o, and {second} in b.o"])
+
+        def rela(target):
+            rows = (b".rela", 4, struct.pack("<QQq", 0, 1 << 32 | 2, 0), dict(link=2, info=target, entsize=24))
+            return bytes(Made(text(), symbols(3, (1, 0x10, 1)), STRINGS, rows, text(b".other")).data)
+
+        self.assertEqual(self.differ(rela(1), rela(5)), ["section .rela: its target is .text in a.o, and .other in b.o"])
+
+    def test_a_group(self):
+        def grouped(flags):
+            members = [(b".group", 17, struct.pack("<2I", flags, 6), dict(link=2, info=1, entsize=4)), (b".f", 1, b"\1", dict(flags=0x200))]
+            return an_object(more=members)
+
+        found = self.differ(grouped(1), grouped(0))
+        self.assertEqual(
+            found, [f"section .group [answer]: member flags {it} is only in {side}.o" for it, side in (("0x1", "a"), ("0x0", "b"))]
+        )
+
+    def test_fields_of_the_header(self):
+        made = Made(text())
+        for at, words in (
+            (7, "the OS ABI is 0 in a.o, and 5 in b.o"),
+            (8, "the ABI version is 0 in a.o, and 5 in b.o"),
+            (48, "e_flags is 0x0 in a.o, and 0x5 in b.o"),
+        ):
+            self.assertEqual(self.differ(GOOD, made.with_bytes(at, b"\5")), [words])
+        self.assertEqual(self.differ(GOOD, bytes(Made(text(), order=">").data)), ["the byte order is little in a.o, and big in b.o"])
+
+    def test_big_endian(self):
+        """The order of names in a string table is no part of an object, in either byte order."""
+        for it, content in (("a", b"\0answer\0"), ("b", b"\0answer\0unused\0")):
+            made = Made(text(), symbols(3, (1, 0x10, 1), order=">"), (b".strtab", 3, content, {}), order=">")
+            self.put(**{f"{it}__o": bytes(made.data)})
+        self.assertSame("a.o", "b.o", lines=["the same"])
+
     def test_the_machine(self):
         data = an_object()
         found = self.differ(data, data[:18] + (183).to_bytes(2, "little") + data[20:])
@@ -168,6 +255,34 @@ class ImageTest(Case):
         self.assertDiffer("a", "c", lines=["section .text: offset 0x1 is 0x90 in a, and 0xc3 in c", "different"])
         self.assertEqual(self.same("a", "d")[0], 1)
 
+    def program(self, *segments):
+        """A program of these segments, of each its p_type and p_align. Their headers end the file."""
+        made = Made(text())
+        rows = b"".join(struct.pack("<IIQQQQQQ", kind, 4, 0, 0, 0, 0, 0, align) for kind, align in segments)
+        data = bytearray(made.with_bytes(16, b"\2")) + rows
+        data[32:40], data[54:58] = len(made.data).to_bytes(8, "little"), struct.pack("<HH", 56, len(segments))
+        return bytes(data)
+
+    def test_program_headers(self):
+        self.put(a=self.program((1, 1)), b=self.program((1, 2)), c=self.program((1, 1), (1, 1)))
+        self.assertDiffer("a", "b", lines=["program header 0: p_align is 0x1 in a, and 0x2 in b", "different"])
+        self.assertDiffer("a", "c", lines=["the number of program headers is 1 in a, and 2 in c", "different"])
+
+    def test_entry_points(self):
+        one = Made(text()).with_bytes(16, b"\2")
+        self.put(a=one, b=one[:24] + b"\5" + one[25:])
+        self.assertDiffer("a", "b", lines=["e_entry is 0x0 in a, and 0x5 in b", "different"])
+
+    def test_what_is_no_section(self):
+        """The section headers are 64 bytes later: the first byte that differs is that of e_shoff."""
+        one = Made(text()).with_bytes(16, b"\2")
+        self.put(a=one, d=padded(one))
+        self.assertDiffer("a", "d", lines=["the files differ at offset 0x28, in no content of a section", "different"])
+
+    def test_a_program_that_is_rejected(self):
+        self.put(bad=SHARING[:16] + b"\2" + SHARING[17:])
+        self.assertEqual(self.same("bad", "bad")[0], 3)
+
 
 class StatusTest(Case):
     def setUp(self):
@@ -182,6 +297,37 @@ class StatusTest(Case):
         for name in ("bad.o", "text", "narrow.o", "empty"):
             self.assertEqual(self.same(name, name)[0], 3, name)
             self.assertEqual(self.same("good.o", name)[0], 3, name)
+
+    def test_an_object_that_would_be_too_long(self):
+        """Its canonical layout has a byte at 2^30."""
+        self.put(long__o=bytes(Made((b".text", 1, b"\x90", dict(align=1 << 30))).data))
+        words = ["elfmap-same: long.o: the canonical layout of its object would be longer than 2^30 bytes"]
+        self.assertEqual(self.same("good.o", "long.o"), (3, ["not compared"], words))
+
+    def test_what_is_not_compared_is_told_beside_what_differs(self):
+        for side, content in (("old", b"\x90"), ("new", b"\xc3")):
+            self.put(**{f"{side}/x__o": an_object(content=content), f"{side}/y__o": GOOD, f"{side}/z__o": GOOD})
+        self.put(**{"new/y__o": SHARING, "new/z__o": SHARING})
+        status, lines, said = self.same("old", "new")
+        self.assertEqual((status, lines[-1], len(said)), (3, "0 the same, 1 different, 2 not compared", 2))
+
+    def test_a_full_device(self):
+        with open("/dev/full", "wb") as out:
+            ran = subprocess.run([*PROGRAM, "good.o", "good.o"], stdout=out, stderr=subprocess.PIPE, env=ENVIRONMENT)
+        self.assertEqual((ran.returncode, ran.stderr), (3, b"elfmap-same: no space left on device\n"))
+
+    def test_there_is_no_memory(self):
+        with unittest.mock.patch("elfmap.rewrite", side_effect=MemoryError):
+            self.assertEqual(self.same("good.o", "good.o"), (3, ["not compared"], ["elfmap-same: good.o: there is no memory for it"]))
+
+    def test_a_link_that_is_named(self):
+        os.symlink("good.o", "link")
+        os.symlink(".", "folder")
+        self.assertSame("good.o", "link", lines=["the same"])
+        self.assertEqual(self.same("good.o", "folder/good.o")[:2], (0, ["the same"]))
+        self.put(**{"a/x__o": GOOD})
+        os.symlink("a", "b")
+        self.assertSame("a", "b", lines=["the same"])
 
     def test_unreadable(self):
         os.mkfifo("pipe")
@@ -199,7 +345,8 @@ class StatusTest(Case):
         os.close(reading)
         ran = subprocess.run([*PROGRAM, "good.o", "good.o"], stdout=writing, stderr=subprocess.PIPE, env=ENVIRONMENT)
         os.close(writing)
-        self.assertEqual(ran.stderr, b"")
+        # As the shell says of a program that SIGPIPE ends.
+        self.assertEqual((ran.returncode, ran.stderr), (128 + 13, b""))
 
 
 class ArchiveTest(Case):
@@ -236,6 +383,9 @@ class ArchiveTest(Case):
         for length in range(8, len(GNU), 7):
             self.put(cut__a=GNU[:length])
             self.assertIn(self.same("whole.a", "cut.a")[0], (1, 3))
+        # What is after the damage is not known.
+        status, _, said = self.same("cut.a", "cut.a")
+        self.assertEqual((status, said[0].startswith("elfmap-same: cut.a: the archive is damaged at offset ")), (3, True))
 
     def test_an_archive_in_an_archive(self):
         nested = GOOD
@@ -257,7 +407,33 @@ class TreeTest(Case):
             "1 the same, 1 different, 1 only in new, 1 only in old; skipped: 2 not ELF",
         ]
         self.assertDiffer("old", "new", lines=lines)
+        for side in ("old", "new"):
+            self.put(**{f"{side}/narrow__o": CLASS_32})
+        self.assertDiffer("old", "new", lines=[*lines[:-1], f"{lines[-1]}, 1 of class 32"])
         self.assertIn("log: the files differ at offset 0x0", self.same("--others", "old", "new")[1])
+
+    def test_what_is_on_one_side(self):
+        """In the order of names; with --others also what is no ELF file."""
+        self.put(**{f"old/a/{it}__o": GOOD for it in "cab"}, **{"old/log": b"text", "old/narrow": CLASS_32, "old/lib__a": GNU})
+        os.mkdir("new")
+        only = [f"{it}: it is only in old" for it in ("a/a.o", "a/b.o", "a/c.o", "lib.a")]
+        self.assertDiffer("old", "new", lines=[*only, "0 the same, 4 only in old; skipped: 1 not ELF, 1 of class 32"])
+        lines = [*only, "log: it is only in old", "narrow: it is only in old", "0 the same, 6 only in old"]
+        self.assertDiffer("--others", "old", "new", lines=lines)
+
+    def test_an_object_and_an_empty_file(self):
+        self.put(**{"a/x__o": GOOD, "b/x__o": b"", "a/y__o": b"", "b/y__o": b"x"})
+        lines = ["x.o: it is an object in a, and no ELF file in b", "0 the same, 1 different; skipped: 1 not ELF"]
+        self.assertDiffer("a", "b", lines=lines)
+
+    def test_other_files(self):
+        long = bytearray(3 << 20)
+        self.put(**{"a/front": b"a line\n", "b/front": b"a line\nand another\n", "a/long": bytes(long)})
+        long[0x200005] = 1
+        self.put(**{"b/long": bytes(long), "a/same": b"text", "b/same": b"text"})
+        self.assertSame("a", "b", lines=["0 the same; skipped: 3 not ELF"])
+        lines = ["front: its length is 7 in a, and 19 in b", "long: the files differ at offset 0x200005", "1 the same, 2 different"]
+        self.assertDiffer("--others", "a", "b", lines=lines)
 
     def test_the_same_tree(self):
         self.put(**{"a/b/x__o": GOOD, "a/y__o": GOOD})
