@@ -145,11 +145,12 @@ def folded(parts: list[Part]) -> list[Part]:
     """The rows: the parts themselves, or the largest ones, and one for each run of others."""
     if len(parts) <= MOST:
         return parts
-    least = sorted((it.length for it in parts), reverse=True)[LARGEST - 1]
+    # Of equal ones the first.
+    largest = set(sorted(range(len(parts)), key=lambda k: -parts[k].length)[:LARGEST])
     rows, run = list[Part](), list[Part]()
     ends: list[Optional[Part]] = [*parts, None]
-    for part in ends:
-        if part and (part.length <= least and part.owner.split()[0] in ("section", "gap")):
+    for k, part in enumerate(ends):
+        if part and k not in largest and part.owner.split()[0] in ("section", "gap"):
             run.append(part)
             continue
         rows += run if len(run) < 2 else [together(run)]

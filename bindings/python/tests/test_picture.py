@@ -113,8 +113,13 @@ class Case(FolderCase):
         rows = picture.folded(parts)
         self.assertEqual(sum(it.length for it in rows), starts[-1])
         self.assertEqual([it.start for it in rows], [0, *(it.start for it in rows[1:])])
-        self.assertEqual([it.length for it in rows[-149:]], [*range(252, 401)])
+        self.assertEqual([it.length for it in rows[-150:]], [*range(251, 401)])
         self.assertLessEqual(len(rows), 150 + 2)
+
+    def test_equal_parts(self):
+        """Of 400 equal parts the first 150 have rows."""
+        parts = [picture.Part(16 * k, 16, f"section {k}", f".s{k}", "PROGBITS", "data") for k in range(400)]
+        self.assertEqual([it.length for it in picture.folded(parts)], [16] * 150 + [16 * 250])
 
     def test_many_parts(self):
         lines = HEADER + "".join(f"part {hex(64 + k)} 0x1 gap 00\n" for k in range(1000)) + "part 0x428 0x100 gap 00\n"
