@@ -17,6 +17,7 @@ use Rattle.std.proofs.lemmas.List.Sorted.{All-permutation, Contains-permutation,
 use borrow.Rule.Slice.PartMut.{post_of, put_mid}
 use Rattle.elf_field.specs.Bytes.{IsBytes, IsBytes-rest}
 use Rattle.elf_object_strings.specs.Sorting.{AreWithoutEqualEnds, HasEnd, end_number, ends_order, leading, numbered_order, AreInEndsOrder, AreNumbered, indexes_in, names_by_ends}
+use Rattle.elf_object_strings.specs.StringTable.{IsSuffix}
 use Rattle.elf_object_strings.specs.declared.sorting.Numbered.{Numbered}
 
 -- Names as numbers of their last eight bytes, read from the end on: the last byte is the leading digit to the base 256. So if two numbers
@@ -189,6 +190,15 @@ padded_end name written count is made =
     let ends : written ≡ drop (length name - length written) name = rw long all in
     rw (behind_zeros (8 - count) 8 written (omega arith))
     (closed_end name written (8 - count) (omega arith) ends (omega arith))
+
+-- ---- the number of a tail
+
+-- a name of eight bytes or more has the number of each name that ends with it
+pub tail_number : (name other : List ℕ) → IsSuffix name other → 8 ≤ length name → end_number name ≡ end_number other
+tail_number name other (front, is) long =
+    let many : 8 ≤ length (reverse name) = omega (arith, length-reverse name) in
+    let turned : reverse other ≡ reverse name ++ reverse front = ap reverse is ∙ reverse-append front name in
+    sym (ap (leading 8) turned ∙ leading-append 8 (reverse name) (reverse front) many)
 
 -- ---- ends in common
 

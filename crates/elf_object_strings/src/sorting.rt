@@ -1,10 +1,10 @@
 //! Names sorted by what they end with.
 ghost use Rattle.std.specs.Cmp.Lexicographic.{slice_cmp};
 ghost use Rattle.std.specs.Ordering.{nat_cmp};
-ghost use Rattle.std.specs.Prelude.{◌≡◌, ◌<◌, length, reverse, IfSome, [], get_or, IfOk};
+ghost use Rattle.std.specs.Prelude.{◌≡◌, ◌<◌, length, reverse, IfSome, [], get_or, IfOk, true};
 ghost use Rattle.std.specs.List.{All};
 ghost use Rattle.elf_object_strings.specs.Sorting.{AreWithoutEqualEnds, AreInEndsOrder, AreNumbered, HasEnd, end_number, ends_order, indexes_in, names_by_ends, numbered_order};
-ghost use Rattle.elf_object_strings.specs.StringTable.{is_suffix, texts};
+ghost use Rattle.elf_object_strings.specs.StringTable.{IsSuffix, is_suffix, texts};
 ghost use Rattle.elf_field.specs.Bytes.{IsBytes};
 
 use crate::name_list::NameList;
@@ -56,6 +56,16 @@ pub(crate) struct Numbered<'a> {
     end: u64,
 }
 
+impl<'a> Numbered<'a> {
+    /// Whether the other name may end with this one: not if this one has eight bytes, and the last eight of the other are not these.
+    pub(crate) fn may_be_tail(&self, other: &Numbered<'_>) -> bool
+        requires ends { HasEnd self.now × HasEnd other.now }
+        ensures { IsSuffix self.now.name.now other.now.name.now → result ≡ true }
+    {
+        self.name.len() < 8 || self.end == other.end
+    }
+}
+
 /// The names of a list, sorted by what they end with: read from their last bytes on, the greatest first; equal names by index.
 ///
 /// A name follows, with those between, each one that ends with it. Takes n log n comparisons of ends.
@@ -65,6 +75,7 @@ pub(crate) fn sorted_names<'a>(
 ) -> Result<Vec<Numbered<'a>>, AllocError>
     ensures numbered { IfOk result (λ sorted. AreNumbered list.now (names_by_ends sorted.items) (indexes_in sorted.items)) }
     ensures order { IfOk result (λ sorted. AreInEndsOrder (names_by_ends sorted.items) (indexes_in sorted.items)) }
+    ensures ends { IfOk result (λ sorted. All HasEnd sorted.items) }
 {
     let mut sorted = number_names(alloc, list.names())?;
     sorted.sort_unstable_by(|a, b| by_end(list, a, b));

@@ -1,7 +1,8 @@
 //! The bytes of a string table, and where its names begin.
 ghost use Rattle.std.specs.Prelude.{◌≡◌, ◌<◌, [], get_or, min, if◌then◌else◌, length, IfOk, ◌≤◌, ◌-◌, true, false, map};
+ghost use Rattle.std.specs.List.{All};
 ghost use Rattle.elf_object_strings.specs.StringTable.{AreOwners, AreTails, texts, is_suffix, AreZeroFree, HoldsEach, IsShortest, Shares, is_named, name_offset, string_table, HasEnds, with_name};
-ghost use Rattle.elf_object_strings.specs.Sorting.{AreBelow, AreRuns, GivesOwner, IsRun, AreInEndsOrder, AreNumbered, indexes_in, names_by_ends};
+ghost use Rattle.elf_object_strings.specs.Sorting.{AreBelow, AreRuns, GivesOwner, HasEnd, IsRun, AreInEndsOrder, AreNumbered, indexes_in, names_by_ends};
 
 use crate::name_list::NameList;
 use crate::sorting::{Numbered, sorted_names};
@@ -32,6 +33,7 @@ fn owners_in(
 ) -> Result<Vec<usize>, AllocError>
     requires numbered { AreNumbered list.now (names_by_ends sorted.now) (indexes_in sorted.now) }
     requires order { AreInEndsOrder (names_by_ends sorted.now) (indexes_in sorted.now) }
+    requires ends { All HasEnd sorted.now }
     ensures { IfOk result (λ owners. AreOwners list.now owners.items) }
 {
     let mut owners = Vec::new(alloc);
@@ -56,6 +58,7 @@ fn run_of(
     requires within { position < length sorted.now }
     requires numbered { AreNumbered list.now (names_by_ends sorted.now) (indexes_in sorted.now) }
     requires order { AreInEndsOrder (names_by_ends sorted.now) (indexes_in sorted.now) }
+    requires ends { All HasEnd sorted.now }
     requires runs { AreRuns (names_by_ends sorted.now) starts.now position }
     requires indexes { AreBelow (indexes_in sorted.now) (length owners.now) }
     ensures run { IsRun (names_by_ends sorted.now) position result.0 }
@@ -70,12 +73,14 @@ fn run_of(
     (start, owner)
 }
 
+/// Whether the other name ends with this one. Most names have other last bytes than the one before them: neither is looked at.
 fn is_tail(list: &NameList<'_, '_>, name: &Numbered<'_>, other: &Numbered<'_>) -> bool
     requires name { get_or list.now name.now.index [] ≡ name.now.name.now }
     requires other { get_or list.now other.now.index [] ≡ other.now.name.now }
+    requires ends { HasEnd name.now × HasEnd other.now }
     ensures { result ≡ is_suffix name.now.name.now other.now.name.now }
 {
-    list.is_tail(name.name, name.index, other.name, other.index)
+    name.may_be_tail(other) && list.is_tail(name.name, name.index, other.name, other.index)
 }
 
 fn least_owner(first: bool, owner: usize, met: usize) -> usize

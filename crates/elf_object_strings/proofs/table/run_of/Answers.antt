@@ -26,6 +26,10 @@ bounds-owners-sorted c = index_below c.args.sorted.now (length c.args.owners.now
 pub is_tail-requires-clause-other : goal.is_tail-requires-clause-other
 is_tail-requires-clause-other c = (each_named c.args.list.now c.args.sorted.now c.requires.numbered (c.loop-start.start - 1) _ (omega arith)).1
 
+pub is_tail-requires-clause-ends : goal.is_tail-requires-clause-ends
+is_tail-requires-clause-ends c =
+    (c.requires.ends c.args.position _ c.requires.within, c.requires.ends (c.loop-start.start - 1) _ (omega arith))
+
 pub loop-start-preserved : goal.loop-start-preserved
 loop-start-preserved c =
     let sorted = c.args.sorted.now in
