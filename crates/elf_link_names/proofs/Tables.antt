@@ -1,15 +1,17 @@
 -- Names in slots, and after them in a map. A name that is in none of its slots has no entry: an entry's slot comes after taken ones, so a
 -- search meets it. Hence a new name in a free slot, or in the map, keeps the tables and all other positions.
 use Rattle.std.proofs.Common.{◌≡◌, ℕ, zero, suc, ◌<◌, ◌+◌, ◌-◌, ◌⊎◌, Bool, true, false, List, [], ◌∷◌, ◌++◌, length, get_or, set, inl, inr, refl, sym, ◌∙◌, ap, subst, arith, get_or-set_other, get_or-set_same, ◌≤◌}
-use Rattle.std.specs.Prelude.{◌≢◌, cond, if◌then◌else◌, is_some, MatchOption, Option, None, Some, IfSome, slice_get}
+use Rattle.std.specs.Prelude.{◌≢◌, ◌*◌, ◌%◌, ◌^◌, cond, if◌then◌else◌, is_some, MatchOption, Option, None, Some, IfSome, slice_get}
 use Rattle.std.specs.Str.{bytes_eq}
 use Rattle.std.proofs.lemmas.Bool.{cases_eq, cases_lt, eq-eqb, eqb-true, ne_eqb}
+use Rattle.std.proofs.Math.Nat.{mul-le-mul_right}
 use Rattle.std.proofs.Math.Seq.{get_or-append_seam}
+use Rattle.std.proofs.lemmas.Nat.{div_below}
 use Rattle.std.proofs.lemmas.List.{get_or_append_left, length-append, length-set, set-get_or}
 use Rattle.std.proofs.lemmas.Slice.Eq.{bytes_eq-Decides}
 use Rattle.std.proofs.lemmas.Option.{slice_get_read}
 use Rattle.elf_link_names.specs.KnownNames.{known_at, no_known}
-use Rattle.elf_link_names.specs.Tables.{IsPlaced, AreTables, AreSlotsTaken, IsEnd, IsFound, IsInNone, LeadsTo, SlotsTell, numbered_entry, entry_position, free_slot, home, entry_name, name_hash, no_name_entry, or_else, slot_from, upper_of, KeepsOthers, is_of, known_by, known_from, known_in, small_known}
+use Rattle.elf_link_names.specs.Tables.{IsPlaced, AreTables, AreSlotsTaken, IsEnd, IsFound, IsInNone, LeadsTo, SlotsTell, numbered_entry, entry_position, free_slot, home, entry_name, name_hash, no_name_entry, or_else, place_among, slot_from, upper_of, KeepsOthers, is_of, known_by, known_from, known_in, small_known}
 use Rattle.elf_link_names.specs.declared.known_names.Known.{Known}
 use Rattle.elf_link_names.specs.declared.known_table.Large.{Large}
 use Rattle.elf_link_names.specs.declared.known_table.Row.{Row as KnownRow}
@@ -111,9 +113,15 @@ stays_taken slots es n at i inside some = elim (cases_eq i at) [
   | inr other ↦ rw (get_or-set_other slots at i (record { upper = upper_of (name_hash n); number = length es + 1 }) free_slot other) some
 ]
 
+-- the place of a hash among so many is one of them
+pub place_below : (hash count : ℕ) → 0 < count → place_among hash count < count
+place_below hash count some =
+    let most : hash % 2 ^ 32 * count ≤ 4294967295 * count = mul-le-mul_right count (omega arith) in
+    div_below (hash % 2 ^ 32 * count) (2 ^ 32) count (omega arith) (omega arith)
+
 -- the place of the free slot is one of the slots
 at_inside : (slots : List Slot) (q : List ℕ) (s : ℕ) → MOST_STEPS < length slots → s < MOST_STEPS → home slots q + s < length slots
-at_inside slots q s room few = omega arith
+at_inside slots q s room few = let below = place_below (name_hash q) (length slots - MOST_STEPS) (omega arith) in omega arith
 
 module _ (slots : List Slot) (es : List Entry) (more : List ℕ → Option ℕ) (tables : AreTables slots es more) (e : Entry) (at : ℕ)
     (tells : SlotsTell slots es e.name.now (Free at)) where

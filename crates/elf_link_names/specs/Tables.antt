@@ -1,5 +1,5 @@
 -- Tables of names: slots by hashes, what is looked up in them, and what is known of each name.
-use Rattle.std.specs.Prelude.{◌≡◌, ℕ, cond, Option, Some, List, is_some, ◌≢◌, ◌⊎◌, ◌<◌, ◌≤◌, ◌+◌, ◌-◌, ◌/◌, ◌%◌, ◌^◌, if◌then◌else◌, None, [], ◌∷◌, IfSome, get_or, length, Bool, false, ◌==◌, slice_get}
+use Rattle.std.specs.Prelude.{◌≡◌, ℕ, cond, Option, Some, List, is_some, ◌≢◌, ◌⊎◌, ◌<◌, ◌≤◌, ◌+◌, ◌-◌, ◌*◌, ◌/◌, ◌%◌, ◌^◌, if◌then◌else◌, None, [], ◌∷◌, IfSome, get_or, length, Bool, false, ◌==◌, slice_get}
 use Rattle.std.specs.Borrow.{Bor}
 use Rattle.std.specs.BTreeMap.{BTreeMap}
 use Rattle.std.specs.Cmp.Lexicographic.{slice_cmp}
@@ -46,9 +46,9 @@ name_hash name = folding.finish (folding.write folding.initial name)
 abbrev pub upper_of : ℕ → ℕ
 upper_of hash = hash / 2 ^ 32
 
--- the place of a hash among so many, by its lower half
+-- the place of a hash among so many: as far into them as its lower half is into the numbers below 2^32
 abbrev pub place_among : ℕ → ℕ → ℕ
-place_among hash count = hash % 2 ^ 32 % count
+place_among hash count = hash % 2 ^ 32 * count / 2 ^ 32
 
 -- those used for a slot and an entry that aren't there
 abbrev pub free_slot : Slot

@@ -23,12 +23,15 @@ pub(crate) fn upper_of(hash: u64) -> u32
     (hash / 0x1_0000_0000) as u32
 }
 
-/// The place of a hash among so many. It is taken from the lower half, which a processor divides faster than the whole.
+/// The place of a hash among so many: as far into them as its lower half is into the numbers below 2^32. It takes a multiplication, which is
+/// faster than a division.
 pub(crate) fn home_of(hash: u64, count: usize) -> usize
     requires { 0 < count }
-    ensures { result ≡ place_among hash count }
+    ensures place { result ≡ place_among hash count }
+    ensures below { result < count }
 {
-    (hash % 0x1_0000_0000 % count as u64) as usize
+    let lower = hash % 0x1_0000_0000;
+    (lower as u128 * count as u128 / 0x1_0000_0000) as usize
 }
 
 /// How many slots a name may be in, one after the other.

@@ -1,6 +1,6 @@
 use Rattle.std.proofs.Common.{◌≡◌, Bool, true, false, refl, sym, ◌∙◌}
 use Rattle.std.proofs.lemmas.Bool.{true≢false}
-use Rattle.elf_object_strings.specs.StringTable.{IsSuffix, is_suffix}
+use Rattle.elf_object_strings.specs.StringTable.{is_suffix}
 use Rattle.elf_object_strings.proofs.Ends.{suffix_from}
 use Rattle.elf_object_strings.proofs.table.is_tail.Goals as goal
 
