@@ -129,31 +129,35 @@ later_index sorted indexes ordered p q le lt same =
 
 -- what is read past the end
 abbrev pub no_name : Numbered
-no_name = record { name = record { ref_ptr = (0, 0); now = [] }; index = 0; end = 0 }
+no_name = record { index = 0; end = 0 }
 
-pub length-names_by_ends : (sorted : List Numbered) → length (names_by_ends sorted) ≡ length sorted
-length-names_by_ends sorted = length-map sorted (λ (it : Numbered). it.name.now)
+pub length-names_by_ends : (names : List (List ℕ)) (sorted : List Numbered) → length (names_by_ends names sorted) ≡ length sorted
+length-names_by_ends names sorted = length-map sorted (λ (it : Numbered). get_or names it.index [])
 
 pub length-indexes_in : (sorted : List Numbered) → length (indexes_in sorted) ≡ length sorted
 length-indexes_in sorted = length-map sorted (λ (it : Numbered). it.index)
 
-pub name_at : (sorted : List Numbered) (q : ℕ) → q < length sorted → get_or (names_by_ends sorted) q [] ≡ (get_or sorted q no_name).name.now
-name_at sorted q lt = get_or-map (λ (it : Numbered). it.name.now) sorted q no_name [] lt
+abbrev pub name_of : List (List ℕ) → List Numbered → ℕ → List ℕ
+name_of names sorted q = get_or names (get_or sorted q no_name).index []
+
+name_at : (names : List (List ℕ)) (sorted : List Numbered) (q : ℕ) → q < length sorted →
+    get_or (names_by_ends names sorted) q [] ≡ name_of names sorted q
+name_at names sorted q lt = get_or-map (λ (it : Numbered). get_or names it.index []) sorted q no_name [] lt
 
 pub index_at : (sorted : List Numbered) (q : ℕ) → q < length sorted → get_or (indexes_in sorted) q 0 ≡ (get_or sorted q no_name).index
 index_at sorted q lt = get_or-map (λ (it : Numbered). it.index) sorted q no_name 0 lt
 
-pub suffix_at : (sorted : List Numbered) (p q : ℕ) → p < length sorted → q < length sorted →
-    is_suffix (get_or sorted p no_name).name.now (get_or sorted q no_name).name.now ≡ true → Ends (names_by_ends sorted) p q
-suffix_at sorted p q p_lt q_lt is =
-    let found = suffix_from (get_or sorted p no_name).name.now (get_or sorted q no_name).name.now is in
-    (found.0, name_at sorted q q_lt ∙ found.1 ∙ ap (λ (n : List ℕ). found.0 ++ n) (sym (name_at sorted p p_lt)))
+pub suffix_at : (names : List (List ℕ)) (sorted : List Numbered) (p q : ℕ) → p < length sorted → q < length sorted →
+    is_suffix (name_of names sorted p) (name_of names sorted q) ≡ true → Ends (names_by_ends names sorted) p q
+suffix_at names sorted p q p_lt q_lt is =
+    let found = suffix_from (name_of names sorted p) (name_of names sorted q) is in
+    (found.0, name_at names sorted q q_lt ∙ found.1 ∙ ap (λ (n : List ℕ). found.0 ++ n) (sym (name_at names sorted p p_lt)))
 
-pub no_suffix_at : (sorted : List Numbered) (p q : ℕ) → p < length sorted → q < length sorted →
-    is_suffix (get_or sorted p no_name).name.now (get_or sorted q no_name).name.now ≡ false → ¬ Ends (names_by_ends sorted) p q
-no_suffix_at sorted p q p_lt q_lt is_not (front, is) =
-    suffix_none (get_or sorted p no_name).name.now (get_or sorted q no_name).name.now is_not
-    (front, sym (name_at sorted q q_lt) ∙ is ∙ ap (λ (n : List ℕ). front ++ n) (name_at sorted p p_lt))
+pub no_suffix_at : (names : List (List ℕ)) (sorted : List Numbered) (p q : ℕ) → p < length sorted → q < length sorted →
+    is_suffix (name_of names sorted p) (name_of names sorted q) ≡ false → ¬ Ends (names_by_ends names sorted) p q
+no_suffix_at names sorted p q p_lt q_lt is_not (front, is) =
+    suffix_none (name_of names sorted p) (name_of names sorted q) is_not
+    (front, sym (name_at names sorted q q_lt) ∙ is ∙ ap (λ (n : List ℕ). front ++ n) (name_at names sorted p p_lt))
 
 -- Runs of names that end with one name. The run of a name ends at it, and is joined of the runs that end right above it. So from each run
 -- met on the way back only the owner of its last name is needed. The least of these is the owner; if no run is met, the name's own index is

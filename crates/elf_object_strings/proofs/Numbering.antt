@@ -1,7 +1,7 @@
 -- Names with their indexes: in the order of their list, in another order, and sorted. Each pair has a name and its index in the list, also
 -- after a permutation. Pairs sorted by `numbered_order`, which is a total order, are in the order by ends, if each has the number of its
 -- end (`end_decides`).
-use Rattle.std.proofs.Common.{◌≡◌, ℕ, zero, suc, ◌+◌, ◌-◌, ◌*◌, ◌^◌, ◌<◌, ◌≤◌, List, [], ◌∷◌, ◌++◌, length, get_or, take, drop, min, replicate, reverse, Ordering, refl, sym, ap, subst, ◌∙◌, inl, inr, add-one, arith}
+use Rattle.std.proofs.Common.{◌≡◌, ℕ, zero, suc, ◌+◌, ◌-◌, ◌*◌, ◌%◌, ◌^◌, ◌<◌, ◌≤◌, ◌⊎◌, List, [], ◌∷◌, ◌++◌, length, get_or, take, drop, min, replicate, reverse, Ordering, refl, sym, ap, subst, ◌∙◌, inl, inr, add-one, arith}
 use Rattle.std.specs.declared.cmp.Ordering.TheVariants.{Less, Equal, Greater}
 use Rattle.std.specs.Cmp.{nat_cmp_is, IsTotalOrder}
 use Rattle.std.specs.Cmp.Lexicographic.{slice_cmp}
@@ -193,12 +193,25 @@ padded_end name written count is made =
 
 -- ---- the number of a tail
 
+-- of fewer bytes the last digit is zero
+short_number : (n : ℕ) (bytes : List ℕ) → length bytes ≤ n → leading (suc n) bytes % 256 ≡ 0
+unfolding leading
+short_number zero [] few = refl
+short_number zero (byte ∷ bytes) few = absurd (omega arith)
+short_number (suc n) [] few = refl
+short_number (suc n) (byte ∷ bytes) few =
+    let rest = short_number n bytes (omega arith) in
+    omega (arith, rest, ap (λ (p : ℕ). byte * p) (pow-succ' 256 n))
+
 -- a name of eight bytes or more has the number of each name that ends with it
-pub tail_number : (name other : List ℕ) → IsSuffix name other → 8 ≤ length name → end_number name ≡ end_number other
-tail_number name other (front, is) long =
-    let many : 8 ≤ length (reverse name) = omega (arith, length-reverse name) in
-    let turned : reverse other ≡ reverse name ++ reverse front = ap reverse is ∙ reverse-append front name in
-    sym (ap (leading 8) turned ∙ leading-append 8 (reverse name) (reverse front) many)
+pub tail_number : (name other : List ℕ) → IsSuffix name other → (end_number name ≡ end_number other) ⊎ (end_number name % 256 ≡ 0)
+tail_number name other (front, is) = elim (cases_lt (length name) 8) [
+  | inl few ↦ inr (short_number 7 (reverse name) (omega (arith, length-reverse name)))
+  | inr long ↦
+      let many : 8 ≤ length (reverse name) = omega (arith, length-reverse name) in
+      let turned : reverse other ≡ reverse name ++ reverse front = ap reverse is ∙ reverse-append front name in
+      inl (sym (ap (leading 8) turned ∙ leading-append 8 (reverse name) (reverse front) many))
+]
 
 -- ---- ends in common
 
@@ -230,25 +243,29 @@ IsBytes-reverse bytes are i = elim (cases_lt i (length bytes)) [
 ]
 
 -- it is that of the names
-pub end_decides : (names : List (List ℕ)) (it other : Numbered) → HasEnd it → HasEnd other →
-    get_or names it.index [] ≡ it.name.now → get_or names other.index [] ≡ other.name.now →
-    numbered_order names it other ≡ ends_order it.name.now it.index other.name.now other.index
-end_decides names it other end other_end named other_named =
-    let bytes : List ℕ = reverse it.name.now in
-    let others : List ℕ = reverse other.name.now in
-    let ordered = leading-order 8 others bytes (IsBytes-reverse other.name.now other_end.bytes) (IsBytes-reverse it.name.now end.bytes) in
-    rw (named, other_named, end.number, other_end.number)
+pub end_decides : (names : List (List ℕ)) (it other : Numbered) → HasEnd names it → HasEnd names other →
+    numbered_order names it other ≡ ends_order (get_or names it.index []) it.index (get_or names other.index []) other.index
+end_decides names it other end other_end =
+    let bytes : List ℕ = reverse (get_or names it.index []) in
+    let others : List ℕ = reverse (get_or names other.index []) in
+    let ordered = leading-order 8 others bytes (IsBytes-reverse (get_or names other.index []) other_end.bytes) (IsBytes-reverse (get_or names it.index []) end.bytes) in
+    rw (end.number, other_end.number)
     (then_assoc (nat_cmp (leading 8 others) (leading 8 bytes)) (slice_cmp nat_cmp others bytes) (nat_cmp it.index other.index)
     ∙ ap (λ (o : Ordering). ordering_then o (nat_cmp it.index other.index)) ordered)
 
-abbrev name_of : Numbered → List ℕ
-name_of it = it.name.now
+abbrev name_of : List (List ℕ) → Numbered → List ℕ
+name_of names it = get_or names it.index []
 
 abbrev index_of : Numbered → ℕ
 index_of it = it.index
 
 abbrev nothing : Numbered
-nothing = record { name = record { ref_ptr = (0, 0); now = [] }; index = 0; end = 0 }
+nothing = record { index = 0; end = 0 }
+
+named_there : (names : List (List ℕ)) (xs : List Numbered) (q : ℕ) → q < length xs →
+    get_or names (get_or (indexes_in xs) q 0) [] ≡ get_or (names_by_ends names xs) q []
+named_there names xs q lt =
+    ap (λ (i : ℕ). get_or names i []) (get_or-map index_of xs q nothing 0 lt) ∙ sym (get_or-map (name_of names) xs q nothing [] lt)
 
 -- ---- in the order of the list
 
@@ -256,45 +273,40 @@ nothing = record { name = record { ref_ptr = (0, 0); now = [] }; index = 0; end 
 pub record AreNumberedTo (names : List (List ℕ)) (i : ℕ) (numbered : List Numbered) : Type 0 where
   pub as_many : length numbered ≡ i
   pub indexes : (k : ℕ) → k < i → get_or (indexes_in numbered) k 0 ≡ k
-  pub named : (k : ℕ) → k < i → get_or (names_by_ends numbered) k [] ≡ get_or names k []
-  pub ends : All HasEnd numbered
+  pub ends : All (HasEnd names) numbered
 
 pub numbered_all : (names : List (List ℕ)) (numbered : List Numbered) → AreNumberedTo names (length names) numbered →
-    AreNumbered names (names_by_ends numbered) (indexes_in numbered)
+    AreNumbered names (names_by_ends names numbered) (indexes_in numbered)
 numbered_all names numbered are =
-    let name_count : length (names_by_ends numbered) ≡ length names = length-map numbered name_of ∙ are.as_many in
+    let name_count : length (names_by_ends names numbered) ≡ length names = length-map numbered (name_of names) ∙ are.as_many in
+    let long : length numbered ≡ length names = are.as_many in
     record {
       as_many = name_count;
       all = length-map numbered index_of ∙ are.as_many;
       below = λ q lt. let is = are.indexes q (omega arith) in omega arith;
-      named = λ q lt.
-          let within : q < length names = omega arith in
-          ap (λ (i : ℕ). get_or names i []) (are.indexes q within) ∙ sym (are.named q within);
+      named = λ q lt. named_there names numbered q (omega arith);
       each = λ i lt. (i, omega arith, are.indexes i lt);
     }
 
 -- ---- another order
 
--- the name of a list with its index there
-abbrev pub IsNamedIn : List (List ℕ) → Numbered → Type 0
-IsNamedIn names it = (it.index < length names) × (get_or names it.index [] ≡ it.name.now)
+-- the index of a name of a list
+abbrev IsIndexIn : List (List ℕ) → Numbered → Type 0
+IsIndexIn names it = it.index < length names
 
-pub each_named : (names : List (List ℕ)) (xs : List Numbered) → AreNumbered names (names_by_ends xs) (indexes_in xs) → All (IsNamedIn names) xs
-each_named names xs are = λ k d lt.
-    let within : k < length (names_by_ends xs) = omega (arith, length-map xs name_of) in
-    let index = get_or-map index_of xs k d 0 lt in
-    let name = get_or-map name_of xs k d [] lt in (
-      subst (λ (i : ℕ). i < length names) index (are.below k within),
-      ap (λ (i : ℕ). get_or names i []) (sym index) ∙ are.named k within ∙ name,
-    )
+each_index : (names : List (List ℕ)) (xs : List Numbered) → AreNumbered names (names_by_ends names xs) (indexes_in xs) →
+    All (IsIndexIn names) xs
+each_index names xs are = λ k d lt.
+    let within : k < length (names_by_ends names xs) = omega (arith, length-map xs (name_of names)) in
+    subst (λ (i : ℕ). i < length names) (get_or-map index_of xs k d 0 lt) (are.below k within)
 
 pub numbered_permuted : (names : List (List ℕ)) (xs ys : List Numbered) → IsPermutation xs ys →
-    AreNumbered names (names_by_ends xs) (indexes_in xs) → AreNumbered names (names_by_ends ys) (indexes_in ys)
+    AreNumbered names (names_by_ends names xs) (indexes_in xs) → AreNumbered names (names_by_ends names ys) (indexes_in ys)
 numbered_permuted names xs ys moved are =
-    let each = All-permutation (IsNamedIn names) xs ys moved (each_named names xs are) in
+    let each = All-permutation (IsIndexIn names) xs ys moved (each_index names xs are) in
     let same : length ys ≡ length xs = length_permutation xs ys moved in
-    let long = length-map xs name_of in
-    let long_names = length-map ys name_of in
+    let long = length-map xs (name_of names) in
+    let long_names = length-map ys (name_of names) in
     let long_indexes = length-map ys index_of in
     let many = are.as_many in
     record {
@@ -302,11 +314,8 @@ numbered_permuted names xs ys moved are =
       all = omega arith;
       below = λ q lt.
           let within : q < length ys = omega arith in
-          subst (λ (i : ℕ). i < length names) (sym (get_or-map index_of ys q nothing 0 within)) (each q nothing within).0;
-      named = λ q lt.
-          let within : q < length ys = omega arith in
-          ap (λ (i : ℕ). get_or names i []) (get_or-map index_of ys q nothing 0 within)
-          ∙ (each q nothing within).1 ∙ sym (get_or-map name_of ys q nothing [] within);
+          subst (λ (i : ℕ). i < length names) (sym (get_or-map index_of ys q nothing 0 within)) (each q nothing within);
+      named = λ q lt. named_there names ys q (omega arith);
       each = λ i lt.
           let (q, within, is) = are.each i lt in
           let within_xs : q < length xs = omega arith in
@@ -330,22 +339,19 @@ numbered_total names =
     then_total (on_total end_of (back_total nat_cmp_total))
     (then_total (on_total (turned names) (back_total nat_list_cmp_total)) (on_total index_of nat_cmp_total))
 
-pub numbered_in_order : (names : List (List ℕ)) (sorted : List Numbered) → AreNumbered names (names_by_ends sorted) (indexes_in sorted) →
-    All HasEnd sorted → IsSortedBy (λ a b. is_lt (numbered_order names a b)) sorted →
-    AreInEndsOrder (names_by_ends sorted) (indexes_in sorted)
-numbered_in_order names sorted are ends up = λ q r le lt.
-    let within : r < length sorted = omega (arith, length-map sorted name_of) in
+pub numbered_in_order : (names : List (List ℕ)) (sorted : List Numbered) → All (HasEnd names) sorted →
+    IsSortedBy (λ a b. is_lt (numbered_order names a b)) sorted → AreInEndsOrder (names_by_ends names sorted) (indexes_in sorted)
+numbered_in_order names sorted ends up = λ q r le lt.
+    let within : r < length sorted = omega (arith, length-map sorted (name_of names)) in
     let q_within : q < length sorted = omega arith in
     let far = sorted_far (λ a b. is_lt (numbered_order names a b)) (ranks_by (numbered_total names) (λ it. it)) sorted up q r nothing le within in
     let later : Numbered = get_or sorted r nothing in
     let earlier : Numbered = get_or sorted q nothing in
-    let named = each_named names sorted are in
-    let by_names : numbered_order names later earlier ≡ ends_order later.name.now later.index earlier.name.now earlier.index =
-    end_decides names later earlier (ends r nothing within) (ends q nothing q_within) (named r nothing within).1 (named q nothing q_within).1 in
+    let by_names = end_decides names later earlier (ends r nothing within) (ends q nothing q_within) in
     rw (
-      get_or-map name_of sorted r nothing [] within,
+      get_or-map (name_of names) sorted r nothing [] within,
       get_or-map index_of sorted r nothing 0 within,
-      get_or-map name_of sorted q nothing [] q_within,
+      get_or-map (name_of names) sorted q nothing [] q_within,
       get_or-map index_of sorted q nothing 0 q_within,
     )
     (ap is_lt (sym by_names) ∙ far)

@@ -7,8 +7,9 @@ use Rattle.elf_field.specs.Bytes.{IsBytes}
 use Rattle.elf_object_strings.specs.StringTable.{IsFirstOfHeld, IsOwner, IsSuffix}
 use Rattle.elf_object_strings.specs.declared.sorting.Numbered.{Numbered}
 
-abbrev pub names_by_ends : List Numbered → List (List ℕ)
-names_by_ends sorted = map (λ it. it.name.now) sorted
+-- the names of a list at the indexes of the sorted ones
+abbrev pub names_by_ends : List (List ℕ) → List Numbered → List (List ℕ)
+names_by_ends names sorted = map (λ it. get_or names it.index []) sorted
 
 abbrev pub indexes_in : List Numbered → List ℕ
 indexes_in sorted = map (λ it. it.index) sorted
@@ -42,10 +43,10 @@ leading (suc n) (byte ∷ bytes) = byte * 256 ^ n + leading n bytes
 abbrev pub end_number : List ℕ → ℕ
 end_number name = leading 8 (reverse name)
 
--- a name of bytes, beside the number of its last eight
-pub record HasEnd (it : Numbered) : Type 0 where
-  pub bytes : IsBytes it.name.now
-  pub number : it.end ≡ end_number it.name.now
+-- the index of a name of bytes in a list, beside the number of its last eight
+pub record HasEnd (names : List (List ℕ)) (it : Numbered) : Type 0 where
+  pub bytes : IsBytes (get_or names it.index [])
+  pub number : it.end ≡ end_number (get_or names it.index [])
 
 -- the order by the numbers first, and then by the names of a list at the two indexes
 abbrev pub numbered_order : List (List ℕ) → Numbered → Numbered → Ordering

@@ -82,12 +82,12 @@ impl<'n, 'a> NameList<'n, 'a> {
         }
     }
 
-    /// Whether the other name, the one at `b`, ends with this one, the one at `a`.
-    pub(crate) fn is_tail(&self, name: &[u8], a: usize, other: &[u8], b: usize) -> bool
-        requires name { get_or self.now a [] ≡ name.now }
-        requires other { get_or self.now b [] ≡ other.now }
-        ensures { result ≡ is_suffix name.now other.now }
+    /// Whether the name at `b` ends with the one at `a`.
+    pub(crate) fn is_tail(&self, a: usize, b: usize) -> bool
+        ensures { result ≡ is_suffix (get_or self.now a []) (get_or self.now b []) }
     {
+        let name = self.name(a);
+        let other = self.name(b);
         if name.len() > SHORT && self.have_one_end(a, b) {
             name.len() <= other.len()
         } else {

@@ -1,7 +1,7 @@
 //! Names sorted by what they end with.
 ghost use Rattle.std.specs.Cmp.Lexicographic.{slice_cmp};
 ghost use Rattle.std.specs.Ordering.{nat_cmp};
-ghost use Rattle.std.specs.Prelude.{◌≡◌, ◌<◌, length, reverse, IfSome, [], get_or, IfOk, true};
+ghost use Rattle.std.specs.Prelude.{◌≡◌, ◌<◌, length, reverse, IfSome, [], get_or, IfOk, true, ℕ, List};
 ghost use Rattle.std.specs.List.{All};
 ghost use Rattle.elf_object_strings.specs.Sorting.{AreWithoutEqualEnds, AreInEndsOrder, AreNumbered, HasEnd, end_number, ends_order, indexes_in, names_by_ends, numbered_order};
 ghost use Rattle.elf_object_strings.specs.StringTable.{IsSuffix, is_suffix, texts};
@@ -47,53 +47,49 @@ fn without_equal_ends<'a, 'b>(a: &'a [u8], b: &'b [u8]) -> Option<(&'a [u8], &'b
     }
 }
 
-/// A name of a list, and its index there.
+/// The index of a name in a list.
 #[derive(Clone, Copy, Debug)]
-pub(crate) struct Numbered<'a> {
-    pub(crate) name: &'a [u8],
+pub(crate) struct Numbered {
     pub(crate) index: usize,
     // The last eight bytes as a number, the last of them the most significant; zeros represent those that a shorter name lacks.
     end: u64,
 }
 
-impl<'a> Numbered<'a> {
-    /// Whether the other name may end with this one: not if this one has eight bytes, and the last eight of the other are not these.
-    pub(crate) fn may_be_tail(&self, other: &Numbered<'_>) -> bool
-        requires ends { HasEnd self.now × HasEnd other.now }
-        ensures { IsSuffix self.now.name.now other.now.name.now → result ≡ true }
+impl Numbered {
+    /// Whether the other name may end with this one, by the numbers alone: they are equal, or this name has fewer than eight bytes, and its
+    /// number the last digit 0.
+    pub(crate) fn may_be_tail(&self, other: &Numbered) -> bool
+        ensures { (names : List (List ℕ)) → HasEnd names self.now → HasEnd names other.now →
+            IsSuffix (get_or names self.now.index []) (get_or names other.now.index []) → result ≡ true }
     {
-        self.name.len() < 8 || self.end == other.end
+        self.end == other.end || self.end % 256 == 0
     }
 }
 
 /// The names of a list, sorted by what they end with: read from their last bytes on, the greatest first; equal names by index.
 ///
 /// A name follows, with those between, each one that ends with it. Takes n log n comparisons of ends.
-pub(crate) fn sorted_names<'a>(
+pub(crate) fn sorted_names(
     alloc: Global,
-    list: &NameList<'_, 'a>,
-) -> Result<Vec<Numbered<'a>>, AllocError>
-    ensures numbered { IfOk result (λ sorted. AreNumbered list.now (names_by_ends sorted.items) (indexes_in sorted.items)) }
-    ensures order { IfOk result (λ sorted. AreInEndsOrder (names_by_ends sorted.items) (indexes_in sorted.items)) }
-    ensures ends { IfOk result (λ sorted. All HasEnd sorted.items) }
+    list: &NameList<'_, '_>,
+) -> Result<Vec<Numbered>, AllocError>
+    ensures numbered { IfOk result (λ sorted. AreNumbered list.now (names_by_ends list.now sorted.items) (indexes_in sorted.items)) }
+    ensures order { IfOk result (λ sorted. AreInEndsOrder (names_by_ends list.now sorted.items) (indexes_in sorted.items)) }
+    ensures ends { IfOk result (λ sorted. All (HasEnd list.now) sorted.items) }
 {
     let mut sorted = number_names(alloc, list.names())?;
     sorted.sort_unstable_by(|a, b| by_end(list, a, b));
     Ok(sorted)
 }
 
-fn number_names<'a>(alloc: Global, names: &[&'a [u8]]) -> Result<Vec<Numbered<'a>>, AllocError>
-    ensures numbered { IfOk result (λ numbered. AreNumbered (texts names.now) (names_by_ends numbered.items) (indexes_in numbered.items)) }
-    ensures ends { IfOk result (λ numbered. All HasEnd numbered.items) }
+fn number_names(alloc: Global, names: &[&[u8]]) -> Result<Vec<Numbered>, AllocError>
+    ensures numbered { let all = texts names.now in IfOk result (λ numbered. AreNumbered all (names_by_ends all numbered.items) (indexes_in numbered.items)) }
+    ensures ends { IfOk result (λ numbered. All (HasEnd (texts names.now)) numbered.items) }
 {
     let mut numbered = Vec::with_capacity(alloc, names.len())?;
     for index in 0..names.len() {
-        let name = names[index];
-        numbered.push(Numbered {
-            name,
-            index,
-            end: end_of(name),
-        })?;
+        let end = end_of(names[index]);
+        numbered.push(Numbered { index, end })?;
     }
     Ok(numbered)
 }
@@ -109,7 +105,7 @@ fn end_of(name: &[u8]) -> u64
     u64::from_le_bytes(end)
 }
 
-fn by_end(list: &NameList<'_, '_>, a: &Numbered<'_>, b: &Numbered<'_>) -> Ordering
+fn by_end(list: &NameList<'_, '_>, a: &Numbered, b: &Numbered) -> Ordering
     ensures { result ≡ numbered_order list.now a.now b.now }
 {
     // Where the numbers differ, they are in the order of the names, which need not be looked at.

@@ -29,11 +29,11 @@ pub(crate) fn owners_of(
 fn owners_in(
     alloc: Global,
     list: &NameList<'_, '_>,
-    sorted: &[Numbered<'_>],
+    sorted: &[Numbered],
 ) -> Result<Vec<usize>, AllocError>
-    requires numbered { AreNumbered list.now (names_by_ends sorted.now) (indexes_in sorted.now) }
-    requires order { AreInEndsOrder (names_by_ends sorted.now) (indexes_in sorted.now) }
-    requires ends { All HasEnd sorted.now }
+    requires numbered { AreNumbered list.now (names_by_ends list.now sorted.now) (indexes_in sorted.now) }
+    requires order { AreInEndsOrder (names_by_ends list.now sorted.now) (indexes_in sorted.now) }
+    requires ends { All (HasEnd list.now) sorted.now }
     ensures { IfOk result (λ owners. AreOwners list.now owners.items) }
 {
     let mut owners = Vec::new(alloc);
@@ -50,19 +50,19 @@ fn owners_in(
 /// Where the run of the names that end with this one begins, which ends at it; and its owner.
 fn run_of(
     list: &NameList<'_, '_>,
-    sorted: &[Numbered<'_>],
+    sorted: &[Numbered],
     starts: &[usize],
     owners: &[usize],
     position: usize,
 ) -> (usize, usize)
     requires within { position < length sorted.now }
-    requires numbered { AreNumbered list.now (names_by_ends sorted.now) (indexes_in sorted.now) }
-    requires order { AreInEndsOrder (names_by_ends sorted.now) (indexes_in sorted.now) }
-    requires ends { All HasEnd sorted.now }
-    requires runs { AreRuns (names_by_ends sorted.now) starts.now position }
+    requires numbered { AreNumbered list.now (names_by_ends list.now sorted.now) (indexes_in sorted.now) }
+    requires order { AreInEndsOrder (names_by_ends list.now sorted.now) (indexes_in sorted.now) }
+    requires ends { All (HasEnd list.now) sorted.now }
+    requires runs { AreRuns (names_by_ends list.now sorted.now) starts.now position }
     requires indexes { AreBelow (indexes_in sorted.now) (length owners.now) }
-    ensures run { IsRun (names_by_ends sorted.now) position result.0 }
-    ensures owner { GivesOwner (names_by_ends sorted.now) (indexes_in sorted.now) owners.now position result.1 }
+    ensures run { IsRun (names_by_ends list.now sorted.now) position result.0 }
+    ensures owner { GivesOwner (names_by_ends list.now sorted.now) (indexes_in sorted.now) owners.now position result.1 }
 {
     let mut start = position;
     let mut owner = sorted[position].index;
@@ -74,13 +74,12 @@ fn run_of(
 }
 
 /// Whether the other name ends with this one. Most names have other last bytes than the one before them: neither is looked at.
-fn is_tail(list: &NameList<'_, '_>, name: &Numbered<'_>, other: &Numbered<'_>) -> bool
-    requires name { get_or list.now name.now.index [] ≡ name.now.name.now }
-    requires other { get_or list.now other.now.index [] ≡ other.now.name.now }
-    requires ends { HasEnd name.now × HasEnd other.now }
-    ensures { result ≡ is_suffix name.now.name.now other.now.name.now }
+fn is_tail(list: &NameList<'_, '_>, name: &Numbered, other: &Numbered) -> bool
+    requires name { HasEnd list.now name.now }
+    requires other { HasEnd list.now other.now }
+    ensures { result ≡ is_suffix (get_or list.now name.now.index []) (get_or list.now other.now.index []) }
 {
-    name.may_be_tail(other) && list.is_tail(name.name, name.index, other.name, other.index)
+    name.may_be_tail(other) && list.is_tail(name.index, other.index)
 }
 
 fn least_owner(first: bool, owner: usize, met: usize) -> usize
@@ -102,7 +101,7 @@ pub struct Shared {
 /// proper suffix of another one, with the zero that ends it, in the order in which the names first occur.
 ///
 /// Each name is at its offset with a zero after it. Of names without a zero byte the offset is the lowest at which this is so, that of the
-/// empty name is 0, and no table that holds them all is shorter. Takes n log n comparisons of names, from their ends on, and at most six
+/// empty name is 0, and no table that holds them all is shorter. Takes n log n comparisons of names, from their ends on, and at most four
 /// numbers of memory a name besides the table. Returns [`OutOfMemory`] only if an allocation failed.
 pub fn shared_table(alloc: Global, names: &[&[u8]]) -> Result<Shared, OutOfMemory>
     ensures bytes { IfOk result (λ shared. shared.bytes.items ≡ string_table (texts names.now)) }

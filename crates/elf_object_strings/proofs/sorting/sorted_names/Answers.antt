@@ -11,11 +11,11 @@ returns-clause-numbered c =
     numbered_permuted _ _ _ c.sort_unstable_by.ensures.permutation (rw c.names.ensures at c.in_ok-sorted.ensures.numbered)
 
 pub returns-clause-ends : goal.returns-clause-ends
-returns-clause-ends c = All-permutation HasEnd _ _ c.sort_unstable_by.ensures.permutation c.in_ok-sorted.ensures.ends
+returns-clause-ends c = All-permutation (HasEnd c.args.list.now) _ _ c.sort_unstable_by.ensures.permutation (rw c.names.ensures at c.in_ok-sorted.ensures.ends)
 
 pub returns-clause-order : goal.returns-clause-order
 returns-clause-order c =
     let list = c.args.list.now in
-    numbered_in_order list _ (returns-clause-numbered c) (returns-clause-ends c)
+    numbered_in_order list _ (returns-clause-ends c)
     (c.sort_unstable_by.ensures.sorted (λ a b. is_lt (numbered_order list a b)) (ranks_by (numbered_total list) (λ it. it))
     (always_returns_same _ _ _ (λ a r q k. search rules)))
