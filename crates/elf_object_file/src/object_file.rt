@@ -23,9 +23,9 @@ use std::io::Write;
 /// [`ObjectWriteFault::Io`], and so is a write that takes 0 bytes of a rest that is not empty. Nothing is tried again and nothing is
 /// flushed.
 ///
-/// Memory is taken for the string tables and the places of the parts alone. Contents are passed on as they are in the object, and the
-/// entries of tables are made as they are written. It takes the time of [`lay_out`](elf_object_writer::lay_out), and is linear in the bytes
-/// written.
+/// Memory is taken for the string tables and the places of the parts, and 16 KiB, if there are so many, for short contents, which go out
+/// together. Longer ones are passed on as they are in the object, and the entries of tables are made as they are written. It takes the time
+/// of [`lay_out`](elf_object_writer::lay_out), and is linear in the bytes written.
 pub fn write_object<W: Write>(
     alloc: Global,
     object: &Object<'_>,

@@ -133,7 +133,7 @@ one_cut a b c whole at written x q p ps going failed =
 
 -- ---- part k of a list
 
-moved : (a b : Option (List ℕ)) (whole : List ℕ) (at : ℕ) (q : List ℕ) (ps : List (List ℕ)) (k : ℕ) → k < length q → k < length ps → IsGoing a b whole at (drop k q) (drop k ps) →
+pub moved : (a b : Option (List ℕ)) (whole : List ℕ) (at : ℕ) (q : List ℕ) (ps : List (List ℕ)) (k : ℕ) → k < length q → k < length ps → IsGoing a b whole at (drop k q) (drop k ps) →
     IsGoing a b whole at (get_or q k 0 ∷ drop (k + 1) q) (get_or ps k [] ∷ drop (k + 1) ps)
 moved a b whole at q ps k in_q in_ps going =
     subst (λ (r : List ℕ). IsGoing a b whole at r (get_or ps k [] ∷ drop (k + 1) ps)) (drop_more q k 0 in_q)
@@ -174,13 +174,13 @@ order_read o = which o.order
 abbrev pub laid_parts : ObjectValue → List ℕ → List (List ℕ)
 laid_parts o places = contents_of o ++ (header_table o places ∷ [])
 
-length-parts : (o : ObjectValue) (places : List ℕ) → length (laid_parts o places) ≡ length (plain_sections o) + 1
+pub length-parts : (o : ObjectValue) (places : List ℕ) → length (laid_parts o places) ≡ length (plain_sections o) + 1
 length-parts o places =
     let both = length-append (contents_of o) (header_table o places ∷ []) in
     let same = length-map (plain_sections o) (λ (s : PlainSection). s.content) in
     omega arith
 
-content_at : (o : ObjectValue) (places : List ℕ) (k : ℕ) (d : PlainSection) → k < length (plain_sections o) → get_or (laid_parts o places) k [] ≡ (get_or (plain_sections o) k d).content
+pub content_at : (o : ObjectValue) (places : List ℕ) (k : ℕ) (d : PlainSection) → k < length (plain_sections o) → get_or (laid_parts o places) k [] ≡ (get_or (plain_sections o) k d).content
 content_at o places k d lt =
     let same = length-map (plain_sections o) (λ (s : PlainSection). s.content) in
     get_or_append_left (contents_of o) (header_table o places ∷ []) [] k (omega arith) ∙ get_or-map (λ (s : PlainSection). s.content) (plain_sections o) k d [] lt

@@ -2,5 +2,6 @@
 pub mod CanonicalLayout
 pub mod PlainSections
 pub mod Going
+mod Waiting
 pub mod HeaderTables
 pub mod Public

@@ -8,6 +8,7 @@
 #![tactic(auto)]
 
 mod contents;
+mod gathering;
 mod headers;
 mod layout;
 mod name_tables;

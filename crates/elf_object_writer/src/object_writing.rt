@@ -6,6 +6,7 @@ ghost use Rattle.elf_object_writer.specs.Laid.{file_header, layout_bytes, PlainS
 ghost use Rattle.elf_object_writer.specs.PlacedObject.{WritesBehind, header_table, plain_section, IsLayoutWritten};
 ghost use Rattle.elf_image_rules.specs.Rules.{MAX_LEN};
 
+use crate::gathering::{none_waiting, pass_part, write_waiting};
 use crate::headers::{SectionHeaders, file_header};
 use crate::layout::LayoutFault;
 use crate::name_tables::ObjectWithEnds;
@@ -22,6 +23,7 @@ use thiserror::Error;
 
 /// Writes the bytes of the layout, or exactly the first `written` of them, fewer than all, and a fault.
 pub(crate) fn write_placed<W: Write>(
+    alloc: Global,
     placed: &PlacedObject<'_, '_>,
     writer: &mut W,
 ) -> Result<(), WriteFault>
@@ -34,11 +36,16 @@ pub(crate) fn write_placed<W: Write>(
         Err(fault) => return Err(fault),
     }
     let mut out = EHDR_SIZE;
+    let mut waiting = none_waiting(alloc);
     for position in 0..placed.section_count() {
-        match write_part(placed, position, out, writer) {
+        match pass_part(placed, position, out, &mut waiting, writer) {
             Ok(end) => out = end,
             Err(fault) => return Err(fault),
         }
+    }
+    match write_waiting(out, &mut waiting, writer) {
+        Ok(()) => {}
+        Err(fault) => return Err(fault),
     }
     match write_table(placed, out, writer) {
         Ok(_) => Ok(()),
@@ -55,7 +62,7 @@ fn write_header<W: Write>(placed: &PlacedObject<'_, '_>, writer: &mut W) -> Resu
 }
 
 /// The content of the section of this position, at its place, where so many bytes are written before it. The answer is where it ends.
-fn write_part<W: Write>(
+pub(crate) fn write_part<W: Write>(
     placed: &PlacedObject<'_, '_>,
     position: usize,
     out: u64,
@@ -192,8 +199,8 @@ pub enum ObjectWriteFault {
 /// [`ObjectWriteFault::Io`], and so is a write that takes 0 bytes of a rest that is not empty. Nothing is tried again and nothing is
 /// flushed.
 ///
-/// Memory is taken for the string tables and the places of the parts alone. Contents are passed on as they are in the object, and the
-/// entries of tables are made as they are written. It takes the time of [`lay_out`](crate::lay_out), and is linear in the bytes written.
+/// Memory is taken for the string tables and the places of the parts, and 16 KiB, if there are so many, for short contents, which go out
+/// together. Longer ones are passed on as they are in the object, and the entries of tables are made as they are written. It takes the time of [`lay_out`](crate::lay_out), and is linear in the bytes written.
 pub fn write_layout<W: Write>(
     alloc: Global,
     source: &ObjectWithEnds<'_, '_>,
@@ -206,7 +213,7 @@ pub fn write_layout<W: Write>(
         Err(LayoutFault::TooLong) => return Err(ObjectWriteFault::TooLong),
         Err(LayoutFault::OutOfMemory) => return Err(ObjectWriteFault::OutOfMemory),
     };
-    match write_placed(&placed, writer) {
+    match write_placed(alloc, &placed, writer) {
         Ok(()) => Ok(()),
         Err(fault) => Err(ObjectWriteFault::Io {
             written: fault.written,
