@@ -1,6 +1,6 @@
 """The tests of `tools/test`: each by its name, with the commands and the built crates that it needs; alone or side by side."""
 
-import argparse, contextlib, os, re, sys, tempfile, threading, time, traceback
+import argparse, contextlib, os, re, shutil, sys, tempfile, threading, time, traceback
 from collections.abc import Callable, Iterable, Iterator
 from concurrent.futures import ThreadPoolExecutor, as_completed
 from dataclasses import dataclass
@@ -226,6 +226,15 @@ def main(tests: list[Test], words: list[str]) -> int:
     if options.name in by_name:
         return run_one(by_name[options.name], options)
     return run_several(families(tests).get(options.name, tests), options.jobs)
+
+
+def tried_in_folder(name: str, wrong_in: Callable[[str], str]) -> str:
+    """What a function finds wrong, which has a folder of its own: if something is, that folder is kept in the current one by this name."""
+    with tempfile.TemporaryDirectory(prefix=f"{name}.") as folder:
+        wrong = wrong_in(folder)
+        if wrong:
+            shutil.copytree(folder, name, dirs_exist_ok=True)
+        return f"{name}: {wrong}" if wrong else ""
 
 
 def environment(**more: str) -> dict[str, str]:
