@@ -9,18 +9,19 @@ rewrite, map and link, with the three functions of memory under the names that i
 
 They are compiled by cc, and by clang with its checks of addresses and of undefined behavior, and the header by c++ too."""
 
-import os, re, tempfile
+import os, re
 from argparse import Namespace
 from collections.abc import Iterable, Iterator
+from dataclasses import replace
 
 from .building import built
-from .cases import Case, all_cases, case_files, put_needs
+from .cases import Case, case_files, every_case
 from .library import BOTH, ENGINES, FUNCTIONS, PACKERS, RENAMED, VERDICTS, calls, packed, structs
 from .packages import SANITIZERS
 from .reference import shown
 from .suite import Tally, Test, number
 from .dump import c_lines
-from .tree import PROCESSORS, TOP, by_cc, libraries, read_bytes, read_text, run, said, side_by_side, texts_of, wanted, write
+from .tree import PROCESSORS, TOP, by_cc, libraries, read_bytes, read_text, said, side_by_side, texts_of, wanted, write
 
 C = f"{TOP}/bindings/c"
 WARNINGS = ["-std=c99", "-pedantic", "-Wall", "-Wextra", "-Werror", f"-I{TOP}/include"]
@@ -110,76 +111,64 @@ def compare_files(tally: Tally, program: str, files: dict[str, list[str]]) -> No
 DONE, REFUSED, NOT_LINKED, TOO_LONG, BAD_RULES = 0, 1, 2, 3, 6
 COMMANDS = ("show", "rewrite", "map", "link")
 ON_BYTES = {"bcmp", "memchr", "memcmp", "memcpy", "memmove", "memset", "strlen"}
-# The status, the numbers and the text of an answer in C.
-Answer = tuple[int, tuple[int, int, int, int], bytes]
 
 
-def numbers_of(line: str) -> tuple[int, tuple[int, int, int, int]]:
-    """The numbers of a line on what is refused, as the outcome has them: the offset or entry, the file, the index, and the rule."""
-    one = re.fullmatch(r"(?:file (\d+) )?refused (\d+) (\d+)", line)
-    if one:
-        return REFUSED, (int(one[3]), int(one[1] or 0), 0, int(one[2]))
-    rule, file, index, entry = map(int, line.removeprefix("refused ").split())
-    return NOT_LINKED, (entry, file, index, rule)
+def answer(status: int, text: bytes = b"", offset: int = 0, file: int = 0, index: int = 0, rule: int = 0) -> bytes:
+    """What the test prints of an answer in C: its status, the length of its text, the numbers of its outcome, and the text."""
+    return f"{status} {len(text)} {offset} {file} {index} {rule}\n".encode() + text
 
 
-def answer_of(case: Case) -> Answer | None:
+def answer_of(case: Case) -> bytes | None:
     """The case's answer in C; None where the words or the files are wrong, not the rules."""
     if case.status == 0:
-        return DONE, (0, 0, 0, 0), case.out
-    if case.status == 2:
-        bad = re.fullmatch(r"bad rule line (\d+)", case.err.decode().rstrip("\n"))
-        return (BAD_RULES, (int(bad[1]), 0, 0, 0), b"") if bad else None
-    if case.status == 1:
-        line = (case.out if case.words[0] in ("show", "map") else case.err).decode().rstrip("\n")
-        return (TOO_LONG, (0, 0, 0, 0), b"") if line == "too long" else (*numbers_of(line), case.out)
-    return None
+        return answer(DONE, case.out)
+    line = (case.out if case.status == 1 and case.words[0] in ("show", "map") else case.err).decode().rstrip("\n")
+    if case.status > 1:
+        bad = re.fullmatch(r"bad rule line (\d+)", line)
+        return answer(BAD_RULES, offset=int(bad[1])) if bad else None
+    if line == "too long":
+        return answer(TOO_LONG)
+    if one := re.fullmatch(r"(?:file (\d+) )?refused (\d+) (\d+)", line):
+        return answer(REFUSED, case.out, int(one[3]), int(one[1] or 0), 0, int(one[2]))
+    rule, number, index, entry = map(int, line.removeprefix("refused ").split())
+    return answer(NOT_LINKED, case.out, entry, number, index, rule)
 
 
-def call_of(case: Case, room: str) -> list[str] | None:
-    """The words of the test for a case whose files are written into a folder; None where it needs a file that is none."""
-    given = dict(it.partition("=")[::2] for it in case.needs)
-    options, files, rest = dict[str, str](), list[str](), iter(case.words[1:])
+def call_of(case: Case) -> list[str] | None:
+    """The words of the test for a case; None where it needs a file that is none."""
+    given, (command, *words) = dict(it.partition("=")[::2] for it in case.needs), case.words
+    options, files, rest = dict[str, str](), list[str](), iter(words)
     for it in rest:
         if it.startswith("--"):
             options[it] = next(rest)
         else:
             files.append(it)
-    used = [*files, *([options["--rules"]] if "--rules" in options else [])]
-    if "--seek" in case.words or not all(given.get(it) for it in used):
+    rules = options.get("--rules")
+    if "--seek" in words or not all(given.get(it) for it in ([*files, rules] if rules else files)):
         return None
-    paths = [f"{room}/{it}" for it in files]
-    if case.words[0] in ("show", "rewrite"):
-        return [case.words[0], *paths]
-    entry = [options["--entry"]] if case.words[0] == "link" else []
-    rules = f"{room}/{options['--rules']}" if "--rules" in options else "-"
-    return [case.words[0], options["--base"], options["--page"], *entry, rules, *paths]
+    if command in ("show", "rewrite"):
+        return [command, *files]
+    entry = [options["--entry"]] if command == "link" else []
+    return [command, options["--base"], options["--page"], *entry, rules or "-", *files]
 
 
-def try_call(tally: Tally, program: str, call: list[str], right: Answer, what: str) -> None:
-    ran = run(program, *call)
-    line, _, text = ran.stdout.partition(b"\n")
-    status, numbers, right_text = right
-    head = " ".join(map(str, [status, len(right_text), *numbers])).encode()
-    said = f"{ran.returncode} {line!r} {text[:200]!r}, and not {head!r} {right_text[:200]!r} {ran.stderr.decode(errors='replace')[:2000]}"
-    tally.check((ran.returncode, line, text) == (0, head, right_text), f"{what}: {said}")
+def try_call(tally: Tally, program: str, call: Case, right: bytes) -> None:
+    status, out, err = call.found(program)
+    why = f"{status} {out[:200]!r}, and not {right[:200]!r} {err.decode(errors='replace')[:2000]}"
+    tally.check((status, out) == (0, right), f"{call}: {why}")
 
 
 def try_engines(tally: Tally, program: str) -> None:
     """What the engines answer of the cases, and of files of the machine."""
     tried = dict.fromkeys(COMMANDS, 0)
-    for cases in all_cases().values():
-        for case in (it for it in cases.cases if it.words[:1] and it.words[0] in COMMANDS):
-            right = answer_of(case)
-            with tempfile.TemporaryDirectory(prefix="c-engines-") as room:
-                call = call_of(case, room) if right else None
-                if call and right:
-                    put_needs(room, case.needs, cases.files)
-                    try_call(tally, program, call, right, f"elfmap {' '.join(case.words)} with {' '.join(case.needs)}")
-                    tried[case.words[0]] += 1
+    for case in (it for it in every_case() if it.words[:1] and it.words[0] in COMMANDS):
+        right, call = answer_of(case), call_of(case) if answer_of(case) else None
+        if right and call:
+            try_call(tally, program, replace(case, words=call), right)
+            tried[case.words[0]] += 1
     tally.check(all(tried.values()), f"of the cases were tried {tried}")
     for path in filter(os.path.isfile, MACHINE_FILES):
-        try_call(tally, program, ["show", path], (DONE, (0, 0, 0, 0), shown(read_bytes(path)).encode()), f"elfmap show {path}")
+        try_call(tally, program, Case(["show", path], []), answer(DONE, shown(read_bytes(path)).encode()))
 
 
 TOOLS = f"cc c++ clang nm objcopy {SANITIZERS}"

@@ -4,12 +4,13 @@ times as many bytes as its files have, all growths together; `check --seek` for 
 have. Each call has a stack of STACK bytes. The large files have up to 4 MB, but for sparse ones of up to 2^30 bytes, whose tables are far from the header: there `check` and
 `check --seek` have to find them. `failing.c` counts what is asked for. The answers of large objects are the reference implementation's."""
 
-import os, random, resource, struct, sys, tempfile
+import os, random, resource, struct, sys
 from argparse import Namespace
 from collections.abc import Callable, Iterator
-from dataclasses import dataclass, field
+from dataclasses import dataclass
+from itertools import chain
 
-from .cases import all_cases, put_needs
+from .cases import Answer, Case, every_case
 from .failing_calls import failing_library
 from .making import hash_content, note_content
 
@@ -27,34 +28,34 @@ MOST_SECONDS = 1.0
 LEAST_MEMORY, MOST_MEMORY, SEEKING_MEMORY = 1 << 20, 128, 2
 STACK = 1 << 20
 LITTLE, GLOBAL, WEAK, IN_GROUP = "little", 0x10, 0x20, 0x206
-# The status, and both outputs.
-Answer = tuple[int, bytes, bytes]
+RULES = b"2 pc 4 signed\n"
 
 
 @dataclass
-class Row:
-    """A call with these words, in a folder with these files, and its answer, or a check of its output."""
+class Row(Case):
+    """A case, of which some answer with a status of 0 and an output of which this holds."""
 
-    words: list[str]
-    right: Answer | Callable[[bytes], bool]
-    files: dict[str, bytearray] = field(default_factory=dict)
-    needs: list[str] = field(default_factory=list)
+    holds: Callable[[bytes], bool] | None = None
 
 
 def row(command: str, *files: bytes, out: bytes | Callable[[bytes], bool] | None = None) -> Row:
     """A row of files f0, f1 and so on, with the answer of the reference implementation, if none is given."""
-    names = {f"f{k}": bytearray(it) for k, it in enumerate(files)}
-    right = (0, out, b"") if isinstance(out, bytes) else out or reference_answer(command.split(), files)
-    needs = [f"{it}={it}" for it in names]
-    return Row([*command.split(), *names], right, {**names, "r": bytearray(b"2 pc 4 signed\n")}, [*needs, "r=r"])
+    names = [f"f{k}" for k in range(len(files))]
+    contents = {**dict(zip(names, map(bytearray, files))), "r": bytearray(RULES)}
+    found = Row([*command.split(), *names], [f"{it}={it}" for it in contents], files=contents)
+    if callable(out):
+        found.holds = out
+    else:
+        answer = reference_answer(command.split(), files) if out is None else (0, out, b"")
+        found.status, found.out, found.err = answer
+    return found
 
 
 def reference_answer(words: list[str], files: tuple[bytes, ...]) -> Answer:
     """What the reference answers of files that nothing refuses."""
     if words[0] == "map":
         numbers = dict(zip(words[1::2], words[2::2]))
-        rules = b"2 pc 4 signed\n" if "--rules" in numbers else None
-        lines = mapped(files, int(numbers["--base"], 0), int(numbers["--page"], 0), rules)
+        lines = mapped(files, numbers["--base"], numbers["--page"], RULES if "--rules" in numbers else None)
         return int(lines.startswith("refused ")), lines.encode("latin1"), b""
     if words[0] == "rewrite":
         refusal, written = rewritten(files[0]) or ("", b"")
@@ -102,9 +103,8 @@ def many_rows() -> Iterator[Row]:
 def large_rows() -> Iterator[Row]:
     """Files of up to 4 MB whose tables cost the most; the reference is too slow for them."""
     # An alignment for which the file would be too long.
-    yield Row(
-        ["rewrite", "f"], (1, b"", b"too long\n"), {"f": bytearray(edited(object_file([text(b"")]), ("sh_addralign", 1, 2**63)))}, ["f=f"]
-    )
+    too_long = edited(object_file([text(b"")]), ("sh_addralign", 1, 2**63))
+    yield Row(["rewrite", "f"], ["f=f"], 1, b"", b"too long\n", files={"f": bytearray(too_long)})
     # Groups of one signature, each of one section.
     count = 32760
     sections = [group([count + k]) for k in range(count)] + [text(b"", IN_GROUP, b"f")] * count
@@ -139,8 +139,10 @@ def counting(library: str, report: str) -> dict[str, str]:
 
 
 def asked(report: str) -> int:
-    """How many bytes a call asked for."""
-    return int(dict(line.split() for line in read_text(report).splitlines())["asked"])
+    """How many bytes the call asked for that has this report, which is removed."""
+    found = int(dict(line.split() for line in read_text(report).splitlines())["asked"])
+    os.remove(report)
+    return found
 
 
 def seconds_of_children() -> float:
@@ -149,40 +151,32 @@ def seconds_of_children() -> float:
     return used.ru_utime + used.ru_stime
 
 
-def run_row(row: Row, library: str) -> tuple[Answer, float, int]:
+def run_case(case: Case, library: str, report: str) -> tuple[Answer, float, int]:
     """The answer, the seconds of the processor, and the bytes that were asked for."""
-    with tempfile.TemporaryDirectory(prefix="hostile-") as folder, tempfile.TemporaryDirectory() as beside:
-        put_needs(folder, row.needs, row.files)
-        before = seconds_of_children()
-        ended = run("prlimit", f"--stack={STACK}", PROGRAM, *row.words, folder=folder, env=counting(library, f"{beside}/report"))
-        return (ended.returncode, ended.stdout, ended.stderr), seconds_of_children() - before, asked(f"{beside}/report")
+    before = seconds_of_children()
+    answer = case.found("prlimit", f"--stack={STACK}", PROGRAM, env=counting(library, report))
+    return answer, seconds_of_children() - before, asked(report)
 
 
-def wrong_with(row: Row, library: str) -> str:
-    answer, seconds, memory = run_row(row, library)
+def wrong_with(case: Case, library: str, report: str) -> str:
+    answer, seconds, memory = run_case(case, library, report)
     if seconds > MOST_SECONDS:
         # A machine with much to do beside it may take longer once.
-        seconds = run_row(row, library)[1]
+        seconds = run_case(case, library, report)[1]
     if seconds > MOST_SECONDS:
         return f"it takes {seconds:.2f} s"
     # A file may be named by several words.
-    places = {place: name for place, _, name in (it.partition("=") for it in row.needs) if name}
-    lengths = sum(len(row.files[places[it]]) for it in row.words if it in places)
-    most = LEAST_MEMORY + (SEEKING_MEMORY if "--seek" in row.words else MOST_MEMORY) * lengths
+    places = {place: name for place, _, name in (it.partition("=") for it in case.needs) if name}
+    lengths = sum(len(case.files[places[it]]) for it in case.words if it in places)
+    most = LEAST_MEMORY + (SEEKING_MEMORY if "--seek" in case.words else MOST_MEMORY) * lengths
     if memory > most:
         return f"it asks for {memory} bytes, and not for {most} at most"
     status, out, err = answer
-    if callable(row.right):
-        return "" if (status, err) == (0, b"") and row.right(out) else f"status {status}, {out[-80:]!r}"
-    right_status, right, right_err = row.right
-    if (status, out) == (right_status, right) and (err == right_err or status > 1 and not right_err):
+    if isinstance(case, Row) and case.holds:
+        return "" if (status, err) == (0, b"") and case.holds(out) else f"status {status}, {out[-80:]!r}"
+    if (status, out) == (case.status, case.out) and (err == case.err or status > 1 and not case.err):
         return ""
-    return f"{(status, out[:80], err[:80])}, and not {(right_status, right[:80], right_err[:80])}"
-
-
-def case_rows() -> Iterator[Row]:
-    for cases in all_cases().values():
-        yield from (Row(it.words, (it.status, it.out, it.err), cases.files, it.needs) for it in cases.cases if it.needs)
+    return f"{(status, out[:80], err[:80])}, and not {(case.status, case.out[:80], case.err[:80])}"
 
 
 # ---- tables far from the header
@@ -209,7 +203,6 @@ def far_tables(tally: Tally, folder: str, library: str) -> None:
         for command in (["check"], ["check", "--seek"]):
             output = run(PROGRAM, *command, f"{folder}/f", env=counting(library, f"{folder}/report")).stdout
             memory, most = asked(f"{folder}/report"), LEAST_MEMORY + (0 if "--seek" in command else MOST_MEMORY * at)
-            os.remove(f"{folder}/report")
             what = f"{' '.join(command)} of a table at {at}, {order}"
             tally.check(output == right and memory <= most, f"{what}: {output!r}, and not {right!r}; {memory} bytes, and not {most}")
 
@@ -221,7 +214,8 @@ ABOUT = "tables made to do harm, and large files: answers, time, memory, and a s
 @Test("hostile-files", ABOUT, commands="cc prlimit", crates="elfmap", alone=True, family="fuzz")
 def hostile_files(tally: Tally, options: Namespace) -> None:
     library = failing_library(tally.folder)
-    for number, it in enumerate(it for rows in (case_rows, many_rows, large_rows) for it in rows()):
-        why = wrong_with(it, library)
-        tally.check(not why, f"row {number}, {' '.join(it.words)} with {' '.join(it.needs)}: {why}")
+    of_cases = (it for it in every_case() if it.needs)
+    for number, it in enumerate(chain(of_cases, many_rows(), large_rows())):
+        why = wrong_with(it, library, f"{tally.folder}/report")
+        tally.check(not why, f"row {number}, {it}: {why}")
     far_tables(tally, tally.folder, library)

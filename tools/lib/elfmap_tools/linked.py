@@ -265,7 +265,7 @@ def difference(shop: Workshop, objects: list[str], entry: str, base: str, page: 
     if by_ld != by_elfmap or not by_ld[1]:
         return f"by ld it is {by_ld}, by elfmap {by_elfmap}"
     contents = [shop.content(it) for it in objects]
-    if linked(contents, int(base, 0), int(page, 0), read_bytes(RULES), entry.encode()) != ("", shop.content("by-elfmap")):
+    if linked(contents, base, page, read_bytes(RULES), entry.encode()) != ("", shop.content("by-elfmap")):
         return "the reference implementation links it otherwise"
     ends = ((words[0], shop.run(*words, "by-elfmap")) for words in ([PROGRAM, "check"], ["readelf", "-lW"], ["eu-elflint", "--quiet"]))
     return next((f"{os.path.basename(name)} {ending(it)}" for name, it in ends if it.returncode or it.stderr), "")

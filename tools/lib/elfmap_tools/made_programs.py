@@ -12,7 +12,7 @@ from dataclasses import dataclass
 from .making import Chance
 from .reference import linked
 from .suite import Tally, Test, number, tried_in_folder
-from .tree import PROGRAM, RULES, read_bytes, run, side_by_side, wanted, write
+from .tree import PROGRAM, RULES, ending, read_bytes, run, side_by_side, wanted, write
 
 ASSEMBLER = "x86_64-linux-gnu-as"
 RUNS = platform.machine() == "x86_64"
@@ -155,10 +155,10 @@ def wrong_in(seed: int, k: int, folder: str) -> str:
     chance = random.Random(f"{seed} {k}")
     made, (base, page) = Program(chance), chance.choice(PLACES)
     objects = [assembled(f"{folder}/{k}", lines) for k, lines in enumerate(made.files)]
-    refusal, right = linked([read_bytes(it) for it in objects], int(base, 0), int(page, 0), read_bytes(RULES), b"main")
+    refusal, right = linked([read_bytes(it) for it in objects], base, page, read_bytes(RULES), b"main")
     ended = run(PROGRAM, "link", "--base", base, "--page", page, "--entry", "main", "--rules", RULES, *objects)
     if refusal or ended.returncode:
-        return f"refused: {refusal or ended.stderr.decode(errors='replace')}"
+        return f"refused: {refusal}, link {ending(ended)}"
     if ended.stdout != right:
         return "the reference implementation links it otherwise"
     program = write(f"{folder}/program", ended.stdout)

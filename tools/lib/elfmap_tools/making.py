@@ -2,7 +2,7 @@
 of it goes by a source of chance, so that the same seed makes the same files."""
 
 import random
-from collections.abc import Callable, Iterator
+from collections.abc import Callable, Iterable, Iterator
 from typing import Any
 
 from .reference import (
@@ -301,9 +301,9 @@ def changed_field(chance: Chance, file: bytes, of_rule: int) -> bytes | None:
 
 
 def one_thing_wrong(
-    chance: Chance, rules: list[int], made: Callable[[Chance], bytes], broken_by: Callable[[bytes], set[int]]
-) -> Iterator[tuple[int, bytes, bytes]]:
-    """For each of these rules it, a sound file and what one change made of it, by which it breaks the rule."""
+    chance: Chance, rules: Iterable[int], made: Callable[[Chance], bytes], broken_by: Callable[[bytes], set[int]]
+) -> Iterator[tuple[bytes, bytes]]:
+    """For each of these rules a sound file, and what one change made of it, by which it breaks the rule."""
     left = list(rules)
     while left:
         sound = made(chance)
@@ -312,4 +312,4 @@ def one_thing_wrong(
             found = next((it for it in changed if it is not None and rule in broken_by(it)), None)
             if found is not None:
                 left.remove(rule)
-                yield rule, sound, found
+                yield sound, found

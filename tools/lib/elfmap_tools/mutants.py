@@ -10,14 +10,13 @@ what `link` wrote. The same seed makes the same files. What went wrong is put in
 
 import os, random, re, shutil, subprocess
 from argparse import Namespace
-from collections.abc import Iterator
-from dataclasses import dataclass
+from collections.abc import Iterable
 from functools import partial
 
 from .making import Chance, a_file, fuzzed
 from .reference import RELA, check, linked, mapped, rewritten, shown, verdict
-from .suite import Tally, Test, number
-from .tree import PROGRAM, RULES, TOP, Ended, read_bytes, run as run_command, side_by_side, write
+from .suite import Tally, Test, number, tried_in_folder
+from .tree import PROGRAM, RULES, TOP, ending, read_bytes, run as run_command, side_by_side, write
 
 run = partial(run_command, timeout=10)
 LONGEST = 1 << 19
@@ -26,7 +25,7 @@ BIG = "--target=powerpc64-unknown-linux-gnu"
 BUILDS = (
     "gcc -c -g defining.c -o part.o",
     "gcc -c -ffunction-sections templates.cc -o templates.o",
-    "gcc -shared -nostdlib -fPIC defining.c -o part.so -Wl,--hash-style=sysv",
+    "gcc -shared -nostdlib -fPIC defining.c -Wl,--hash-style=sysv -o part.so",
     "gcc -nostdlib -static defining.c -o part",
     f"clang -c {BIG} defining.c -o part-big.o",
     f"clang -c {BIG} templates.cc -o templates-big.o",
@@ -39,30 +38,11 @@ PAIR = tuple(f"gcc -c -O1 -fno-pic -fno-pie -fcommon {it}.c -o linked-{it}.o" fo
 SYSTEM = ("/usr/lib/x86_64-linux-gnu/crt1.o", "/usr/lib/x86_64-linux-gnu/libutil.so.1", "/usr/bin/true")
 
 
-@dataclass
-class Plan:
-    """What is changed: files, and two objects that are linked; and the folder in which that is done."""
-
-    folder: str
-    seed: int
-    files: list[str]
-    pair: list[str]
-
-
-def built(folder: str, builds: tuple[str, ...]) -> Iterator[str]:
+def built(folder: str, builds: Iterable[str]) -> list[str]:
     """What the machine's compilers make of the sources."""
-    for words in (it.split() for it in builds):
-        run_command(*words, folder=folder)
-        path = f"{folder}/{words[words.index('-o') + 1]}"
-        if os.path.exists(path):
-            yield path
-
-
-def plan_of(folder: str, seed: int) -> Plan:
-    for it in SOURCES:
-        shutil.copy(f"{TOP}/cases/sources/{it}", folder)
-    system = [it for it in SYSTEM if os.path.exists(it) and os.path.getsize(it) <= LONGEST]
-    return Plan(folder, seed, [*built(folder, BUILDS), *system], list(built(folder, PAIR)))
+    for it in builds:
+        run_command(*it.split(), folder=folder)
+    return [path for path in (f"{folder}/{it.split()[-1]}" for it in builds) if os.path.exists(path)]
 
 
 def fuzzed_rules(rules: bytes, chance: Chance) -> bytes:
@@ -86,30 +66,27 @@ def fuzzed_rules(rules: bytes, chance: Chance) -> bytes:
 # ---- what becomes of one
 
 
-def tried(plan: Plan, number: int) -> str:
-    """What is wrong with the answers on a fuzzed file."""
-    chance = random.Random(f"{plan.seed} {number}")
-    names = plan.pair if number % 2 and len(plan.pair) == 2 else [plan.files[number // 2 % len(plan.files)]]
-    folder = f"{plan.folder}/{number}"
-    os.mkdir(folder)
-    if len(names) == 1 and number // 2 % 4 == 3:
-        names = [write(f"{folder}/made", a_file(chance))]
-    changed = chance.randrange(len(names))
-    types = (RELA,) if len(names) == 2 and chance.randrange(2) else ()
-    paths = []
-    for place, name in enumerate(names):
-        file = read_bytes(name)
+def wrong_in(files: list[str], pair: list[str], seed: int, number: int, folder: str) -> str:
+    """What is wrong with the answers on fuzzed file NUMBER, which is written into a folder."""
+    chance = random.Random(f"{seed} {number}")
+    if number % 2 and len(pair) == 2:
+        names, types = pair, (RELA,) if chance.randrange(2) else ()
+    else:
+        names, types = [files[number // 2 % len(files)]], ()
+        if number // 2 % 4 == 3:
+            names = [write(f"{folder}/made", a_file(chance))]
+    changed, paths = chance.randrange(len(names)), list[str]()
+    for place, file in enumerate(map(read_bytes, names)):
         content = fuzzed(file, chance, types) if place == changed or chance.randrange(4) == 0 else file
-        paths.append(write(f"{folder}/{os.path.basename(name)}", content))
+        paths.append(write(f"{folder}/{os.path.basename(names[place])}", content))
     try:
-        wrong = wrong_with(paths[0]) if len(paths) == 1 else wrong_link(paths, folder, chance)
+        return wrong_with(paths[0]) if len(paths) == 1 else wrong_link(paths, folder, chance)
     except subprocess.TimeoutExpired as late:
-        wrong = f"{late.cmd[1]} did not end"
-    if wrong:
-        kept = shutil.copytree(folder, f"fuzzed-{plan.seed}-{number}", dirs_exist_ok=True)
-        wrong = f"{kept}, of {' and '.join(map(os.path.basename, names))}: {wrong}"
-    shutil.rmtree(folder)
-    return wrong
+        return f"{late.cmd[1]} did not end"
+
+
+def tried(files: list[str], pair: list[str], seed: int, number: int) -> str:
+    return tried_in_folder(f"fuzzed-{seed}-{number}", partial(wrong_in, files, pair, seed, number))
 
 
 def different(answer: str, right: str) -> str:
@@ -118,35 +95,24 @@ def different(answer: str, right: str) -> str:
     return next((f"{one!r}, and not {other!r}" for one, other in pairs if one != other), "other lines")
 
 
-def wrong_answers(content: bytes, checked: Ended, lines: Ended, written: Ended) -> str:
-    """What the reference says that these answers don't."""
-    if checked.stdout.decode() != check(content) + "\n":
-        return f"check says {checked.stdout[:80]!r}, and not {check(content)}"
-    right = shown(content)
-    if lines.stdout.decode("latin1") != right:
-        return f"show says {different(lines.stdout.decode('latin1'), right)}"
-    answer = rewritten(content)
-    if answer and (written.stderr.decode(), written.stdout) != answer:
-        return f"rewrite says {written.stderr[:80]!r}, and not {answer[0]!r}, or it writes something else"
-    return ""
-
-
 def wrong_with(path: str) -> str:
     """What is wrong with the answers on a file."""
-    checked, lines, written = (run(PROGRAM, word, path) for word in ("check", "show", "rewrite"))
-    for word, it in (("check", checked), ("show", lines), ("rewrite", written)):
+    content = read_bytes(path)
+    answers = {it: run(PROGRAM, *it.split(), path) for it in ("check", "check --seek", "show", "rewrite")}
+    line, lines, answer = check(content) + "\n", shown(content), rewritten(content)
+    for command, it in answers.items():
         if it.returncode not in (0, 1):
-            return f"{word} ended with status {it.returncode}: {it.stderr[:80]!r}"
-    if (checked.returncode == 1) != checked.stdout.startswith(b"refused "):
-        return f"check says {checked.stdout[:80]!r} with status {checked.returncode}"
-    sought = run(PROGRAM, "check", "--seek", path)
-    if (sought.returncode, sought.stdout) != (checked.returncode, checked.stdout):
-        return f"check says {checked.stdout[:80]!r}, check --seek {sought.stdout[:80]!r} {sought.stderr[:80]!r}"
-    other = wrong_answers(read_bytes(path), checked, lines, written)
-    if other or written.returncode == 1:
-        return other or ("rewrite refuses and writes" if written.stdout else "")
+            return f"{command} {ending(it)}"
+        if "check" in command and (it.returncode, it.stdout.decode()) != (line.startswith("refused "), line):
+            return f"{command} {ending(it)}, and not {line!r}"
+    found, written = answers["show"].stdout.decode("latin1"), answers["rewrite"]
+    if found != lines:
+        return f"show says {different(found, lines)}"
+    if answer and (written.stderr.decode(), written.stdout) != answer:
+        return f"rewrite says {written.stderr[:80]!r}, and not {answer[0]!r}, or it writes something else"
+    if written.returncode == 1:
+        return "rewrite refuses and writes" if written.stdout else ""
     again = run(PROGRAM, "rewrite", write(path + ".new", written.stdout))
-    os.remove(path + ".new")
     return "" if again.returncode == 0 and again.stdout == written.stdout else "what rewrite wrote it does not write again"
 
 
@@ -166,46 +132,34 @@ def bad_line(rules: bytes) -> int:
     return len(lines) + 1 if rest else 0
 
 
-def ending(it: Ended) -> str:
-    return f"{it.stdout[:80]!r} {it.stderr[:80]!r} with status {it.returncode}"
-
-
 def wrong_link(paths: list[str], folder: str, chance: Chance) -> str:
     """What is wrong with the answers on the link of files."""
-    rules = fuzzed_rules(read_bytes(RULES), chance)
-    write(f"{folder}/rules", rules)
-    base, page = chance.choice(PLACES)
-    words = ("map", "--base", base, "--page", page)
-    missing = chance.randrange(40) == 0
-    files = paths + [f"{folder}/missing"] * missing
-    plain, ruled = run(PROGRAM, *words, *files), run(PROGRAM, *words, "--rules", f"{folder}/rules", *files)
-    said = f"with base {base} and page {page} map says {ending(plain)}, map --rules {ending(ruled)}"
-    bad = bad_line(rules)
-    if bad and (ruled.returncode, ruled.stdout, ruled.stderr) != (2, b"", b"bad rule line %d\n" % bad):
-        return f"line {bad} is bad; {said}"
-    answers: list[tuple[Ended, bytes | None]] = [(plain, None)] if bad else [(plain, None), (ruled, rules)]
+    rules, contents = fuzzed_rules(read_bytes(RULES), chance), [read_bytes(it) for it in paths]
+    by, (base, page) = write(f"{folder}/rules", rules), chance.choice(PLACES)
+    place, missing = ["--base", base, "--page", page], [f"{folder}/missing"] * (chance.randrange(40) == 0)
+    plain, ruled = (run(PROGRAM, "map", *place, *more, *paths, *missing) for more in (list[str](), ["--rules", by]))
+    said = f"{' '.join(place)}: map {ending(plain)}, map --rules {ending(ruled)}"
+    bad, answers = bad_line(rules), [(plain, None), (ruled, rules)]
+    if bad:
+        del answers[1]
+        if (ruled.returncode, ruled.stdout, ruled.stderr) != (2, b"", b"bad rule line %d\n" % bad):
+            return f"line {bad} is bad; {said}"
     if missing:
         right = all((it.returncode, it.stdout) == (3, b"") and it.stderr.startswith(b"cannot open ") for it, _ in answers)
         return "" if right else f"a file is not there; {said}"
-    if any(it.returncode not in (0, 1) or it.stderr for it, _ in answers):
-        return said
-    contents = [read_bytes(it) for it in paths]
-    for it, by in answers:
-        lines = mapped(contents, int(base, 0), int(page, 0), by)
-        if it.stdout.decode("latin1") != lines:
+    for it, own in answers:
+        lines = mapped(contents, base, page, own)
+        if it.returncode not in (0, 1) or it.stderr or it.stdout.decode("latin1") != lines:
             return f"not {lines[:200]!r}; {said}"
-    return "" if bad else wrong_program(paths, contents, rules, base, page, chance.choice(ENTRIES))
-
-
-def wrong_program(paths: list[str], contents: list[bytes], rules: bytes, base: str, page: str, entry: str) -> str:
-    """What is wrong with the executable of files."""
-    by = f"{os.path.dirname(paths[0])}/rules"
-    it = run(PROGRAM, "link", "--base", base, "--page", page, "--entry", entry, "--rules", by, *paths)
-    refusal, file = linked(contents, int(base, 0), int(page, 0), rules, entry.encode())
-    said = f"with base {base}, page {page} and entry {entry} link says {ending(it)}"
-    if (it.returncode, it.stdout, it.stderr) != (int(bool(refusal)), file, refusal.encode("latin1")):
-        return f"not {refusal or file[:80]!r}; {said}"
-    return "" if refusal or verdict(file) is None else f"what it wrote is refused; {said}"
+    if bad:
+        return ""
+    entry = chance.choice(ENTRIES)
+    made, (refusal, file) = run(PROGRAM, "link", *place, "--entry", entry, "--rules", by, *paths), linked(
+        contents, base, page, rules, entry.encode()
+    )
+    if (made.returncode, made.stdout, made.stderr) != (int(bool(refusal)), file, refusal.encode("latin1")):
+        return f"{' '.join(place)}, entry {entry}: not {refusal or file[:80]!r}; link {ending(made)}"
+    return "" if refusal or verdict(file) is None else f"{' '.join(place)}, entry {entry}: what link wrote is refused"
 
 
 OPTIONS = (number("count", 500, "so many files"), number("seed", 1, "the same seed makes the same files"))
@@ -214,7 +168,10 @@ ABOUT, COMPILERS = "files and links with fields changed, beside the reference im
 
 @Test("mutants", ABOUT, commands=COMPILERS, crates="elfmap", alone=True, family="fuzz", options=OPTIONS)
 def mutants(tally: Tally, options: Namespace) -> None:
-    plan = plan_of(tally.folder, options.seed)
-    tally.check(plan.files and len(plan.pair) == 2, "the compilers make no files")
-    tally.count(options.count, filter(None, side_by_side(partial(tried, plan), range(options.count), True)))
-    tally.note(f"{options.count} fuzzed files of {len(plan.files)} files and a link, seed {options.seed}")
+    for it in SOURCES:
+        shutil.copy(f"{TOP}/cases/sources/{it}", tally.folder)
+    system = [it for it in SYSTEM if os.path.exists(it) and os.path.getsize(it) <= LONGEST]
+    files, pair = [*built(tally.folder, BUILDS), *system], built(tally.folder, PAIR)
+    tally.check(files and len(pair) == 2, "the compilers make no files")
+    tally.count(options.count, filter(None, side_by_side(partial(tried, files, pair, options.seed), range(options.count), True)))
+    tally.note(f"{options.count} fuzzed files of {len(files)} files and a link, seed {options.seed}")

@@ -9,7 +9,7 @@ and its status and what it writes become a word. Tools that are not installed ha
 import argparse, os, random, re, shutil, subprocess, tempfile
 from collections.abc import Iterator
 
-from .cases import all_cases
+from .cases import every_case
 from .machine_files import content_of, objects_of
 from .reference import SYMTAB, File, object_verdict, shown, verdict
 from .rules_tables import by_anchor
@@ -63,13 +63,12 @@ def refused_by(answer: str) -> int | None:
 def case_files() -> Files:
     """Of each rule the first files of the cases that break it."""
     found: Files = {}
-    for cases in all_cases().values():
-        for it in cases.cases:
+    for it in every_case():
+        if it.words[:1] and it.words[0] in KINDS and len(it.words) == 2 and len(it.needs) == 1:
             # `rewrite` tells a refusal on standard error.
-            is_one = it.words[:1] and it.words[0] in KINDS and len(it.words) == 2 and len(it.needs) == 1
-            rule = refused_by((it.out + it.err).decode("latin1")) if is_one else None
-            if rule is not None and rule in KINDS[it.words[0]][1]:
-                note(found, rule, bytes(cases.files[it.needs[0].partition("=")[2]]))
+            rule = refused_by((it.out + it.err).decode("latin1"))
+            if rule in KINDS[it.words[0]][1]:
+                note(found, rule, bytes(it.files[it.needs[0].partition("=")[2]]))
     return found
 
 

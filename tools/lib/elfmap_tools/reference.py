@@ -59,14 +59,14 @@ def rule_name(rule: int) -> Any:
     return image.RULES[rule - 1][1].__name__
 
 
-def mapped(contents: Sequence[bytes], base: int, page: int, rules: bytes | None = None) -> str:
+def mapped(contents: Sequence[bytes], base: str, page: str, rules: bytes | None = None) -> str:
     """The lines of `elfmap map`, by a file of rules if one is given."""
-    return str(link.map_lines(contents, base, page, None if rules is None else link.rules_of(rules)))
+    return str(link.map_lines(contents, int(base, 0), int(page, 0), None if rules is None else link.rules_of(rules)))
 
 
-def linked(contents: Sequence[bytes], base: int, page: int, rules: bytes, entry: bytes) -> tuple[str, bytes]:
+def linked(contents: Sequence[bytes], base: str, page: str, rules: bytes, entry: bytes) -> tuple[str, bytes]:
     """What `elfmap link` prints on standard error, and what it writes."""
-    refusal, file = executable.answer(contents, base, page, link.rules_of(rules), entry)
+    refusal, file = executable.answer(contents, int(base, 0), int(page, 0), link.rules_of(rules), entry)
     return refusal, file
 
 
@@ -76,9 +76,9 @@ def entries_of(contents: Sequence[bytes]) -> list[bytes]:
     return [name for name in it.entries if link.value_of(it, it.at, it.common_at, name)[1] != "zero"] if hasattr(it, "at") else []
 
 
-def link_refusal(contents: Sequence[bytes], base: int, page: int, rules: bytes) -> object:
+def link_refusal(contents: Sequence[bytes], base: str, page: str, rules: bytes) -> object:
     """What is wrong with a link, None where nothing is."""
-    return link.judged(contents, base, page, link.rules_of(rules))[0]
+    return link.judged(contents, int(base, 0), int(page, 0), link.rules_of(rules))[0]
 
 
 # ---- objects by their parts

@@ -69,6 +69,11 @@ def wanted(*words: str, folder: str | None = None, timeout: float | None = None)
     return ended.stdout
 
 
+def ending(it: Ended) -> str:
+    """How a command ended, in short."""
+    return f"ended with status {it.returncode}: {it.stdout[:80]!r} {it.stderr[:300]!r}"
+
+
 def by_cc(path: str, words: str, source: str) -> str:
     """Makes a file of one of cases/sources/ by cc: its path."""
     wanted("cc", *words.split(), f"{TOP}/cases/sources/{source}", "-o", path)
