@@ -16,15 +16,15 @@
 
 import glob, os, re
 from argparse import Namespace
+from collections import Counter
 from collections.abc import Iterator
-from dataclasses import dataclass, field
 from functools import partial
-from typing import Any
+from typing import Any, NamedTuple
 
 from .packages import BY_LLVM, KLIBC, MACHINES, RUN_BY_QEMU
-from .reference import ALLOC, NOBITS, RELA, RELOCATION, SYMTAB, UNDEF, File, kept, linked, string, symbols
+from .reference import ALLOC, NOBITS, SYMTAB, UNDEF, File, kept, linked, string, symbols
 from .suite import Tally, Test
-from .tree import PROGRAM, RULES, TOP, Ended, read_bytes, read_text, run, wanted, write
+from .tree import PROGRAM, RULES, TOP, ending, read_bytes, read_text, run, wanted, write
 
 SOURCES = f"{TOP}/cases/sources"
 
@@ -96,12 +96,6 @@ def section_name(f: Any, header: Any) -> str:
     return string(f.content(f.name_table), header.sh_name).decode()
 
 
-def kinds_in(f: Any) -> set[int]:
-    """The kinds of the relocations of sections that are loaded."""
-    loaded = [i for i, it in f.sections() if it.sh_type == RELA and f.section(it.sh_info).sh_flags & ALLOC]
-    return {entry.r_info & 0xFFFFFFFF for i in loaded for entry in f.entries(i, RELOCATION, 24)}
-
-
 def symbols_of(f: Any) -> dict[str, tuple[int, bool]]:
     """Value and whether it is defined, for each name that isn't local."""
     tables = [(i, f.content(it.sh_link)) for i, it in f.sections() if it.sh_type == SYMTAB]
@@ -109,29 +103,31 @@ def symbols_of(f: Any) -> dict[str, tuple[int, bool]]:
     return {string(names, it.st_name).decode(): (it.st_value, it.st_shndx != UNDEF) for names, it in found}
 
 
-@dataclass
-class Output:
-    """An output section of a link map; of its members the address, the length, the file, and the position in its object."""
+# The file and the position of a section in its object.
+Place = tuple[int, int]
+
+
+class Output(NamedTuple):
+    """An output section of a link map; of its members the address, the length, and the place."""
 
     address: int
     length: int
     has_bits: bool
-    members: list[tuple[int, int, int, int]] = field(default_factory=list)
+    members: list[tuple[int, int, Place]]
 
 
 class Map:
     """The lines of a link map of files."""
 
     def __init__(self, text: str, files: list[Any]) -> None:
-        self.outputs, self.commons, self.names = list[Output](), dict[str, str](), dict[str, tuple[str, str]]()
-        # By file and position.
-        self.bytes: dict[tuple[int, int], bytes] = {}
+        self.outputs, self.bytes = list[Output](), dict[Place, bytes]()
+        self.commons, self.names = dict[str, str](), dict[str, tuple[str, str]]()
         self.title = {(f, k): section_name(it, it.section(i)) for f, it in enumerate(files) for k, i in enumerate(kept(it))}
         for kind, *words in (it.split() for it in text.splitlines()):
             if kind == "output":
-                self.outputs.append(Output(int(words[0], 16), int(words[1], 16), words[2] == "bits"))
+                self.outputs.append(Output(int(words[0], 16), int(words[1], 16), words[2] == "bits", []))
             elif kind == "member":
-                self.outputs[-1].members.append((int(words[0], 16), int(words[1], 16), int(words[2]), int(words[3])))
+                self.outputs[-1].members.append((int(words[0], 16), int(words[1], 16), (int(words[2]), int(words[3]))))
             elif kind == "common":
                 self.commons[words[2]] = words[0]
             elif kind == "name":
@@ -143,33 +139,29 @@ class Map:
         """A linker script that has the output sections at their addresses, with their members in order. ld places the members."""
         lines = ["SECTIONS {"]
         for number, it in enumerate(self.outputs):
-            members = [f'    "{names[file]}"("{self.title[file, position]}")' for _, _, file, position in it.members]
+            members = [f'    "{names[place[0]]}"("{self.title[place]}")' for _, _, place in it.members]
             lines += [f"  .out.{number} 0x{it.address:x} : {{", *members, "    . = .;", "  }"]
         return "\n".join([*lines, *(f"  {name} = {address};" for name, address in self.commons.items()), "}", ""])
 
     def differences(self, made: Any) -> Iterator[str]:
         """What ld made otherwise."""
-        loaded = {section_name(made, it): i for i, it in made.sections() if it.sh_flags & ALLOC}
-        strange = set(loaded) - {f".out.{number}" for number in range(len(self.outputs))}
-        if strange:
-            yield f"ld has placed {', '.join(sorted(strange))} too"
-        theirs: dict[tuple[int, int], bytes] = {}
-        for number, own in enumerate(self.outputs):
-            it = made.section(loaded[f".out.{number}"])
-            if (it.sh_addr, it.sh_size) != (own.address, own.length):
-                place = f"0x{own.length:x} bytes from 0x{own.address:x}"
-                yield f"output section {number} is {place}, of ld 0x{it.sh_size:x} from 0x{it.sh_addr:x}"
-            content = b"" if it.sh_type == NOBITS else made.content(loaded[f".out.{number}"])
-            for at, size, file, position in own.members if own.has_bits else []:
-                theirs[file, position] = content[at - own.address : at - own.address + size]
+        loaded = {section_name(made, it): (i, it) for i, it in made.sections() if it.sh_flags & ALLOC}
+        own_places = {f".out.{number}": (it.address, it.length) for number, it in enumerate(self.outputs)}
+        places = {name: (it.sh_addr, it.sh_size) for name, (_, it) in loaded.items()}
+        if own_places != places:
+            yield f"the output sections, each with address and length, are {own_places}, of ld {places}"
+            return
+        theirs: dict[Place, bytes] = {}
+        for output, (i, it) in zip(self.outputs, (loaded[name] for name in own_places)):
+            content = b"" if it.sh_type == NOBITS else made.content(i)
+            theirs |= {place: content[at - output.address :][:size] for at, size, place in output.members if output.has_bits}
         if list(self.bytes) != list(theirs):
             yield f"there are bytes of {list(self.bytes)}, of ld of {list(theirs)}"
-        for (file, position), own_bytes in self.bytes.items():
-            other = theirs.get((file, position), own_bytes)
-            if own_bytes != other:
-                at = len(os.path.commonprefix([own_bytes, other]))
-                what = f"section {position} ({self.title[file, position]}) of file {file}"
-                yield f"{what} differs at 0x{at:x}: {own_bytes[at:at + 8].hex()}, of ld {other[at:at + 8].hex()}"
+        for place, own in self.bytes.items():
+            at = len(os.path.commonprefix([own, theirs.get(place, own)]))
+            if own[at:]:
+                what = f"section {place[1]} ({self.title[place]}) of file {place[0]}"
+                yield f"{what} differs at 0x{at:x}: {own[at:at + 8].hex()}, of ld {theirs[place][at:at + 8].hex()}"
         symbols = symbols_of(made)
         for name, (value, what) in self.names.items():
             at, defined = symbols.get(name, (0, False))
@@ -185,24 +177,17 @@ class Both:
     """Objects that elfmap maps with rules, and that ld links with the same output sections: how both ended."""
 
     def __init__(self, shop: Workshop, names: list[str], base: int, page: int, rules: str, ld: list[str]) -> None:
-        self.shop, self.files = shop, [File(shop.content(it)) for it in names]
-        options = ["--base", hex(base), "--page", hex(page)]
-        write(f"{shop.folder}/script", Map(shop.wanted(PROGRAM, "map", *options, *names), self.files).script(names))
-        self.ruled = shop.run(PROGRAM, "map", *options, "--rules", rules, *names)
+        files, words = [File(shop.content(it)) for it in names], ["map", "--base", hex(base), "--page", hex(page)]
+        write(f"{shop.folder}/script", Map(shop.wanted(PROGRAM, *words, *names), files).script(names))
+        self.ruled = shop.run(PROGRAM, *words, "--rules", rules, *names)
         self.by_ld = shop.run(*ld, *LD_WORDS, *names)
         self.ends = f"map {ending(self.ruled)}; ld {ending(self.by_ld)}"
-
-    def map(self) -> Map:
-        return Map(self.ruled.stdout.decode(), self.files)
+        self.shop, self.map = shop, Map(self.ruled.stdout.decode(), files)
 
     def differences(self) -> list[str]:
         if self.ruled.returncode or self.by_ld.returncode:
             return [self.ends]
-        return list(self.map().differences(File(self.shop.content("by-ld"))))
-
-
-def ending(it: Ended) -> str:
-    return f"ended with status {it.returncode}: {it.stdout[:80]!r} {it.stderr[:300]!r}"
+        return list(self.map.differences(File(self.shop.content("by-ld"))))
 
 
 def compiled_parts(shop: Workshop, words: str) -> Iterator[str]:
@@ -214,21 +199,20 @@ def compiled_parts(shop: Workshop, words: str) -> Iterator[str]:
 
 @Test("linked-like-ld", "the link map beside ld's link", commands="gcc ld objcopy", crates="elfmap", family="linked")
 def linked_like_ld(tally: Tally, options: Namespace) -> None:
-    totals, kinds = [0, 0, 0], set[int]()
+    totals = Counter[str]()
     for title, words, base, page, fits in LD_CASES:
         with tally.trying(title):
             shop = Workshop(tally.new_folder(title))
             both = Both(shop, list(compiled_parts(shop, words)), base, page, RULES, ["ld", "-m", "elf_x86_64"])
             if fits:
-                wrong, made = both.differences(), both.map()
+                wrong, made = both.differences(), both.map
                 tally.check(not wrong, f"{title}: {'; '.join(wrong)}")
-                counts = (len(made.bytes), sum(map(len, made.bytes.values())), len(made.names))
-                totals, kinds = [a + b for a, b in zip(totals, counts)], kinds.union(*map(kinds_in, both.files))
+                totals.update(sections=len(made.bytes), bytes=sum(map(len, made.bytes.values())), names=len(made.names))
             else:
                 is_refused = both.ruled.returncode == 1 and both.ruled.stdout.startswith(b"refused 16 ")
                 both_refuse = is_refused and both.by_ld.returncode and b"relocation truncated to fit" in both.by_ld.stderr
                 tally.check(both_refuse, f"{title}: it is not refused by both: {both.ends}")
-    tally.note("{} sections of {} bytes and {} names agree with ld".format(*totals) + f", relocations of kinds {sorted(kinds)}")
+    tally.note(", ".join(f"{count} {kind}" for kind, count in totals.items()) + " agree with ld")
 
 
 # ---- linked-runs
