@@ -23,6 +23,7 @@ from collections.abc import Iterable, Iterator
 from itertools import count
 
 from .building import output_of
+from .cases import Answer
 from .making import full_object
 
 from .reference import (
@@ -44,10 +45,7 @@ CALLS = output_of("tests_calls")
 BY_HAND: dict[tuple[str, ...], str] = {("one_section",): "", ("many_sections",): "", ("call_0", "call_1"): "main"}
 BY_HAND |= {("common_0", "common_1", "common_2"): "x", ("groups_0", "groups_1"): "f", ("hash",): ""}
 PLACE = ["--base", "0x400000", "--page", "0x1000"]
-# How a call ended: its status, and what it printed.
-Ending = tuple[int, bytes, bytes]
-# How many calls failed, and what was wrong.
-Result = tuple[int, list[str]]
+READINGS = (["check"], ["check", "--seek"], ["show"], ["rewrite"])
 
 
 def files_by_hand() -> dict[str, bytes]:
@@ -84,7 +82,7 @@ def make_files(folder: str) -> None:
         write(f"{folder}/{name}", content)
 
 
-def ended(folder: str, words: list[str], call: str = "", program: str = PROGRAM) -> tuple[Ending, list[str]]:
+def ended(folder: str, words: list[str], call: str = "", program: str = PROGRAM) -> tuple[Answer, list[str]]:
     """How the program ended, and what the library says of the call that failed."""
     report = write(f"{folder}/report", "")
     around = environment(LD_PRELOAD=f"{folder}/failing.so", FAILING_CALL=f"{call} {report}")
@@ -92,53 +90,52 @@ def ended(folder: str, words: list[str], call: str = "", program: str = PROGRAM)
     return (it.returncode, it.stdout, it.stderr), read_text(report).split("\n")[:-1]
 
 
-def wrong_with(kind: str, how: str, words: list[str], ample: Ending, found: Ending, offset: int) -> str:
-    """What is wrong with how the program ended where a call of this kind failed at an offset; nothing where it is right."""
-    status, out, err = found
+def is_right(kind: str, how: str, command: str, ample: Answer, found: Answer, offset: int) -> bool:
+    """Whether the program ended as it has to where a call of this kind failed at an offset."""
+    (status, out, err), text = found, ample[1]
     if how in ("cut", "bytes"):
-        return "" if found == ample else "another answer"
-    if words[0] in OWN and kind in ("malloc", "open") and (status, out) == (1, b"") and err.startswith(b"Error: "):
-        return ""
+        return found == ample
+    if command in OWN and kind in ("malloc", "open") and (status, out) == (1, b"") and err.startswith(b"Error: "):
+        return True
     if kind == "malloc":
-        begun = out == b"" or words[0] == "show" and ample[1].startswith(out)
-        return "" if found == ample or (status, err) == (3, b"out of memory\n") and begun else "it is not out of memory"
+        begun = out == b"" or command == "show" and text.startswith(out)
+        return found == ample or (status, err) == (3, b"out of memory\n") and begun
     if kind == "open":
-        return "" if status == 3 and out == b"" and re.fullmatch(rb"cannot open \S+\n", err) else "it does not say that it can't open"
+        return status == 3 and out == b"" and bool(re.fullmatch(rb"cannot open \S+\n", err))
     if kind == "write":
-        right = (3, ample[1][:offset], f"write failed after {offset}\n".encode())
-        return "" if found == right else "no failed write"
-    begun = out == b"" or words[0] == "copy" and ample[1].startswith(out) and out != ample[1]
-    return "" if begun and (status, err) == (3, f"read failed at {offset}\n".encode()) else "no failed read"
+        return found == (3, text[:offset], f"write failed after {offset}\n".encode())
+    begun = out == b"" or command == "copy" and text.startswith(out) and out != text
+    return begun and (status, err) == (3, f"read failed at {offset}\n".encode())
 
 
-def opened_once(folder: str, words: list[str], files: list[str], program: str) -> Result:
-    """What is wrong with how many files are opened, and with calls in vain."""
-    _, report = ended(folder, words, "count 1 nothing", program)
-    right = [f"opened {len(files)}", "vain 0"]
-    return 1, [] if report[:2] == right else [f"{' '.join(words)}: {' '.join(report)}, and not {' '.join(right)}"]
+def opened_once(tally: Tally, words: list[str], files: list[str], program: str) -> None:
+    """How many files are opened, and that no call is in vain."""
+    _, report = ended(tally.folder, words, "count 1 nothing", program)
+    tally.same(" ".join(words), report[:2], [f"opened {len(files)}", "vain 0"])
 
 
-def quiet(folder: str, names: Iterable[str]) -> Result:
-    """What is wrong with the calls that take no memory, on these files: made three times they grow as much as made not at all."""
-    counts = [ended(folder, ["quiet", times, *names], "count 1 nothing", CALLS) for times in ("0", "3")]
+def quiet(tally: Tally, names: Iterable[str]) -> None:
+    """The calls that take no memory, on these files: made three times they grow as much as made not at all."""
+    counts = [ended(tally.folder, ["quiet", times, *names], "count 1 nothing", CALLS) for times in ("0", "3")]
     same = counts[0] == counts[1] and counts[0][0][0] == 0 and counts[0][1][2:]
-    return 1, [] if same else [f"quiet {' '.join(names)}: {counts}"]
+    tally.check(same, f"quiet {' '.join(names)}: {counts}")
 
 
-def tried(folder: str, words: list[str], kind: str, how: str, program: str = PROGRAM) -> Result:
-    """Each call of a kind failing, one after the other, or all calls at once: how many were, and what was wrong."""
-    ample, _ = ended(folder, words, program=program)
-    wrong = list[str]()
+def tried(tally: Tally, words: list[str], kind: str, how: str, program: str = PROGRAM) -> None:
+    """Each call of a kind failing, one after the other, or all calls at once."""
+    ample, _ = ended(tally.folder, words, program=program)
     for number in count(1):
-        found, report = ended(folder, words, f"{kind} {number} {how}", program)
+        found, report = ended(tally.folder, words, f"{kind} {number} {how}", program)
+        what = f"{' '.join(words)}: {kind} {number} {how}: {found}"[:300]
         if not report:
-            return number - 1, wrong + ([] if found == ample else [f"{' '.join(words)}: without a failing call: another answer"])
-        why = wrong_with(kind, how, words, ample, found, int(report[0].split()[1]))
-        why = why or "it was tried again" * any(it.startswith("again") for it in report)
-        wrong += [f"{' '.join(words)}: {kind} {number} {how}: {why}: {found}"[:300]] if why else []
+            if found != ample:
+                tally.fail(f"{what}: another answer without a failing call")
+            return
+        is_tried_again = any(it.startswith("again") for it in report)
+        offset = int(report[0].split()[1])
+        tally.check(is_right(kind, how, words[0], ample, found, offset) and not is_tried_again, f"{what}, {report}")
         if how == "bytes":
-            break
-    return number, wrong
+            return
 
 
 def wrong_growths(ample: list[bytes], found: list[bytes]) -> str:
@@ -156,37 +153,37 @@ def wrong_growths(ample: list[bytes], found: list[bytes]) -> str:
     return "" if place == len(ample) or refused else "lines are missing"
 
 
-def grown(folder: str, words: list[str], how: str) -> Result:
-    """Each growth of the calls of the library refused: how many were, and what was wrong."""
-    (sound, output, _), _ = ended(folder, words, program=CALLS)
-    ample, wrong = output.split(b"\n")[:-1], list[str]()
+def grown(tally: Tally, words: list[str], how: str) -> None:
+    """Each growth of the calls of the library refused."""
+    (sound, output, _), _ = ended(tally.folder, words, program=CALLS)
+    ample = output.split(b"\n")[:-1]
     for number in count(1):
-        (status, out, err), report = ended(folder, words, f"malloc {number} {how}", CALLS)
-        lines = out.split(b"\n")[:-1]
+        (status, out, err), report = ended(tally.folder, words, f"malloc {number} {how}", CALLS)
+        lines, what = out.split(b"\n")[:-1], f"{' '.join(words)}: growth {number} {how}"
         if not report:
-            break
+            if lines != ample:
+                tally.fail(f"{what}: another answer without a refused growth")
+            return
         # The program ends where a growth of its own is refused, or a file can't be read.
         gave_up = status == 1 and b"OutOfMemory" in err or status == 3 and lines[-1:] == [b"read_to_end out of memory"]
         why = wrong_growths(ample[: len(lines)] if gave_up and lines == ample[: len(lines)] else ample, lines)
-        if why or status != sound and not gave_up:
-            wrong.append(f"{' '.join(words)}: growth {number} {how}: {why or status} {err[:100]!r}")
-    return number - 1, wrong + ([] if lines == ample else [f"{' '.join(words)}: another answer without a refused growth"])
+        tally.check(not why and (gave_up or status == sound), f"{what}: {why or status} {err[:100]!r}")
 
 
-def growths(folder: str) -> Iterator[Result]:
+def growths(tally: Tally) -> None:
     """The growths of the calls that need no file, and of those on the files by hand."""
     for names in BY_HAND:
         # A file of 4 MB takes its time.
         for how in ("fail",) if names == ("many_sections",) else ("fail", "rest"):
-            yield grown(folder, ["growths", "rules", *names], how)
+            grown(tally, ["growths", "rules", *names], how)
     for those in [*BY_HAND, ("caller.o", "callee.o"), ("full.o",), ("/bin/true",)]:
-        yield quiet(folder, those)
+        quiet(tally, those)
 
 
 def calls_by_hand() -> Iterator[list[str]]:
     """Each command on the files by hand: the words of each call."""
     for names, entry in BY_HAND.items():
-        yield from ([*words, name] for words in (["check"], ["check", "--seek"], ["show"], ["rewrite"]) for name in names)
+        yield from ([*words, name] for words in READINGS for name in names)
         for words in (["map", *PLACE], ["map", *PLACE, "--rules", RULES], ["link", *PLACE, "--entry", entry, "--rules", RULES]):
             yield [*words, *names]
 
@@ -194,7 +191,7 @@ def calls_by_hand() -> Iterator[list[str]]:
 def calls() -> Iterator[tuple[str, list[str], list[str]]]:
     """Of each call the program, the words, and the files among them."""
     alone = ("call_0", "caller.o", "many.o", "full.o", "refused", "/bin/true")
-    yield from ((PROGRAM, words, [name]) for words in (["check"], ["check", "--seek"], ["show"], ["rewrite"]) for name in alone)
+    yield from ((PROGRAM, words, [name]) for words in READINGS for name in alone)
     both, broken = ["caller.o", "callee.o"], ["caller.o", "refused", "callee.o"]
     none, with_rules = list[str](), ["--rules", RULES]
     for more, files in ((none, both), (with_rules, both), (with_rules, ["full.o"]), (none, ["many.o"]), (none, broken)):
@@ -203,21 +200,17 @@ def calls() -> Iterator[tuple[str, list[str], list[str]]]:
     yield from ((CALLS, [call], [name]) for call in OWN for name in ("call_0", "caller.o", "full.o", "refused"))
 
 
-def tries(folder: str) -> Iterator[Result]:
-    for program, words, files in calls():
-        opened = [*(it for it in words if it == RULES), *files]
-        words = [*words, *files]
-        yield opened_once(folder, words, opened, program)
-        # A source that returns nothing where there is more is a file that shrank.
-        shrinks = [("read", "nothing")] if "--seek" in words or "copy" in words else []
-        for kind, how in [*FAILURES, *shrinks, ("read", "bytes"), ("write", "bytes")]:
-            yield tried(folder, words, kind, how, program)
-    yield from (tried(folder, words, "malloc", "fail") for words in calls_by_hand())
-    yield from growths(folder)
-
-
 @Test("failing-calls", "every call of the C library failing once", commands="cc", crates="elfmap tests_calls", family="fuzz")
 def failing_calls(tally: Tally, options: Namespace) -> None:
     make_files(tally.folder)
-    for tried_calls, wrong in tries(tally.folder):
-        tally.count(tried_calls, wrong)
+    for program, words, files in calls():
+        opened = [*(it for it in words if it == RULES), *files]
+        words = [*words, *files]
+        opened_once(tally, words, opened, program)
+        # A source that returns nothing where there is more is a file that shrank.
+        shrinks = [("read", "nothing")] if "--seek" in words or "copy" in words else []
+        for kind, how in [*FAILURES, *shrinks, ("read", "bytes"), ("write", "bytes")]:
+            tried(tally, words, kind, how, program)
+    for words in calls_by_hand():
+        tried(tally, words, "malloc", "fail")
+    growths(tally)
