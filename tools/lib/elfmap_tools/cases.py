@@ -40,10 +40,6 @@ class Case:
     def __str__(self) -> str:
         return f"{self.source}: elfmap {' '.join(self.words)} with {' '.join(self.needs)}"
 
-    @property
-    def answer(self) -> Answer:
-        return self.status, self.out, self.err
-
     def found(self, *program: str, **more: Any) -> Answer:
         """What a program answers, in a folder with the files that the case needs."""
         with tempfile.TemporaryDirectory(prefix="case-") as room:
@@ -132,12 +128,11 @@ def try_cases(tally: Tally, options: Namespace) -> None:
         for program in [PROGRAM, *(small if it.words[:1] == ["check"] and "--seek" not in it.words else [])]:
             status, out, err = it.found(program)
             # The text of an error is compared where the case has one.
-            tally.same(str(it), (status, out, err if it.err or it.status < 2 else b""), it.answer)
+            tally.same(str(it), (status, out, err if it.err or it.status < 2 else b""), (it.status, it.out, it.err))
 
 
 # ---- generated cases
 
-NAMES = ("made-images.txt", "made-objects.txt", "made-links.txt", "made-executables.txt")
 # What cases/ was made by.
 SEED, COUNT = "elfmap", 60
 HEAD = """# Made by `tools/test make-cases --seed {seed} --count {count}`, with the answers of the reference implementation (reference/).
@@ -198,10 +193,6 @@ def rules_of(*faults: Broken | None) -> set[int]:
     return {broken[0] for broken in faults if broken}
 
 
-def broken_by_image(content: bytes) -> set[int]:
-    return rules_of(verdict(content))
-
-
 def broken_by_object(content: bytes) -> set[int]:
     return rules_of(object_verdict(content))
 
@@ -246,7 +237,7 @@ def say_image(text: Text, command: str, content: bytes) -> None:
 
 
 def image_cases(text: Text) -> None:
-    for _, wrong in wrong_in_one_thing(text, [rule for rule in SPOKEN_OF if rule < 40], a_file, broken_by_image):
+    for _, wrong in wrong_in_one_thing(text, [rule for rule in SPOKEN_OF if rule < 40], a_file, lambda it: rules_of(verdict(it))):
         for command in ("check", "check --seek", "show"):
             say_image(text, command, wrong)
     for content, _ in once(wrong_in_one_thing(text, [rule for rule in SPOKEN_OF if 40 < rule < 70], a_file, broken_by_tables)):
@@ -327,14 +318,8 @@ def executable_cases(text: Text) -> None:
         text.case(words, {**files, "r": rules}, int(bool(refusal)), "" if refusal else file, refusal)
 
 
-def make(seed: str, count: int, folder: str) -> None:
-    os.makedirs(folder, exist_ok=True)
-    for name, cases in zip(NAMES, (image_cases, object_cases, link_cases, executable_cases)):
-        text = Text(seed, count)
-        cases(text)
-        write(f"{folder}/{name}", "\n".join([*text.lines, ""]))
-
-
+GENERATED = {"made-images.txt": image_cases, "made-objects.txt": object_cases}
+GENERATED |= {"made-links.txt": link_cases, "made-executables.txt": executable_cases}
 COUNTED = number("count", COUNT, "cases of each kind")
 SEEDED: Option = ("--seed", {"default": SEED, "help": "the same seed makes the same cases"})
 INTO: Option = ("--in", {"dest": "folder", "metavar": "FOLDER", "help": "write them there"})
@@ -343,7 +328,10 @@ INTO: Option = ("--in", {"dest": "folder", "metavar": "FOLDER", "help": "write t
 @Test("make-cases", "the generated cases are what the generator makes, byte for byte", options=(INTO, COUNTED, SEEDED))
 def make_cases(tally: Tally, options: Namespace) -> None:
     folder = options.folder or tally.folder
-    make(options.seed, options.count, folder)
-    for name in NAMES:
+    os.makedirs(folder, exist_ok=True)
+    for name, cases in GENERATED.items():
+        text = Text(options.seed, options.count)
+        cases(text)
+        write(f"{folder}/{name}", "\n".join([*text.lines, ""]))
         is_same = options.folder or filecmp.cmp(f"{folder}/{name}", f"{TOP}/cases/{name}", shallow=False)
         tally.check(is_same, f"cases/{name} is not what `tools/test make-cases --in cases` makes")
