@@ -108,12 +108,6 @@ def is_right(kind: str, how: str, command: str, ample: Answer, found: Answer, of
     return begun and (status, err) == (3, f"read failed at {offset}\n".encode())
 
 
-def opened_once(tally: Tally, words: list[str], files: list[str], program: str) -> None:
-    """How many files are opened, and that no call is in vain."""
-    _, report = ended(tally.folder, words, "count 1 nothing", program)
-    tally.same(" ".join(words), report[:2], [f"opened {len(files)}", "vain 0"])
-
-
 def quiet(tally: Tally, names: Iterable[str]) -> None:
     """The calls that take no memory, on these files: made three times they grow as much as made not at all."""
     counts = [ended(tally.folder, ["quiet", times, *names], "count 1 nothing", CALLS) for times in ("0", "3")]
@@ -206,7 +200,8 @@ def failing_calls(tally: Tally, options: Namespace) -> None:
     for program, words, files in calls():
         opened = [*(it for it in words if it == RULES), *files]
         words = [*words, *files]
-        opened_once(tally, words, opened, program)
+        _, report = ended(tally.folder, words, "count 1 nothing", program)
+        tally.same(" ".join(words), report[:2], [f"opened {len(opened)}", "vain 0"])
         # A source that returns nothing where there is more is a file that shrank.
         shrinks = [("read", "nothing")] if "--seek" in words or "copy" in words else []
         for kind, how in [*FAILURES, *shrinks, ("read", "bytes"), ("write", "bytes")]:

@@ -8,7 +8,7 @@ import os, random, resource, struct, sys
 from argparse import Namespace
 from collections.abc import Callable, Iterator
 from dataclasses import dataclass
-from itertools import chain
+from itertools import chain, product
 
 from .cases import Answer, Case, every_case
 from .failing_calls import failing_library
@@ -185,25 +185,19 @@ def wrong_with(case: Case, library: str, report: str) -> str:
 FAR = (2**24 + 8, 2**29 + 8, 2**30 - 136)
 
 
-def far_file(name: str, at: int, order: str) -> int:
-    """Writes a sparse file of a header, far from it two section headers, and a name table of one byte after them; how long it is."""
-    mark, data = ("<", 1) if order == LITTLE else (">", 2)
-    header = b"\x7fELF\2" + bytes([data, 1, *[0] * 9]) + struct.pack(f"{mark}HHIQQQIHHHHHH", 1, 62, 1, 0, 0, at, 0, 64, 0, 0, 64, 2, 1)
-    with open(name, "wb") as it:
-        it.write(header)
-        it.seek(at + 64)
-        it.write(struct.pack(f"{mark}IIQQQQIIQQ", 0, 3, 0, 0, at + 128, 1, 0, 0, 1, 0))
-        it.truncate(at + 136)
-    return at + 136
-
-
-def far_tables(tally: Tally, folder: str, library: str) -> None:
-    for order, at in ((order, at) for order in (LITTLE, "big") for at in FAR):
-        right = f"ok {far_file(f'{folder}/f', at, order)} 2 0\n".encode()
-        for command in (["check"], ["check", "--seek"]):
-            output = run(PROGRAM, *command, f"{folder}/f", env=counting(library, f"{folder}/report")).stdout
-            memory, most = asked(f"{folder}/report"), LEAST_MEMORY + (0 if "--seek" in command else MOST_MEMORY * at)
-            what = f"{' '.join(command)} of a table at {at}, {order}"
+def far_tables(tally: Tally, library: str) -> None:
+    """Sparse files of a header, far from it two section headers, and a name table of one byte after them."""
+    path, report = f"{tally.folder}/f", f"{tally.folder}/report"
+    for (order, mark, data), at in product(((LITTLE, "<", 1), ("big", ">", 2)), FAR):
+        header = struct.pack(f"{mark}4s12BHHIQQQIHHHHHH", b"\x7fELF", 2, data, 1, *[0] * 9, 1, 62, 1, 0, 0, at, 0, 64, 0, 0, 64, 2, 1)
+        with open(path, "wb") as it:
+            it.write(header)
+            it.seek(at + 64)
+            it.write(struct.pack(f"{mark}IIQQQQIIQQ", 0, 3, 0, 0, at + 128, 1, 0, 0, 1, 0))
+            it.truncate(at + 136)
+        for command, most in (["check"], LEAST_MEMORY + MOST_MEMORY * at), (["check", "--seek"], LEAST_MEMORY):
+            output, right = run(PROGRAM, *command, path, env=counting(library, report)).stdout, b"ok %d 2 0\n" % (at + 136)
+            memory, what = asked(report), f"{' '.join(command)} of a table at {at}, {order}"
             tally.check(output == right and memory <= most, f"{what}: {output!r}, and not {right!r}; {memory} bytes, and not {most}")
 
 
@@ -218,4 +212,4 @@ def hostile_files(tally: Tally, options: Namespace) -> None:
     for number, it in enumerate(chain(of_cases, many_rows(), large_rows())):
         why = wrong_with(it, library, f"{tally.folder}/report")
         tally.check(not why, f"row {number}, {it}: {why}")
-    far_tables(tally, tally.folder, library)
+    far_tables(tally, library)

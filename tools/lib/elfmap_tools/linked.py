@@ -190,20 +190,17 @@ class Both:
         return list(self.map.differences(File(self.shop.content("by-ld"))))
 
 
-def compiled_parts(shop: Workshop, words: str) -> Iterator[str]:
-    for it in PARTS:
-        yield (name := shop.compiled("gcc", f"{it}.c", [*LD_FLAGS, *words.split()]))
-        # ld reads .eh_frame and writes it anew.
-        shop.wanted("objcopy", "--rename-section", ".eh_frame=.frames", name)
-
-
 @Test("linked-like-ld", "the link map beside ld's link", commands="gcc ld objcopy", crates="elfmap", family="linked")
 def linked_like_ld(tally: Tally, options: Namespace) -> None:
     totals = Counter[str]()
     for title, words, base, page, fits in LD_CASES:
         with tally.trying(title):
             shop = Workshop(tally.new_folder(title))
-            both = Both(shop, list(compiled_parts(shop, words)), base, page, RULES, ["ld", "-m", "elf_x86_64"])
+            objects = [shop.compiled("gcc", f"{it}.c", [*LD_FLAGS, *words.split()]) for it in PARTS]
+            for it in objects:
+                # ld reads .eh_frame and writes it anew.
+                shop.wanted("objcopy", "--rename-section", ".eh_frame=.frames", it)
+            both = Both(shop, objects, base, page, RULES, ["ld", "-m", "elf_x86_64"])
             if fits:
                 wrong, made = both.differences(), both.map
                 tally.check(not wrong, f"{title}: {'; '.join(wrong)}")

@@ -38,6 +38,7 @@ FAILED_WRITE = re.compile(r"\b(?:WriteFault|\w+::Write) \{|\w+::Io \{ ?written")
 MOST_IN_TEXT = 1 << 20
 FUNCTION = re.compile(r" *(?!ghost)(?:[\w()]+ +)*fn (\w+)")
 ARM = re.compile(r"(?!match |let |if )(.*?) => ")
+ENUM_WITH_WANT = re.compile(r"^(?:pub(?:\(crate\))? )?enum (\w+)[^{]*\{(?:[^{}]|\{[^}]*\})*?^    OutOfMemory,", re.M)
 LET = re.compile(r"(?:.*(?:if|while|&&) )?let (.*?) = (.*?)( else)? \{$")
 
 
@@ -223,12 +224,6 @@ WAYS = {
 WRITE_WAYS = ["a limit", "an arm for any fault", "a sum that may be too large", "a helper that always fails"]
 
 
-def enums_with_want(texts: dict[str, str]) -> set[str]:
-    """The types that have out of memory among other"""
-    enum = re.compile(r"^(?:pub(?:\(crate\))? )?enum (\w+)[^{]*\{(?:[^{}]|\{[^}]*\})*?^    OutOfMemory,", re.M)
-    return {it[1] for text in texts.values() for it in enum.finditer(text)}
-
-
 def laid_out(code: str, depth: int) -> str:
     """Code in the lines of `rt fmt`."""
     lines = list[str]()
@@ -253,8 +248,9 @@ def memory_faults(tally: Tally, options: Namespace) -> None:
     forms, wrong = faults_in(found)
     tally.count(sum(forms.values()) + len(wrong), wrong)
     tally.note(", ".join(f"{count} {form}" for form, count in forms.most_common()))
+    enums = {name for text in found.values() for name in ENUM_WITH_WANT.findall(text)}
     # Of each crate the first function with either fault, and the value that is planted there.
-    enums, places, writers = enums_with_want(found), dict[str, tuple[Function, str]](), dict[str, tuple[Function, str]]()
+    places, writers = dict[str, tuple[Function, str]](), dict[str, tuple[Function, str]]()
     for it in (it for path, text in found.items() for it in functions_in(path, text) if not it.is_from):
         crate = it.path.split("/")[1]
         if it.faults == "out" or it.fault in enums:

@@ -7,7 +7,6 @@ rules 1 and 40 there are none. The reference implementation says which rule a fi
 and its status and what it writes become a word. Tools that are not installed have no column."""
 
 import argparse, os, random, re, shutil, subprocess, tempfile
-from collections.abc import Iterator
 
 from .cases import every_case
 from .machine_files import content_of, objects_of
@@ -72,20 +71,12 @@ def case_files() -> Files:
     return found
 
 
-def made_files() -> Iterator[tuple[str, bytes]]:
-    """The files that cc makes."""
-    with tempfile.TemporaryDirectory(prefix="peers-") as room:
-        for name, words in MADE.items():
-            yield name, read_bytes(by_cc(f"{room}/made", words, "answer_peers.c"))
-
-
 def first_rule(content: bytes) -> int | None:
     """The first rule that a file breaks: of images, else of its tables, else of objects."""
     broken = verdict(content)
     rule = broken[0] if broken else refused_by(shown(content))
-    if rule is None and content[16:18] == b"\1\0":
-        broken = object_verdict(content)
-        return broken[0] if broken else None
+    if rule is None and content[16:18] == b"\1\0" and (broken := object_verdict(content)):
+        return broken[0]
     return rule
 
 
@@ -117,28 +108,28 @@ def said_of(tool: str, content: bytes) -> str:
 
 
 def row(title: str, contents: list[bytes], tools: list[str]) -> str:
-    cells = [
-        list(dict.fromkeys(said)) if len(set(said)) == 1 else said for said in ([said_of(it, own) for own in contents] for it in tools)
-    ]
-    return f"| {title} | {len(contents)} | {' | '.join(', '.join(it) for it in cells)} |"
+    said = ([said_of(tool, it) for it in contents] for tool in tools)
+    cells = (", ".join(it if len(set(it)) > 1 else it[:1]) for it in said)
+    return f"| {title} | {len(contents)} | {' | '.join(cells)} |"
 
 
 def peers(options: argparse.Namespace) -> int:
     tools = [it for it, words in TOOLS.items() if shutil.which(words.split()[0])]
-    made = list(made_files())
-    changed, rest = changed_files([content for _, content in made]), case_files()
+    with tempfile.TemporaryDirectory(prefix="peers-") as room:
+        made = {name: read_bytes(by_cc(f"{room}/made", words, "answer_peers.c")) for name, words in MADE.items()}
+    changed = changed_files(list(made.values()))
+    found = case_files() | changed
     print(HEAD.format(most=FILES_A_RULE))
     for it in tools:
         print(f"- `{TOOLS[it]}`: {run(TOOLS[it].split()[0], '--version').stdout.decode().strip().splitlines()[0].strip()}")
     print(f"\n| rule | files | {' | '.join(f'`{it}`' for it in tools)} |\n|---|---|{'---|' * len(tools)}")
-    for name, content in made:
+    for name, content in made.items():
         print(row(f"none: {name}", [content], tools))
-    rules = sorted(changed.keys() | rest.keys())
-    for rule in rules:
+    for rule, contents in sorted(found.items()):
         kind = next(kind for kind, own in KINDS.values() if rule in own)
         title = f"{rule} `{by_anchor()[f'{kind}-{rule}'].name}`" + ("" if rule in changed else " *")
-        print(row(title, changed.get(rule) or rest[rule], tools))
-    print(f"\n{sum(len(changed.get(it) or rest[it]) for it in rules)} files.")
+        print(row(title, contents, tools))
+    print(f"\n{sum(map(len, found.values()))} files.")
     return 0
 
 
