@@ -35,8 +35,7 @@ NUMBER = {"u8": "uint8_t", "u16": "uint16_t", "u32": "uint32_t", "u64": "uint64_
 OF_PROGRAM = "struct elfmap_block"
 STRUCT = re.compile(r"`(struct elfmap_\w+)`[^\n]*\n#\[repr\(C\)\]\n#\[derive[^\n]*\npub struct (\w+) \{\n(.*?)^\}", re.M | re.S)
 EXPORT = re.compile(r'#\[unsafe\(no_mangle\)\]\npub extern "C" fn (\w+)\((.*?)\) -> (\w+)', re.S)
-# The tag in C, the name in Rattle, and the fields with their types as C has them.
-Struct = tuple[str, str, list[tuple[str, str]]]
+FIELD, SIZES = re.compile(r"^    pub (\w+): \[?(\w+)(?:; (\w+)\])?,", re.M), {"": "", "EI_NIDENT": "[16]"}
 
 # ---- the header beside the texts of the library
 
@@ -44,14 +43,6 @@ Struct = tuple[str, str, list[tuple[str, str]]]
 def text_of(crates: Iterable[str]) -> str:
     """The code of these crates."""
     return "\n".join(read_text(it) for crate in crates for it in texts_of(crate) if it.endswith(".rt"))
-
-
-def structs_in(text: str) -> Iterator[Struct]:
-    """The structs that C shares: of each its name in C, its name in Rattle, and its fields with their types as C has them."""
-    sizes, kinds = {"EI_NIDENT": 16}, {**NUMBER, **{name: tag for tag, name, _ in STRUCT.findall(text)}}
-    for tag, name, body in STRUCT.findall(text):
-        fields = re.findall(r"^    pub (\w+): (\[?)(\w+)(?:; (\w+)\])?,", body, re.M)
-        yield tag, name, [(field, kinds[kind] + (f"[{sizes[size]}]" if array else "")) for field, array, kind, size in fields]
 
 
 def parameters(text: str, tags: dict[str, str]) -> list[str]:
@@ -66,11 +57,13 @@ def parameters(text: str, tags: dict[str, str]) -> list[str]:
 
 def compare_header(tally: Tally) -> None:
     """The header and the texts of the library say the same: so the fields of a struct are at the same offsets."""
-    shared = list(structs_in(text_of(it for it in libraries() if it == VERDICTS or it.startswith(f"{VERDICTS}_"))))
-    tags = {name: tag for tag, name, _ in shared}
+    found = STRUCT.findall(text_of(it for it in libraries() if it == VERDICTS or it.startswith(f"{VERDICTS}_")))
+    tags = {name: tag for tag, name, _ in found}
+    types = NUMBER | tags
+    shared = {tag: [(name, types[kind] + SIZES[size]) for name, kind, size in FIELD.findall(body)] for tag, _, body in found}
     declared = {f"struct {tag}": [(name, kind + f"[{count}]" * bool(count)) for kind, name, count in own] for tag, own in structs().items()}
     del declared[OF_PROGRAM]
-    tally.same("the structs of the header", declared, {tag: fields for tag, _, fields in shared})
+    tally.same("the structs of the header", declared, shared)
     for crate, result in RESULTS.items():
         exported = EXPORT.findall(text_of([crate]))
         tally.same(f"the calls of {crate}", calls(result), {name: parameters(given, tags) for name, given, _ in exported})
@@ -205,14 +198,6 @@ MADE = ["-c -O1", "-c -O0 -ffunction-sections", "-x c++ -c -O1 -g", "-nostdlib -
 MADE += ["-shared -nostdlib -fPIC -Wl,--hash-style=sysv -Wl,-soname,answer.so"]
 
 
-def files_for_laws(room: str) -> Iterator[str]:
-    """What cc makes of a few lines of C, and the files of the cases that are accepted."""
-    yield from (by_cc(f"{room}/made-{k}", words, "answer_twice.c") for k, words in enumerate(MADE))
-    sound = (it for it in case_files() if 64 <= len(it) <= LONGEST and c_lines(it)[0] == "verdict kept")
-    for k, content in enumerate(sorted(sound, key=lambda it: (-len(set(it)), it))):
-        yield write(f"{room}/case-{k}", content)
-
-
 COPIES = (number("count", 20000, "so many copies"), number("seed", 1, "the same seed makes the same copies"))
 ABOUT = "bytes of files changed; what the library for C says of each copy agrees with itself (bindings/c/laws.c)"
 
@@ -220,7 +205,11 @@ ABOUT = "bytes of files changed; what the library for C says of each copy agrees
 @Test("laws", ABOUT, commands=PACKERS, crates=BOTH, alone=True, options=COPIES)
 def laws(tally: Tally, options: Namespace) -> None:
     wanted("cc", "-O2", *WARNINGS, f"{C}/laws.c", packed(), "-o", f"{tally.folder}/laws")
-    files = list(files_for_laws(tally.folder))[:MOST]
+    # What cc makes of a few lines of C, and the files of the cases that are accepted.
+    made = [by_cc(f"{tally.folder}/made-{k}", words, "answer_twice.c") for k, words in enumerate(MADE)]
+    sound = (it for it in case_files() if 64 <= len(it) <= LONGEST and c_lines(it)[0] == "verdict kept")
+    of_cases = enumerate(sorted(sound, key=lambda it: (-len(set(it)), it))[: MOST - len(made)])
+    files = [*made, *(write(f"{tally.folder}/case-{k}", content) for k, content in of_cases)]
     counts = [options.count // PROCESSORS + (k < options.count % PROCESSORS) for k in range(PROCESSORS)]
     words = [[f"{tally.folder}/laws", str(it), str(options.seed * PROCESSORS + k), *files] for k, it in enumerate(counts)]
     for ran in side_by_side(lambda it: said(*it, folder=os.getcwd()), words):

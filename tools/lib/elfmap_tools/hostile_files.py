@@ -1,10 +1,10 @@
 """`tools/test hostile-files`: the cases of cases/ that have files, tables made to do harm among them (cases/hostile.txt), large objects and
 large files, through the commands of the program. No call takes a second of the processor, or asks for more than a MiB of memory and 128
 times as many bytes as its files have, all growths together; `check --seek` for no more than a MiB and twice as many bytes as the tables
-have. Each call has a stack of STACK bytes. The large files have up to 4 MB, but for sparse ones of up to 2^30 bytes, whose tables are far from the header: there `check` and
-`check --seek` have to find them. `failing.c` counts what is asked for. The answers of large objects are the reference implementation's."""
+have. Each call has a small stack. The large files have up to 4 MB, but for sparse ones of up to 2^30 bytes, whose tables are far from the
+header. `failing.c` counts what is asked for. The answers of large objects are the reference implementation's."""
 
-import os, random, resource, struct, sys
+import os, random, struct, sys
 from argparse import Namespace
 from collections.abc import Callable, Iterator
 from dataclasses import dataclass
@@ -15,8 +15,8 @@ from .failing_calls import failing_library
 from .making import hash_content, note_content
 
 from .reference import (
-    ALLOC, DYNSYM, HASH, NOTE, PROGBITS, STRTAB, SYMTAB_SHNDX, File, check, edited, group, mapped, object_file, relocations, rewritten,
-    section, shown, symbol, text, words,
+    ALLOC, DYNSYM, HASH, NOTE, PROGBITS, STRTAB, File, check, edited, group, mapped, object_file, object_of, relocations, rewritten, section,
+    shown, symbol, text, with_index_table, words,
 )  # fmt: skip
 from .suite import Tally, Test, environment
 from .tree import PROGRAM, TOP, read_text, run
@@ -84,8 +84,7 @@ def many_rows() -> Iterator[Row]:
     symbols = [symbol(b"signature %d" % k, 10 + k, WEAK) for k in range(10)] + [symbol(b"name%d" % k, 10 + k) for k in range(270)]
     sections = [*groups, *plain, *fields, own_notes]
     file = object_file(sections, symbols)
-    indexes = section(b".symtab_shndx", SYMTAB_SHNDX, bytes(4 * len(symbols) + 4), 0, 4, 4)
-    indexed = edited(object_file([*sections, indexes], symbols), ("sh_link", len(sections) + 1, len(sections) + 2))
+    indexed = with_index_table(object_of(sections, symbols))
     for it in (file, indexed):
         for command in ("check", "check --seek", "show", "rewrite", "map --base 0x400000 --page 0x1000", "map --rules r --base 0 --page 1"):
             yield row(command, it)
@@ -145,17 +144,11 @@ def asked(report: str) -> int:
     return found
 
 
-def seconds_of_children() -> float:
-    """The seconds of the processor that the calls took up to now."""
-    used = resource.getrusage(resource.RUSAGE_CHILDREN)
-    return used.ru_utime + used.ru_stime
-
-
 def run_case(case: Case, library: str, report: str) -> tuple[Answer, float, int]:
-    """The answer, the seconds of the processor, and the bytes that were asked for."""
-    before = seconds_of_children()
+    """The answer, the seconds of the processor, of this process's children, and the bytes that were asked for."""
+    before = sum(os.times()[2:4])
     answer = case.found("prlimit", f"--stack={STACK}", PROGRAM, env=counting(library, report))
-    return answer, seconds_of_children() - before, asked(report)
+    return answer, sum(os.times()[2:4]) - before, asked(report)
 
 
 def wrong_with(case: Case, library: str, report: str) -> str:

@@ -7,8 +7,8 @@ from typing import Any
 
 from .reference import (
     ABS, ALLOC, COMMON, DYNAMIC, DYNAMIC_SECTION, DYNSYM, ENTRY_SIZE, EXEC, GROUP, HASH, IN_GROUP, INFO_LINK, LOAD, NOBITS, NOTE,
-    PROGBITS, PROGRAM_HEADER, REL, RELA, RELOCATION, STRTAB, SYMBOL, SYMTAB, SYMTAB_SHNDX, UNDEF, WRITE, File, Value, edited, elf_hash,
-    group, laid, object_file, record, relocations, section, symbol, text, words,
+    PROGBITS, PROGRAM_HEADER, REL, RELA, RELOCATION, STRTAB, SYMBOL, SYMTAB, SYMTAB_SHNDX, UNDEF, WRITE, File, edited, elf_hash, group,
+    laid, object_of, record, relocations, section, symbol, text, with_index_table, words,
 )  # fmt: skip
 
 Chance = random.Random
@@ -83,7 +83,7 @@ def an_object(chance: Chance, order: str | None = None) -> Any:
     """An object of a few sections and symbols."""
     order, osabi = order or chance.choice(("little", "big")), chance.choice((0, 0, 3))
     sections = [plain_section(chance) for _ in range(chance.randrange(5))]
-    o = Value(order=order, osabi=osabi, abi=0, machine=62, flags=0, sections=sections, symbols=[])
+    o = object_of(sections, [], order, osabi)
     places = list(range(len(o.sections)))
     count = chance.randrange(6)
     local = chance.randrange(count + 1)
@@ -103,10 +103,7 @@ def an_object(chance: Chance, order: str | None = None) -> Any:
 def an_object_file(chance: Chance, order: str | None = None) -> bytes:
     """The file of an object, every fourth time with an index table, which its symbols don't need."""
     o = an_object(chance, order)
-    if chance.randrange(4):
-        return laid(o)
-    o.sections.append(section(b".symtab_shndx", SYMTAB_SHNDX, bytes(4 + 4 * len(o.symbols)), 0, 4, 4))
-    return edited(laid(o), ("sh_link", len(o.sections), len(o.sections) + 1))
+    return laid(o) if chance.randrange(4) else with_index_table(o)
 
 
 def full_object() -> bytes:
@@ -123,9 +120,8 @@ def full_object() -> bytes:
         relocations([(1, 4, 2, 2**64 - 4)], 1, b".rela.text.f", IN_GROUP | INFO_LINK),
         section(b".rel.data", REL, [(0, 2, 1, 0), (8, 5, 1, 0)], INFO_LINK, 8, 16, info=3),
         section(b".note", NOTE, words("little", 4, 5, 1) + b"own\0" + bytes(8), ALLOC, 4),
-        section(b".symtab_shndx", SYMTAB_SHNDX, bytes(4 + 4 * len(symbols)), 0, 4, 4),
     ]
-    return edited(object_file(sections, symbols), ("sh_link", len(sections), len(sections) + 1))
+    return with_index_table(object_of(sections, symbols))
 
 
 def hash_content(order: str, names: list[bytes], bucket_count: int) -> bytes:

@@ -108,9 +108,19 @@ def symbol(name: bytes, section: int | None, info: int = 0x10, value: int = 0, s
     return Value(name=name, info=info, other=other, value=value, size=size, section=section, reserved=reserved)
 
 
+def object_of(sections: Sequence[Any], symbols: Sequence[Any] = (), order: str = "little", osabi: int = 0) -> Any:
+    return Value(order=order, osabi=osabi, abi=0, machine=62, flags=0, sections=list(sections), symbols=list(symbols))
+
+
 def object_file(sections: Sequence[Any], symbols: Sequence[Any] = (), order: str = "little") -> bytes:
     """The file of an object, in its canonical layout: after its own sections .symtab, .strtab and .shstrtab."""
-    return laid(Value(order=order, osabi=0, abi=0, machine=62, flags=0, sections=list(sections), symbols=list(symbols)))
+    return laid(object_of(sections, symbols, order))
+
+
+def with_index_table(o: Any) -> bytes:
+    """The file of an object with an index table, which its symbols don't need."""
+    o.sections.append(section(b".symtab_shndx", SYMTAB_SHNDX, bytes(4 + 4 * len(o.symbols)), 0, 4, 4))
+    return edited(laid(o), ("sh_link", len(o.sections), len(o.sections) + 1))
 
 
 def relocations(entries: list[tuple[int, int, int, int]], target: int, name: bytes = b".rela.text", flags: int = 0) -> Any:
