@@ -15,7 +15,7 @@ Then bodies are planted that make either fault thoughtlessly: in each library on
 import collections, functools, glob, re
 from argparse import Namespace
 from collections.abc import Iterator
-from dataclasses import dataclass, field
+from dataclasses import dataclass
 
 from .sources import LITERAL, indent_of
 from .suite import Tally, Test
@@ -36,6 +36,7 @@ WRITTEN |= {"ToolFault": "ToolFault::Write { written: 0 }", "ObjectWriteFault": 
 WRITTEN |= {"ExecFault": "ExecFault::Io { written: 0 }"}
 FAILED_WRITE = re.compile(r"\b(?:WriteFault|\w+::Write) \{|\w+::Io \{ ?written")
 MOST_IN_TEXT = 1 << 20
+CLAUSE = re.compile(r" +(requires|ensures|decreases|where)\b")
 FUNCTION = re.compile(r" *(?!ghost)(?:[\w()]+ +)*fn (\w+)")
 ARM = re.compile(r"(?!match |let |if )(.*?) => ")
 ENUM_WITH_WANT = re.compile(r"^(?:pub(?:\(crate\))? )?enum (\w+)[^{]*\{(?:[^{}]|\{[^}]*\})*?^    OutOfMemory,", re.M)
@@ -53,11 +54,9 @@ class Function:
     head: str
     begin: int
     end: int
-    # Its fault, and what the head says of it: `out` where out of memory is the only one, `other` of any other `Result`.
-    fault: str = field(init=False)
-    faults: str = field(init=False)
 
     def __post_init__(self) -> None:
+        # Its fault, and what the head says of it: `out` where out of memory is the only one, `other` of any other `Result`.
         answer = self.head.partition("->")[2].strip("() {")
         found = re.search(r"(\w+)>$", answer)
         self.fault = found[1] if found and "Result" in answer else ""
@@ -86,19 +85,15 @@ def functions_in(path: str, text: str) -> list[Function]:
     lines, found, outer = [LITERAL.sub("", it).rstrip() for it in text.split("\n")], list[Function](), ""
     for at, line in enumerate(lines):
         outer = line if line.startswith(("impl", "pub trait", "trait")) else "" if line.startswith("}") else outer
-        head = FUNCTION.match(line)
-        indent = " " * indent_of(line)
+        head, indent = FUNCTION.match(line), " " * indent_of(line)
         if head and line.endswith("}"):
             found.append(Function(path, lines, outer, head[1], line.partition(" {")[0], at - 1, at + 1))
         elif head:
             begin = next(k for k in range(at, len(lines)) if lines[k].endswith(";") or re.fullmatch(rf"{indent}(\S.*)?\{{\}}?", lines[k]))
             if lines[begin].endswith("{"):
-                end = lines.index(f"{indent}}}", begin)
-                clauses = next(
-                    k for k in range(at, begin + 1) if k == begin or re.match(r" +(requires|ensures|decreases|where)\b", lines[k])
-                )
-                words = " ".join(it.strip() for it in lines[at : clauses + (clauses == begin)])
-                found.append(Function(path, lines, outer, head[1], words, begin, end))
+                clauses = next((k for k in range(at, begin) if CLAUSE.match(lines[k])), begin + 1)
+                words = " ".join(it.strip() for it in lines[at:clauses])
+                found.append(Function(path, lines, outer, head[1], words, begin, lines.index(f"{indent}}}", begin)))
     return found
 
 
@@ -118,20 +113,16 @@ def is_out(pattern: str) -> bool:
     return all(WANT.search(it) for it in pattern.split("|"))
 
 
-# A place where a fault is made, by its line, and why it may be, if it may.
-Place = tuple[int, str]
-
-
 class Reading:
-    """The places of one function."""
+    """The places of one function: of each its line, and why a fault may be made there, if it may."""
 
     def __init__(self, function: Function, memory_calls: set[str], write_calls: set[str]) -> None:
         self.function, self.memory_calls, self.write_calls = function, memory_calls, write_calls
-        self.places, self.written, self.sizes = list[Place](), list[Place](), list[tuple[int, str]]()
+        self.places, self.written, self.sizes = list[tuple[int, str]](), list[tuple[int, str]](), list[tuple[int, str]]()
         for at in range(function.begin + 1, function.end):
             line = function.lines[at]
             made = re.sub(r"[!=]= [\w:]+", "", re.sub(r"^.*? => |\blet .*? = ", "", line))
-            self.places += [(at, self.form(at)) for _ in WANT.finditer(made)]
+            self.places += [(at, self.form(at))] * len(WANT.findall(made))
             if FAILED_WRITE.search(f"{made} {function.lines[at + 1].strip()}" if made.endswith("::Io {") else made):
                 self.written.append((at, self.failed(at)))
             for size in SIZE.findall(line):
