@@ -1,17 +1,8 @@
 """`tools/test failing-calls`: every call of the C library that elfmap makes, failing once. A small library, `failing.c`, which is loaded
 before the C library, refuses the Nth `malloc` or `realloc`, or fails, cuts or interrupts the Nth `open`, `read`, `lseek`, or `write` to
-standard output, for N from 1 until the program ends without it; the next call would succeed. What has to come:
-
-  a call that is refused memory: `out of memory` and status 3, with nothing on standard output, or for `show` a beginning of its text; or
-    all that comes with enough memory, where the program can do without;
-  a call of `open`: `cannot open NAME` and status 3, with nothing on standard output;
-  a call of `read` or `lseek`: `read failed at K` and status 3, where K is the offset that was to be read, and nothing on standard output;
-  a call of `write`: `write failed after K` and status 3, and the first K bytes are written;
-  a `read` or `write` of one byte, or all of them: all that comes else.
-
-Nothing is tried again; a file is opened once, nothing is read into no space, nothing empty is written, and nothing is synchronized. Of
-`tests_calls` the calls `write`, `object` and `copy` are tried in the same way: what `copy` has written before a failed `read` is the
-beginning of the file.
+standard output, for N from 1 until the program ends without it; the next call would succeed. `is_right` says how the program has to end.
+Nothing is tried again; a file is opened once, nothing is read into no space, nothing empty is written, and nothing is synchronized. The
+calls `write`, `object` and `copy` of the program `tests_calls` are tried in the same way.
 
 By `growths` it makes the calls of the library one by one, with the Nth growth refused, and with that and all after it: each call answers
 out of memory or what it answers with enough; a reading goes on where a growth was refused, and loses nothing; what takes no memory answers
@@ -44,7 +35,8 @@ CALLS = output_of("tests_calls")
 # Files by hand, those of a link together, with a symbol at which its executable can begin.
 BY_HAND: dict[tuple[str, ...], str] = {("one_section",): "", ("many_sections",): "", ("call_0", "call_1"): "main"}
 BY_HAND |= {("common_0", "common_1", "common_2"): "x", ("groups_0", "groups_1"): "f", ("hash",): ""}
-PLACE = ["--base", "0x400000", "--page", "0x1000"]
+MAP, LINK = ([it, "--base", "0x400000", "--page", "0x1000"] for it in ("map", "link"))
+BY_RULES = ["--rules", RULES]
 READINGS = (["check"], ["check", "--seek"], ["show"], ["rewrite"])
 
 
@@ -91,19 +83,21 @@ def ended(folder: str, words: list[str], call: str = "", program: str = PROGRAM)
 
 
 def is_right(kind: str, how: str, command: str, ample: Answer, found: Answer, offset: int) -> bool:
-    """Whether the program ended as it has to where a call of this kind failed at an offset."""
+    """Whether the program ended as it has to, where a call of this kind failed at an offset, and as it ends where none does."""
     (status, out, err), text = found, ample[1]
     if how in ("cut", "bytes"):
         return found == ample
     if command in OWN and kind in ("malloc", "open") and (status, out) == (1, b"") and err.startswith(b"Error: "):
         return True
     if kind == "malloc":
+        # It may do without; and of `show` a beginning of the text may be written.
         begun = out == b"" or command == "show" and text.startswith(out)
         return found == ample or (status, err) == (3, b"out of memory\n") and begun
     if kind == "open":
         return status == 3 and out == b"" and bool(re.fullmatch(rb"cannot open \S+\n", err))
     if kind == "write":
         return found == (3, text[:offset], f"write failed after {offset}\n".encode())
+    # What `copy` has written before a failed `read` is a beginning of the file.
     begun = out == b"" or command == "copy" and text.startswith(out) and out != text
     return begun and (status, err) == (3, f"read failed at {offset}\n".encode())
 
@@ -178,19 +172,17 @@ def calls_by_hand() -> Iterator[list[str]]:
     """Each command on the files by hand: the words of each call."""
     for names, entry in BY_HAND.items():
         yield from ([*words, name] for words in READINGS for name in names)
-        for words in (["map", *PLACE], ["map", *PLACE, "--rules", RULES], ["link", *PLACE, "--entry", entry, "--rules", RULES]):
-            yield [*words, *names]
+        yield from ([*words, *names] for words in (MAP, [*MAP, *BY_RULES], [*LINK, "--entry", entry, *BY_RULES]))
 
 
 def calls() -> Iterator[tuple[str, list[str], list[str]]]:
     """Of each call the program, the words, and the files among them."""
-    alone = ("call_0", "caller.o", "many.o", "full.o", "refused", "/bin/true")
-    yield from ((PROGRAM, words, [name]) for words in READINGS for name in alone)
     both, broken = ["caller.o", "callee.o"], ["caller.o", "refused", "callee.o"]
-    none, with_rules = list[str](), ["--rules", RULES]
-    for more, files in ((none, both), (with_rules, both), (with_rules, ["full.o"]), (none, ["many.o"]), (none, broken)):
-        yield PROGRAM, ["map", *PLACE, *more], files
-    yield from ((PROGRAM, ["link", *PLACE, "--entry", "main", *with_rules], files) for files in (both, ["caller.o"], broken))
+    for name in ("call_0", "caller.o", "many.o", "full.o", "refused", "/bin/true"):
+        yield from ((PROGRAM, words, [name]) for words in READINGS)
+    yield from ((PROGRAM, MAP, files) for files in (both, ["many.o"], broken))
+    yield from ((PROGRAM, [*MAP, *BY_RULES], files) for files in (both, ["full.o"]))
+    yield from ((PROGRAM, [*LINK, "--entry", "main", *BY_RULES], files) for files in (both, ["caller.o"], broken))
     yield from ((CALLS, [call], [name]) for call in OWN for name in ("call_0", "caller.o", "full.o", "refused"))
 
 
@@ -198,8 +190,7 @@ def calls() -> Iterator[tuple[str, list[str], list[str]]]:
 def failing_calls(tally: Tally, options: Namespace) -> None:
     make_files(tally.folder)
     for program, words, files in calls():
-        opened = [*(it for it in words if it == RULES), *files]
-        words = [*words, *files]
+        opened, words = [*(it for it in words if it == RULES), *files], [*words, *files]
         _, report = ended(tally.folder, words, "count 1 nothing", program)
         tally.same(" ".join(words), report[:2], [f"opened {len(opened)}", "vain 0"])
         # A source that returns nothing where there is more is a file that shrank.

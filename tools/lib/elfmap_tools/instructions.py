@@ -2,12 +2,12 @@
 numbers in bench/instructions. So a command that got slower fails on a busy machine too, where seconds say little.
 
 A row is a command and its input. It fails if its count is more than 3 % above its stored number, if no number is stored, or if the command
-does not end with status 0. A stored number without a row fails, and so does a command of `elfmap --help` without a row. If a count is more
-than 3 % below its stored number, a line says so, and the row passes. `--store` stores the counts, if every command ended with status 0.
+does not end with status 0. A stored number without a row fails, and so does a command of `elfmap --help` without a row. `--store` stores
+the counts, if every command ended with status 0.
 
-valgrind counts (its tool callgrind). It interprets the program, so the same run always has the same count. It counts each byte of
-`rep movsb` and `rep stosb`. The program runs in its own folder, with relative names, the same environment, and the same routines of the C
-library on every processor. With another version of the C library or of valgrind the counts are slightly different."""
+valgrind counts (its tool callgrind). It interprets the program, so the same run always has the same count. The program runs in its own
+folder, with relative names, the same environment, and the same routines of the C library on every processor. With another version of the C
+library or of valgrind the counts are slightly different."""
 
 import fcntl, os, re, shutil, subprocess, sys
 from argparse import Namespace

@@ -1,17 +1,16 @@
 """The tests `tools/test linked`: what `elfmap map --rules` and `elfmap link` make, beside the system's `ld` and where it runs.
 
-- linked-like-ld: gcc compiles a program of three C files in a few ways; elfmap maps it by rules/x86-64.rules; and ld links the same files
-  by a script made of the lines `output` and `common`: each output section at its address, its members in order, nothing said of where they
-  are in it. Then each live section has the same bytes at its address in what ld wrote, each output section the same length, each name the
-  same value; and where the program does not fit its addresses, ld refuses it too. Where ld edits sections itself, the files are made
-  without what it edits: strings to be merged, and .eh_frame, which is renamed. From 2^63 on ld counts modulo 2^64: that is left out.
-- linked-runs: programs of C and C++, and of C over Debian's klibc, of which the objects that a program needs are taken from its archive,
-  print and end the same by ld and by elfmap; the executable is the reference's, and `check`, readelf and eu-elflint accept it.
-- linked-elsewhere: the same for the other machines of rules/ that qemu has, by qemu. The program reads numbers through addresses and
+- linked-like-ld: elfmap maps a program of three C files, and ld links them by a script made of the map's lines `output` and `common`: each
+  output section at its address, its members in order. Then ld has the same sections, each live one with the same bytes, and each name with
+  the same value; and where the program does not fit its addresses, ld refuses it too. The files are made without what ld edits itself:
+  strings to be merged, and .eh_frame, which is renamed. From 2^63 on ld counts modulo 2^64: that is left out.
+- linked-runs: programs of C and C++, and of C over Debian's klibc, with the objects of its archive that they need, print and end the same
+  by ld and by elfmap; the executable is the reference's, and `check`, readelf and eu-elflint accept it.
+- linked-elsewhere: the same by qemu, for the other machines of rules/ that it has. The program reads numbers through addresses and
   differences of each kind that data have; code there reaches what is elsewhere by kinds that no rule says (docs/RULE_FILES.md), so the
   addresses that it needs are beside it.
 - linked-kinds: for each file of rules an object has fields of each kind that docs/RULE_FILES.md names, with numbers near both ends of their
-  range, and the machine's `ld` puts the same bytes there. So the assembler agrees with the numbers of the kinds, and `ld` with the lines.
+  range, and the machine's `ld` puts the same bytes there.
 - made-programs, in made_programs.py."""
 
 import glob, os, re
@@ -63,15 +62,17 @@ class Workshop:
         """Links objects by elfmap as the file by-elfmap."""
         made = self.run(PROGRAM, "link", "--base", base, "--page", page, "--entry", entry, "--rules", rules, *objects)
         if made.returncode:
-            raise SystemExit(f"link ended with status {made.returncode}: {made.stderr[:200]!r}")
+            raise SystemExit(f"link {ending(made)}")
         write(f"{self.folder}/by-elfmap", made.stdout)
 
     def answers(self, *emulator: str) -> list[tuple[int, bytes, bytes]]:
         """How the programs by ld and by elfmap end, and what they print."""
-        for it in ("by-ld", "by-elfmap"):
-            os.chmod(f"{self.folder}/{it}", 0o755)
-        ends = [self.run(*emulator, f"{self.folder}/{it}", "word") for it in ("by-ld", "by-elfmap")]
-        return [(it.returncode, it.stdout, it.stderr) for it in ends]
+        found = []
+        for program in (f"{self.folder}/by-ld", f"{self.folder}/by-elfmap"):
+            os.chmod(program, 0o755)
+            it = self.run(*emulator, program, "word")
+            found.append((it.returncode, it.stdout, it.stderr))
+        return found
 
 
 # ---- linked-like-ld
@@ -220,11 +221,11 @@ INCLUDES = [f"/usr/lib/klibc/include/{it}" for it in ("arch/x86_64", "bits64", "
 KLIBC_FLAGS = "-D__KLIBC__=2 -D__KLIBC_MINOR__=0 -D_BITSIZE=64 -nostdinc -iwithprefix include".split()
 KLIBC_FLAGS += [word for it in INCLUDES for word in ("-isystem", it)]
 CRT0 = f"{os.path.dirname(KLIBC)}/crt0.o"
-# A title, its sources, the ways to compile them, and the entry.
-RUNS: list[tuple[str, list[str], list[str], str]] = [
-    ("C", ["calls_main.c", "calls_other.c"], ["-O0", "-O1", "-O2", "-O3 -ffunction-sections -fdata-sections", "-Os"], "start"),
-    ("C++", ["stack_main.cc", "stack_other.cc"], ["-O0", "-O2", "-Os -ffunction-sections"], "start"),
-    ("C over klibc", ["library.c"], ["-O0", "-O2"], "_start"),
+# The compiler and its words, the sources, the ways to compile them, and the entry: a program of C, one of C++, and one of C over klibc.
+RUNS: list[tuple[str, list[str], list[str], list[str], str]] = [
+    ("gcc", C_FLAGS, ["calls_main.c", "calls_other.c"], ["-O0", "-O1", "-O2", "-O3 -ffunction-sections -fdata-sections", "-Os"], "start"),
+    ("g++", CXX_FLAGS, ["stack_main.cc", "stack_other.cc"], ["-O0", "-O2", "-Os -ffunction-sections"], "start"),
+    ("gcc", C_FLAGS + KLIBC_FLAGS, ["library.c"], ["-O0", "-O2"], "_start"),
 ]
 RUNNERS = f"gcc g++ ld ar readelf eu-elflint {KLIBC}"
 # Where each program is placed, and with which page; the kernel maps by pages of 0x1000.
@@ -254,17 +255,16 @@ def difference(shop: Workshop, objects: list[str], entry: str, base: str, page: 
 
 @Test("linked-runs", "programs run the same by ld and by elfmap", commands=RUNNERS, crates="elfmap", family="linked")
 def linked_runs(tally: Tally, options: Namespace) -> None:
-    for title, sources, words, entry in ((title, sources, words, entry) for title, sources, ways, entry in RUNS for words in ways):
-        with tally.trying(f"{title} {words}"):
-            shop = Workshop(tally.new_folder(f"{title} {words}"))
-            flags, is_klibc = words.split(), entry == "_start"
-            of_c, of_cxx = ["gcc", *C_FLAGS, *(KLIBC_FLAGS if is_klibc else [])], ["g++", *CXX_FLAGS]
-            made = [(of_cxx if it.endswith("cc") else of_c, it) for it in sources]
-            objects = [shop.compiled(compiler, it, [*own, *flags]) for (compiler, *own), it in made]
-            objects = with_archive(shop, [CRT0, *objects]) if is_klibc else objects
+    for way, (compiler, flags, sources, _, entry) in ((way, it) for it in RUNS for way in it[3]):
+        title = f"{' '.join(sources)} by {compiler} {way}"
+        with tally.trying(title):
+            shop = Workshop(tally.new_folder(title))
+            objects = [shop.compiled(compiler, it, [*flags, *way.split()]) for it in sources]
+            if entry == "_start":
+                objects = with_archive(shop, [CRT0, *objects])
             for place in PLACES:
                 wrong = difference(shop, objects, entry, *place)
-                tally.check(not wrong, f"{title} {words}: {wrong}")
+                tally.check(not wrong, f"{title}: {wrong}")
 
 
 # ---- linked-elsewhere
