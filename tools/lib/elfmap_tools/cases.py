@@ -1,14 +1,14 @@
 """Cases: the words with which elfmap is run, the files that it is given, and what it has to answer. `tools/test cases` tries those of
 cases/*.txt, whose heads say how they are written; `tools/test make-cases` generates the files cases/made-*.txt."""
 
-import filecmp, functools, glob, os, random, re, shlex, tempfile
+import filecmp, glob, os, random, re, shlex, tempfile
 from argparse import Namespace
 from collections.abc import Callable, Iterable, Iterator
 from dataclasses import dataclass, field
 from typing import Any
 
 from .building import output_of
-from .making import SPOKEN_OF, Chance, a_file, an_object, an_object_file, fuzzed, one_thing_wrong
+from .making import SPOKEN_OF, Chance, a_file, an_object, an_object_file, changed_field, fuzzed
 
 from .reference import (
     Broken, File, check, entries_of, laid, link_refusal, linked, mapped, object_verdict, rewritten, shown, table_verdict, verdict,
@@ -17,8 +17,6 @@ from .suite import Option, Tally, Test, named, number
 from .tree import PROGRAM, TOP, T, libraries, read_text, run, write
 
 Files = dict[str, bytearray]
-
-
 # The status, standard output and standard error.
 Answer = tuple[int, bytes, bytes]
 
@@ -163,7 +161,7 @@ class Text:
         if content in self.files:
             return self.files[content]
         name = self.files[content] = f"f{len(self.files)}"
-        base = like[: len(content)].ljust(len(content), b"\0") if like is not None else bytes(len(content))
+        base = (like or b"")[: len(content)].ljust(len(content), b"\0")
         self.lines.append(f"file {name}" + (f" like {self.files[like]}" if like is not None else ""))
         self.lines[-1] += f" size {len(content)}" if like is None or len(like) != len(content) else ""
         lines = ((at, content[at : at + 32], base[at : at + 32]) for at in range(0, len(content), 32))
@@ -205,13 +203,19 @@ def broken_by_tables(content: bytes) -> set[int]:
 def wrong_in_one_thing(
     text: Text, rules: Iterable[int], made: Callable[[Chance, str], bytes], broken_by: Callable[[bytes], set[int]]
 ) -> Iterator[tuple[bytes, bytes]]:
-    """For each rule and byte order a sound file and one that breaks the rule."""
+    """For each rule and byte order a sound file, and what one change made of it, by which it breaks the rule."""
     for order in ("little", "big"):
-        chance = text.chance(f"{made.__name__} {order}", min(rules))
-        for sound, content in one_thing_wrong(chance, rules, functools.partial(made, order=order), broken_by):
-            text.file(sound)
-            text.file(content, sound)
-            yield sound, content
+        chance, left = text.chance(f"{made.__name__} {order}", min(rules)), list(rules)
+        while left:
+            sound = made(chance, order)
+            for rule in list(left):
+                tried = (changed_field(chance, sound, rule) for _ in range(12))
+                found = next((it for it in tried if it is not None and rule in broken_by(it)), None)
+                if found is not None:
+                    left.remove(rule)
+                    text.file(sound)
+                    text.file(found, sound)
+                    yield sound, found
 
 
 def once(pairs: Iterable[tuple[bytes, bytes]]) -> Iterator[tuple[bytes, bytes]]:

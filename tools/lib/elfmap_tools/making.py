@@ -2,7 +2,6 @@
 of it goes by a source of chance, so that the same seed makes the same files."""
 
 import random
-from collections.abc import Callable, Iterable, Iterator
 from typing import Any
 
 from .reference import (
@@ -294,18 +293,3 @@ def changed_field(chance: Chance, file: bytes, of_rule: int) -> bytes | None:
     old, another = (int.from_bytes(file[place : place + width], order) for place in (at, other))
     new = int(fixed) if fixed else chance.choice((value(chance, width, len(file), old), another, chance.randrange(20)))
     return file[:at] + new.to_bytes(width, order) + file[at + width :]
-
-
-def one_thing_wrong(
-    chance: Chance, rules: Iterable[int], made: Callable[[Chance], bytes], broken_by: Callable[[bytes], set[int]]
-) -> Iterator[tuple[bytes, bytes]]:
-    """For each of these rules a sound file, and what one change made of it, by which it breaks the rule."""
-    left = list(rules)
-    while left:
-        sound = made(chance)
-        for rule in list(left):
-            changed = (changed_field(chance, sound, rule) for _ in range(12))
-            found = next((it for it in changed if it is not None and rule in broken_by(it)), None)
-            if found is not None:
-                left.remove(rule)
-                yield sound, found
