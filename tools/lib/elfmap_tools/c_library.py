@@ -18,7 +18,7 @@ from .building import built
 from .cases import Case, case_files, every_case
 from .library import BOTH, ENGINES, FUNCTIONS, PACKERS, RENAMED, VERDICTS, calls, packed, structs
 from .packages import SANITIZERS
-from .reference import shown
+from .reference import parsed, shown
 from .suite import Tally, Test, number
 from .dump import c_lines
 from .tree import PROCESSORS, TOP, by_cc, libraries, read_bytes, read_text, said, side_by_side, texts_of, wanted, write
@@ -129,15 +129,9 @@ def answer_of(case: Case) -> bytes | None:
 
 def call_of(case: Case) -> list[str] | None:
     """The words of the test for a case; None where it needs a file that is none."""
-    given, (command, *words) = dict(it.partition("=")[::2] for it in case.needs), case.words
-    options, files, rest = dict[str, str](), list[str](), iter(words)
-    for it in rest:
-        if it.startswith("--"):
-            options[it] = next(rest)
-        else:
-            files.append(it)
+    given, (options, files), command = dict(it.partition("=")[::2] for it in case.needs), parsed(case.words), case.words[0]
     rules = options.get("--rules")
-    if "--seek" in words or not all(given.get(it) for it in ([*files, rules] if rules else files)):
+    if "--seek" in options or not all(given.get(it) for it in ([*files, rules] if rules else files)):
         return None
     if command in ("show", "rewrite"):
         return [command, *files]

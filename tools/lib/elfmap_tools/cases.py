@@ -10,15 +10,11 @@ from typing import Any
 from .building import output_of
 from .making import SPOKEN_OF, Chance, a_file, an_object, an_object_file, changed_field, fuzzed
 
-from .reference import (
-    Broken, File, check, entries_of, laid, link_refusal, linked, mapped, object_verdict, rewritten, shown, table_verdict, verdict,
-)  # fmt: skip
+from .reference import Broken, File, answer, entries_of, laid, mapped, object_verdict, table_verdict, verdict
 from .suite import Option, Tally, Test, named, number
-from .tree import PROGRAM, TOP, T, libraries, read_text, run, write
+from .tree import PROGRAM, TOP, Answer, T, answer_of, libraries, read_text, run, write
 
 Files = dict[str, bytearray]
-# The status, standard output and standard error.
-Answer = tuple[int, bytes, bytes]
 
 
 @dataclass
@@ -42,8 +38,7 @@ class Case:
         """What a program answers, in a folder with the files that the case needs."""
         with tempfile.TemporaryDirectory(prefix="case-") as room:
             put_needs(room, self.needs, self.files)
-            ran = run(*program, *self.words, folder=room, timeout=60, **more)
-        return ran.returncode, ran.stdout, ran.stderr
+            return answer_of(run(*program, *self.words, folder=room, timeout=60, **more))
 
 
 @dataclass
@@ -168,12 +163,17 @@ class Text:
         self.lines += [f"  {at:#x} {own.hex()}" for at, own, other in lines if own != other]
         return name
 
-    def case(self, words: str, needs: dict[str, bytes], status: int, said: str | bytes, complained: str = "") -> None:
-        """A case, whose output is a text, or the bytes of a file."""
-        output = [f"= {self.file(said)}"] if isinstance(said, bytes) else [f"> {line}" for line in said.splitlines()]
+    def case(self, words: str, needs: dict[str, bytes], like: bytes | None = None) -> None:
+        """A case with the answer of the reference implementation, if it has one; a file that is written may be a change of another."""
+        found = answer(words.split(), needs)
+        if found is None:
+            return
+        status, out, err = found
+        is_file = status == 0 and words.startswith(("rewrite ", "link "))
+        output = [f"= {self.file(out, like)}"] if is_file else [f"> {line}" for line in out.decode("latin1").splitlines()]
         given = " ".join(f"{name}={self.file(content)}" for name, content in needs.items())
         self.lines += [f"run {words}   with {given}", *[f"status {status}"] * (status != 0), *output]
-        self.lines += [f"! {line}" for line in complained.splitlines()]
+        self.lines += [f"! {line}" for line in err.decode("latin1").splitlines()]
 
     def chance(self, kind: str, k: int) -> Chance:
         return random.Random(f"{self.seed} {kind} {k}")
@@ -235,28 +235,15 @@ def series(text: Text, kind: str, made: Callable[[Chance], T]) -> Iterator[tuple
         yield k, chance, sound
 
 
-def say_image(text: Text, command: str, content: bytes) -> None:
-    said = shown(content) if command == "show" else check(content) + "\n"
-    text.case(f"{command} f", {"f": content}, int(verdict(content) is not None), said)
-
-
 def image_cases(text: Text) -> None:
     for _, wrong in wrong_in_one_thing(text, [rule for rule in SPOKEN_OF if rule < 40], a_file, lambda it: rules_of(verdict(it))):
         for command in ("check", "check --seek", "show"):
-            say_image(text, command, wrong)
+            text.case(f"{command} f", {"f": wrong})
     for content, _ in once(wrong_in_one_thing(text, [rule for rule in SPOKEN_OF if 40 < rule < 70], a_file, broken_by_tables)):
-        say_image(text, "show", content)
+        text.case("show f", {"f": content})
     for k, chance, sound in series(text, "image", a_file):
-        say_image(text, ("check", "check --seek", "show", "show")[k % 4], changed(chance, text, sound))
-
-
-def say_object(text: Text, content: bytes, like: bytes) -> None:
-    refusal, written = rewritten(content) or (None, b"")
-    if refusal:
-        text.case("rewrite f", {"f": content}, 1, "", refusal)
-    elif refusal is not None:
-        text.file(written, like)
-        text.case("rewrite f", {"f": content}, 0, written)
+        command = ("check", "check --seek", "show", "show")[k % 4]
+        text.case(f"{command} f", {"f": changed(chance, text, sound)})
 
 
 # Rules on segments, which an object has none of; and on notes, dynamic sections and hash tables, which it has as bytes, or not at all.
@@ -265,12 +252,12 @@ OF_SEGMENTS, NOT_OF_OBJECTS = [19, 21, *range(25, 30)], range(59, 70)
 
 def object_cases(text: Text) -> None:
     for sound, wrong in wrong_in_one_thing(text, OF_SEGMENTS, a_file, broken_by_object):
-        say_object(text, wrong, sound)
+        text.case("rewrite f", {"f": wrong}, sound)
     rules = [rule for rule in SPOKEN_OF if rule not in OF_SEGMENTS and rule not in NOT_OF_OBJECTS]
     for content, like in once(wrong_in_one_thing(text, rules, an_object_file, broken_by_object)):
-        say_object(text, content, like)
+        text.case("rewrite f", {"f": content}, like)
     for _, chance, sound in series(text, "object", an_object_file):
-        say_object(text, changed(chance, text, sound), sound)
+        text.case("rewrite f", {"f": changed(chance, text, sound)}, sound)
 
 
 def objects_to_link(chance: Chance) -> list[bytes]:
@@ -283,7 +270,7 @@ def objects_that_link(chance: Chance) -> list[bytes]:
     """The files of one object to three that link, mostly with some bytes and a name to begin at."""
     for _ in range(300):
         found = objects_to_link(chance)
-        if entries(found) and link_refusal(found, *PLACES[0], RULES[0]) is None:
+        if entries(found) and not mapped(found, *PLACES[0], RULES[0]).startswith(("refused ", "file ")):
             break
     return found
 
@@ -307,9 +294,8 @@ def link_cases(text: Text) -> None:
     for chance, files in files_to_link(text, "link", objects_to_link):
         base, page = chance.choice(PLACES[:2] * 3 + PLACES)
         rules = chance.choice((None, *RULES))
-        said = mapped([*files.values()], base, page, rules)
         words, needs = ("", files) if rules is None else (" --rules r", {**files, "r": rules})
-        text.case(f"map --base {base} --page {page}{words} {' '.join(files)}", needs, int(said.startswith(("refused ", "file "))), said)
+        text.case(f"map --base {base} --page {page}{words} {' '.join(files)}", needs)
 
 
 def executable_cases(text: Text) -> None:
@@ -317,9 +303,7 @@ def executable_cases(text: Text) -> None:
         base, page = chance.choice(PLACES[:2] * 4 + PLACES)
         rules = chance.choice((RULES[0], *RULES))
         entry = chance.choice(entries([*files.values()]) * 4 + ["main", "x"])
-        refusal, file = linked([*files.values()], base, page, rules, entry.encode())
-        words = f"link --base {base} --page {page} --entry {entry} --rules r {' '.join(files)}"
-        text.case(words, {**files, "r": rules}, int(bool(refusal)), "" if refusal else file, refusal)
+        text.case(f"link --base {base} --page {page} --entry {entry} --rules r {' '.join(files)}", {**files, "r": rules})
 
 
 GENERATED = {"made-images.txt": image_cases, "made-objects.txt": object_cases}

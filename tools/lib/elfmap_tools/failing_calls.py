@@ -14,14 +14,13 @@ from collections.abc import Iterable, Iterator
 from itertools import count
 
 from .building import output_of
-from .cases import Answer
 from .making import full_object
 
 from .reference import (
     ALLOC, COMMON, HASH, PROGBITS, WRITE, edited, group, object_file, relocations, section, symbol, text, words as number_words,
 )  # fmt: skip
 from .suite import Tally, Test, environment
-from .tree import PROGRAM, RULES, by_cc, read_text, run, wanted, write
+from .tree import PROGRAM, RULES, Answer, answer_of, by_cc, read_text, run, wanted, write
 
 CALLER = "int callee(int); extern int shared; int common; int main(void) { return callee(1) + shared + common; }\n"
 CALLEE = "static int calls; int shared = 2; int callee(int x) { return calls += x; }\n"
@@ -79,7 +78,7 @@ def ended(folder: str, words: list[str], call: str = "", program: str = PROGRAM)
     report = write(f"{folder}/report", "")
     around = environment(LD_PRELOAD=f"{folder}/failing.so", FAILING_CALL=f"{call} {report}")
     it = run(program, *words, folder=folder, env=around)
-    return (it.returncode, it.stdout, it.stderr), read_text(report).split("\n")[:-1]
+    return answer_of(it), read_text(report).split("\n")[:-1]
 
 
 def is_right(kind: str, how: str, command: str, ample: Answer, found: Answer, offset: int) -> bool:

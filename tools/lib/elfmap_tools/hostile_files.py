@@ -10,16 +10,16 @@ from collections.abc import Callable, Iterator
 from dataclasses import dataclass
 from itertools import chain, product
 
-from .cases import Answer, Case, every_case
+from .cases import Case, every_case
 from .failing_calls import failing_library
 from .making import hash_content, note_content
 
 from .reference import (
-    ALLOC, DYNSYM, HASH, NOTE, PROGBITS, STRTAB, File, check, edited, group, mapped, object_file, object_of, relocations, rewritten, section,
-    shown, symbol, text, with_index_table, words,
+    ALLOC, DYNSYM, HASH, NOTE, PROGBITS, STRTAB, File, answer, edited, group, object_file, object_of, relocations, section, symbol, text,
+    with_index_table, words,
 )  # fmt: skip
 from .suite import Tally, Test, environment
-from .tree import PROGRAM, TOP, read_text, run
+from .tree import PROGRAM, TOP, Answer, read_text, run
 
 sys.path.insert(0, f"{TOP}/bench")
 import made  # noqa: E402
@@ -28,7 +28,6 @@ MOST_SECONDS = 1.0
 LEAST_MEMORY, MOST_MEMORY, SEEKING_MEMORY = 1 << 20, 128, 2
 STACK = 1 << 20
 LITTLE, GLOBAL, WEAK, IN_GROUP = "little", 0x10, 0x20, 0x206
-RULES = b"2 pc 4 signed\n"
 
 
 @dataclass
@@ -41,26 +40,15 @@ class Row(Case):
 def row(command: str, *files: bytes, out: bytes | Callable[[bytes], bool] | None = None) -> Row:
     """A row of files f0, f1 and so on, with the answer of the reference implementation, if none is given."""
     names = [f"f{k}" for k in range(len(files))]
-    contents = {**dict(zip(names, map(bytearray, files))), "r": bytearray(RULES)}
-    found = Row([*command.split(), *names], [f"{it}={it}" for it in contents], files=contents)
+    contents = {**dict(zip(names, files)), "r": b"2 pc 4 signed\n"}
+    found = Row([*command.split(), *names], [f"{it}={it}" for it in contents], files={it: bytearray(own) for it, own in contents.items()})
     if callable(out):
         found.holds = out
     else:
-        answer = reference_answer(command.split(), files) if out is None else (0, out, b"")
-        found.status, found.out, found.err = answer
+        right = answer(found.words, contents) if out is None else (0, out, b"")
+        assert right
+        found.status, found.out, found.err = right
     return found
-
-
-def reference_answer(words: list[str], files: tuple[bytes, ...]) -> Answer:
-    """What the reference answers of files that nothing refuses."""
-    if words[0] == "map":
-        numbers = dict(zip(words[1::2], words[2::2]))
-        lines = mapped(files, numbers["--base"], numbers["--page"], RULES if "--rules" in numbers else None)
-        return int(lines.startswith("refused ")), lines.encode("latin1"), b""
-    if words[0] == "rewrite":
-        refusal, written = rewritten(files[0]) or ("", b"")
-        return int(bool(refusal)), written, refusal.encode()
-    return 0, (check(files[0]) + "\n").encode() if words[0] == "check" else shown(files[0]).encode("latin1"), b""
 
 
 def loaded(names: list[bytes], hash_words: bytes, strings: bytes = b"") -> bytes:
@@ -152,7 +140,7 @@ def run_case(case: Case, library: str, report: str) -> tuple[Answer, float, int]
 
 
 def wrong_with(case: Case, library: str, report: str) -> str:
-    answer, seconds, memory = run_case(case, library, report)
+    (status, out, err), seconds, memory = run_case(case, library, report)
     if seconds > MOST_SECONDS:
         # A machine with much to do beside it may take longer once.
         seconds = run_case(case, library, report)[1]
@@ -164,7 +152,6 @@ def wrong_with(case: Case, library: str, report: str) -> str:
     most = LEAST_MEMORY + (SEEKING_MEMORY if "--seek" in case.words else MOST_MEMORY) * lengths
     if memory > most:
         return f"it asks for {memory} bytes, and not for {most} at most"
-    status, out, err = answer
     if isinstance(case, Row) and case.holds:
         return "" if (status, err) == (0, b"") and case.holds(out) else f"status {status}, {out[-80:]!r}"
     if (status, out) == (case.status, case.out) and (err == case.err or status > 1 and not case.err):

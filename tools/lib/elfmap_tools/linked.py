@@ -21,9 +21,9 @@ from functools import partial
 from typing import Any, NamedTuple
 
 from .packages import BY_LLVM, KLIBC, MACHINES, RUN_BY_QEMU
-from .reference import ALLOC, NOBITS, SYMTAB, UNDEF, File, kept, linked, string, symbols
+from .reference import ALLOC, NOBITS, SYMTAB, UNDEF, File, answer, kept, string, symbols
 from .suite import Tally, Test
-from .tree import PROGRAM, RULES, TOP, ending, read_bytes, read_text, run, wanted, write
+from .tree import PROGRAM, RULES, TOP, Answer, answer_of, ending, read_bytes, read_text, run, wanted, write
 
 SOURCES = f"{TOP}/cases/sources"
 
@@ -65,13 +65,12 @@ class Workshop:
             raise SystemExit(f"link {ending(made)}")
         write(f"{self.folder}/by-elfmap", made.stdout)
 
-    def answers(self, *emulator: str) -> list[tuple[int, bytes, bytes]]:
+    def answers(self, *emulator: str) -> list[Answer]:
         """How the programs by ld and by elfmap end, and what they print."""
         found = []
         for program in (f"{self.folder}/by-ld", f"{self.folder}/by-elfmap"):
             os.chmod(program, 0o755)
-            it = self.run(*emulator, program, "word")
-            found.append((it.returncode, it.stdout, it.stderr))
+            found.append(answer_of(self.run(*emulator, program, "word")))
         return found
 
 
@@ -246,8 +245,8 @@ def difference(shop: Workshop, objects: list[str], entry: str, base: str, page: 
     by_ld, by_elfmap = shop.answers()
     if by_ld != by_elfmap or not by_ld[1]:
         return f"by ld it is {by_ld}, by elfmap {by_elfmap}"
-    contents = [shop.content(it) for it in objects]
-    if linked(contents, base, page, read_bytes(RULES), entry.encode()) != ("", shop.content("by-elfmap")):
+    words = ["link", "--base", base, "--page", page, "--entry", entry, "--rules", RULES, *objects]
+    if answer(words, {it: shop.content(it) for it in [*objects, RULES]}) != (0, shop.content("by-elfmap"), b""):
         return "the reference implementation links it otherwise"
     ends = ((words[0], shop.run(*words, "by-elfmap")) for words in ([PROGRAM, "check"], ["readelf", "-lW"], ["eu-elflint", "--quiet"]))
     return next((f"{os.path.basename(name)} {ending(it)}" for name, it in ends if it.returncode or it.stderr), "")

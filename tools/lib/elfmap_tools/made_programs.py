@@ -10,9 +10,9 @@ from argparse import Namespace
 from dataclasses import dataclass
 
 from .making import Chance
-from .reference import linked
+from .reference import answer
 from .suite import Tally, Test, number, tried_in_folder
-from .tree import PROGRAM, RULES, ending, read_bytes, run, side_by_side, wanted, write
+from .tree import PROGRAM, RULES, answer_of, ending, read_bytes, run, side_by_side, wanted, write
 
 ASSEMBLER = "x86_64-linux-gnu-as"
 RUNS = platform.machine() == "x86_64"
@@ -144,23 +144,21 @@ class Program:
         self.status = (self.status + number) % 2**32
 
 
-def assembled(path: str, lines: Lines) -> str:
-    """The path of the object that the assembler makes of these lines."""
+def assembled(path: str, lines: Lines) -> bytes:
+    """The object that the assembler makes of these lines, as a file too."""
     wanted(ASSEMBLER, write(f"{path}.s", "\n".join([*lines, ""])), "-o", f"{path}.o")
-    return f"{path}.o"
+    return read_bytes(f"{path}.o")
 
 
 def wrong_in(seed: int, k: int, folder: str) -> str:
     """What is wrong with program K."""
     chance = random.Random(f"{seed} {k}")
     made, (base, page) = Program(chance), chance.choice(PLACES)
-    objects = [assembled(f"{folder}/{k}", lines) for k, lines in enumerate(made.files)]
-    refusal, right = linked([read_bytes(it) for it in objects], base, page, read_bytes(RULES), b"main")
-    ended = run(PROGRAM, "link", "--base", base, "--page", page, "--entry", "main", "--rules", RULES, *objects)
-    if refusal or ended.returncode:
-        return f"refused: {refusal}, link {ending(ended)}"
-    if ended.stdout != right:
-        return "the reference implementation links it otherwise"
+    files = {f"{k}.o": assembled(f"{folder}/{k}", lines) for k, lines in enumerate(made.files)}
+    words = ["link", "--base", base, "--page", page, "--entry", "main", "--rules", RULES, *files]
+    ended = run(PROGRAM, *words, folder=folder)
+    if ended.returncode or answer_of(ended) != answer(words, {**files, RULES: read_bytes(RULES)}):
+        return f"link {ending(ended)}, or the reference implementation links it otherwise"
     program = write(f"{folder}/program", ended.stdout)
     if run(PROGRAM, "check", program).returncode:
         return "what is linked is refused"

@@ -12,11 +12,12 @@ import os, random, re, shutil, subprocess
 from argparse import Namespace
 from collections.abc import Iterable
 from functools import partial
+from itertools import zip_longest
 
 from .making import Chance, a_file, fuzzed
-from .reference import RELA, check, linked, mapped, rewritten, shown, verdict
+from .reference import RELA, answer
 from .suite import Tally, Test, number, tried_in_folder
-from .tree import PROGRAM, RULES, TOP, ending, read_bytes, run as run_command, side_by_side, write
+from .tree import PROGRAM, RULES, TOP, Answer, answer_of, ending, read_bytes, run as run_command, side_by_side, write
 
 run = partial(run_command, timeout=10)
 LONGEST = 1 << 19
@@ -65,57 +66,6 @@ def fuzzed_rules(rules: bytes, chance: Chance) -> bytes:
 
 # ---- what becomes of one
 
-
-def wrong_in(files: list[str], pair: list[str], seed: int, number: int, folder: str) -> str:
-    """What is wrong with the answers on fuzzed file NUMBER, which is written into a folder."""
-    chance = random.Random(f"{seed} {number}")
-    if number % 2 and len(pair) == 2:
-        names, types = pair, (RELA,) if chance.randrange(2) else ()
-    else:
-        names, types = [files[number // 2 % len(files)]], ()
-        if number // 2 % 4 == 3:
-            names = [write(f"{folder}/made", a_file(chance))]
-    changed, paths = chance.randrange(len(names)), list[str]()
-    for place, file in enumerate(map(read_bytes, names)):
-        content = fuzzed(file, chance, types) if place == changed or chance.randrange(4) == 0 else file
-        paths.append(write(f"{folder}/{os.path.basename(names[place])}", content))
-    try:
-        return wrong_with(paths[0]) if len(paths) == 1 else wrong_link(paths, folder, chance)
-    except subprocess.TimeoutExpired as late:
-        return f"{late.cmd[1]} did not end"
-
-
-def tried(files: list[str], pair: list[str], seed: int, number: int) -> str:
-    return tried_in_folder(f"fuzzed-{seed}-{number}", partial(wrong_in, files, pair, seed, number))
-
-
-def different(answer: str, right: str) -> str:
-    """The first line that is not the right one, and that one."""
-    pairs = zip(answer.splitlines(), right.splitlines())
-    return next((f"{one!r}, and not {other!r}" for one, other in pairs if one != other), "other lines")
-
-
-def wrong_with(path: str) -> str:
-    """What is wrong with the answers on a file."""
-    content = read_bytes(path)
-    answers = {it: run(PROGRAM, *it.split(), path) for it in ("check", "check --seek", "show", "rewrite")}
-    line, lines, answer = check(content) + "\n", shown(content), rewritten(content)
-    for command, it in answers.items():
-        if it.returncode not in (0, 1):
-            return f"{command} {ending(it)}"
-        if "check" in command and (it.returncode, it.stdout.decode()) != (line.startswith("refused "), line):
-            return f"{command} {ending(it)}, and not {line!r}"
-    found, written = answers["show"].stdout.decode("latin1"), answers["rewrite"]
-    if found != lines:
-        return f"show says {different(found, lines)}"
-    if answer and (written.stderr.decode(), written.stdout) != answer:
-        return f"rewrite says {written.stderr[:80]!r}, and not {answer[0]!r}, or it writes something else"
-    if written.returncode == 1:
-        return "rewrite refuses and writes" if written.stdout else ""
-    again = run(PROGRAM, "rewrite", write(path + ".new", written.stdout))
-    return "" if again.returncode == 0 and again.stdout == written.stdout else "what rewrite wrote it does not write again"
-
-
 # Bases and pages; the last pair breaks rule 1.
 PLACES = [("0x400000", "0x1000"), ("65536", "1"), ("0", "1"), ("0x80000000", "16"), ("0x7ffff000", "0x1000")]
 PLACES += [("0xffffffffffff0000", "4096"), ("0x1001", "0x1000")]
@@ -132,34 +82,60 @@ def bad_line(rules: bytes) -> int:
     return len(lines) + 1 if rest else 0
 
 
-def wrong_link(paths: list[str], folder: str, chance: Chance) -> str:
-    """What is wrong with the answers on the link of files."""
-    rules, contents = fuzzed_rules(read_bytes(RULES), chance), [read_bytes(it) for it in paths]
-    by, (base, page) = write(f"{folder}/rules", rules), chance.choice(PLACES)
-    place, missing = ["--base", base, "--page", page], [f"{folder}/missing"] * (chance.randrange(40) == 0)
-    plain, ruled = (run(PROGRAM, "map", *place, *more, *paths, *missing) for more in (list[str](), ["--rules", by]))
-    said = f"{' '.join(place)}: map {ending(plain)}, map --rules {ending(ruled)}"
-    bad, answers = bad_line(rules), [(plain, None), (ruled, rules)]
+def right_answer(words: list[str], files: dict[str, bytes]) -> Answer | None:
+    bad = bad_line(files["rules"]) if "--rules" in words else 0
     if bad:
-        del answers[1]
-        if (ruled.returncode, ruled.stdout, ruled.stderr) != (2, b"", b"bad rule line %d\n" % bad):
-            return f"line {bad} is bad; {said}"
-    if missing:
-        right = all((it.returncode, it.stdout) == (3, b"") and it.stderr.startswith(b"cannot open ") for it, _ in answers)
-        return "" if right else f"a file is not there; {said}"
-    for it, own in answers:
-        lines = mapped(contents, base, page, own)
-        if it.returncode not in (0, 1) or it.stderr or it.stdout.decode("latin1") != lines:
-            return f"not {lines[:200]!r}; {said}"
-    if bad:
+        return 2, b"", b"bad rule line %d\n" % bad
+    return (3, b"", b"cannot open missing\n") if "missing" in words else answer(words, files)
+
+
+def wrong_answer(folder: str, words: list[str], files: dict[str, bytes]) -> str:
+    """What is wrong with an answer on the files of a folder, or with what was written."""
+    ended, right = run(PROGRAM, *words, folder=folder), right_answer(words, files)
+    status, out, _ = found = answer_of(ended)
+    if status not in (0, 1) if right is None else found != right:
+        lines = zip_longest(out.splitlines(), right[1].splitlines() if right else [])
+        different = next((it for it in lines if it[0] != it[1]), ())
+        return f"{ending(ended)}, and not {right and (right[0], right[2])}; first other line {different!r}"[:600]
+    if status == 1 and out and words[0] == "rewrite":
+        return "it refuses and writes"
+    if status or words[0] not in ("rewrite", "link"):
         return ""
-    entry = chance.choice(ENTRIES)
-    made, (refusal, file) = run(PROGRAM, "link", *place, "--entry", entry, "--rules", by, *paths), linked(
-        contents, base, page, rules, entry.encode()
-    )
-    if (made.returncode, made.stdout, made.stderr) != (int(bool(refusal)), file, refusal.encode("latin1")):
-        return f"{' '.join(place)}, entry {entry}: not {refusal or file[:80]!r}; link {ending(made)}"
-    return "" if refusal or verdict(file) is None else f"{' '.join(place)}, entry {entry}: what link wrote is refused"
+    write(f"{folder}/written", out)
+    command = "rewrite" if words[0] == "rewrite" else "check"
+    again = run(PROGRAM, command, "written", folder=folder)
+    return f"{command} of what is written {ending(again)}" if again.returncode or command == "rewrite" and again.stdout != out else ""
+
+
+def wrong_in(sources: list[str], pair: list[str], seed: int, number: int, folder: str) -> str:
+    """What is wrong with the answers on fuzzed file NUMBER, or on a link of two files, which are written into a folder."""
+    chance, files = random.Random(f"{seed} {number}"), dict[str, bytes]()
+    names = pair if number % 2 else [sources[number // 2 % len(sources)]]
+    types = (RELA,) if number % 2 and chance.randrange(2) else ()
+    changed = chance.randrange(len(names))
+    for place, name in enumerate(names):
+        file = a_file(chance) if number % 8 == 6 else read_bytes(name)
+        content = fuzzed(file, chance, types) if place == changed or chance.randrange(4) == 0 else file
+        files[os.path.basename(name)] = content
+    commands = [["check"], ["check", "--seek"], ["show"], ["rewrite"]]
+    of_link = list(files)
+    if number % 2:
+        files["rules"] = fuzzed_rules(read_bytes(RULES), chance)
+        base, page = chance.choice(PLACES)
+        place_words, ruled = ["--base", base, "--page", page], ["--rules", "rules"]
+        commands = [["map", *place_words], ["map", *place_words, *ruled], ["link", *place_words, "--entry", chance.choice(ENTRIES), *ruled]]
+        of_link += ["missing"] * (chance.randrange(40) == 0)
+    for name, content in files.items():
+        write(f"{folder}/{name}", content)
+    try:
+        tries = ((words, wrong_answer(folder, [*words, *of_link], files)) for words in commands)
+        return next((f"{' '.join(words)}: {wrong}" for words, wrong in tries if wrong), "")
+    except subprocess.TimeoutExpired as late:
+        return f"{late.cmd[1]} did not end"
+
+
+def tried(sources: list[str], pair: list[str], seed: int, number: int) -> str:
+    return tried_in_folder(f"fuzzed-{seed}-{number}", partial(wrong_in, sources, pair, seed, number))
 
 
 OPTIONS = (number("count", 500, "so many files"), number("seed", 1, "the same seed makes the same files"))
@@ -172,6 +148,7 @@ def mutants(tally: Tally, options: Namespace) -> None:
         shutil.copy(f"{TOP}/cases/sources/{it}", tally.folder)
     system = [it for it in SYSTEM if os.path.exists(it) and os.path.getsize(it) <= LONGEST]
     files, pair = [*built(tally.folder, BUILDS), *system], built(tally.folder, PAIR)
-    tally.check(files and len(pair) == 2, "the compilers make no files")
+    if not tally.check(files and len(pair) == 2, "the compilers make no files"):
+        return
     tally.count(options.count, filter(None, side_by_side(partial(tried, files, pair, options.seed), range(options.count), True)))
     tally.note(f"{options.count} fuzzed files of {len(files)} files and a link, seed {options.seed}")

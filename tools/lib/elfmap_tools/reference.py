@@ -2,10 +2,10 @@
 modules have no types, so what they answer gets its type here. And small objects and files, made by their parts."""
 
 import sys
-from collections.abc import Callable, Sequence
+from collections.abc import Callable, Mapping, Sequence
 from typing import Any, cast
 
-from .tree import TOP
+from .tree import TOP, Answer
 
 sys.dont_write_bytecode = True
 sys.path.insert(0, f"{TOP}/reference")
@@ -76,9 +76,33 @@ def entries_of(contents: Sequence[bytes]) -> list[bytes]:
     return [name for name in it.entries if link.value_of(it, it.at, it.common_at, name)[1] != "zero"] if hasattr(it, "at") else []
 
 
-def link_refusal(contents: Sequence[bytes], base: str, page: str, rules: bytes) -> object:
-    """What is wrong with a link, None where nothing is."""
-    return link.judged(contents, int(base, 0), int(page, 0), link.rules_of(rules))[0]
+def parsed(words: Sequence[str]) -> tuple[dict[str, str], list[str]]:
+    """The options of a command with what follows each, and the names of its files."""
+    options, names, rest = dict[str, str](), list[str](), iter(words[1:])
+    for it in rest:
+        if it.startswith("--"):
+            options[it] = next(rest) if it != "--seek" else ""
+        else:
+            names.append(it)
+    return options, names
+
+
+def answer(words: Sequence[str], files: Mapping[str, bytes]) -> Answer | None:
+    """What elfmap answers, called with these words on files by their names; None where the reference leaves it open."""
+    options, names = parsed(words)
+    contents, rules = [files[it] for it in names], files.get(options.get("--rules", ""))
+    if words[0] == "map":
+        lines = mapped(contents, options["--base"], options["--page"], rules)
+        return int(lines.startswith(("refused ", "file "))), lines.encode("latin1"), b""
+    if words[0] == "link":
+        assert rules is not None
+        refusal, file = linked(contents, options["--base"], options["--page"], rules, options["--entry"].encode())
+        return int(bool(refusal)), file, refusal.encode("latin1")
+    if words[0] == "rewrite":
+        found = rewritten(contents[0])
+        return (int(bool(found[0])), found[1], found[0].encode()) if found else None
+    said = shown(contents[0]) if words[0] == "show" else check(contents[0]) + "\n"
+    return int(verdict(contents[0]) is not None), said.encode("latin1"), b""
 
 
 # ---- objects by their parts
