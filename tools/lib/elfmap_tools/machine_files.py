@@ -123,32 +123,30 @@ def compiled(folder: str) -> Iterator[str]:
 
 def sections(data: bytes) -> list[tuple[int, Any]]:
     """The sections that an object keeps: of each its index, and name, type, flags, address, alignment, entry size and content."""
-    f = File(data)
+    f, found = File(data), []
     names = f.content(f.name_table) if f.name_table else b"\0"
-
-    def own(i: int, it: Any) -> object:
+    for i, it in ((i, f.section(i)) for i in kept(f)):
         # Entries and words hold indexes: readelf lists these.
         content = it.sh_size if it.sh_type in (NOBITS, RELA, REL, GROUP) else f.content(i)
-        return string(names, it.sh_name), it.sh_type, it.sh_flags, it.sh_addr, it.sh_addralign, it.sh_entsize, content
-
-    return [(i, own(i, f.section(i))) for i in kept(f)]
+        own = string(names, it.sh_name), it.sh_type, it.sh_flags, it.sh_addr, it.sh_addralign, it.sh_entsize, content
+        found.append((i, own))
+    return found
 
 
 def listed(path: str, data: bytes) -> list[str]:
     """What readelf lists of symbols, relocations and groups, with positions for section indexes and without offsets; symbol 0 and the heads
     of tables left out, since an object without a symbol table gets one."""
-    position = {index: place for place, (index, _) in enumerate(sections(data))}
-    lines = []
-    for line in run("readelf", "-W", "-s", "-r", "-g", path).stdout.decode("utf-8", "replace").splitlines():
-        words = line.split()
-        if not words or words[0] in ("Symbol", "Num:", "0:"):
-            continue
-        # Of a symbol: a relocation's line has no colon after its first number.
-        if len(words) > 6 and words[0].endswith(":") and words[0][:-1].isdigit() and words[6].isdigit():
-            words[6] = f"@{position.get(int(words[6]), 'none')}"
-            line = " ".join(words)
-        line = re.sub(r"\[ *(\d+)\]", lambda it: f"@{position.get(int(it[1]), 'none')}", line)
-        lines.append(re.sub(r" at offset 0x[0-9a-f]+", "", line))
+    position, lines = {index: place for place, (index, _) in enumerate(sections(data))}, list[str]()
+
+    def moved(it: re.Match[str]) -> str:
+        return f"{it[1]}@{position.get(int(it[2]), 'none')}"
+
+    for words in map(str.split, run("readelf", "-W", "-s", "-r", "-g", path).stdout.decode("utf-8", "replace").splitlines()):
+        if words and words[0] not in ("Symbol", "Num:", "0:"):
+            # Of a symbol: a relocation's line has no colon after its first number.
+            line = re.sub(r"^(\d+:(?: \S+){5} )(\d+)(?= |$)", moved, " ".join(words))
+            line = re.sub(r"(\[) ?(\d+)(?=\])", moved, line)
+            lines.append(re.sub(r" at offset 0x[0-9a-f]+", "", line))
     return lines
 
 

@@ -10,7 +10,7 @@ import argparse, os, random, re, shutil, subprocess, tempfile
 
 from .cases import every_case
 from .machine_files import content_of, objects_of
-from .reference import SYMTAB, File, object_verdict, shown, verdict
+from .reference import SYMTAB, File, object_verdict, shown, symbols, verdict
 from .rules_tables import by_anchor
 from .tree import by_cc, read_bytes, run, side_by_side, write
 
@@ -141,8 +141,7 @@ def lengths(content: bytes) -> tuple[int, int]:
     f = File(content)
     last = f.section_count - 1
     strings, names = f.content(last - 1), f.content(last)
-    symbols = next(i for i, it in f.sections() if it.sh_type == SYMTAB)
-    at = {strings: [f.number(f.section(symbols).sh_offset + 24 * k, 4) for k in range(f.section(symbols).sh_size // 24)]}
+    at = {strings: [it.st_name for i, table in f.sections() if table.sh_type == SYMTAB for it in symbols(f, i)]}
     at[names] = [*(at[strings] if names == strings else []), *(it.sh_name for _, it in f.sections())]
     once = {text: {text[k : text.index(b"\0", k)] for k in places} for text, places in at.items()}
     return len(strings) + len(names), sum(1 + sum(len(it) + 1 for it in found if it) for found in once.values())

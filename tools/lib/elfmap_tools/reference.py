@@ -64,12 +64,6 @@ def mapped(contents: Sequence[bytes], base: str, page: str, rules: bytes | None 
     return str(link.map_lines(contents, int(base, 0), int(page, 0), None if rules is None else link.rules_of(rules)))
 
 
-def linked(contents: Sequence[bytes], base: str, page: str, rules: bytes, entry: bytes) -> tuple[str, bytes]:
-    """What `elfmap link` prints on standard error, and what it writes."""
-    refusal, file = executable.answer(contents, int(base, 0), int(page, 0), link.rules_of(rules), entry)
-    return refusal, file
-
-
 def entries_of(contents: Sequence[bytes]) -> list[bytes]:
     """The names of the files that an executable may begin at."""
     _, it = link.judged(contents, 0x400000, 0x1000)
@@ -95,8 +89,8 @@ def answer(words: Sequence[str], files: Mapping[str, bytes]) -> Answer | None:
         lines = mapped(contents, options["--base"], options["--page"], rules)
         return int(lines.startswith(("refused ", "file "))), lines.encode("latin1"), b""
     if words[0] == "link":
-        assert rules is not None
-        refusal, file = linked(contents, options["--base"], options["--page"], rules, options["--entry"].encode())
+        base, page = (int(options[it], 0) for it in ("--base", "--page"))
+        refusal, file = executable.answer(contents, base, page, link.rules_of(rules), options["--entry"].encode())
         return int(bool(refusal)), file, refusal.encode("latin1")
     if words[0] == "rewrite":
         found = rewritten(contents[0])
