@@ -5,14 +5,14 @@ status depends on where words, commons, weak and absolute names and groups that 
 is written is the executable of the reference implementation, byte for byte, and `elfmap check` accepts it. The same seed makes the same
 programs. What went wrong is put into the current folder, as made-program-SEED-K."""
 
-import functools, os, platform, random
+import os, platform, random
 from argparse import Namespace
 from dataclasses import dataclass
 
 from .making import Chance
 from .reference import answer
-from .suite import Tally, Test, number, tried_in_folder
-from .tree import PROGRAM, RULES, answer_of, ending, read_bytes, run, side_by_side, wanted, write
+from .suite import Tally, Test, count_tries, number
+from .tree import PROGRAM, RULES, answer_of, ending, read_bytes, run, wanted, write
 
 ASSEMBLER = "x86_64-linux-gnu-as"
 RUNS = platform.machine() == "x86_64"
@@ -167,16 +167,11 @@ def wrong_in(seed: int, k: int, folder: str) -> str:
     return f"it ends with {status}, and not with {made.status & 0xFF}" if status != made.status & 0xFF else ""
 
 
-def tried(seed: int, k: int) -> str:
-    return tried_in_folder(f"made-program-{seed}-{k}", functools.partial(wrong_in, seed, k))
-
-
 ABOUT = "programs of chance objects, linked and run"
 
 
 @Test("made-programs", ABOUT, commands=ASSEMBLER, crates="elfmap", alone=True, family="linked", options=OPTIONS)
 def made_programs(tally: Tally, options: Namespace) -> None:
-    wrong = side_by_side(functools.partial(tried, options.seed), range(options.count), True)
-    tally.count(options.count, filter(None, wrong))
+    count_tries(tally, options, "made-program", wrong_in)
     if not RUNS:
         tally.note("the programs do not run on this machine")

@@ -108,11 +108,6 @@ def last_call(expression: str) -> str:
     return ""
 
 
-def is_out(pattern: str) -> bool:
-    """Whether a pattern is of out of memory and of nothing else."""
-    return all(WANT.search(it) for it in pattern.split("|"))
-
-
 class Reading:
     """The places of one function: of each its line, and why a fault may be made there, if it may."""
 
@@ -145,7 +140,7 @@ class Reading:
             return "From"
         for pattern, expression, is_else in self.branches(at):
             is_growth = last_call(expression) in self.memory_calls
-            if not is_else and is_out(pattern):
+            if not is_else and all(WANT.search(it) for it in pattern.split("|")):
                 return "out of memory"
             if is_growth and (pattern.startswith("Ok") if is_else else pattern == "Err(_)"):
                 return "refused growth"
@@ -165,11 +160,6 @@ class Reading:
             if not is_else and pattern.startswith("Err") and (call in self.write_calls or expression in head and WRITTEN.keys() & head):
                 return "failed write"
         return "failed write" if self.function.name == "after" or self.function.is_from or self.function.is_of_write else ""
-
-
-def texts() -> dict[str, str]:
-    """The library's files, by their paths from the top."""
-    return {path: read_text(path) for path in sorted(glob.glob("crates/elf*/src/**/*.rt", root_dir=TOP, recursive=True))}
 
 
 def faults_in(found: dict[str, str]) -> tuple[collections.Counter[str], list[str]]:
@@ -235,7 +225,7 @@ def planted(text: str, function: Function, way: str, value: str) -> str:
 
 @Test("memory-faults", "out of memory and failed writes are made only where an allocation or a write failed")
 def memory_faults(tally: Tally, options: Namespace) -> None:
-    found = texts()
+    found = {path: read_text(path) for path in sorted(glob.glob("crates/elf*/src/**/*.rt", root_dir=TOP, recursive=True))}
     forms, wrong = faults_in(found)
     tally.count(sum(forms.values()) + len(wrong), wrong)
     tally.note(", ".join(f"{count} {form}" for form, count in forms.most_common()))

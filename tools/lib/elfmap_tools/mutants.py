@@ -16,8 +16,8 @@ from itertools import zip_longest
 
 from .making import Chance, a_file, fuzzed
 from .reference import RELA, answer
-from .suite import Tally, Test, number, tried_in_folder
-from .tree import PROGRAM, RULES, TOP, Answer, answer_of, ending, read_bytes, run as run_command, side_by_side, write
+from .suite import Tally, Test, count_tries, number
+from .tree import PROGRAM, RULES, TOP, Answer, answer_of, ending, read_bytes, run as run_command, write
 
 run = partial(run_command, timeout=10)
 LONGEST = 1 << 19
@@ -134,10 +134,6 @@ def wrong_in(sources: list[str], pair: list[str], seed: int, number: int, folder
         return f"{late.cmd[1]} did not end"
 
 
-def tried(sources: list[str], pair: list[str], seed: int, number: int) -> str:
-    return tried_in_folder(f"fuzzed-{seed}-{number}", partial(wrong_in, sources, pair, seed, number))
-
-
 OPTIONS = (number("count", 500, "so many files"), number("seed", 1, "the same seed makes the same files"))
 ABOUT, COMPILERS = "files and links with fields changed, beside the reference implementation", "gcc g++ clang ld.lld rustc as"
 
@@ -150,5 +146,5 @@ def mutants(tally: Tally, options: Namespace) -> None:
     files, pair = [*built(tally.folder, BUILDS), *system], built(tally.folder, PAIR)
     if not tally.check(files and len(pair) == 2, "the compilers make no files"):
         return
-    tally.count(options.count, filter(None, side_by_side(partial(tried, files, pair, options.seed), range(options.count), True)))
+    count_tries(tally, options, "fuzzed", partial(wrong_in, files, pair))
     tally.note(f"{options.count} fuzzed files of {len(files)} files and a link, seed {options.seed}")
