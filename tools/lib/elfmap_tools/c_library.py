@@ -149,7 +149,8 @@ def try_engines(tally: Tally, program: str) -> None:
     """What the engines answer of the cases, and of files of the machine."""
     tried = dict.fromkeys(COMMANDS, 0)
     for case in (it for it in every_case() if it.words[:1] and it.words[0] in COMMANDS):
-        right, call = answer_of(case), call_of(case) if answer_of(case) else None
+        right = answer_of(case)
+        call = call_of(case) if right else None
         if right and call:
             try_call(tally, program, replace(case, words=call), right)
             tried[case.words[0]] += 1
@@ -190,8 +191,6 @@ def c_library(tally: Tally, options: Namespace) -> None:
 MOST, LONGEST = 256, 1 << 16
 MADE = ["-c -O1", "-c -O0 -ffunction-sections", "-x c++ -c -O1 -g", "-nostdlib -static -Wl,-e,answer"]
 MADE += ["-shared -nostdlib -fPIC -Wl,--hash-style=sysv -Wl,-soname,answer.so"]
-
-
 COPIES = (number("count", 20000, "so many copies"), number("seed", 1, "the same seed makes the same copies"))
 ABOUT = "bytes of files changed; what the library for C says of each copy agrees with itself (bindings/c/laws.c)"
 

@@ -9,7 +9,6 @@ from typing import Any
 
 from .building import output_of
 from .making import SPOKEN_OF, Chance, a_file, an_object, an_object_file, changed_field, fuzzed
-
 from .reference import Broken, File, answer, entries_of, laid, mapped, object_verdict, table_verdict, verdict
 from .suite import Option, Tally, Test, named, number
 from .tree import PROGRAM, TOP, Answer, T, answer_of, libraries, read_text, run, write

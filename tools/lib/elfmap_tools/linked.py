@@ -26,8 +26,6 @@ from .suite import Tally, Test
 from .tree import PROGRAM, RULES, TOP, Answer, answer_of, ending, read_bytes, read_text, run, wanted, write
 
 SOURCES = f"{TOP}/cases/sources"
-
-
 # The assembler and the linker of a machine; of all others those of this one.
 HOST = (["as"], ["ld"])
 TOOLS = {machine: ([f"{target}-as"], [f"{target}-ld"]) for machine, target in MACHINES.items()}

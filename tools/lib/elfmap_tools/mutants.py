@@ -93,7 +93,7 @@ def wrong_answer(folder: str, words: list[str], files: dict[str, bytes]) -> str:
     """What is wrong with an answer on the files of a folder, or with what was written."""
     ended, right = run(PROGRAM, *words, folder=folder), right_answer(words, files)
     status, out, _ = found = answer_of(ended)
-    if status not in (0, 1) if right is None else found != right:
+    if right is None and status not in (0, 1) or right and found != right:
         lines = zip_longest(out.splitlines(), right[1].splitlines() if right else [])
         different = next((it for it in lines if it[0] != it[1]), ())
         return f"{ending(ended)}, and not {right and (right[0], right[2])}; first other line {different!r}"[:600]
@@ -101,10 +101,11 @@ def wrong_answer(folder: str, words: list[str], files: dict[str, bytes]) -> str:
         return "it refuses and writes"
     if status or words[0] not in ("rewrite", "link"):
         return ""
-    write(f"{folder}/written", out)
+    # What is written is accepted, and an object is written again as it is.
     command = "rewrite" if words[0] == "rewrite" else "check"
-    again = run(PROGRAM, command, "written", folder=folder)
-    return f"{command} of what is written {ending(again)}" if again.returncode or command == "rewrite" and again.stdout != out else ""
+    again = run(PROGRAM, command, write(f"{folder}/written", out))
+    is_right = again.returncode == 0 and (command == "check" or again.stdout == out)
+    return "" if is_right else f"{command} of what is written {ending(again)}"
 
 
 def wrong_in(sources: list[str], pair: list[str], seed: int, number: int, folder: str) -> str:
@@ -123,7 +124,8 @@ def wrong_in(sources: list[str], pair: list[str], seed: int, number: int, folder
         files["rules"] = fuzzed_rules(read_bytes(RULES), chance)
         base, page = chance.choice(PLACES)
         place_words, ruled = ["--base", base, "--page", page], ["--rules", "rules"]
-        commands = [["map", *place_words], ["map", *place_words, *ruled], ["link", *place_words, "--entry", chance.choice(ENTRIES), *ruled]]
+        of_map, entry = ["map", *place_words], ["--entry", chance.choice(ENTRIES)]
+        commands = [of_map, [*of_map, *ruled], ["link", *place_words, *entry, *ruled]]
         of_link += ["missing"] * (chance.randrange(40) == 0)
     for name, content in files.items():
         write(f"{folder}/{name}", content)
