@@ -8,7 +8,7 @@ By `growths` it makes the calls of the library one by one, with the Nth growth r
 out of memory or what it answers with enough; a reading goes on where a growth was refused, and loses nothing; what takes no memory answers
 as ever, and made three times it grows as much as made not at all."""
 
-import os, re, struct
+import os, re
 from argparse import Namespace
 from collections.abc import Iterable, Iterator
 from itertools import count
@@ -50,7 +50,7 @@ def files_by_hand() -> dict[str, bytes]:
         "many_sections": object_file([section(b"", PROGBITS)] * 65277),
         "call_0": object_file([text(call + b"\xc3"), relocations([(1, 2, 2, 2**64 - 4)], 0)], main),
         "call_1": object_file([text()], [symbol(b"callee", 0)]),
-        "common_0": object_file([section(b".data", PROGBITS, struct.pack("<I", 1), WRITE | ALLOC, 4)], [symbol(b"x", 0, 0x20)]),
+        "common_0": object_file([section(b".data", PROGBITS, number_words("little", 1), WRITE | ALLOC, 4)], [symbol(b"x", 0, 0x20)]),
         "common_1": object_file([], [symbol(b"x", None, value=4, size=4, reserved=COMMON)]),
         "common_2": object_file([], [symbol(b"x", None, value=2, size=8, reserved=COMMON)]),
         "groups_0": object_file(grouped, [f]),

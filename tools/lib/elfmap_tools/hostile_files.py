@@ -4,7 +4,7 @@ times as many bytes as its files have, all growths together; `check --seek` for 
 have. Each call has a small stack. The large files have up to 4 MB, but for sparse ones of up to 2^30 bytes, whose tables are far from the
 header. `failing.c` counts what is asked for. The answers of large objects are the reference implementation's."""
 
-import os, random, struct, sys
+import os, random, sys
 from argparse import Namespace
 from collections.abc import Callable, Iterator
 from dataclasses import dataclass
@@ -15,8 +15,8 @@ from .failing_calls import failing_library
 from .making import hash_content, note_content
 
 from .reference import (
-    ALLOC, DYNSYM, HASH, NOTE, PROGBITS, STRTAB, File, answer, edited, group, object_file, object_of, relocations, section, symbol, text,
-    with_index_table, words,
+    ALLOC, DYNSYM, HASH, NOTE, PROGBITS, SECTION_HEADER, STRTAB, SYMBOL, File, answer, edited, group, object_file, object_of, record,
+    relocations, section, symbol, text, with_index_table, words,
 )  # fmt: skip
 from .suite import Tally, Test, environment
 from .tree import PROGRAM, TOP, Answer, read_text, run
@@ -56,7 +56,7 @@ def loaded(names: list[bytes], hash_words: bytes, strings: bytes = b"") -> bytes
     strings = strings or b"\0" + b"".join(it + b"\0" for it in names[1:])
     at, entries = 1, bytes(24)
     for it in names[1:]:
-        entries += struct.pack("<IBBHQQ", at if it else 0, GLOBAL, 0, 0, 0, 0)
+        entries += record(LITTLE, SYMBOL, st_name=at if it else 0, st_info=GLOBAL)
         at += len(it) + 1
     symbols = section(b".dynsym", DYNSYM, entries, ALLOC, 8, 24, 0, 1)
     return object_file([section(b".dynstr", STRTAB, strings), symbols, section(b".hash", HASH, hash_words, ALLOC, 4, 4, 1)])
@@ -168,12 +168,13 @@ FAR = (2**24 + 8, 2**29 + 8, 2**30 - 136)
 def far_tables(tally: Tally, library: str) -> None:
     """Sparse files of a header, far from it two section headers, and a name table of one byte after them."""
     path, report = f"{tally.folder}/f", f"{tally.folder}/report"
-    for (order, mark, data), at in product(((LITTLE, "<", 1), ("big", ">", 2)), FAR):
-        header = struct.pack(f"{mark}4s12BHHIQQQIHHHHHH", b"\x7fELF", 2, data, 1, *[0] * 9, 1, 62, 1, 0, 0, at, 0, 64, 0, 0, 64, 2, 1)
+    for order, at in product((LITTLE, "big"), FAR):
+        header = edited(object_file([], order=order)[:64], ("e_shoff", at), ("e_shnum", 2), ("e_shstrndx", 1))
+        names = record(order, SECTION_HEADER, sh_type=STRTAB, sh_offset=at + 128, sh_size=1, sh_addralign=1)
         with open(path, "wb") as it:
             it.write(header)
             it.seek(at + 64)
-            it.write(struct.pack(f"{mark}IIQQQQIIQQ", 0, 3, 0, 0, at + 128, 1, 0, 0, 1, 0))
+            it.write(names)
             it.truncate(at + 136)
         for command, most in (["check"], LEAST_MEMORY + MOST_MEMORY * at), (["check", "--seek"], LEAST_MEMORY):
             output, right = run(PROGRAM, *command, path, env=counting(library, report)).stdout, b"ok %d 2 0\n" % (at + 136)

@@ -156,10 +156,11 @@ class Map:
         if list(self.bytes) != list(theirs):
             yield f"there are bytes of {list(self.bytes)}, of ld of {list(theirs)}"
         for place, own in self.bytes.items():
-            at = len(os.path.commonprefix([own, theirs.get(place, own)]))
-            if own[at:]:
+            other = theirs.get(place, own)
+            if own != other:
+                at = len(os.path.commonprefix([own, other]))
                 what = f"section {place[1]} ({self.title[place]}) of file {place[0]}"
-                yield f"{what} differs at 0x{at:x}: {own[at:at + 8].hex()}, of ld {theirs[place][at:at + 8].hex()}"
+                yield f"{what} differs at 0x{at:x}: {own[at:at + 8].hex()}, of ld {other[at:at + 8].hex()}"
         symbols = symbols_of(made)
         for name, (value, what) in self.names.items():
             at, defined = symbols.get(name, (0, False))
