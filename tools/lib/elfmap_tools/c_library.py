@@ -11,7 +11,7 @@ They are compiled by cc, and by clang with its checks of addresses and of undefi
 
 import os, re
 from argparse import Namespace
-from collections.abc import Iterable, Iterator
+from collections.abc import Iterable
 from dataclasses import replace
 
 from .building import built

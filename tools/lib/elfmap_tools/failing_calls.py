@@ -8,7 +8,7 @@ By `growths` it makes the calls of the library one by one, with the Nth growth r
 out of memory or what it answers with enough; a reading goes on where a growth was refused, and loses nothing; what takes no memory answers
 as ever, and made three times it grows as much as made not at all."""
 
-import os, re
+import re
 from argparse import Namespace
 from collections.abc import Iterable, Iterator
 from itertools import count
