@@ -9,18 +9,19 @@ rewrite, map and link, with the three functions of memory under the names that i
 
 They are compiled by cc, and by clang with its checks of addresses and of undefined behavior, and the header by c++ too."""
 
-import os, re, tempfile
+import os, re
 from argparse import Namespace
-from collections.abc import Iterable, Iterator
+from collections.abc import Iterable
+from dataclasses import replace
 
 from .building import built
-from .cases import Case, all_cases, case_files, put_needs
+from .cases import Case, case_files, every_case
 from .library import BOTH, ENGINES, FUNCTIONS, PACKERS, RENAMED, VERDICTS, calls, packed, structs
 from .packages import SANITIZERS
-from .reference import shown
+from .reference import parsed, shown
 from .suite import Tally, Test, number
 from .dump import c_lines
-from .tree import PROCESSORS, TOP, by_cc, libraries, read_bytes, read_text, run, said, side_by_side, texts_of, wanted, write
+from .tree import PROCESSORS, TOP, by_cc, libraries, read_bytes, read_text, said, side_by_side, texts_of, wanted, write
 
 C = f"{TOP}/bindings/c"
 WARNINGS = ["-std=c99", "-pedantic", "-Wall", "-Wextra", "-Werror", f"-I{TOP}/include"]
@@ -34,8 +35,7 @@ NUMBER = {"u8": "uint8_t", "u16": "uint16_t", "u32": "uint32_t", "u64": "uint64_
 OF_PROGRAM = "struct elfmap_block"
 STRUCT = re.compile(r"`(struct elfmap_\w+)`[^\n]*\n#\[repr\(C\)\]\n#\[derive[^\n]*\npub struct (\w+) \{\n(.*?)^\}", re.M | re.S)
 EXPORT = re.compile(r'#\[unsafe\(no_mangle\)\]\npub extern "C" fn (\w+)\((.*?)\) -> (\w+)', re.S)
-# The tag in C, the name in Rattle, and the fields with their types as C has them.
-Struct = tuple[str, str, list[tuple[str, str]]]
+FIELD, SIZES = re.compile(r"^    pub (\w+): \[?(\w+)(?:; (\w+)\])?,", re.M), {"": "", "EI_NIDENT": "[16]"}
 
 # ---- the header beside the texts of the library
 
@@ -43,14 +43,6 @@ Struct = tuple[str, str, list[tuple[str, str]]]
 def text_of(crates: Iterable[str]) -> str:
     """The code of these crates."""
     return "\n".join(read_text(it) for crate in crates for it in texts_of(crate) if it.endswith(".rt"))
-
-
-def structs_in(text: str) -> Iterator[Struct]:
-    """The structs that C shares: of each its name in C, its name in Rattle, and its fields with their types as C has them."""
-    sizes, kinds = {"EI_NIDENT": 16}, {**NUMBER, **{name: tag for tag, name, _ in STRUCT.findall(text)}}
-    for tag, name, body in STRUCT.findall(text):
-        fields = re.findall(r"^    pub (\w+): (\[?)(\w+)(?:; (\w+)\])?,", body, re.M)
-        yield tag, name, [(field, kinds[kind] + (f"[{sizes[size]}]" if array else "")) for field, array, kind, size in fields]
 
 
 def parameters(text: str, tags: dict[str, str]) -> list[str]:
@@ -65,11 +57,13 @@ def parameters(text: str, tags: dict[str, str]) -> list[str]:
 
 def compare_header(tally: Tally) -> None:
     """The header and the texts of the library say the same: so the fields of a struct are at the same offsets."""
-    shared = list(structs_in(text_of(it for it in libraries() if it == VERDICTS or it.startswith(f"{VERDICTS}_"))))
-    tags = {name: tag for tag, name, _ in shared}
+    found = STRUCT.findall(text_of(it for it in libraries() if it == VERDICTS or it.startswith(f"{VERDICTS}_")))
+    tags = {name: tag for tag, name, _ in found}
+    types = NUMBER | tags
+    shared = {tag: [(name, types[kind] + SIZES[size]) for name, kind, size in FIELD.findall(body)] for tag, _, body in found}
     declared = {f"struct {tag}": [(name, kind + f"[{count}]" * bool(count)) for kind, name, count in own] for tag, own in structs().items()}
     del declared[OF_PROGRAM]
-    tally.same("the structs of the header", declared, {tag: fields for tag, _, fields in shared})
+    tally.same("the structs of the header", declared, shared)
     for crate, result in RESULTS.items():
         exported = EXPORT.findall(text_of([crate]))
         tally.same(f"the calls of {crate}", calls(result), {name: parameters(given, tags) for name, given, _ in exported})
@@ -110,76 +104,59 @@ def compare_files(tally: Tally, program: str, files: dict[str, list[str]]) -> No
 DONE, REFUSED, NOT_LINKED, TOO_LONG, BAD_RULES = 0, 1, 2, 3, 6
 COMMANDS = ("show", "rewrite", "map", "link")
 ON_BYTES = {"bcmp", "memchr", "memcmp", "memcpy", "memmove", "memset", "strlen"}
-# The status, the numbers and the text of an answer in C.
-Answer = tuple[int, tuple[int, int, int, int], bytes]
 
 
-def numbers_of(line: str) -> tuple[int, tuple[int, int, int, int]]:
-    """The numbers of a line on what is refused, as the outcome has them: the offset or entry, the file, the index, and the rule."""
-    one = re.fullmatch(r"(?:file (\d+) )?refused (\d+) (\d+)", line)
-    if one:
-        return REFUSED, (int(one[3]), int(one[1] or 0), 0, int(one[2]))
-    rule, file, index, entry = map(int, line.removeprefix("refused ").split())
-    return NOT_LINKED, (entry, file, index, rule)
+def answer(status: int, text: bytes = b"", offset: int = 0, file: int = 0, index: int = 0, rule: int = 0) -> bytes:
+    """What the test prints of an answer in C: its status, the length of its text, the numbers of its outcome, and the text."""
+    return f"{status} {len(text)} {offset} {file} {index} {rule}\n".encode() + text
 
 
-def answer_of(case: Case) -> Answer | None:
+def answer_of(case: Case) -> bytes | None:
     """The case's answer in C; None where the words or the files are wrong, not the rules."""
     if case.status == 0:
-        return DONE, (0, 0, 0, 0), case.out
-    if case.status == 2:
-        bad = re.fullmatch(r"bad rule line (\d+)", case.err.decode().rstrip("\n"))
-        return (BAD_RULES, (int(bad[1]), 0, 0, 0), b"") if bad else None
-    if case.status == 1:
-        line = (case.out if case.words[0] in ("show", "map") else case.err).decode().rstrip("\n")
-        return (TOO_LONG, (0, 0, 0, 0), b"") if line == "too long" else (*numbers_of(line), case.out)
-    return None
+        return answer(DONE, case.out)
+    line = (case.out if case.status == 1 and case.words[0] in ("show", "map") else case.err).decode().rstrip("\n")
+    if case.status > 1:
+        bad = re.fullmatch(r"bad rule line (\d+)", line)
+        return answer(BAD_RULES, offset=int(bad[1])) if bad else None
+    if line == "too long":
+        return answer(TOO_LONG)
+    if one := re.fullmatch(r"(?:file (\d+) )?refused (\d+) (\d+)", line):
+        return answer(REFUSED, case.out, int(one[3]), int(one[1] or 0), 0, int(one[2]))
+    rule, number, index, entry = map(int, line.removeprefix("refused ").split())
+    return answer(NOT_LINKED, case.out, entry, number, index, rule)
 
 
-def call_of(case: Case, room: str) -> list[str] | None:
-    """The words of the test for a case whose files are written into a folder; None where it needs a file that is none."""
-    given = dict(it.partition("=")[::2] for it in case.needs)
-    options, files, rest = dict[str, str](), list[str](), iter(case.words[1:])
-    for it in rest:
-        if it.startswith("--"):
-            options[it] = next(rest)
-        else:
-            files.append(it)
-    used = [*files, *([options["--rules"]] if "--rules" in options else [])]
-    if "--seek" in case.words or not all(given.get(it) for it in used):
+def call_of(case: Case) -> list[str] | None:
+    """The words of the test for a case; None where it needs a file that is none."""
+    given, (options, files), command = dict(it.partition("=")[::2] for it in case.needs), parsed(case.words), case.words[0]
+    rules = options.get("--rules")
+    if "--seek" in options or not all(given.get(it) for it in ([*files, rules] if rules else files)):
         return None
-    paths = [f"{room}/{it}" for it in files]
-    if case.words[0] in ("show", "rewrite"):
-        return [case.words[0], *paths]
-    entry = [options["--entry"]] if case.words[0] == "link" else []
-    rules = f"{room}/{options['--rules']}" if "--rules" in options else "-"
-    return [case.words[0], options["--base"], options["--page"], *entry, rules, *paths]
+    if command in ("show", "rewrite"):
+        return [command, *files]
+    entry = [options["--entry"]] if command == "link" else []
+    return [command, options["--base"], options["--page"], *entry, rules or "-", *files]
 
 
-def try_call(tally: Tally, program: str, call: list[str], right: Answer, what: str) -> None:
-    ran = run(program, *call)
-    line, _, text = ran.stdout.partition(b"\n")
-    status, numbers, right_text = right
-    head = " ".join(map(str, [status, len(right_text), *numbers])).encode()
-    said = f"{ran.returncode} {line!r} {text[:200]!r}, and not {head!r} {right_text[:200]!r} {ran.stderr.decode(errors='replace')[:2000]}"
-    tally.check((ran.returncode, line, text) == (0, head, right_text), f"{what}: {said}")
+def try_call(tally: Tally, program: str, call: Case, right: bytes) -> None:
+    status, out, err = call.found(program)
+    why = f"{status} {out[:200]!r}, and not {right[:200]!r} {err.decode(errors='replace')[:2000]}"
+    tally.check((status, out) == (0, right), f"{call}: {why}")
 
 
 def try_engines(tally: Tally, program: str) -> None:
     """What the engines answer of the cases, and of files of the machine."""
     tried = dict.fromkeys(COMMANDS, 0)
-    for cases in all_cases().values():
-        for case in (it for it in cases.cases if it.words[:1] and it.words[0] in COMMANDS):
-            right = answer_of(case)
-            with tempfile.TemporaryDirectory(prefix="c-engines-") as room:
-                call = call_of(case, room) if right else None
-                if call and right:
-                    put_needs(room, case.needs, cases.files)
-                    try_call(tally, program, call, right, f"elfmap {' '.join(case.words)} with {' '.join(case.needs)}")
-                    tried[case.words[0]] += 1
+    for case in (it for it in every_case() if it.words[:1] and it.words[0] in COMMANDS):
+        right = answer_of(case)
+        call = call_of(case) if right else None
+        if right and call:
+            try_call(tally, program, replace(case, words=call), right)
+            tried[case.words[0]] += 1
     tally.check(all(tried.values()), f"of the cases were tried {tried}")
     for path in filter(os.path.isfile, MACHINE_FILES):
-        try_call(tally, program, ["show", path], (DONE, (0, 0, 0, 0), shown(read_bytes(path)).encode()), f"elfmap show {path}")
+        try_call(tally, program, Case(["show", path], []), answer(DONE, shown(read_bytes(path)).encode()))
 
 
 TOOLS = f"cc c++ clang nm objcopy {SANITIZERS}"
@@ -214,16 +191,6 @@ def c_library(tally: Tally, options: Namespace) -> None:
 MOST, LONGEST = 256, 1 << 16
 MADE = ["-c -O1", "-c -O0 -ffunction-sections", "-x c++ -c -O1 -g", "-nostdlib -static -Wl,-e,answer"]
 MADE += ["-shared -nostdlib -fPIC -Wl,--hash-style=sysv -Wl,-soname,answer.so"]
-
-
-def files_for_laws(room: str) -> Iterator[str]:
-    """What cc makes of a few lines of C, and the files of the cases that are accepted."""
-    yield from (by_cc(f"{room}/made-{k}", words, "answer_twice.c") for k, words in enumerate(MADE))
-    sound = (it for it in case_files() if 64 <= len(it) <= LONGEST and c_lines(it)[0] == "verdict kept")
-    for k, content in enumerate(sorted(sound, key=lambda it: (-len(set(it)), it))):
-        yield write(f"{room}/case-{k}", content)
-
-
 COPIES = (number("count", 20000, "so many copies"), number("seed", 1, "the same seed makes the same copies"))
 ABOUT = "bytes of files changed; what the library for C says of each copy agrees with itself (bindings/c/laws.c)"
 
@@ -231,7 +198,11 @@ ABOUT = "bytes of files changed; what the library for C says of each copy agrees
 @Test("laws", ABOUT, commands=PACKERS, crates=BOTH, alone=True, options=COPIES)
 def laws(tally: Tally, options: Namespace) -> None:
     wanted("cc", "-O2", *WARNINGS, f"{C}/laws.c", packed(), "-o", f"{tally.folder}/laws")
-    files = list(files_for_laws(tally.folder))[:MOST]
+    # What cc makes of a few lines of C, and the files of the cases that are accepted.
+    made = [by_cc(f"{tally.folder}/made-{k}", words, "answer_twice.c") for k, words in enumerate(MADE)]
+    sound = (it for it in case_files() if 64 <= len(it) <= LONGEST and c_lines(it)[0] == "verdict kept")
+    of_cases = enumerate(sorted(sound, key=lambda it: (-len(set(it)), it))[: MOST - len(made)])
+    files = [*made, *(write(f"{tally.folder}/case-{k}", content) for k, content in of_cases)]
     counts = [options.count // PROCESSORS + (k < options.count % PROCESSORS) for k in range(PROCESSORS)]
     words = [[f"{tally.folder}/laws", str(it), str(options.seed * PROCESSORS + k), *files] for k, it in enumerate(counts)]
     for ran in side_by_side(lambda it: said(*it, folder=os.getcwd()), words):

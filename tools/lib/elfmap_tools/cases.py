@@ -1,24 +1,25 @@
 """Cases: the words with which elfmap is run, the files that it is given, and what it has to answer. `tools/test cases` tries those of
 cases/*.txt, whose heads say how they are written; `tools/test make-cases` generates the files cases/made-*.txt."""
 
-import filecmp, functools, glob, os, random, re, shlex, tempfile
+import filecmp, glob, os, random, re, shlex, tempfile
 from argparse import Namespace
 from collections.abc import Callable, Iterable, Iterator
 from dataclasses import dataclass, field
+from typing import Any
 
 from .building import output_of
-from .making import SPOKEN_OF, Chance, a_file, an_object, an_object_file, fuzzed, one_thing_wrong
-from .reference import File, check, entries_of, laid, link_refusal, linked, mapped, object_verdict, rewritten, shown, table_verdict, verdict
+from .making import SPOKEN_OF, Chance, a_file, an_object, an_object_file, changed_field, fuzzed
+from .reference import Broken, File, answer, entries_of, laid, mapped, object_verdict, table_verdict, verdict
 from .suite import Option, Tally, Test, named, number
-from .tree import PROGRAM, TOP, T, libraries, read_text, run, write
+from .tree import PROGRAM, TOP, Answer, T, answer_of, libraries, read_text, run, write
 
-Needs = list[tuple[str, str]]
-Named = tuple[str, bytes]
+Files = dict[str, bytearray]
 
 
 @dataclass
 class Case:
-    """The words, the files they need (a place, `=` and the file's name, or a folder), the answer, and what another test needs of it."""
+    """The words, the files they need (a place, `=` and the file's name, or a folder), the answer, and what another test needs of it; where
+    it is written, and the files by their names."""
 
     words: list[str]
     needs: list[str]
@@ -26,18 +27,30 @@ class Case:
     out: bytes = b""
     err: bytes = b""
     note: str = ""
+    source: str = ""
+    files: Files = field(default_factory=dict)
+
+    def __str__(self) -> str:
+        return f"{self.source}: elfmap {' '.join(self.words)} with {' '.join(self.needs)}"
+
+    def found(self, *program: str, **more: Any) -> Answer:
+        """What a program answers, in a folder with the files that the case needs."""
+        with tempfile.TemporaryDirectory(prefix="case-") as room:
+            put_needs(room, self.needs, self.files)
+            return answer_of(run(*program, *self.words, folder=room, timeout=60, **more))
 
 
 @dataclass
 class Cases:
-    """The cases of a file, and its files by their names."""
+    """The cases of a file, its files by their names, and its name."""
 
-    files: dict[str, bytearray] = field(default_factory=dict)
+    source: str
+    files: Files = field(default_factory=dict)
     cases: list[Case] = field(default_factory=list)
 
 
 def cases_of(path: str) -> Cases:
-    found, name = Cases(), ""
+    found, name = Cases(os.path.basename(path)), ""
     for line in read_text(path).splitlines():
         kind, _, rest = line.partition(" ")
         if kind == "file":
@@ -53,7 +66,8 @@ def cases_of(path: str) -> Cases:
             words_of, _, needs = rest.partition("   with ")
             # A byte of a word that is no text is written \\xNN.
             bare = [re.sub(rb"\\x(..)", lambda it: bytes.fromhex(it[1].decode()), it.encode()) for it in shlex.split(words_of)]
-            found.cases.append(Case([os.fsdecode(it) for it in bare], needs.split()))
+            words = [os.fsdecode(it) for it in bare]
+            found.cases.append(Case(words, needs.split(), source=found.source, files=found.files))
         elif kind == "status":
             found.cases[-1].status = int(rest)
         elif kind == ">":
@@ -67,17 +81,21 @@ def cases_of(path: str) -> Cases:
     return found
 
 
-def all_cases(folder: str = f"{TOP}/cases") -> dict[str, Cases]:
-    """The cases of each file of a folder, by the file's name."""
-    return {os.path.basename(path): cases_of(path) for path in sorted(glob.glob(f"{folder}/*.txt"))}
+def all_cases(folder: str = f"{TOP}/cases") -> Iterator[Cases]:
+    """The cases of each file of a folder."""
+    return map(cases_of, sorted(glob.glob(f"{folder}/*.txt")))
+
+
+def every_case(folder: str = f"{TOP}/cases") -> Iterator[Case]:
+    return (it for cases in all_cases(folder) for it in cases.cases)
 
 
 def case_files() -> dict[bytes, str]:
     """The files of all cases, each once, with a name."""
     found: dict[bytes, str] = {}
-    for path, cases in all_cases().items():
+    for cases in all_cases():
         for name, content in cases.files.items():
-            found.setdefault(bytes(content), f"{path}-{name}")
+            found.setdefault(bytes(content), f"{cases.source}-{name}")
     return found
 
 
@@ -90,14 +108,6 @@ def put_needs(folder: str, needs: list[str], files: dict[str, bytearray]) -> Non
             os.mkdir(f"{folder}/{place}")
 
 
-def answer_of(program: str, case: Case, files: dict[str, bytearray]) -> tuple[int, bytes, bytes]:
-    """What the program answers: status, standard output, and standard error where the case has a text of it or the status is 0 or 1."""
-    with tempfile.TemporaryDirectory(prefix="case-") as room:
-        put_needs(room, case.needs, files)
-        ran = run(program, *case.words, folder=room, timeout=60)
-    return ran.returncode, ran.stdout, ran.stderr if case.err or case.status < 2 else b""
-
-
 ONLY = named("only", "run the cases alone whose words or files have this name in them")
 FROM: Option = ("--in", {"dest": "folder", "metavar": "FOLDER", "default": f"{TOP}/cases", "help": "another folder of cases"})
 
@@ -105,20 +115,16 @@ FROM: Option = ("--in", {"dest": "folder", "metavar": "FOLDER", "default": f"{TO
 @Test("cases", "the program answers the cases of cases/*.txt", crates="elfmap elfmap_check", options=(FROM, ONLY))
 def try_cases(tally: Tally, options: Namespace) -> None:
     # Beside the program that has all commands, the one that has `check` alone.
-    for program in [PROGRAM, *(output_of(it) for it in ("elfmap_check",) if it in libraries())]:
-        for path, cases in all_cases(options.folder).items():
-            for case in cases.cases:
-                if program != PROGRAM and (case.words[:1] != ["check"] or "--seek" in case.words):
-                    continue
-                what = f"{path}: elfmap {' '.join(case.words)} with {' '.join(case.needs)}"
-                if options.only not in what:
-                    continue
-                tally.same(what, answer_of(program, case, cases.files), (case.status, case.out, case.err))
+    small = [output_of(it) for it in ("elfmap_check",) if it in libraries()]
+    for it in (it for it in every_case(options.folder) if options.only in str(it)):
+        for program in [PROGRAM, *(small if it.words[:1] == ["check"] and "--seek" not in it.words else [])]:
+            status, out, err = it.found(program)
+            # The text of an error is compared where the case has one.
+            tally.same(str(it), (status, out, err if it.err or it.status < 2 else b""), (it.status, it.out, it.err))
 
 
 # ---- generated cases
 
-NAMES = ("made-images.txt", "made-objects.txt", "made-links.txt", "made-executables.txt")
 # What cases/ was made by.
 SEED, COUNT = "elfmap", 60
 HEAD = """# Made by `tools/test make-cases --seed {seed} --count {count}`, with the answers of the reference implementation (reference/).
@@ -149,66 +155,74 @@ class Text:
         if content in self.files:
             return self.files[content]
         name = self.files[content] = f"f{len(self.files)}"
-        base = like[: len(content)].ljust(len(content), b"\0") if like is not None else bytes(len(content))
+        base = (like or b"")[: len(content)].ljust(len(content), b"\0")
         self.lines.append(f"file {name}" + (f" like {self.files[like]}" if like is not None else ""))
         self.lines[-1] += f" size {len(content)}" if like is None or len(like) != len(content) else ""
         lines = ((at, content[at : at + 32], base[at : at + 32]) for at in range(0, len(content), 32))
         self.lines += [f"  {at:#x} {own.hex()}" for at, own, other in lines if own != other]
         return name
 
-    def case(self, words: str, needs: Needs, status: int, said: str, complained: str = "", out: str = "") -> None:
-        """A case, whose output is a text, or the bytes of a file of this name."""
-        self.lines.append(f"run {words}   with " + " ".join(f"{name}={file}" for name, file in needs))
-        self.lines += [f"status {status}"] * (status != 0) + [f"= {out}"] * bool(out)
-        self.lines += [f"> {line}" for line in said.splitlines()] + [f"! {line}" for line in complained.splitlines()]
+    def case(self, words: str, needs: dict[str, bytes], like: bytes | None = None) -> None:
+        """A case with the answer of the reference implementation, if it has one; a file that is written may be a change of another."""
+        found = answer(words.split(), needs)
+        if found is None:
+            return
+        status, out, err = found
+        is_file = status == 0 and words.startswith(("rewrite ", "link "))
+        output = [f"= {self.file(out, like)}"] if is_file else [f"> {line}" for line in out.decode("latin1").splitlines()]
+        given = " ".join(f"{name}={self.file(content)}" for name, content in needs.items())
+        self.lines += [f"run {words}   with {given}", *[f"status {status}"] * (status != 0), *output]
+        self.lines += [f"! {line}" for line in err.decode("latin1").splitlines()]
 
     def chance(self, kind: str, k: int) -> Chance:
         return random.Random(f"{self.seed} {kind} {k}")
 
 
-def changed(chance: Chance, text: Text, sound: bytes) -> Named:
-    """The name and the bytes of a sound file or a changed one."""
-    name = text.file(sound)
-    if chance.randrange(3) == 0:
-        return name, sound
-    content = fuzzed(sound, chance)
-    return text.file(content, sound), content
+def changed(chance: Chance, text: Text, sound: bytes) -> bytes:
+    """A sound file or a changed one."""
+    text.file(sound)
+    content = fuzzed(sound, chance) if chance.randrange(3) else sound
+    text.file(content, sound)
+    return content
 
 
-# The rules that a file breaks first: as an image, as an object, and of tables.
+def rules_of(*faults: Broken | None) -> set[int]:
+    return {broken[0] for broken in faults if broken}
 
 
-def broken_image_rules(content: bytes) -> set[int]:
-    return {broken[0] for broken in [verdict(content)] if broken}
+def broken_by_object(content: bytes) -> set[int]:
+    return rules_of(object_verdict(content))
 
 
-def broken_object_rules(content: bytes) -> set[int]:
-    return {broken[0] for broken in [object_verdict(content)] if broken}
-
-
-def broken_table_rules(content: bytes) -> set[int]:
+def broken_by_tables(content: bytes) -> set[int]:
     f = File(content)
-    return {broken[0] for i, _ in f.sections() for broken in [table_verdict(f, i)] if broken} if verdict(content) is None else set()
+    return rules_of(*(table_verdict(f, i) for i, _ in f.sections())) if verdict(content) is None else set()
 
 
 def wrong_in_one_thing(
-    text: Text, rules: list[int], made: Callable[[Chance, str], bytes], broken_by: Callable[[bytes], set[int]]
-) -> Iterator[tuple[Named, Named]]:
-    """For each rule and byte order the names and the bytes of a sound file and of one that breaks the rule."""
+    text: Text, rules: Iterable[int], made: Callable[[Chance, str], bytes], broken_by: Callable[[bytes], set[int]]
+) -> Iterator[tuple[bytes, bytes]]:
+    """For each rule and byte order a sound file, and what one change made of it, by which it breaks the rule."""
     for order in ("little", "big"):
-        chance = text.chance(f"{made.__name__} {order}", rules[0])
-        for _, sound, content in one_thing_wrong(chance, rules, functools.partial(made, order=order), broken_by):
-            yield (text.file(sound), sound), (text.file(content, sound), content)
+        chance, left = text.chance(f"{made.__name__} {order}", min(rules)), list(rules)
+        while left:
+            sound = made(chance, order)
+            for rule in list(left):
+                tried = (changed_field(chance, sound, rule) for _ in range(12))
+                found = next((it for it in tried if it is not None and rule in broken_by(it)), None)
+                if found is not None:
+                    left.remove(rule)
+                    text.file(sound)
+                    text.file(found, sound)
+                    yield sound, found
 
 
-def once(pairs: Iterable[tuple[Named, Named]]) -> Iterator[tuple[Named, bytes]]:
-    """Each file of these pairs once, with the bytes of the first of its pair."""
-    seen = set[str]()
+def once(pairs: Iterable[tuple[bytes, bytes]]) -> Iterator[tuple[bytes, bytes]]:
+    """Each file of these pairs once, with the first of its pair."""
+    seen = set[bytes]()
     for first, second in pairs:
-        for it in (first, second):
-            if it[0] not in seen:
-                yield it, first[1]
-            seen.add(it[0])
+        yield from ((it, first) for it in dict.fromkeys((first, second)) if it not in seen)
+        seen |= {first, second}
 
 
 def series(text: Text, kind: str, made: Callable[[Chance], T]) -> Iterator[tuple[int, Chance, T]]:
@@ -220,27 +234,15 @@ def series(text: Text, kind: str, made: Callable[[Chance], T]) -> Iterator[tuple
         yield k, chance, sound
 
 
-def say_image(text: Text, command: str, name: str, content: bytes) -> None:
-    said = shown(content) if command == "show" else check(content) + "\n"
-    text.case(f"{command} f", [("f", name)], int(verdict(content) is not None), said)
-
-
 def image_cases(text: Text) -> None:
-    for _, wrong in wrong_in_one_thing(text, [rule for rule in SPOKEN_OF if rule < 40], a_file, broken_image_rules):
+    for _, wrong in wrong_in_one_thing(text, [rule for rule in SPOKEN_OF if rule < 40], a_file, lambda it: rules_of(verdict(it))):
         for command in ("check", "check --seek", "show"):
-            say_image(text, command, *wrong)
-    for it, _ in once(wrong_in_one_thing(text, [rule for rule in SPOKEN_OF if 40 < rule < 70], a_file, broken_table_rules)):
-        say_image(text, "show", *it)
+            text.case(f"{command} f", {"f": wrong})
+    for content, _ in once(wrong_in_one_thing(text, [rule for rule in SPOKEN_OF if 40 < rule < 70], a_file, broken_by_tables)):
+        text.case("show f", {"f": content})
     for k, chance, sound in series(text, "image", a_file):
-        say_image(text, ("check", "check --seek", "show", "show")[k % 4], *changed(chance, text, sound))
-
-
-def say_object(text: Text, name: str, content: bytes, like: bytes) -> None:
-    refusal, written = rewritten(content) or (None, b"")
-    if refusal:
-        text.case("rewrite f", [("f", name)], 1, "", refusal)
-    elif refusal is not None:
-        text.case("rewrite f", [("f", name)], 0, "", out=text.file(written, like))
+        command = ("check", "check --seek", "show", "show")[k % 4]
+        text.case(f"{command} f", {"f": changed(chance, text, sound)})
 
 
 # Rules on segments, which an object has none of; and on notes, dynamic sections and hash tables, which it has as bytes, or not at all.
@@ -248,13 +250,13 @@ OF_SEGMENTS, NOT_OF_OBJECTS = [19, 21, *range(25, 30)], range(59, 70)
 
 
 def object_cases(text: Text) -> None:
-    for right, wrong in wrong_in_one_thing(text, OF_SEGMENTS, a_file, broken_object_rules):
-        say_object(text, *wrong, right[1])
+    for sound, wrong in wrong_in_one_thing(text, OF_SEGMENTS, a_file, broken_by_object):
+        text.case("rewrite f", {"f": wrong}, sound)
     rules = [rule for rule in SPOKEN_OF if rule not in OF_SEGMENTS and rule not in NOT_OF_OBJECTS]
-    for it, like in once(wrong_in_one_thing(text, rules, an_object_file, broken_object_rules)):
-        say_object(text, *it, like)
+    for content, like in once(wrong_in_one_thing(text, rules, an_object_file, broken_by_object)):
+        text.case("rewrite f", {"f": content}, like)
     for _, chance, sound in series(text, "object", an_object_file):
-        say_object(text, *changed(chance, text, sound), sound)
+        text.case("rewrite f", {"f": changed(chance, text, sound)}, sound)
 
 
 def objects_to_link(chance: Chance) -> list[bytes]:
@@ -267,7 +269,7 @@ def objects_that_link(chance: Chance) -> list[bytes]:
     """The files of one object to three that link, mostly with some bytes and a name to begin at."""
     for _ in range(300):
         found = objects_to_link(chance)
-        if entries(found) and link_refusal(found, 0x400000, 0x1000, RULES[0]) is None:
+        if entries(found) and not mapped(found, *PLACES[0], RULES[0]).startswith(("refused ", "file ")):
             break
     return found
 
@@ -277,43 +279,34 @@ def entries(contents: list[bytes]) -> list[str]:
     return [it.decode("ascii") for it in entries_of(contents) if it.isalpha()]
 
 
-def files_to_link(text: Text, kind: str, made: Callable[[Chance], list[bytes]]) -> Iterator[tuple[Chance, Needs, list[bytes]]]:
-    """So often several files, every third time all of them sound: the chance by which the case goes on, their names, and their bytes."""
+def files_to_link(text: Text, kind: str, made: Callable[[Chance], list[bytes]]) -> Iterator[tuple[Chance, dict[str, bytes]]]:
+    """So often several files, every third time all of them sound, with the chance by which the case goes on."""
     for _, chance, sound in series(text, kind, made):
-        at = chance.randrange(3 * len(sound))
-        files = [changed(chance, text, it) if f == at else (text.file(it), it) for f, it in enumerate(sound)]
-        yield chance, [(f"f{f}", name) for f, (name, _) in enumerate(files)], [content for _, content in files]
+        at, files = chance.randrange(3 * len(sound)), dict[str, bytes]()
+        for f, it in enumerate(sound):
+            files[f"f{f}"] = changed(chance, text, it) if f == at else it
+            text.file(files[f"f{f}"])
+        yield chance, files
 
 
 def link_cases(text: Text) -> None:
-    for chance, needs, contents in files_to_link(text, "link", objects_to_link):
+    for chance, files in files_to_link(text, "link", objects_to_link):
         base, page = chance.choice(PLACES[:2] * 3 + PLACES)
         rules = chance.choice((None, *RULES))
-        said = mapped(contents, int(base, 0), int(page, 0), rules)
-        words, given = ("", []) if rules is None else (" --rules r", [("r", text.file(rules))])
-        words = f"map --base {base} --page {page}{words} {' '.join(name for name, _ in needs)}"
-        text.case(words, [*needs, *given], int(said.startswith(("refused ", "file "))), said)
+        words, needs = ("", files) if rules is None else (" --rules r", {**files, "r": rules})
+        text.case(f"map --base {base} --page {page}{words} {' '.join(files)}", needs)
 
 
 def executable_cases(text: Text) -> None:
-    for chance, needs, contents in files_to_link(text, "executable", objects_that_link):
+    for chance, files in files_to_link(text, "executable", objects_that_link):
         base, page = chance.choice(PLACES[:2] * 4 + PLACES)
         rules = chance.choice((RULES[0], *RULES))
-        entry = chance.choice(entries(contents) * 4 + ["main", "x"])
-        refusal, file = linked(contents, int(base, 0), int(page, 0), rules, entry.encode())
-        out = "" if refusal else text.file(file)
-        words = f"link --base {base} --page {page} --entry {entry} --rules r {' '.join(name for name, _ in needs)}"
-        text.case(words, [*needs, ("r", text.file(rules))], int(bool(refusal)), "", refusal, out)
+        entry = chance.choice(entries([*files.values()]) * 4 + ["main", "x"])
+        text.case(f"link --base {base} --page {page} --entry {entry} --rules r {' '.join(files)}", {**files, "r": rules})
 
 
-def make(seed: str, count: int, folder: str) -> None:
-    os.makedirs(folder, exist_ok=True)
-    for name, cases in zip(NAMES, (image_cases, object_cases, link_cases, executable_cases)):
-        text = Text(seed, count)
-        cases(text)
-        write(f"{folder}/{name}", "\n".join([*text.lines, ""]))
-
-
+GENERATED = {"made-images.txt": image_cases, "made-objects.txt": object_cases}
+GENERATED |= {"made-links.txt": link_cases, "made-executables.txt": executable_cases}
 COUNTED = number("count", COUNT, "cases of each kind")
 SEEDED: Option = ("--seed", {"default": SEED, "help": "the same seed makes the same cases"})
 INTO: Option = ("--in", {"dest": "folder", "metavar": "FOLDER", "help": "write them there"})
@@ -321,9 +314,11 @@ INTO: Option = ("--in", {"dest": "folder", "metavar": "FOLDER", "help": "write t
 
 @Test("make-cases", "the generated cases are what the generator makes, byte for byte", options=(INTO, COUNTED, SEEDED))
 def make_cases(tally: Tally, options: Namespace) -> None:
-    """Without a folder: whether cases/ is what these seeds make, byte for byte."""
     folder = options.folder or tally.folder
-    make(options.seed, options.count, folder)
-    for name in NAMES:
+    os.makedirs(folder, exist_ok=True)
+    for name, cases in GENERATED.items():
+        text = Text(options.seed, options.count)
+        cases(text)
+        write(f"{folder}/{name}", "\n".join([*text.lines, ""]))
         is_same = options.folder or filecmp.cmp(f"{folder}/{name}", f"{TOP}/cases/{name}", shallow=False)
         tally.check(is_same, f"cases/{name} is not what `tools/test make-cases --in cases` makes")

@@ -12,7 +12,7 @@ from .building import output_of
 from .failing_calls import files_by_hand
 from .reference import check, object_file, rewritten, text, verdict
 from .suite import Tally, Test, flag
-from .tree import PROCESSORS, read_bytes, side_by_side, write
+from .tree import PROCESSORS, side_by_side, write
 
 
 def variants(file: bytes) -> Iterator[bytes]:
@@ -38,17 +38,15 @@ def right_answer(content: bytes) -> tuple[Any, ...]:
     if broken or answer is None:
         return line, "%d %d" % (broken or (0, 0))
     refusal, written = answer
-    is_object = refusal in ("", "too long\n")
-    words = "object" if is_object else refusal.strip().removeprefix("refused ")
+    words = "object" if refusal in ("", "too long\n") else refusal.strip().removeprefix("refused ")
     return line, "none", "true", words, "false" if refusal else "true", written
 
 
-def tried(part: tuple[str, int]) -> tuple[int, list[str]]:
+def tried(part: tuple[bytes, str, int]) -> tuple[int, list[str]]:
     """How many of the files that differ from one were tried, and what was wrong; each process tries its share."""
-    path, share = part
-    file, wrong, count = read_bytes(path), list[str](), 0
-    words = [output_of("tests_calls"), "changes", path]
-    with subprocess.Popen(words, stdin=subprocess.DEVNULL, stdout=subprocess.PIPE) as calls:
+    file, path, share = part
+    wrong, count = list[str](), 0
+    with subprocess.Popen([output_of("tests_calls"), "changes", path], stdin=subprocess.DEVNULL, stdout=subprocess.PIPE) as calls:
         assert calls.stdout
         for number, content in enumerate(variants(file)):
             answer = answer_of_next(calls.stdout)
@@ -67,6 +65,6 @@ ABOUT, ALL = "each one-byte change of an object, beside the reference implementa
 def changed_files(tally: Tally, options: Namespace) -> None:
     files = [files_by_hand()["call_0"]]
     files += [object_file([text(align=16)], order=order) for order in ("little", "big") if options.all]
-    paths = [write(f"{tally.folder}/{k}", it) for k, it in enumerate(files)]
-    for count, wrong in side_by_side(tried, [(it, share) for it in paths for share in range(PROCESSORS)], True):
+    parts = [(it, write(f"{tally.folder}/{k}", it), share) for k, it in enumerate(files) for share in range(PROCESSORS)]
+    for count, wrong in side_by_side(tried, parts, True):
         tally.count(count, wrong)

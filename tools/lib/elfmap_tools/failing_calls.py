@@ -1,23 +1,14 @@
 """`tools/test failing-calls`: every call of the C library that elfmap makes, failing once. A small library, `failing.c`, which is loaded
 before the C library, refuses the Nth `malloc` or `realloc`, or fails, cuts or interrupts the Nth `open`, `read`, `lseek`, or `write` to
-standard output, for N from 1 until the program ends without it; the next call would succeed. What has to come:
-
-  a call that is refused memory: `out of memory` and status 3, with nothing on standard output, or for `show` a beginning of its text; or
-    all that comes with enough memory, where the program can do without;
-  a call of `open`: `cannot open NAME` and status 3, with nothing on standard output;
-  a call of `read` or `lseek`: `read failed at K` and status 3, where K is the offset that was to be read, and nothing on standard output;
-  a call of `write`: `write failed after K` and status 3, and the first K bytes are written;
-  a `read` or `write` of one byte, or all of them: all that comes else.
-
-Nothing is tried again; a file is opened once, nothing is read into no space, nothing empty is written, and nothing is synchronized. Of
-`tests_calls` the calls `write`, `object` and `copy` are tried in the same way: what `copy` has written before a failed `read` is the
-beginning of the file.
+standard output, for N from 1 until the program ends without it; the next call would succeed. `is_right` says how the program has to end.
+Nothing is tried again; a file is opened once, nothing is read into no space, nothing empty is written, and nothing is synchronized. The
+calls `write`, `object` and `copy` of the program `tests_calls` are tried in the same way.
 
 By `growths` it makes the calls of the library one by one, with the Nth growth refused, and with that and all after it: each call answers
 out of memory or what it answers with enough; a reading goes on where a growth was refused, and loses nothing; what takes no memory answers
 as ever, and made three times it grows as much as made not at all."""
 
-import os, re, struct
+import re
 from argparse import Namespace
 from collections.abc import Iterable, Iterator
 from itertools import count
@@ -29,7 +20,7 @@ from .reference import (
     ALLOC, COMMON, HASH, PROGBITS, WRITE, edited, group, object_file, relocations, section, symbol, text, words as number_words,
 )  # fmt: skip
 from .suite import Tally, Test, environment
-from .tree import PROGRAM, RULES, by_cc, read_text, run, wanted, write
+from .tree import PROGRAM, RULES, Answer, answer_of, by_cc, read_text, run, wanted, write
 
 CALLER = "int callee(int); extern int shared; int common; int main(void) { return callee(1) + shared + common; }\n"
 CALLEE = "static int calls; int shared = 2; int callee(int x) { return calls += x; }\n"
@@ -43,11 +34,9 @@ CALLS = output_of("tests_calls")
 # Files by hand, those of a link together, with a symbol at which its executable can begin.
 BY_HAND: dict[tuple[str, ...], str] = {("one_section",): "", ("many_sections",): "", ("call_0", "call_1"): "main"}
 BY_HAND |= {("common_0", "common_1", "common_2"): "x", ("groups_0", "groups_1"): "f", ("hash",): ""}
-PLACE = ["--base", "0x400000", "--page", "0x1000"]
-# How a call ended: its status, and what it printed.
-Ending = tuple[int, bytes, bytes]
-# How many calls failed, and what was wrong.
-Result = tuple[int, list[str]]
+MAP, LINK = ([it, "--base", "0x400000", "--page", "0x1000"] for it in ("map", "link"))
+BY_RULES = ["--rules", RULES]
+READINGS = (["check"], ["check", "--seek"], ["show"], ["rewrite"])
 
 
 def files_by_hand() -> dict[str, bytes]:
@@ -61,7 +50,7 @@ def files_by_hand() -> dict[str, bytes]:
         "many_sections": object_file([section(b"", PROGBITS)] * 65277),
         "call_0": object_file([text(call + b"\xc3"), relocations([(1, 2, 2, 2**64 - 4)], 0)], main),
         "call_1": object_file([text()], [symbol(b"callee", 0)]),
-        "common_0": object_file([section(b".data", PROGBITS, struct.pack("<I", 1), WRITE | ALLOC, 4)], [symbol(b"x", 0, 0x20)]),
+        "common_0": object_file([section(b".data", PROGBITS, number_words("little", 1), WRITE | ALLOC, 4)], [symbol(b"x", 0, 0x20)]),
         "common_1": object_file([], [symbol(b"x", None, value=4, size=4, reserved=COMMON)]),
         "common_2": object_file([], [symbol(b"x", None, value=2, size=8, reserved=COMMON)]),
         "groups_0": object_file(grouped, [f]),
@@ -84,61 +73,56 @@ def make_files(folder: str) -> None:
         write(f"{folder}/{name}", content)
 
 
-def ended(folder: str, words: list[str], call: str = "", program: str = PROGRAM) -> tuple[Ending, list[str]]:
+def ended(folder: str, words: list[str], call: str = "", program: str = PROGRAM) -> tuple[Answer, list[str]]:
     """How the program ended, and what the library says of the call that failed."""
     report = write(f"{folder}/report", "")
     around = environment(LD_PRELOAD=f"{folder}/failing.so", FAILING_CALL=f"{call} {report}")
     it = run(program, *words, folder=folder, env=around)
-    return (it.returncode, it.stdout, it.stderr), read_text(report).split("\n")[:-1]
+    return answer_of(it), read_text(report).split("\n")[:-1]
 
 
-def wrong_with(kind: str, how: str, words: list[str], ample: Ending, found: Ending, offset: int) -> str:
-    """What is wrong with how the program ended where a call of this kind failed at an offset; nothing where it is right."""
-    status, out, err = found
+def is_right(kind: str, how: str, command: str, ample: Answer, found: Answer, offset: int) -> bool:
+    """Whether the program ended as it has to, where a call of this kind failed at an offset, and as it ends where none does."""
+    (status, out, err), text = found, ample[1]
     if how in ("cut", "bytes"):
-        return "" if found == ample else "another answer"
-    if words[0] in OWN and kind in ("malloc", "open") and (status, out) == (1, b"") and err.startswith(b"Error: "):
-        return ""
+        return found == ample
+    if command in OWN and kind in ("malloc", "open") and (status, out) == (1, b"") and err.startswith(b"Error: "):
+        return True
     if kind == "malloc":
-        begun = out == b"" or words[0] == "show" and ample[1].startswith(out)
-        return "" if found == ample or (status, err) == (3, b"out of memory\n") and begun else "it is not out of memory"
+        # It may do without; and of `show` a beginning of the text may be written.
+        begun = out == b"" or command == "show" and text.startswith(out)
+        return found == ample or (status, err) == (3, b"out of memory\n") and begun
     if kind == "open":
-        return "" if status == 3 and out == b"" and re.fullmatch(rb"cannot open \S+\n", err) else "it does not say that it can't open"
+        return status == 3 and out == b"" and bool(re.fullmatch(rb"cannot open \S+\n", err))
     if kind == "write":
-        right = (3, ample[1][:offset], f"write failed after {offset}\n".encode())
-        return "" if found == right else "no failed write"
-    begun = out == b"" or words[0] == "copy" and ample[1].startswith(out) and out != ample[1]
-    return "" if begun and (status, err) == (3, f"read failed at {offset}\n".encode()) else "no failed read"
+        return found == (3, text[:offset], f"write failed after {offset}\n".encode())
+    # What `copy` has written before a failed `read` is a beginning of the file.
+    begun = out == b"" or command == "copy" and text.startswith(out) and out != text
+    return begun and (status, err) == (3, f"read failed at {offset}\n".encode())
 
 
-def opened_once(folder: str, words: list[str], files: list[str], program: str) -> Result:
-    """What is wrong with how many files are opened, and with calls in vain."""
-    _, report = ended(folder, words, "count 1 nothing", program)
-    right = [f"opened {len(files)}", "vain 0"]
-    return 1, [] if report[:2] == right else [f"{' '.join(words)}: {' '.join(report)}, and not {' '.join(right)}"]
-
-
-def quiet(folder: str, names: Iterable[str]) -> Result:
-    """What is wrong with the calls that take no memory, on these files: made three times they grow as much as made not at all."""
-    counts = [ended(folder, ["quiet", times, *names], "count 1 nothing", CALLS) for times in ("0", "3")]
+def quiet(tally: Tally, names: Iterable[str]) -> None:
+    """The calls that take no memory, on these files: made three times they grow as much as made not at all."""
+    counts = [ended(tally.folder, ["quiet", times, *names], "count 1 nothing", CALLS) for times in ("0", "3")]
     same = counts[0] == counts[1] and counts[0][0][0] == 0 and counts[0][1][2:]
-    return 1, [] if same else [f"quiet {' '.join(names)}: {counts}"]
+    tally.check(same, f"quiet {' '.join(names)}: {counts}")
 
 
-def tried(folder: str, words: list[str], kind: str, how: str, program: str = PROGRAM) -> Result:
-    """Each call of a kind failing, one after the other, or all calls at once: how many were, and what was wrong."""
-    ample, _ = ended(folder, words, program=program)
-    wrong = list[str]()
+def tried(tally: Tally, words: list[str], kind: str, how: str, program: str = PROGRAM) -> None:
+    """Each call of a kind failing, one after the other, or all calls at once."""
+    ample, _ = ended(tally.folder, words, program=program)
     for number in count(1):
-        found, report = ended(folder, words, f"{kind} {number} {how}", program)
+        found, report = ended(tally.folder, words, f"{kind} {number} {how}", program)
+        what = f"{' '.join(words)}: {kind} {number} {how}: {found}"[:300]
         if not report:
-            return number - 1, wrong + ([] if found == ample else [f"{' '.join(words)}: without a failing call: another answer"])
-        why = wrong_with(kind, how, words, ample, found, int(report[0].split()[1]))
-        why = why or "it was tried again" * any(it.startswith("again") for it in report)
-        wrong += [f"{' '.join(words)}: {kind} {number} {how}: {why}: {found}"[:300]] if why else []
+            if found != ample:
+                tally.fail(f"{what}: another answer without a failing call")
+            return
+        is_tried_again = any(it.startswith("again") for it in report)
+        offset = int(report[0].split()[1])
+        tally.check(is_right(kind, how, words[0], ample, found, offset) and not is_tried_again, f"{what}, {report}")
         if how == "bytes":
-            break
-    return number, wrong
+            return
 
 
 def wrong_growths(ample: list[bytes], found: list[bytes]) -> str:
@@ -156,68 +140,62 @@ def wrong_growths(ample: list[bytes], found: list[bytes]) -> str:
     return "" if place == len(ample) or refused else "lines are missing"
 
 
-def grown(folder: str, words: list[str], how: str) -> Result:
-    """Each growth of the calls of the library refused: how many were, and what was wrong."""
-    (sound, output, _), _ = ended(folder, words, program=CALLS)
-    ample, wrong = output.split(b"\n")[:-1], list[str]()
+def grown(tally: Tally, words: list[str], how: str) -> None:
+    """Each growth of the calls of the library refused."""
+    (sound, output, _), _ = ended(tally.folder, words, program=CALLS)
+    ample = output.split(b"\n")[:-1]
     for number in count(1):
-        (status, out, err), report = ended(folder, words, f"malloc {number} {how}", CALLS)
-        lines = out.split(b"\n")[:-1]
+        (status, out, err), report = ended(tally.folder, words, f"malloc {number} {how}", CALLS)
+        lines, what = out.split(b"\n")[:-1], f"{' '.join(words)}: growth {number} {how}"
         if not report:
-            break
+            if lines != ample:
+                tally.fail(f"{what}: another answer without a refused growth")
+            return
         # The program ends where a growth of its own is refused, or a file can't be read.
         gave_up = status == 1 and b"OutOfMemory" in err or status == 3 and lines[-1:] == [b"read_to_end out of memory"]
         why = wrong_growths(ample[: len(lines)] if gave_up and lines == ample[: len(lines)] else ample, lines)
-        if why or status != sound and not gave_up:
-            wrong.append(f"{' '.join(words)}: growth {number} {how}: {why or status} {err[:100]!r}")
-    return number - 1, wrong + ([] if lines == ample else [f"{' '.join(words)}: another answer without a refused growth"])
+        tally.check(not why and (gave_up or status == sound), f"{what}: {why or status} {err[:100]!r}")
 
 
-def growths(folder: str) -> Iterator[Result]:
+def growths(tally: Tally) -> None:
     """The growths of the calls that need no file, and of those on the files by hand."""
     for names in BY_HAND:
         # A file of 4 MB takes its time.
         for how in ("fail",) if names == ("many_sections",) else ("fail", "rest"):
-            yield grown(folder, ["growths", "rules", *names], how)
+            grown(tally, ["growths", "rules", *names], how)
     for those in [*BY_HAND, ("caller.o", "callee.o"), ("full.o",), ("/bin/true",)]:
-        yield quiet(folder, those)
+        quiet(tally, those)
 
 
 def calls_by_hand() -> Iterator[list[str]]:
     """Each command on the files by hand: the words of each call."""
     for names, entry in BY_HAND.items():
-        yield from ([*words, name] for words in (["check"], ["check", "--seek"], ["show"], ["rewrite"]) for name in names)
-        for words in (["map", *PLACE], ["map", *PLACE, "--rules", RULES], ["link", *PLACE, "--entry", entry, "--rules", RULES]):
-            yield [*words, *names]
+        yield from ([*words, name] for words in READINGS for name in names)
+        yield from ([*words, *names] for words in (MAP, [*MAP, *BY_RULES], [*LINK, "--entry", entry, *BY_RULES]))
 
 
 def calls() -> Iterator[tuple[str, list[str], list[str]]]:
     """Of each call the program, the words, and the files among them."""
-    alone = ("call_0", "caller.o", "many.o", "full.o", "refused", "/bin/true")
-    yield from ((PROGRAM, words, [name]) for words in (["check"], ["check", "--seek"], ["show"], ["rewrite"]) for name in alone)
     both, broken = ["caller.o", "callee.o"], ["caller.o", "refused", "callee.o"]
-    none, with_rules = list[str](), ["--rules", RULES]
-    for more, files in ((none, both), (with_rules, both), (with_rules, ["full.o"]), (none, ["many.o"]), (none, broken)):
-        yield PROGRAM, ["map", *PLACE, *more], files
-    yield from ((PROGRAM, ["link", *PLACE, "--entry", "main", *with_rules], files) for files in (both, ["caller.o"], broken))
+    for name in ("call_0", "caller.o", "many.o", "full.o", "refused", "/bin/true"):
+        yield from ((PROGRAM, words, [name]) for words in READINGS)
+    yield from ((PROGRAM, MAP, files) for files in (both, ["many.o"], broken))
+    yield from ((PROGRAM, [*MAP, *BY_RULES], files) for files in (both, ["full.o"]))
+    yield from ((PROGRAM, [*LINK, "--entry", "main", *BY_RULES], files) for files in (both, ["caller.o"], broken))
     yield from ((CALLS, [call], [name]) for call in OWN for name in ("call_0", "caller.o", "full.o", "refused"))
-
-
-def tries(folder: str) -> Iterator[Result]:
-    for program, words, files in calls():
-        opened = [*(it for it in words if it == RULES), *files]
-        words = [*words, *files]
-        yield opened_once(folder, words, opened, program)
-        # A source that returns nothing where there is more is a file that shrank.
-        shrinks = [("read", "nothing")] if "--seek" in words or "copy" in words else []
-        for kind, how in [*FAILURES, *shrinks, ("read", "bytes"), ("write", "bytes")]:
-            yield tried(folder, words, kind, how, program)
-    yield from (tried(folder, words, "malloc", "fail") for words in calls_by_hand())
-    yield from growths(folder)
 
 
 @Test("failing-calls", "every call of the C library failing once", commands="cc", crates="elfmap tests_calls", family="fuzz")
 def failing_calls(tally: Tally, options: Namespace) -> None:
     make_files(tally.folder)
-    for tried_calls, wrong in tries(tally.folder):
-        tally.count(tried_calls, wrong)
+    for program, words, files in calls():
+        opened, words = [*(it for it in words if it == RULES), *files], [*words, *files]
+        _, report = ended(tally.folder, words, "count 1 nothing", program)
+        tally.same(" ".join(words), report[:2], [f"opened {len(opened)}", "vain 0"])
+        # A source that returns nothing where there is more is a file that shrank.
+        shrinks = [("read", "nothing")] if "--seek" in words or "copy" in words else []
+        for kind, how in [*FAILURES, *shrinks, ("read", "bytes"), ("write", "bytes")]:
+            tried(tally, words, kind, how, program)
+    for words in calls_by_hand():
+        tried(tally, words, "malloc", "fail")
+    growths(tally)

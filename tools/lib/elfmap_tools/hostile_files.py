@@ -1,24 +1,25 @@
 """`tools/test hostile-files`: the cases of cases/ that have files, tables made to do harm among them (cases/hostile.txt), large objects and
 large files, through the commands of the program. No call takes a second of the processor, or asks for more than a MiB of memory and 128
 times as many bytes as its files have, all growths together; `check --seek` for no more than a MiB and twice as many bytes as the tables
-have. Each call has a stack of STACK bytes. The large files have up to 4 MB, but for sparse ones of up to 2^30 bytes, whose tables are far from the header: there `check` and
-`check --seek` have to find them. `failing.c` counts what is asked for. The answers of large objects are the reference implementation's."""
+have. Each call has a small stack. The large files have up to 4 MB, but for sparse ones of up to 2^30 bytes, whose tables are far from the
+header. `failing.c` counts what is asked for. The answers of large objects are the reference implementation's."""
 
-import os, random, resource, struct, sys, tempfile
+import os, random, sys
 from argparse import Namespace
 from collections.abc import Callable, Iterator
-from dataclasses import dataclass, field
+from dataclasses import dataclass
+from itertools import chain, product
 
-from .cases import all_cases, put_needs
+from .cases import Case, every_case
 from .failing_calls import failing_library
 from .making import hash_content, note_content
 
 from .reference import (
-    ALLOC, DYNSYM, HASH, NOTE, PROGBITS, STRTAB, SYMTAB_SHNDX, File, check, edited, group, mapped, object_file, relocations, rewritten,
-    section, shown, symbol, text, words,
+    ALLOC, DYNSYM, HASH, NOTE, PROGBITS, SECTION_HEADER, STRTAB, SYMBOL, File, answer, edited, group, object_file, object_of, record,
+    relocations, section, symbol, text, with_index_table, words,
 )  # fmt: skip
 from .suite import Tally, Test, environment
-from .tree import PROGRAM, TOP, read_text, run
+from .tree import PROGRAM, TOP, Answer, read_text, run
 
 sys.path.insert(0, f"{TOP}/bench")
 import made  # noqa: E402
@@ -27,39 +28,27 @@ MOST_SECONDS = 1.0
 LEAST_MEMORY, MOST_MEMORY, SEEKING_MEMORY = 1 << 20, 128, 2
 STACK = 1 << 20
 LITTLE, GLOBAL, WEAK, IN_GROUP = "little", 0x10, 0x20, 0x206
-# The status, and both outputs.
-Answer = tuple[int, bytes, bytes]
 
 
 @dataclass
-class Row:
-    """A call with these words, in a folder with these files, and its answer, or a check of its output."""
+class Row(Case):
+    """A case, of which some answer with a status of 0 and an output of which this holds."""
 
-    words: list[str]
-    right: Answer | Callable[[bytes], bool]
-    files: dict[str, bytearray] = field(default_factory=dict)
-    needs: list[str] = field(default_factory=list)
+    holds: Callable[[bytes], bool] | None = None
 
 
 def row(command: str, *files: bytes, out: bytes | Callable[[bytes], bool] | None = None) -> Row:
     """A row of files f0, f1 and so on, with the answer of the reference implementation, if none is given."""
-    names = {f"f{k}": bytearray(it) for k, it in enumerate(files)}
-    right = (0, out, b"") if isinstance(out, bytes) else out or reference_answer(command.split(), files)
-    needs = [f"{it}={it}" for it in names]
-    return Row([*command.split(), *names], right, {**names, "r": bytearray(b"2 pc 4 signed\n")}, [*needs, "r=r"])
-
-
-def reference_answer(words: list[str], files: tuple[bytes, ...]) -> Answer:
-    """What the reference answers of files that nothing refuses."""
-    if words[0] == "map":
-        numbers = dict(zip(words[1::2], words[2::2]))
-        rules = b"2 pc 4 signed\n" if "--rules" in numbers else None
-        lines = mapped(files, int(numbers["--base"], 0), int(numbers["--page"], 0), rules)
-        return int(lines.startswith("refused ")), lines.encode("latin1"), b""
-    if words[0] == "rewrite":
-        refusal, written = rewritten(files[0]) or ("", b"")
-        return int(bool(refusal)), written, refusal.encode()
-    return 0, (check(files[0]) + "\n").encode() if words[0] == "check" else shown(files[0]).encode("latin1"), b""
+    names = [f"f{k}" for k in range(len(files))]
+    contents = {**dict(zip(names, files)), "r": b"2 pc 4 signed\n"}
+    found = Row([*command.split(), *names], [f"{it}={it}" for it in contents], files={it: bytearray(own) for it, own in contents.items()})
+    if callable(out):
+        found.holds = out
+    else:
+        right = answer(found.words, contents) if out is None else (0, out, b"")
+        assert right
+        found.status, found.out, found.err = right
+    return found
 
 
 def loaded(names: list[bytes], hash_words: bytes, strings: bytes = b"") -> bytes:
@@ -67,7 +56,7 @@ def loaded(names: list[bytes], hash_words: bytes, strings: bytes = b"") -> bytes
     strings = strings or b"\0" + b"".join(it + b"\0" for it in names[1:])
     at, entries = 1, bytes(24)
     for it in names[1:]:
-        entries += struct.pack("<IBBHQQ", at if it else 0, GLOBAL, 0, 0, 0, 0)
+        entries += record(LITTLE, SYMBOL, st_name=at if it else 0, st_info=GLOBAL)
         at += len(it) + 1
     symbols = section(b".dynsym", DYNSYM, entries, ALLOC, 8, 24, 0, 1)
     return object_file([section(b".dynstr", STRTAB, strings), symbols, section(b".hash", HASH, hash_words, ALLOC, 4, 4, 1)])
@@ -83,8 +72,7 @@ def many_rows() -> Iterator[Row]:
     symbols = [symbol(b"signature %d" % k, 10 + k, WEAK) for k in range(10)] + [symbol(b"name%d" % k, 10 + k) for k in range(270)]
     sections = [*groups, *plain, *fields, own_notes]
     file = object_file(sections, symbols)
-    indexes = section(b".symtab_shndx", SYMTAB_SHNDX, bytes(4 * len(symbols) + 4), 0, 4, 4)
-    indexed = edited(object_file([*sections, indexes], symbols), ("sh_link", len(sections) + 1, len(sections) + 2))
+    indexed = with_index_table(object_of(sections, symbols))
     for it in (file, indexed):
         for command in ("check", "check --seek", "show", "rewrite", "map --base 0x400000 --page 0x1000", "map --rules r --base 0 --page 1"):
             yield row(command, it)
@@ -102,9 +90,8 @@ def many_rows() -> Iterator[Row]:
 def large_rows() -> Iterator[Row]:
     """Files of up to 4 MB whose tables cost the most; the reference is too slow for them."""
     # An alignment for which the file would be too long.
-    yield Row(
-        ["rewrite", "f"], (1, b"", b"too long\n"), {"f": bytearray(edited(object_file([text(b"")]), ("sh_addralign", 1, 2**63)))}, ["f=f"]
-    )
+    too_long = edited(object_file([text(b"")]), ("sh_addralign", 1, 2**63))
+    yield Row(["rewrite", "f"], ["f=f"], 1, b"", b"too long\n", files={"f": bytearray(too_long)})
     # Groups of one signature, each of one section.
     count = 32760
     sections = [group([count + k]) for k in range(count)] + [text(b"", IN_GROUP, b"f")] * count
@@ -139,50 +126,37 @@ def counting(library: str, report: str) -> dict[str, str]:
 
 
 def asked(report: str) -> int:
-    """How many bytes a call asked for."""
-    return int(dict(line.split() for line in read_text(report).splitlines())["asked"])
+    """How many bytes the call asked for that has this report, which is removed."""
+    found = int(dict(line.split() for line in read_text(report).splitlines())["asked"])
+    os.remove(report)
+    return found
 
 
-def seconds_of_children() -> float:
-    """The seconds of the processor that the calls took up to now."""
-    used = resource.getrusage(resource.RUSAGE_CHILDREN)
-    return used.ru_utime + used.ru_stime
+def run_case(case: Case, library: str, report: str) -> tuple[Answer, float, int]:
+    """The answer, the seconds of the processor, of this process's children, and the bytes that were asked for."""
+    before = sum(os.times()[2:4])
+    answer = case.found("prlimit", f"--stack={STACK}", PROGRAM, env=counting(library, report))
+    return answer, sum(os.times()[2:4]) - before, asked(report)
 
 
-def run_row(row: Row, library: str) -> tuple[Answer, float, int]:
-    """The answer, the seconds of the processor, and the bytes that were asked for."""
-    with tempfile.TemporaryDirectory(prefix="hostile-") as folder, tempfile.TemporaryDirectory() as beside:
-        put_needs(folder, row.needs, row.files)
-        before = seconds_of_children()
-        ended = run("prlimit", f"--stack={STACK}", PROGRAM, *row.words, folder=folder, env=counting(library, f"{beside}/report"))
-        return (ended.returncode, ended.stdout, ended.stderr), seconds_of_children() - before, asked(f"{beside}/report")
-
-
-def wrong_with(row: Row, library: str) -> str:
-    answer, seconds, memory = run_row(row, library)
+def wrong_with(case: Case, library: str, report: str) -> str:
+    (status, out, err), seconds, memory = run_case(case, library, report)
     if seconds > MOST_SECONDS:
         # A machine with much to do beside it may take longer once.
-        seconds = run_row(row, library)[1]
+        seconds = run_case(case, library, report)[1]
     if seconds > MOST_SECONDS:
         return f"it takes {seconds:.2f} s"
     # A file may be named by several words.
-    places = {place: name for place, _, name in (it.partition("=") for it in row.needs) if name}
-    lengths = sum(len(row.files[places[it]]) for it in row.words if it in places)
-    most = LEAST_MEMORY + (SEEKING_MEMORY if "--seek" in row.words else MOST_MEMORY) * lengths
+    places = {place: name for place, _, name in (it.partition("=") for it in case.needs) if name}
+    lengths = sum(len(case.files[places[it]]) for it in case.words if it in places)
+    most = LEAST_MEMORY + (SEEKING_MEMORY if "--seek" in case.words else MOST_MEMORY) * lengths
     if memory > most:
         return f"it asks for {memory} bytes, and not for {most} at most"
-    status, out, err = answer
-    if callable(row.right):
-        return "" if (status, err) == (0, b"") and row.right(out) else f"status {status}, {out[-80:]!r}"
-    right_status, right, right_err = row.right
-    if (status, out) == (right_status, right) and (err == right_err or status > 1 and not right_err):
+    if isinstance(case, Row) and case.holds:
+        return "" if (status, err) == (0, b"") and case.holds(out) else f"status {status}, {out[-80:]!r}"
+    if (status, out) == (case.status, case.out) and (err == case.err or status > 1 and not case.err):
         return ""
-    return f"{(status, out[:80], err[:80])}, and not {(right_status, right[:80], right_err[:80])}"
-
-
-def case_rows() -> Iterator[Row]:
-    for cases in all_cases().values():
-        yield from (Row(it.words, (it.status, it.out, it.err), cases.files, it.needs) for it in cases.cases if it.needs)
+    return f"{(status, out[:80], err[:80])}, and not {(case.status, case.out[:80], case.err[:80])}"
 
 
 # ---- tables far from the header
@@ -191,26 +165,20 @@ def case_rows() -> Iterator[Row]:
 FAR = (2**24 + 8, 2**29 + 8, 2**30 - 136)
 
 
-def far_file(name: str, at: int, order: str) -> int:
-    """Writes a sparse file of a header, far from it two section headers, and a name table of one byte after them; how long it is."""
-    mark, data = ("<", 1) if order == LITTLE else (">", 2)
-    header = b"\x7fELF\2" + bytes([data, 1, *[0] * 9]) + struct.pack(f"{mark}HHIQQQIHHHHHH", 1, 62, 1, 0, 0, at, 0, 64, 0, 0, 64, 2, 1)
-    with open(name, "wb") as it:
-        it.write(header)
-        it.seek(at + 64)
-        it.write(struct.pack(f"{mark}IIQQQQIIQQ", 0, 3, 0, 0, at + 128, 1, 0, 0, 1, 0))
-        it.truncate(at + 136)
-    return at + 136
-
-
-def far_tables(tally: Tally, folder: str, library: str) -> None:
-    for order, at in ((order, at) for order in (LITTLE, "big") for at in FAR):
-        right = f"ok {far_file(f'{folder}/f', at, order)} 2 0\n".encode()
-        for command in (["check"], ["check", "--seek"]):
-            output = run(PROGRAM, *command, f"{folder}/f", env=counting(library, f"{folder}/report")).stdout
-            memory, most = asked(f"{folder}/report"), LEAST_MEMORY + (0 if "--seek" in command else MOST_MEMORY * at)
-            os.remove(f"{folder}/report")
-            what = f"{' '.join(command)} of a table at {at}, {order}"
+def far_tables(tally: Tally, library: str) -> None:
+    """Sparse files of a header, far from it two section headers, and a name table of one byte after them."""
+    path, report = f"{tally.folder}/f", f"{tally.folder}/report"
+    for order, at in product((LITTLE, "big"), FAR):
+        header = edited(object_file([], order=order)[:64], ("e_shoff", at), ("e_shnum", 2), ("e_shstrndx", 1))
+        names = record(order, SECTION_HEADER, sh_type=STRTAB, sh_offset=at + 128, sh_size=1, sh_addralign=1)
+        with open(path, "wb") as it:
+            it.write(header)
+            it.seek(at + 64)
+            it.write(names)
+            it.truncate(at + 136)
+        for command, most in (["check"], LEAST_MEMORY + MOST_MEMORY * at), (["check", "--seek"], LEAST_MEMORY):
+            output, right = run(PROGRAM, *command, path, env=counting(library, report)).stdout, b"ok %d 2 0\n" % (at + 136)
+            memory, what = asked(report), f"{' '.join(command)} of a table at {at}, {order}"
             tally.check(output == right and memory <= most, f"{what}: {output!r}, and not {right!r}; {memory} bytes, and not {most}")
 
 
@@ -221,7 +189,8 @@ ABOUT = "tables made to do harm, and large files: answers, time, memory, and a s
 @Test("hostile-files", ABOUT, commands="cc prlimit", crates="elfmap", alone=True, family="fuzz")
 def hostile_files(tally: Tally, options: Namespace) -> None:
     library = failing_library(tally.folder)
-    for number, it in enumerate(it for rows in (case_rows, many_rows, large_rows) for it in rows()):
-        why = wrong_with(it, library)
-        tally.check(not why, f"row {number}, {' '.join(it.words)} with {' '.join(it.needs)}: {why}")
-    far_tables(tally, tally.folder, library)
+    of_cases = (it for it in every_case() if it.needs)
+    for number, it in enumerate(chain(of_cases, many_rows(), large_rows())):
+        why = wrong_with(it, library, f"{tally.folder}/report")
+        tally.check(not why, f"row {number}, {it}: {why}")
+    far_tables(tally, library)

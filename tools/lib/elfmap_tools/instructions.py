@@ -2,12 +2,12 @@
 numbers in bench/instructions. So a command that got slower fails on a busy machine too, where seconds say little.
 
 A row is a command and its input. It fails if its count is more than 3 % above its stored number, if no number is stored, or if the command
-does not end with status 0. A stored number without a row fails, and so does a command of `elfmap --help` without a row. If a count is more
-than 3 % below its stored number, a line says so, and the row passes. `--store` stores the counts, if every command ended with status 0.
+does not end with status 0. A stored number without a row fails, and so does a command of `elfmap --help` without a row. `--store` stores
+the counts, if every command ended with status 0.
 
-valgrind counts (its tool callgrind). It interprets the program, so the same run always has the same count. It counts each byte of
-`rep movsb` and `rep stosb`. The program runs in its own folder, with relative names, the same environment, and the same routines of the C
-library on every processor. With another version of the C library or of valgrind the counts are slightly different."""
+valgrind counts (its tool callgrind). It interprets the program, so the same run always has the same count. The program runs in its own
+folder, with relative names, the same environment, and the same routines of the C library on every processor. With another version of the C
+library or of valgrind the counts are slightly different."""
 
 import fcntl, os, re, shutil, subprocess, sys
 from argparse import Namespace
@@ -51,6 +51,7 @@ FEATURES = "AVX512F AVX512VL AVX2 AVX BMI1 BMI2 LZCNT MOVBE RTM ERMS FSRM AVX_Fa
 TUNABLES = ["glibc.cpu.hwcaps=" + "".join(f"-{it}," for it in FEATURES.split()), "glibc.cpu.x86_data_cache_size=32768"]
 TUNABLES += ["glibc.cpu.x86_shared_cache_size=1048576", "glibc.cpu.x86_non_temporal_threshold=786432"]
 ENVIRONMENT = {"LC_ALL": "C", "GLIBC_TUNABLES": ":".join(TUNABLES)}
+VALGRIND = [shutil.which("valgrind") or "valgrind", "--tool=callgrind", "--callgrind-out-file=/dev/null"]
 # The count of a row, or what is wrong with how it ended.
 Count = tuple[int, str]
 
@@ -66,8 +67,10 @@ def written(folder: str, make: Callable[[int], Any], length: int) -> list[str]:
     return names
 
 
-def filled_pipe(path: str) -> int:
-    """A pipe that has a whole file before it is read, so that the same reads return the same lengths."""
+def input_of(path: str | None) -> int:
+    """An empty input, or a pipe that has a whole file before it is read, so that the same reads return the same lengths."""
+    if path is None:
+        return os.open(os.devnull, os.O_RDONLY)
     source, target = os.pipe()
     fcntl.fcntl(target, fcntl.F_SETPIPE_SZ, PIPE_LENGTH)
     os.set_blocking(target, False)
@@ -78,19 +81,15 @@ def filled_pipe(path: str) -> int:
 
 def counted(folder: str, command: str, make: Callable[[int], Any], names: list[str]) -> Count:
     own = {"RULES": f"{make.__name__}/rules", "ENTRY": getattr(make, "entry", "name")}
-    tool = [shutil.which("valgrind") or "valgrind", "--tool=callgrind", "--callgrind-out-file=/dev/null"]
-    words = [*tool, "./program", *(own.get(it, it) for it in COMMANDS[command])]
-    is_piped = PIPE in words
-    source = filled_pipe(f"{folder}/{names[0]}") if is_piped else os.open(os.devnull, os.O_RDONLY)
-    try:
-        words += [] if is_piped else names
-        ended = subprocess.run(
-            words, cwd=folder, env=ENVIRONMENT, stdin=source, stdout=subprocess.DEVNULL, stderr=subprocess.PIPE, timeout=LONGEST
-        )
-    except subprocess.TimeoutExpired:
-        return 0, f"it takes more than {LONGEST} s"
-    finally:
-        os.close(source)
+    is_piped = PIPE in COMMANDS[command]
+    words = [*VALGRIND, "./program", *(own.get(it, it) for it in COMMANDS[command]), *([] if is_piped else names)]
+    with open(input_of(f"{folder}/{names[0]}" if is_piped else None), "rb") as source:
+        try:
+            ended = subprocess.run(
+                words, cwd=folder, env=ENVIRONMENT, stdin=source, stdout=subprocess.DEVNULL, stderr=subprocess.PIPE, timeout=LONGEST
+            )
+        except subprocess.TimeoutExpired:
+            return 0, f"it takes more than {LONGEST} s"
     found = re.findall(rb"^==\d+== Collected : (\d+)$", ended.stderr, re.M)
     if ended.returncode or len(found) != 1:
         lines = b" ".join(it for it in ended.stderr.splitlines() if not it.startswith(b"=="))

@@ -1,34 +1,31 @@
 """The tests `tools/test linked`: what `elfmap map --rules` and `elfmap link` make, beside the system's `ld` and where it runs.
 
-- linked-like-ld: gcc compiles a program of three C files in a few ways; elfmap maps it by rules/x86-64.rules; and ld links the same files
-  by a script made of the lines `output` and `common`: each output section at its address, its members in order, nothing said of where they
-  are in it. Then each live section has the same bytes at its address in what ld wrote, each output section the same length, each name the
-  same value; and where the program does not fit its addresses, ld refuses it too. Where ld edits sections itself, the files are made
-  without what it edits: strings to be merged, and .eh_frame, which is renamed. From 2^63 on ld counts modulo 2^64: that is left out.
-- linked-runs: programs of C and C++, and of C over Debian's klibc, of which the objects that a program needs are taken from its archive,
-  print and end the same by ld and by elfmap; the executable is the reference's, and `check`, readelf and eu-elflint accept it.
-- linked-elsewhere: the same for the other machines of rules/ that qemu has, by qemu. The program reads numbers through addresses and
+- linked-like-ld: elfmap maps a program of three C files, and ld links them by a script made of the map's lines `output` and `common`: each
+  output section at its address, its members in order. Then ld has the same sections, each live one with the same bytes, and each name with
+  the same value; and where the program does not fit its addresses, ld refuses it too. The files are made without what ld edits itself:
+  strings to be merged, and .eh_frame, which is renamed. From 2^63 on ld counts modulo 2^64: that is left out.
+- linked-runs: programs of C and C++, and of C over Debian's klibc, with the objects of its archive that they need, print and end the same
+  by ld and by elfmap; the executable is the reference's, and `check`, readelf and eu-elflint accept it.
+- linked-elsewhere: the same by qemu, for the other machines of rules/ that it has. The program reads numbers through addresses and
   differences of each kind that data have; code there reaches what is elsewhere by kinds that no rule says (docs/RULE_FILES.md), so the
   addresses that it needs are beside it.
 - linked-kinds: for each file of rules an object has fields of each kind that docs/RULE_FILES.md names, with numbers near both ends of their
-  range, and the machine's `ld` puts the same bytes there. So the assembler agrees with the numbers of the kinds, and `ld` with the lines.
+  range, and the machine's `ld` puts the same bytes there.
 - made-programs, in made_programs.py."""
 
 import glob, os, re
 from argparse import Namespace
+from collections import Counter
 from collections.abc import Iterator
-from dataclasses import dataclass, field
 from functools import partial
-from typing import Any
+from typing import Any, NamedTuple
 
 from .packages import BY_LLVM, KLIBC, MACHINES, RUN_BY_QEMU
-from .reference import ALLOC, NOBITS, RELA, RELOCATION, SYMTAB, UNDEF, File, kept, linked, string, symbols
+from .reference import ALLOC, NOBITS, SYMTAB, UNDEF, File, answer, kept, string, symbols
 from .suite import Tally, Test
-from .tree import PROGRAM, RULES, TOP, Ended, read_bytes, read_text, run, wanted, write
+from .tree import PROGRAM, RULES, TOP, Answer, answer_of, ending, read_bytes, read_text, run, wanted, write
 
 SOURCES = f"{TOP}/cases/sources"
-
-
 # The assembler and the linker of a machine; of all others those of this one.
 HOST = (["as"], ["ld"])
 TOOLS = {machine: ([f"{target}-as"], [f"{target}-ld"]) for machine, target in MACHINES.items()}
@@ -63,15 +60,16 @@ class Workshop:
         """Links objects by elfmap as the file by-elfmap."""
         made = self.run(PROGRAM, "link", "--base", base, "--page", page, "--entry", entry, "--rules", rules, *objects)
         if made.returncode:
-            raise SystemExit(f"link ended with status {made.returncode}: {made.stderr[:200]!r}")
+            raise SystemExit(f"link {ending(made)}")
         write(f"{self.folder}/by-elfmap", made.stdout)
 
-    def answers(self, *emulator: str) -> list[tuple[int, bytes, bytes]]:
+    def answers(self, *emulator: str) -> list[Answer]:
         """How the programs by ld and by elfmap end, and what they print."""
-        for it in ("by-ld", "by-elfmap"):
-            os.chmod(f"{self.folder}/{it}", 0o755)
-        ends = [self.run(*emulator, f"{self.folder}/{it}", "word") for it in ("by-ld", "by-elfmap")]
-        return [(it.returncode, it.stdout, it.stderr) for it in ends]
+        found = []
+        for program in (f"{self.folder}/by-ld", f"{self.folder}/by-elfmap"):
+            os.chmod(program, 0o755)
+            found.append(answer_of(self.run(*emulator, program, "word")))
+        return found
 
 
 # ---- linked-like-ld
@@ -96,12 +94,6 @@ def section_name(f: Any, header: Any) -> str:
     return string(f.content(f.name_table), header.sh_name).decode()
 
 
-def kinds_in(f: Any) -> set[int]:
-    """The kinds of the relocations of sections that are loaded."""
-    loaded = [i for i, it in f.sections() if it.sh_type == RELA and f.section(it.sh_info).sh_flags & ALLOC]
-    return {entry.r_info & 0xFFFFFFFF for i in loaded for entry in f.entries(i, RELOCATION, 24)}
-
-
 def symbols_of(f: Any) -> dict[str, tuple[int, bool]]:
     """Value and whether it is defined, for each name that isn't local."""
     tables = [(i, f.content(it.sh_link)) for i, it in f.sections() if it.sh_type == SYMTAB]
@@ -109,29 +101,31 @@ def symbols_of(f: Any) -> dict[str, tuple[int, bool]]:
     return {string(names, it.st_name).decode(): (it.st_value, it.st_shndx != UNDEF) for names, it in found}
 
 
-@dataclass
-class Output:
-    """An output section of a link map; of its members the address, the length, the file, and the position in its object."""
+# The file and the position of a section in its object.
+Place = tuple[int, int]
+
+
+class Output(NamedTuple):
+    """An output section of a link map; of its members the address, the length, and the place."""
 
     address: int
     length: int
     has_bits: bool
-    members: list[tuple[int, int, int, int]] = field(default_factory=list)
+    members: list[tuple[int, int, Place]]
 
 
 class Map:
     """The lines of a link map of files."""
 
     def __init__(self, text: str, files: list[Any]) -> None:
-        self.outputs, self.commons, self.names = list[Output](), dict[str, str](), dict[str, tuple[str, str]]()
-        # By file and position.
-        self.bytes: dict[tuple[int, int], bytes] = {}
+        self.outputs, self.bytes = list[Output](), dict[Place, bytes]()
+        self.commons, self.names = dict[str, str](), dict[str, tuple[str, str]]()
         self.title = {(f, k): section_name(it, it.section(i)) for f, it in enumerate(files) for k, i in enumerate(kept(it))}
         for kind, *words in (it.split() for it in text.splitlines()):
             if kind == "output":
-                self.outputs.append(Output(int(words[0], 16), int(words[1], 16), words[2] == "bits"))
+                self.outputs.append(Output(int(words[0], 16), int(words[1], 16), words[2] == "bits", []))
             elif kind == "member":
-                self.outputs[-1].members.append((int(words[0], 16), int(words[1], 16), int(words[2]), int(words[3])))
+                self.outputs[-1].members.append((int(words[0], 16), int(words[1], 16), (int(words[2]), int(words[3]))))
             elif kind == "common":
                 self.commons[words[2]] = words[0]
             elif kind == "name":
@@ -143,33 +137,30 @@ class Map:
         """A linker script that has the output sections at their addresses, with their members in order. ld places the members."""
         lines = ["SECTIONS {"]
         for number, it in enumerate(self.outputs):
-            members = [f'    "{names[file]}"("{self.title[file, position]}")' for _, _, file, position in it.members]
+            members = [f'    "{names[place[0]]}"("{self.title[place]}")' for _, _, place in it.members]
             lines += [f"  .out.{number} 0x{it.address:x} : {{", *members, "    . = .;", "  }"]
         return "\n".join([*lines, *(f"  {name} = {address};" for name, address in self.commons.items()), "}", ""])
 
     def differences(self, made: Any) -> Iterator[str]:
         """What ld made otherwise."""
-        loaded = {section_name(made, it): i for i, it in made.sections() if it.sh_flags & ALLOC}
-        strange = set(loaded) - {f".out.{number}" for number in range(len(self.outputs))}
-        if strange:
-            yield f"ld has placed {', '.join(sorted(strange))} too"
-        theirs: dict[tuple[int, int], bytes] = {}
-        for number, own in enumerate(self.outputs):
-            it = made.section(loaded[f".out.{number}"])
-            if (it.sh_addr, it.sh_size) != (own.address, own.length):
-                place = f"0x{own.length:x} bytes from 0x{own.address:x}"
-                yield f"output section {number} is {place}, of ld 0x{it.sh_size:x} from 0x{it.sh_addr:x}"
-            content = b"" if it.sh_type == NOBITS else made.content(loaded[f".out.{number}"])
-            for at, size, file, position in own.members if own.has_bits else []:
-                theirs[file, position] = content[at - own.address : at - own.address + size]
+        loaded = {section_name(made, it): (i, it) for i, it in made.sections() if it.sh_flags & ALLOC}
+        own_places = {f".out.{number}": (it.address, it.length) for number, it in enumerate(self.outputs)}
+        places = {name: (it.sh_addr, it.sh_size) for name, (_, it) in loaded.items()}
+        if own_places != places:
+            yield f"the output sections, each with address and length, are {own_places}, of ld {places}"
+            return
+        theirs: dict[Place, bytes] = {}
+        for output, (i, it) in zip(self.outputs, (loaded[name] for name in own_places)):
+            content = b"" if it.sh_type == NOBITS else made.content(i)
+            theirs |= {place: content[at - output.address :][:size] for at, size, place in output.members if output.has_bits}
         if list(self.bytes) != list(theirs):
             yield f"there are bytes of {list(self.bytes)}, of ld of {list(theirs)}"
-        for (file, position), own_bytes in self.bytes.items():
-            other = theirs.get((file, position), own_bytes)
-            if own_bytes != other:
-                at = len(os.path.commonprefix([own_bytes, other]))
-                what = f"section {position} ({self.title[file, position]}) of file {file}"
-                yield f"{what} differs at 0x{at:x}: {own_bytes[at:at + 8].hex()}, of ld {other[at:at + 8].hex()}"
+        for place, own in self.bytes.items():
+            other = theirs.get(place, own)
+            if own != other:
+                at = len(os.path.commonprefix([own, other]))
+                what = f"section {place[1]} ({self.title[place]}) of file {place[0]}"
+                yield f"{what} differs at 0x{at:x}: {own[at:at + 8].hex()}, of ld {other[at:at + 8].hex()}"
         symbols = symbols_of(made)
         for name, (value, what) in self.names.items():
             at, defined = symbols.get(name, (0, False))
@@ -185,50 +176,39 @@ class Both:
     """Objects that elfmap maps with rules, and that ld links with the same output sections: how both ended."""
 
     def __init__(self, shop: Workshop, names: list[str], base: int, page: int, rules: str, ld: list[str]) -> None:
-        self.shop, self.files = shop, [File(shop.content(it)) for it in names]
-        options = ["--base", hex(base), "--page", hex(page)]
-        write(f"{shop.folder}/script", Map(shop.wanted(PROGRAM, "map", *options, *names), self.files).script(names))
-        self.ruled = shop.run(PROGRAM, "map", *options, "--rules", rules, *names)
+        files, words = [File(shop.content(it)) for it in names], ["map", "--base", hex(base), "--page", hex(page)]
+        write(f"{shop.folder}/script", Map(shop.wanted(PROGRAM, *words, *names), files).script(names))
+        self.ruled = shop.run(PROGRAM, *words, "--rules", rules, *names)
         self.by_ld = shop.run(*ld, *LD_WORDS, *names)
         self.ends = f"map {ending(self.ruled)}; ld {ending(self.by_ld)}"
-
-    def map(self) -> Map:
-        return Map(self.ruled.stdout.decode(), self.files)
+        self.shop, self.map = shop, Map(self.ruled.stdout.decode(), files)
 
     def differences(self) -> list[str]:
         if self.ruled.returncode or self.by_ld.returncode:
             return [self.ends]
-        return list(self.map().differences(File(self.shop.content("by-ld"))))
-
-
-def ending(it: Ended) -> str:
-    return f"ended with status {it.returncode}: {it.stdout[:80]!r} {it.stderr[:300]!r}"
-
-
-def compiled_parts(shop: Workshop, words: str) -> Iterator[str]:
-    for it in PARTS:
-        yield (name := shop.compiled("gcc", f"{it}.c", [*LD_FLAGS, *words.split()]))
-        # ld reads .eh_frame and writes it anew.
-        shop.wanted("objcopy", "--rename-section", ".eh_frame=.frames", name)
+        return list(self.map.differences(File(self.shop.content("by-ld"))))
 
 
 @Test("linked-like-ld", "the link map beside ld's link", commands="gcc ld objcopy", crates="elfmap", family="linked")
 def linked_like_ld(tally: Tally, options: Namespace) -> None:
-    totals, kinds = [0, 0, 0], set[int]()
+    totals = Counter[str]()
     for title, words, base, page, fits in LD_CASES:
         with tally.trying(title):
             shop = Workshop(tally.new_folder(title))
-            both = Both(shop, list(compiled_parts(shop, words)), base, page, RULES, ["ld", "-m", "elf_x86_64"])
+            objects = [shop.compiled("gcc", f"{it}.c", [*LD_FLAGS, *words.split()]) for it in PARTS]
+            for it in objects:
+                # ld reads .eh_frame and writes it anew.
+                shop.wanted("objcopy", "--rename-section", ".eh_frame=.frames", it)
+            both = Both(shop, objects, base, page, RULES, ["ld", "-m", "elf_x86_64"])
             if fits:
-                wrong, made = both.differences(), both.map()
+                wrong, made = both.differences(), both.map
                 tally.check(not wrong, f"{title}: {'; '.join(wrong)}")
-                counts = (len(made.bytes), sum(map(len, made.bytes.values())), len(made.names))
-                totals, kinds = [a + b for a, b in zip(totals, counts)], kinds.union(*map(kinds_in, both.files))
+                totals.update(sections=len(made.bytes), bytes=sum(map(len, made.bytes.values())), names=len(made.names))
             else:
                 is_refused = both.ruled.returncode == 1 and both.ruled.stdout.startswith(b"refused 16 ")
                 both_refuse = is_refused and both.by_ld.returncode and b"relocation truncated to fit" in both.by_ld.stderr
                 tally.check(both_refuse, f"{title}: it is not refused by both: {both.ends}")
-    tally.note("{} sections of {} bytes and {} names agree with ld".format(*totals) + f", relocations of kinds {sorted(kinds)}")
+    tally.note(", ".join(f"{count} {kind}" for kind, count in totals.items()) + " agree with ld")
 
 
 # ---- linked-runs
@@ -239,11 +219,11 @@ INCLUDES = [f"/usr/lib/klibc/include/{it}" for it in ("arch/x86_64", "bits64", "
 KLIBC_FLAGS = "-D__KLIBC__=2 -D__KLIBC_MINOR__=0 -D_BITSIZE=64 -nostdinc -iwithprefix include".split()
 KLIBC_FLAGS += [word for it in INCLUDES for word in ("-isystem", it)]
 CRT0 = f"{os.path.dirname(KLIBC)}/crt0.o"
-# A title, its sources, the ways to compile them, and the entry.
-RUNS: list[tuple[str, list[str], list[str], str]] = [
-    ("C", ["calls_main.c", "calls_other.c"], ["-O0", "-O1", "-O2", "-O3 -ffunction-sections -fdata-sections", "-Os"], "start"),
-    ("C++", ["stack_main.cc", "stack_other.cc"], ["-O0", "-O2", "-Os -ffunction-sections"], "start"),
-    ("C over klibc", ["library.c"], ["-O0", "-O2"], "_start"),
+# The compiler and its words, the sources, the ways to compile them, and the entry: a program of C, one of C++, and one of C over klibc.
+RUNS: list[tuple[str, list[str], list[str], list[str], str]] = [
+    ("gcc", C_FLAGS, ["calls_main.c", "calls_other.c"], ["-O0", "-O1", "-O2", "-O3 -ffunction-sections -fdata-sections", "-Os"], "start"),
+    ("g++", CXX_FLAGS, ["stack_main.cc", "stack_other.cc"], ["-O0", "-O2", "-Os -ffunction-sections"], "start"),
+    ("gcc", C_FLAGS + KLIBC_FLAGS, ["library.c"], ["-O0", "-O2"], "_start"),
 ]
 RUNNERS = f"gcc g++ ld ar readelf eu-elflint {KLIBC}"
 # Where each program is placed, and with which page; the kernel maps by pages of 0x1000.
@@ -264,8 +244,8 @@ def difference(shop: Workshop, objects: list[str], entry: str, base: str, page: 
     by_ld, by_elfmap = shop.answers()
     if by_ld != by_elfmap or not by_ld[1]:
         return f"by ld it is {by_ld}, by elfmap {by_elfmap}"
-    contents = [shop.content(it) for it in objects]
-    if linked(contents, int(base, 0), int(page, 0), read_bytes(RULES), entry.encode()) != ("", shop.content("by-elfmap")):
+    words = ["link", "--base", base, "--page", page, "--entry", entry, "--rules", RULES, *objects]
+    if answer(words, {it: shop.content(it) for it in [*objects, RULES]}) != (0, shop.content("by-elfmap"), b""):
         return "the reference implementation links it otherwise"
     ends = ((words[0], shop.run(*words, "by-elfmap")) for words in ([PROGRAM, "check"], ["readelf", "-lW"], ["eu-elflint", "--quiet"]))
     return next((f"{os.path.basename(name)} {ending(it)}" for name, it in ends if it.returncode or it.stderr), "")
@@ -273,17 +253,16 @@ def difference(shop: Workshop, objects: list[str], entry: str, base: str, page: 
 
 @Test("linked-runs", "programs run the same by ld and by elfmap", commands=RUNNERS, crates="elfmap", family="linked")
 def linked_runs(tally: Tally, options: Namespace) -> None:
-    for title, sources, words, entry in ((title, sources, words, entry) for title, sources, ways, entry in RUNS for words in ways):
-        with tally.trying(f"{title} {words}"):
-            shop = Workshop(tally.new_folder(f"{title} {words}"))
-            flags, is_klibc = words.split(), entry == "_start"
-            of_c, of_cxx = ["gcc", *C_FLAGS, *(KLIBC_FLAGS if is_klibc else [])], ["g++", *CXX_FLAGS]
-            made = [(of_cxx if it.endswith("cc") else of_c, it) for it in sources]
-            objects = [shop.compiled(compiler, it, [*own, *flags]) for (compiler, *own), it in made]
-            objects = with_archive(shop, [CRT0, *objects]) if is_klibc else objects
+    for way, (compiler, flags, sources, _, entry) in ((way, it) for it in RUNS for way in it[3]):
+        title = f"{' '.join(sources)} by {compiler} {way}"
+        with tally.trying(title):
+            shop = Workshop(tally.new_folder(title))
+            objects = [shop.compiled(compiler, it, [*flags, *way.split()]) for it in sources]
+            if entry == "_start":
+                objects = with_archive(shop, [CRT0, *objects])
             for place in PLACES:
                 wrong = difference(shop, objects, entry, *place)
-                tally.check(not wrong, f"{title} {words}: {wrong}")
+                tally.check(not wrong, f"{title}: {wrong}")
 
 
 # ---- linked-elsewhere

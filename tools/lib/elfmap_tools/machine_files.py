@@ -1,17 +1,17 @@
 """`tools/test real-files` and `tools/test real-objects`: files of this machine. A part of them is tried, the same each time: those whose
 paths have the least sums. `--all` tries each."""
 
-import hashlib, mmap, os, re, shutil
+import hashlib, mmap, os, re, shutil, tempfile
 from argparse import Namespace
 from collections import Counter
 from collections.abc import Iterable, Iterator
-from functools import partial
+from itertools import chain, product
 from typing import Any
 
 from .building import output_of
 from .reference import GROUP, NOBITS, REL, RELA, File, kept, string
 from .suite import Tally, Test, flag, number
-from .tree import PROGRAM, TOP, files_below, read_bytes, run, side_by_side, write
+from .tree import PROGRAM, TOP, ending, files_below, read_bytes, run, side_by_side, write
 
 ELF_64 = b"\x7fELF\x02"
 
@@ -22,25 +22,32 @@ def some(paths: Iterable[str], options: Namespace) -> list[str]:
     return ordered if options.all else ordered[: options.count]
 
 
-def begins_as(path: str, front: bytes) -> bool:
+def front_of(path: str) -> bytes:
+    """The first bytes of a file, none where it can't be read."""
     try:
         with open(path, "rb") as it:
-            return it.read(len(front)) == front
+            return it.read(18)
     except OSError:
-        return False
+        return b""
+
+
+def count_ends(tally: Tally, ends: list[str], good: str) -> None:
+    """Counts how files ended, of which this pattern fits the good ends, and prints how many did how."""
+    tally.count(len(ends), [it for it in ends if not re.fullmatch(good, it)])
+    tally.note(", ".join(f"{count} {it}" for it, count in sorted(Counter(ends).items()) if re.fullmatch(good, it)))
 
 
 # ---- whole files
 
 
-def files() -> Iterator[str]:
+def files() -> Iterable[str]:
     """Each file once, by its device and number, that begins as an ELF file of class 64 does."""
-    seen = set()
-    for path in (path for top in ("/usr/bin", "/usr/lib") for path in files_below(top)):
+    found: dict[tuple[int, int], str] = {}
+    for path in chain(files_below("/usr/bin"), files_below("/usr/lib")):
         about = os.stat(path)
-        if (about.st_dev, about.st_ino) not in seen and begins_as(path, ELF_64):
-            seen.add((about.st_dev, about.st_ino))
-            yield path
+        if front_of(path).startswith(ELF_64):
+            found.setdefault((about.st_dev, about.st_ino), path)
+    return found.values()
 
 
 def try_file(path: str) -> str:
@@ -49,19 +56,11 @@ def try_file(path: str) -> str:
     if check.returncode == 1 and check.stdout.startswith(b"refused "):
         return "refused"
     if check.returncode or not check.stdout.startswith(b"ok "):
-        return f"{path}: check ended with status {check.returncode}: {check.stdout[:80]!r} {check.stderr[:80]!r}"
-    show = run(PROGRAM, "show", "--", path)
-    if show.returncode:
-        return f"{path}: show ended with status {show.returncode}"
+        return f"{path}: check {ending(check)}"
+    if (show := run(PROGRAM, "show", "--", path)).returncode:
+        return f"{path}: show {ending(show)}"
     back = run(output_of("example_edit"), path)
     return "accepted" if back.returncode == 0 and back.stdout == read_bytes(path) else f"{path}: example_edit does not give it back"
-
-
-def count_ends(tally: Tally, ends: list[str], good: Iterable[str]) -> None:
-    """Counts how files ended, and prints how many did how."""
-    counts = Counter(ends)
-    tally.count(len(ends), [it for it in ends if it not in good])
-    tally.note(", ".join(f"{counts[it]} {it}" for it in sorted(good) if counts[it]))
 
 
 FILES, OBJECTS = ((number("count", it, "so many of them"), flag("all", "all of this machine")) for it in (2000, 4000))
@@ -69,7 +68,7 @@ FILES, OBJECTS = ((number("count", it, "so many of them"), flag("all", "all of t
 
 @Test("real-files", "ELF files of this machine through `check`, `show` and back", crates="elfmap example_edit", alone=True, options=FILES)
 def real_files(tally: Tally, options: Namespace) -> None:
-    count_ends(tally, side_by_side(try_file, some(files(), options)), {"accepted", "refused"})
+    count_ends(tally, side_by_side(try_file, some(files(), options)), "accepted|refused")
 
 
 # ---- objects
@@ -91,12 +90,11 @@ def members(path: str) -> Iterator[Place]:
 
 def objects_of(path: str) -> list[Place]:
     """The objects in a file: it, or the members of an archive."""
-    try:
-        if path.endswith(".a"):
-            return list(members(path))
-        with open(path, "rb") as it:
-            front = it.read(18)
+    if not path.endswith(".a"):
+        front = front_of(path)
         return [(path, 0, os.path.getsize(path))] if front[:5] == ELF_64 and front[16:18] in (b"\1\0", b"\0\1") else []
+    try:
+        return list(members(path))
     except (OSError, ValueError):
         return []
 
@@ -117,40 +115,38 @@ def compiled(folder: str) -> Iterator[str]:
     for name in SOURCES[:3]:
         shutil.copy(f"{TOP}/cases/sources/{name}", folder)
     write(f"{folder}/many.s", "".join(f'.section s{i},"ax"\nnop\n' for i in range(500)))
-    for way, compiler, name in ((way, compiler, name) for way in range(len(WAYS)) for compiler in ("gcc", "clang") for name in SOURCES):
+    for (way, words), compiler, name in product(enumerate(WAYS), ("gcc", "clang"), SOURCES):
         out = f"{folder}/{name}.{compiler}.{way}.o"
-        if run(compiler, *WAYS[way].split(), "-c", f"{folder}/{name}", "-o", out).returncode == 0:
+        if run(compiler, *words.split(), "-c", f"{folder}/{name}", "-o", out).returncode == 0:
             yield out
 
 
 def sections(data: bytes) -> list[tuple[int, Any]]:
     """The sections that an object keeps: of each its index, and name, type, flags, address, alignment, entry size and content."""
-    f = File(data)
+    f, found = File(data), []
     names = f.content(f.name_table) if f.name_table else b"\0"
-
-    def own(i: int, it: Any) -> object:
+    for i, it in ((i, f.section(i)) for i in kept(f)):
         # Entries and words hold indexes: readelf lists these.
         content = it.sh_size if it.sh_type in (NOBITS, RELA, REL, GROUP) else f.content(i)
-        return string(names, it.sh_name), it.sh_type, it.sh_flags, it.sh_addr, it.sh_addralign, it.sh_entsize, content
-
-    return [(i, own(i, f.section(i))) for i in kept(f)]
+        own = string(names, it.sh_name), it.sh_type, it.sh_flags, it.sh_addr, it.sh_addralign, it.sh_entsize, content
+        found.append((i, own))
+    return found
 
 
 def listed(path: str, data: bytes) -> list[str]:
     """What readelf lists of symbols, relocations and groups, with positions for section indexes and without offsets; symbol 0 and the heads
     of tables left out, since an object without a symbol table gets one."""
-    position = {index: place for place, (index, _) in enumerate(sections(data))}
-    lines = []
-    for line in run("readelf", "-W", "-s", "-r", "-g", path).stdout.decode("utf-8", "replace").splitlines():
-        words = line.split()
-        if not words or words[0] in ("Symbol", "Num:", "0:"):
-            continue
-        # Of a symbol: a relocation's line has no colon after its first number.
-        if len(words) > 6 and words[0].endswith(":") and words[0][:-1].isdigit() and words[6].isdigit():
-            words[6] = f"@{position.get(int(words[6]), 'none')}"
-            line = " ".join(words)
-        line = re.sub(r"\[ *(\d+)\]", lambda it: f"@{position.get(int(it[1]), 'none')}", line)
-        lines.append(re.sub(r" at offset 0x[0-9a-f]+", "", line))
+    position, lines = {index: place for place, (index, _) in enumerate(sections(data))}, list[str]()
+
+    def moved(it: re.Match[str]) -> str:
+        return f"{it[1]}@{position.get(int(it[2]), 'none')}"
+
+    for words in map(str.split, run("readelf", "-W", "-s", "-r", "-g", path).stdout.decode("utf-8", "replace").splitlines()):
+        if words and words[0] not in ("Symbol", "Num:", "0:"):
+            # Of a symbol: a relocation's line has no colon after its first number.
+            line = re.sub(r"^(\d+:(?: \S+){5} )(\d+)(?= |$)", moved, " ".join(words))
+            line = re.sub(r"(\[) ?(\d+)(?=\])", moved, line)
+            lines.append(re.sub(r" at offset 0x[0-9a-f]+", "", line))
     return lines
 
 
@@ -160,8 +156,9 @@ def findings(path: str) -> Counter[str]:
     return Counter(re.sub(r"\d+", "N", it) for it in lines if it != "No errors")
 
 
-def wrong_rewrite(before: str, after: str, data: bytes, written: bytes) -> str:
+def wrong_rewrite(before: str, after: str) -> str:
     """What is wrong with what was written for an object."""
+    data, written = read_bytes(before), read_bytes(after)
     if run(PROGRAM, "check", after).returncode:
         return "what is written is refused"
     if run(PROGRAM, "rewrite", after).stdout != written:
@@ -174,35 +171,33 @@ def wrong_rewrite(before: str, after: str, data: bytes, written: bytes) -> str:
     return f"eu-elflint finds more: {more}" if more else ""
 
 
-def try_object(folder: str, numbered: tuple[int, Place]) -> str:
+def try_object(place: Place) -> str:
     """What became of one object: 'written', 'refused by rule N', or what is wrong."""
-    count, place = numbered
-    data, name = content_of(place), f"{place[0]}({place[1]})"
-    before, after = write(f"{folder}/{count}.before", data), f"{folder}/{count}.after"
-    first = run(PROGRAM, "rewrite", before)
-    refused = re.fullmatch(rb"refused (\d+) \d+\n", first.stderr)
-    wrong = f"rewrite ended with status {first.returncode}: {first.stderr[:80]!r}" if first.returncode or first.stderr else ""
-    if not wrong:
-        wrong = wrong_rewrite(before, write(after, first.stdout), data, first.stdout)
-        os.remove(after)
-    os.remove(before)
-    if first.returncode == 1 and refused and not first.stdout:
-        return f"refused by rule {refused[1].decode()}"
-    return f"{name}: {wrong}" if wrong else "written"
+    with tempfile.TemporaryDirectory(prefix="real-objects-") as folder:
+        before = write(f"{folder}/before", content_of(place))
+        made = run(PROGRAM, "rewrite", before)
+        refused = re.fullmatch(rb"refused (\d+) \d+\n", made.stderr)
+        if made.returncode == 1 and refused and not made.stdout:
+            return f"refused by rule {refused[1].decode()}"
+        is_written = made.returncode == 0 and not made.stderr
+        wrong = wrong_rewrite(before, write(f"{folder}/after", made.stdout)) if is_written else f"rewrite {ending(made)}"
+    return f"{place[0]}({place[1]}): {wrong}" if wrong else "written"
+
+
+def printed(folder: str, parts: list[str]) -> tuple[int, bytes]:
+    """What a program of these files prints, or the linker where it does not link them."""
+    made = run("gcc", "-no-pie", *parts, "-o", f"{folder}/program")
+    return made.returncode, made.stderr if made.returncode else run(f"{folder}/program").stdout
 
 
 def linked(folder: str) -> Iterator[str]:
     """Programs of two files that went through `rewrite`, linked and run: each prints what it printed before."""
     for way in range(len(WAYS)):
-        prints = []
-        for is_rewritten in (False, True):
-            parts = [f"{folder}/{name}.gcc.{way}.o" for name in SOURCES[:2]]
-            if is_rewritten:
-                parts = [write(f"{it}.after.o", run(PROGRAM, "rewrite", it).stdout) for it in parts]
-            made = run("gcc", "-no-pie", *parts, "-o", f"{folder}/program")
-            prints.append((made.returncode, made.stderr if made.returncode else run(f"{folder}/program").stdout))
-        if prints[0] != prints[1] or prints[0][0]:
-            yield f"a program of rewritten files prints another text: {prints}"
+        parts = [f"{folder}/{name}.gcc.{way}.o" for name in SOURCES[:2]]
+        own = printed(folder, parts)
+        after = printed(folder, [write(f"{it}.after.o", run(PROGRAM, "rewrite", it).stdout) for it in parts])
+        if own != after or own[0]:
+            yield f"a program of rewritten files prints {after}, and not {own}"
 
 
 TOOLS = "gcc g++ clang readelf eu-elflint"
@@ -214,6 +209,5 @@ def real_objects(tally: Tally, options: Namespace) -> None:
     below = [it for it in files_below("/usr/lib") if it.endswith((".o", ".a"))]
     found = {f"{path}({at})": (path, at, size) for it in below for path, at, size in objects_of(it)}
     objects = [place for path in compiled(tally.folder) for place in objects_of(path)] + [found[it] for it in some(found, options)]
-    ends = side_by_side(partial(try_object, tally.folder), enumerate(objects))
-    count_ends(tally, ends, {"written", *(it for it in ends if re.fullmatch(r"refused by rule \d+", it))})
+    count_ends(tally, side_by_side(try_object, objects), r"written|refused by rule \d+")
     tally.count(len(WAYS), linked(tally.folder))

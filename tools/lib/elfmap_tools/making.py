@@ -2,13 +2,12 @@
 of it goes by a source of chance, so that the same seed makes the same files."""
 
 import random
-from collections.abc import Callable, Iterator
 from typing import Any
 
 from .reference import (
     ABS, ALLOC, COMMON, DYNAMIC, DYNAMIC_SECTION, DYNSYM, ENTRY_SIZE, EXEC, GROUP, HASH, IN_GROUP, INFO_LINK, LOAD, NOBITS, NOTE,
-    PROGBITS, PROGRAM_HEADER, REL, RELA, RELOCATION, STRTAB, SYMBOL, SYMTAB, SYMTAB_SHNDX, UNDEF, WRITE, File, Value, edited, elf_hash,
-    group, laid, object_file, record, relocations, section, symbol, text, words,
+    PROGBITS, PROGRAM_HEADER, REL, RELA, RELOCATION, STRTAB, SYMBOL, SYMTAB, SYMTAB_SHNDX, UNDEF, WRITE, File, edited, elf_hash, group,
+    laid, object_of, record, relocations, section, symbol, text, with_index_table, words,
 )  # fmt: skip
 
 Chance = random.Random
@@ -83,7 +82,7 @@ def an_object(chance: Chance, order: str | None = None) -> Any:
     """An object of a few sections and symbols."""
     order, osabi = order or chance.choice(("little", "big")), chance.choice((0, 0, 3))
     sections = [plain_section(chance) for _ in range(chance.randrange(5))]
-    o = Value(order=order, osabi=osabi, abi=0, machine=62, flags=0, sections=sections, symbols=[])
+    o = object_of(sections, [], order, osabi)
     places = list(range(len(o.sections)))
     count = chance.randrange(6)
     local = chance.randrange(count + 1)
@@ -103,10 +102,7 @@ def an_object(chance: Chance, order: str | None = None) -> Any:
 def an_object_file(chance: Chance, order: str | None = None) -> bytes:
     """The file of an object, every fourth time with an index table, which its symbols don't need."""
     o = an_object(chance, order)
-    if chance.randrange(4):
-        return laid(o)
-    o.sections.append(section(b".symtab_shndx", SYMTAB_SHNDX, bytes(4 + 4 * len(o.symbols)), 0, 4, 4))
-    return edited(laid(o), ("sh_link", len(o.sections), len(o.sections) + 1))
+    return laid(o) if chance.randrange(4) else with_index_table(o)
 
 
 def full_object() -> bytes:
@@ -123,9 +119,8 @@ def full_object() -> bytes:
         relocations([(1, 4, 2, 2**64 - 4)], 1, b".rela.text.f", IN_GROUP | INFO_LINK),
         section(b".rel.data", REL, [(0, 2, 1, 0), (8, 5, 1, 0)], INFO_LINK, 8, 16, info=3),
         section(b".note", NOTE, words("little", 4, 5, 1) + b"own\0" + bytes(8), ALLOC, 4),
-        section(b".symtab_shndx", SYMTAB_SHNDX, bytes(4 + 4 * len(symbols)), 0, 4, 4),
     ]
-    return edited(object_file(sections, symbols), ("sh_link", len(sections), len(sections) + 1))
+    return with_index_table(object_of(sections, symbols))
 
 
 def hash_content(order: str, names: list[bytes], bucket_count: int) -> bytes:
@@ -298,18 +293,3 @@ def changed_field(chance: Chance, file: bytes, of_rule: int) -> bytes | None:
     old, another = (int.from_bytes(file[place : place + width], order) for place in (at, other))
     new = int(fixed) if fixed else chance.choice((value(chance, width, len(file), old), another, chance.randrange(20)))
     return file[:at] + new.to_bytes(width, order) + file[at + width :]
-
-
-def one_thing_wrong(
-    chance: Chance, rules: list[int], made: Callable[[Chance], bytes], broken_by: Callable[[bytes], set[int]]
-) -> Iterator[tuple[int, bytes, bytes]]:
-    """For each of these rules it, a sound file and what one change made of it, by which it breaks the rule."""
-    left = list(rules)
-    while left:
-        sound = made(chance)
-        for rule in list(left):
-            changed = (changed_field(chance, sound, rule) for _ in range(12))
-            found = next((it for it in changed if it is not None and rule in broken_by(it)), None)
-            if found is not None:
-                left.remove(rule)
-                yield rule, sound, found

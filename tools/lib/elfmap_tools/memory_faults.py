@@ -1,24 +1,21 @@
 """`tools/test memory-faults`: every place in the libraries (crates/elf*/src) that makes out of memory: where a value `OutOfMemory`, of
-whatever fault, or `AllocError` is in an expression. It may be made
+whatever fault, or `AllocError` is in an expression. It may be made, as far as the lines of a function show, as `rt fmt` lays them out,
 
   in a `From` of another out of memory (`impl From<AllocError> for Fault`),
   in the arm of a `match` for out of memory (`Err(Fault::OutOfMemory) => Err(ToolFault::OutOfMemory)`),
-  in the arm `Err(_)` of a `match`, or the `else` of a `let`, on a growth, or on a call whose only fault is out of memory, as that of an
-  engine into a vector is,
-  in a function that is called from such places alone,
+  in the arm `Err(_)` of a `match`, or the `else` of a `let`, on a growth, or on a call whose only fault is out of memory,
+  in a function that is called from such places alone.
 
-and nowhere else: so it is answered only where a growth was refused, as far as the lines of a function show, as `rt fmt` lays them out. A
-growth may not ask for a number of bytes that is in the text and above a MiB. And every place that makes a failed write: a `WriteFault`, a
+A growth may not ask for a number of bytes that is in the text and above a MiB. And every place that makes a failed write: a `WriteFault`, a
 `Write` of another fault, an `Io` that has `written`. It may be made in a `From` and in a method `after`, which have a failed write; where a
 call of a writer failed or took nothing, the arm `_` on `write`; and where a call that writes failed, the arm `Err(..)` on it.
 
-Then bodies are planted that give up where no memory was refused, in each library that takes memory one, in the ways in which a thoughtless
-limit is written; and in each library that writes one that makes a failed write where no call of a writer failed. Each has to be refused."""
+Then bodies are planted that make either fault thoughtlessly: in each library one, and in the first of them all. Each has to be refused."""
 
 import collections, functools, glob, re
 from argparse import Namespace
 from collections.abc import Iterator
-from dataclasses import dataclass, field
+from dataclasses import dataclass
 
 from .sources import LITERAL, indent_of
 from .suite import Tally, Test
@@ -33,12 +30,16 @@ SIZE = re.compile(rf"\b(?:{'|'.join(SIZED)})[(\[](.*)")
 # Engines over bytes. Those for C write into a vector, which fails for nothing else, and have no reader.
 INTO_A_VECTOR = {"show_bytes", "push_refused_tables", "rewrite_bytes", "map_files", "link_files"}
 OF_CRATE = "crates/elf_c_engines/"
-# Faults that have the count of what was written, and where one of them is made.
-WRITTEN = {"WriteFault", "CopyFault", "ObjectWriteFault", "ExecFault", "ToolFault"}
+# Faults that have the count of what was written, each with a value, and where one of them is made.
+WRITTEN = {"WriteFault": "WriteFault { written: 0 }", "CopyFault": "CopyFault::Write { written: 0 }"}
+WRITTEN |= {"ToolFault": "ToolFault::Write { written: 0 }", "ObjectWriteFault": "ObjectWriteFault::Io { written: 0 }"}
+WRITTEN |= {"ExecFault": "ExecFault::Io { written: 0 }"}
 FAILED_WRITE = re.compile(r"\b(?:WriteFault|\w+::Write) \{|\w+::Io \{ ?written")
 MOST_IN_TEXT = 1 << 20
+CLAUSE = re.compile(r" +(requires|ensures|decreases|where)\b")
 FUNCTION = re.compile(r" *(?!ghost)(?:[\w()]+ +)*fn (\w+)")
 ARM = re.compile(r"(?!match |let |if )(.*?) => ")
+ENUM_WITH_WANT = re.compile(r"^(?:pub(?:\(crate\))? )?enum (\w+)[^{]*\{(?:[^{}]|\{[^}]*\})*?^    OutOfMemory,", re.M)
 LET = re.compile(r"(?:.*(?:if|while|&&) )?let (.*?) = (.*?)( else)? \{$")
 
 
@@ -53,11 +54,9 @@ class Function:
     head: str
     begin: int
     end: int
-    # Its fault, and what the head says of it: `out` where out of memory is the only one, `other` of any other `Result`.
-    fault: str = field(init=False)
-    faults: str = field(init=False)
 
     def __post_init__(self) -> None:
+        # Its fault, and what the head says of it: `out` where out of memory is the only one, `other` of any other `Result`.
         answer = self.head.partition("->")[2].strip("() {")
         found = re.search(r"(\w+)>$", answer)
         self.fault = found[1] if found and "Result" in answer else ""
@@ -86,19 +85,15 @@ def functions_in(path: str, text: str) -> list[Function]:
     lines, found, outer = [LITERAL.sub("", it).rstrip() for it in text.split("\n")], list[Function](), ""
     for at, line in enumerate(lines):
         outer = line if line.startswith(("impl", "pub trait", "trait")) else "" if line.startswith("}") else outer
-        head = FUNCTION.match(line)
-        indent = " " * indent_of(line)
+        head, indent = FUNCTION.match(line), " " * indent_of(line)
         if head and line.endswith("}"):
             found.append(Function(path, lines, outer, head[1], line.partition(" {")[0], at - 1, at + 1))
         elif head:
             begin = next(k for k in range(at, len(lines)) if lines[k].endswith(";") or re.fullmatch(rf"{indent}(\S.*)?\{{\}}?", lines[k]))
             if lines[begin].endswith("{"):
-                end = lines.index(f"{indent}}}", begin)
-                clauses = next(
-                    k for k in range(at, begin + 1) if k == begin or re.match(r" +(requires|ensures|decreases|where)\b", lines[k])
-                )
-                words = " ".join(it.strip() for it in lines[at : clauses + (clauses == begin)])
-                found.append(Function(path, lines, outer, head[1], words, begin, end))
+                clauses = next((k for k in range(at, begin) if CLAUSE.match(lines[k])), begin + 1)
+                words = " ".join(it.strip() for it in lines[at:clauses])
+                found.append(Function(path, lines, outer, head[1], words, begin, lines.index(f"{indent}}}", begin)))
     return found
 
 
@@ -113,25 +108,16 @@ def last_call(expression: str) -> str:
     return ""
 
 
-def is_out(pattern: str) -> bool:
-    """Whether a pattern is of out of memory and of nothing else."""
-    return all(WANT.search(it) for it in pattern.split("|"))
-
-
-# A place where a fault is made, by its line, and why it may be, if it may.
-Place = tuple[int, str]
-
-
 class Reading:
-    """The places of one function."""
+    """The places of one function: of each its line, and why a fault may be made there, if it may."""
 
     def __init__(self, function: Function, memory_calls: set[str], write_calls: set[str]) -> None:
         self.function, self.memory_calls, self.write_calls = function, memory_calls, write_calls
-        self.places, self.written, self.sizes = list[Place](), list[Place](), list[tuple[int, str]]()
+        self.places, self.written, self.sizes = list[tuple[int, str]](), list[tuple[int, str]](), list[tuple[int, str]]()
         for at in range(function.begin + 1, function.end):
             line = function.lines[at]
             made = re.sub(r"[!=]= [\w:]+", "", re.sub(r"^.*? => |\blet .*? = ", "", line))
-            self.places += [(at, self.form(at)) for _ in WANT.finditer(made)]
+            self.places += [(at, self.form(at))] * len(WANT.findall(made))
             if FAILED_WRITE.search(f"{made} {function.lines[at + 1].strip()}" if made.endswith("::Io {") else made):
                 self.written.append((at, self.failed(at)))
             for size in SIZE.findall(line):
@@ -154,7 +140,7 @@ class Reading:
             return "From"
         for pattern, expression, is_else in self.branches(at):
             is_growth = last_call(expression) in self.memory_calls
-            if not is_else and is_out(pattern):
+            if not is_else and all(WANT.search(it) for it in pattern.split("|")):
                 return "out of memory"
             if is_growth and (pattern.startswith("Ok") if is_else else pattern == "Err(_)"):
                 return "refused growth"
@@ -171,14 +157,9 @@ class Reading:
             call, head = last_call(expression), set(re.findall(r"\w+", self.function.head))
             if pattern == "_" and call == "write":
                 return "failed call of a writer"
-            if not is_else and pattern.startswith("Err") and (call in self.write_calls or expression in head and WRITTEN & head):
+            if not is_else and pattern.startswith("Err") and (call in self.write_calls or expression in head and WRITTEN.keys() & head):
                 return "failed write"
         return "failed write" if self.function.name == "after" or self.function.is_from or self.function.is_of_write else ""
-
-
-def texts() -> dict[str, str]:
-    """The library's files, by their paths from the top."""
-    return {path: read_text(path) for path in sorted(glob.glob("crates/elf*/src/**/*.rt", root_dir=TOP, recursive=True))}
 
 
 def faults_in(found: dict[str, str]) -> tuple[collections.Counter[str], list[str]]:
@@ -205,43 +186,23 @@ def faults_in(found: dict[str, str]) -> tuple[collections.Counter[str], list[str
 
 # ---- what has to be refused
 
-# What is put at the head of a function's body, and behind the function; WANT is the value of out of memory in its fault's type.
+# What is put at the head of a function's body, and in a line of its own behind the function; VALUE is the fault, FAULT its type.
 WAYS = {
-    "a limit": ("if 1 + 1 >= 1000 { return Err(WANT); }", ""),
-    "a sum that may be too large": ("let Some(_) = 1usize.checked_add(2) else { return Err(WANT); };", ""),
-    "a sum made a fault": ("1usize.checked_add(2).ok_or(WANT)?;", ""),
-    "a fault made another": ('"1".parse::<u8>().map_err(|_| WANT)?;', ""),
-    "an arm for a number": ("match 1 + 1 { 33 => return Err(WANT), _ => {} }", ""),
-    "an arm for any fault": ('match "1".parse::<u8>() { Ok(_) => {} Err(_) => return Err(WANT), }', ""),
-    "an arm for another fault as well": ("match given() { Ok(_) => {} Err(OutOfMemory | Rule) => return Err(WANT), }", ""),
-    "an answer that is none": ('let Ok(_) = "1".parse::<u8>() else { return Err(WANT); };', ""),
-    "a helper that always fails": ("give_up()?;", "fn give_up() -> Result<(), FAULT> { Err(WANT) }"),
-    "room for too much": ("let _room: Vec<u8> = Vec::with_capacity(alloc, usize::MAX)?;", ""),
-    "room for a number of the text": ("let _room: Vec<u8> = Vec::with_capacity(alloc, 1_000_000_000_000)?;", ""),
-    "the value by another name": ("let want = WANT; if 1 + 1 >= 1000 { return Err(want); }", ""),
+    "a limit": "if 1 + 1 >= 1000 { return Err(VALUE); }",
+    "a sum that may be too large": "let Some(_) = 1usize.checked_add(2) else { return Err(VALUE); };",
+    "a sum made a fault": "1usize.checked_add(2).ok_or(VALUE)?;",
+    "a fault made another": '"1".parse::<u8>().map_err(|_| VALUE)?;',
+    "an arm for a number": "match 1 + 1 { 33 => return Err(VALUE), _ => {} }",
+    "an arm for any fault": 'match "1".parse::<u8>() { Ok(_) => {} Err(_) => return Err(VALUE), }',
+    "an arm for another fault as well": "match given() { Ok(_) => {} Err(OutOfMemory | Rule) => return Err(VALUE), }",
+    "an answer that is none": 'let Ok(_) = "1".parse::<u8>() else { return Err(VALUE); };',
+    "a helper that always fails": "give_up()?;\nfn give_up() -> Result<(), FAULT> { Err(VALUE) }",
+    "room for too much": "let _room: Vec<u8> = Vec::with_capacity(alloc, usize::MAX)?;",
+    "room for a number of the text": "let _room: Vec<u8> = Vec::with_capacity(alloc, 1_000_000_000_000)?;",
+    "the value by another name": "let want = VALUE; if 1 + 1 >= 1000 { return Err(want); }",
 }
-# The same for a failed write; FAILED is the value of one.
-WRITE_WAYS = {
-    "a part that is too long": ("if 1 + 1 >= 1 << 20 { return Err(FAILED); }", ""),
-    "an answer that is no fault": ('match "1".parse::<u8>() { Ok(_) => {} Err(_) => return Err(FAILED), }', ""),
-    "a sum that may be too large": ("let Some(_) = 1usize.checked_add(2) else { return Err(FAILED); };", ""),
-    "a helper that always fails": ("give_up()?;", "fn give_up() -> Result<(), FAULT> { Err(FAILED) }"),
-}
-FAILED = {"WriteFault": "WriteFault { written: 0 }", "CopyFault": "CopyFault::Write { written: 0 }"}
-FAILED |= {"ToolFault": "ToolFault::Write { written: 0 }", "ObjectWriteFault": "ObjectWriteFault::Io { written: 0 }"}
-FAILED |= {"ExecFault": "ExecFault::Io { written: 0 }"}
-
-
-def enums_with_want(texts: dict[str, str]) -> set[str]:
-    """The types that have out of memory among other"""
-    enum = re.compile(r"^(?:pub(?:\(crate\))? )?enum (\w+)[^{]*\{(?:[^{}]|\{[^}]*\})*?^    OutOfMemory,", re.M)
-    return {it[1] for text in texts.values() for it in enum.finditer(text)}
-
-
-def fault_of(function: Function, enums: set[str]) -> tuple[str, str] | None:
-    """The fault of a function and the value of out of memory in it, where its fault has one."""
-    value = function.fault if function.faults == "out" else f"{function.fault}::OutOfMemory" if function.fault in enums else ""
-    return (function.fault, value) if value else None
+# Those that are tried with a failed write too.
+WRITE_WAYS = ["a limit", "an arm for any fault", "a sum that may be too large", "a helper that always fails"]
 
 
 def laid_out(code: str, depth: int) -> str:
@@ -254,9 +215,9 @@ def laid_out(code: str, depth: int) -> str:
     return "\n".join(lines)
 
 
-def planted(text: str, function: Function, way: tuple[str, str], fault: str, value: str) -> str:
+def planted(text: str, function: Function, way: str, value: str) -> str:
     """The text of a file with a body that gives up at the head of a function: its body begins a line."""
-    head, behind = (it.replace("WANT", value).replace("FAILED", value).replace("FAULT", fault) for it in way)
+    head, _, behind = WAYS[way].replace("VALUE", value).replace("FAULT", function.fault).partition("\n")
     lines = text.split("\n")
     lines.insert(function.begin + 1, laid_out(head, indent_of(lines[function.begin]) // 4 + 1))
     return "\n".join([*lines, laid_out(behind, 0)])
@@ -264,26 +225,24 @@ def planted(text: str, function: Function, way: tuple[str, str], fault: str, val
 
 @Test("memory-faults", "out of memory and failed writes are made only where an allocation or a write failed")
 def memory_faults(tally: Tally, options: Namespace) -> None:
-    found = texts()
+    found = {path: read_text(path) for path in sorted(glob.glob("crates/elf*/src/**/*.rt", root_dir=TOP, recursive=True))}
     forms, wrong = faults_in(found)
     tally.count(sum(forms.values()) + len(wrong), wrong)
     tally.note(", ".join(f"{count} {form}" for form, count in forms.most_common()))
-    enums, places, writers = enums_with_want(found), dict[str, Plant](), dict[str, Plant]()
-    for path, function in ((path, it) for path, text in found.items() for it in functions_in(path, text)):
-        crate, fault = path.split("/")[1], fault_of(function, enums)
-        if fault and not function.is_from and crate not in places:
-            places[crate] = (path, function, *fault)
-        if function.fault in WRITTEN and not function.is_from:
-            writers.setdefault(crate, (path, function, function.fault, FAILED[function.fault]))
-    for ways, plants in ((WAYS, places), (WRITE_WAYS, writers)):
-        names = list(ways)
-        for k, (crate, (path, function, own, value)) in enumerate(sorted(plants.items())):
+    enums = {name for text in found.values() for name in ENUM_WITH_WANT.findall(text)}
+    # Of each crate the first function with either fault, and the value that is planted there.
+    places, writers = dict[str, tuple[Function, str]](), dict[str, tuple[Function, str]]()
+    for it in (it for path, text in found.items() for it in functions_in(path, text) if not it.is_from):
+        crate = it.path.split("/")[1]
+        if it.faults == "out" or it.fault in enums:
+            places.setdefault(crate, (it, it.fault if it.faults == "out" else f"{it.fault}::OutOfMemory"))
+        if it.fault in WRITTEN:
+            writers.setdefault(crate, (it, WRITTEN[it.fault]))
+    for names, plants in ((list(WAYS), places), (WRITE_WAYS, writers)):
+        for k, (crate, (function, value)) in enumerate(sorted(plants.items())):
+            path = function.path
             # Each library one way, the first of them all.
             for way in names if k == 0 else [names[k % len(names)]]:
-                _, wrong = faults_in({**found, path: planted(found[path], function, ways[way], own, value)})
+                _, wrong = faults_in({**found, path: planted(found[path], function, way, value)})
                 is_refused = any(it.startswith(f"{path}:") for it in wrong)
                 tally.check(is_refused, f"{crate}, {function.name}: {way}: not refused")
-
-
-# A file, the function in it, its fault, and the value that is planted.
-Plant = tuple[str, Function, str, str]

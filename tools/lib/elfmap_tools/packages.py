@@ -13,6 +13,7 @@ SANITIZERS = "/usr/lib/llvm-*/lib/clang/*/lib/linux/libclang_rt.asan-x86_64.a"
 # The commands of each package, by their first words, or a file that has to be there.
 COMMANDS = {
     "binutils": "ar as ld nm objcopy readelf", "binaryen": "wasm-opt", "black": "black", "cargo-web": "cargo",
+    "binutils-x86-64-linux-gnu": "x86_64-linux-gnu-as",
     "chromium": "chromium", "clang": "clang", "debootstrap": "debootstrap", "dpkg": "dpkg-deb", "elfutils": "eu-elflint",
     "g++": "c++ g++", "gcc": "cc gcc", "git": "git", "groff": "groff", "libclang-rt-14-dev": SANITIZERS, "libklibc-dev": KLIBC,
     "lld": "ld.lld", "lld-19": "ld.lld-19", "llvm": "llvm-objcopy", "llvm-19": "llvm-mc-19",

@@ -7,11 +7,10 @@ rules 1 and 40 there are none. The reference implementation says which rule a fi
 and its status and what it writes become a word. Tools that are not installed have no column."""
 
 import argparse, os, random, re, shutil, subprocess, tempfile
-from collections.abc import Iterator
 
-from .cases import all_cases
+from .cases import every_case
 from .machine_files import content_of, objects_of
-from .reference import SYMTAB, File, object_verdict, shown, verdict
+from .reference import SYMTAB, File, object_verdict, shown, symbols, verdict
 from .rules_tables import by_anchor
 from .tree import by_cc, read_bytes, run, side_by_side, write
 
@@ -63,30 +62,21 @@ def refused_by(answer: str) -> int | None:
 def case_files() -> Files:
     """Of each rule the first files of the cases that break it."""
     found: Files = {}
-    for cases in all_cases().values():
-        for it in cases.cases:
+    for it in every_case():
+        if it.words[:1] and it.words[0] in KINDS and len(it.words) == 2 and len(it.needs) == 1:
             # `rewrite` tells a refusal on standard error.
-            is_one = it.words[:1] and it.words[0] in KINDS and len(it.words) == 2 and len(it.needs) == 1
-            rule = refused_by((it.out + it.err).decode("latin1")) if is_one else None
-            if rule is not None and rule in KINDS[it.words[0]][1]:
-                note(found, rule, bytes(cases.files[it.needs[0].partition("=")[2]]))
+            rule = refused_by((it.out + it.err).decode("latin1"))
+            if rule in KINDS[it.words[0]][1]:
+                note(found, rule, bytes(it.files[it.needs[0].partition("=")[2]]))
     return found
-
-
-def made_files() -> Iterator[tuple[str, bytes]]:
-    """The files that cc makes."""
-    with tempfile.TemporaryDirectory(prefix="peers-") as room:
-        for name, words in MADE.items():
-            yield name, read_bytes(by_cc(f"{room}/made", words, "answer_peers.c"))
 
 
 def first_rule(content: bytes) -> int | None:
     """The first rule that a file breaks: of images, else of its tables, else of objects."""
     broken = verdict(content)
     rule = broken[0] if broken else refused_by(shown(content))
-    if rule is None and content[16:18] == b"\1\0":
-        broken = object_verdict(content)
-        return broken[0] if broken else None
+    if rule is None and content[16:18] == b"\1\0" and (broken := object_verdict(content)):
+        return broken[0]
     return rule
 
 
@@ -118,28 +108,28 @@ def said_of(tool: str, content: bytes) -> str:
 
 
 def row(title: str, contents: list[bytes], tools: list[str]) -> str:
-    cells = [
-        list(dict.fromkeys(said)) if len(set(said)) == 1 else said for said in ([said_of(it, own) for own in contents] for it in tools)
-    ]
-    return f"| {title} | {len(contents)} | {' | '.join(', '.join(it) for it in cells)} |"
+    said = ([said_of(tool, it) for it in contents] for tool in tools)
+    cells = (", ".join(it if len(set(it)) > 1 else it[:1]) for it in said)
+    return f"| {title} | {len(contents)} | {' | '.join(cells)} |"
 
 
 def peers(options: argparse.Namespace) -> int:
     tools = [it for it, words in TOOLS.items() if shutil.which(words.split()[0])]
-    made = list(made_files())
-    changed, rest = changed_files([content for _, content in made]), case_files()
+    with tempfile.TemporaryDirectory(prefix="peers-") as room:
+        made = {name: read_bytes(by_cc(f"{room}/made", words, "answer_peers.c")) for name, words in MADE.items()}
+    changed = changed_files(list(made.values()))
+    found = case_files() | changed
     print(HEAD.format(most=FILES_A_RULE))
     for it in tools:
         print(f"- `{TOOLS[it]}`: {run(TOOLS[it].split()[0], '--version').stdout.decode().strip().splitlines()[0].strip()}")
     print(f"\n| rule | files | {' | '.join(f'`{it}`' for it in tools)} |\n|---|---|{'---|' * len(tools)}")
-    for name, content in made:
+    for name, content in made.items():
         print(row(f"none: {name}", [content], tools))
-    rules = sorted(changed.keys() | rest.keys())
-    for rule in rules:
+    for rule, contents in sorted(found.items()):
         kind = next(kind for kind, own in KINDS.values() if rule in own)
         title = f"{rule} `{by_anchor()[f'{kind}-{rule}'].name}`" + ("" if rule in changed else " *")
-        print(row(title, changed.get(rule) or rest[rule], tools))
-    print(f"\n{sum(len(changed.get(it) or rest[it]) for it in rules)} files.")
+        print(row(title, contents, tools))
+    print(f"\n{sum(map(len, found.values()))} files.")
     return 0
 
 
@@ -151,8 +141,7 @@ def lengths(content: bytes) -> tuple[int, int]:
     f = File(content)
     last = f.section_count - 1
     strings, names = f.content(last - 1), f.content(last)
-    symbols = next(i for i, it in f.sections() if it.sh_type == SYMTAB)
-    at = {strings: [f.number(f.section(symbols).sh_offset + 24 * k, 4) for k in range(f.section(symbols).sh_size // 24)]}
+    at = {strings: [it.st_name for i, table in f.sections() if table.sh_type == SYMTAB for it in symbols(f, i)]}
     at[names] = [*(at[strings] if names == strings else []), *(it.sh_name for _, it in f.sections())]
     once = {text: {text[k : text.index(b"\0", k)] for k in places} for text, places in at.items()}
     return len(strings) + len(names), sum(1 + sum(len(it) + 1 for it in found if it) for found in once.values())

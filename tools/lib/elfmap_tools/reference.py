@@ -2,10 +2,10 @@
 modules have no types, so what they answer gets its type here. And small objects and files, made by their parts."""
 
 import sys
-from collections.abc import Callable, Sequence
+from collections.abc import Callable, Mapping, Sequence
 from typing import Any, cast
 
-from .tree import TOP
+from .tree import TOP, Answer
 
 sys.dont_write_bytecode = True
 sys.path.insert(0, f"{TOP}/reference")
@@ -59,15 +59,9 @@ def rule_name(rule: int) -> Any:
     return image.RULES[rule - 1][1].__name__
 
 
-def mapped(contents: Sequence[bytes], base: int, page: int, rules: bytes | None = None) -> str:
+def mapped(contents: Sequence[bytes], base: str, page: str, rules: bytes | None = None) -> str:
     """The lines of `elfmap map`, by a file of rules if one is given."""
-    return str(link.map_lines(contents, base, page, None if rules is None else link.rules_of(rules)))
-
-
-def linked(contents: Sequence[bytes], base: int, page: int, rules: bytes, entry: bytes) -> tuple[str, bytes]:
-    """What `elfmap link` prints on standard error, and what it writes."""
-    refusal, file = executable.answer(contents, base, page, link.rules_of(rules), entry)
-    return refusal, file
+    return str(link.map_lines(contents, int(base, 0), int(page, 0), None if rules is None else link.rules_of(rules)))
 
 
 def entries_of(contents: Sequence[bytes]) -> list[bytes]:
@@ -76,9 +70,33 @@ def entries_of(contents: Sequence[bytes]) -> list[bytes]:
     return [name for name in it.entries if link.value_of(it, it.at, it.common_at, name)[1] != "zero"] if hasattr(it, "at") else []
 
 
-def link_refusal(contents: Sequence[bytes], base: int, page: int, rules: bytes) -> object:
-    """What is wrong with a link, None where nothing is."""
-    return link.judged(contents, base, page, link.rules_of(rules))[0]
+def parsed(words: Sequence[str]) -> tuple[dict[str, str], list[str]]:
+    """The options of a command with what follows each, and the names of its files."""
+    options, names, rest = dict[str, str](), list[str](), iter(words[1:])
+    for it in rest:
+        if it.startswith("--"):
+            options[it] = next(rest) if it != "--seek" else ""
+        else:
+            names.append(it)
+    return options, names
+
+
+def answer(words: Sequence[str], files: Mapping[str, bytes]) -> Answer | None:
+    """What elfmap answers, called with these words on files by their names; None where the reference leaves it open."""
+    options, names = parsed(words)
+    contents, rules = [files[it] for it in names], files.get(options.get("--rules", ""))
+    if words[0] == "map":
+        lines = mapped(contents, options["--base"], options["--page"], rules)
+        return int(lines.startswith(("refused ", "file "))), lines.encode("latin1"), b""
+    if words[0] == "link":
+        base, page = (int(options[it], 0) for it in ("--base", "--page"))
+        refusal, file = executable.answer(contents, base, page, link.rules_of(rules), options["--entry"].encode())
+        return int(bool(refusal)), file, refusal.encode("latin1")
+    if words[0] == "rewrite":
+        found = rewritten(contents[0])
+        return (int(bool(found[0])), found[1], found[0].encode()) if found else None
+    said = shown(contents[0]) if words[0] == "show" else check(contents[0]) + "\n"
+    return int(verdict(contents[0]) is not None), said.encode("latin1"), b""
 
 
 # ---- objects by their parts
@@ -108,9 +126,19 @@ def symbol(name: bytes, section: int | None, info: int = 0x10, value: int = 0, s
     return Value(name=name, info=info, other=other, value=value, size=size, section=section, reserved=reserved)
 
 
+def object_of(sections: Sequence[Any], symbols: Sequence[Any] = (), order: str = "little", osabi: int = 0) -> Any:
+    return Value(order=order, osabi=osabi, abi=0, machine=62, flags=0, sections=list(sections), symbols=list(symbols))
+
+
 def object_file(sections: Sequence[Any], symbols: Sequence[Any] = (), order: str = "little") -> bytes:
     """The file of an object, in its canonical layout: after its own sections .symtab, .strtab and .shstrtab."""
-    return laid(Value(order=order, osabi=0, abi=0, machine=62, flags=0, sections=list(sections), symbols=list(symbols)))
+    return laid(object_of(sections, symbols, order))
+
+
+def with_index_table(o: Any) -> bytes:
+    """The file of an object with an index table, which its symbols don't need."""
+    o.sections.append(section(b".symtab_shndx", SYMTAB_SHNDX, bytes(4 + 4 * len(o.symbols)), 0, 4, 4))
+    return edited(laid(o), ("sh_link", len(o.sections), len(o.sections) + 1))
 
 
 def relocations(entries: list[tuple[int, int, int, int]], target: int, name: bytes = b".rela.text", flags: int = 0) -> Any:

@@ -1,6 +1,6 @@
 """The tests of `tools/test`: each by its name, with the commands and the built crates that it needs; alone or side by side."""
 
-import argparse, contextlib, os, re, sys, tempfile, threading, time, traceback
+import argparse, contextlib, functools, os, re, shutil, sys, tempfile, threading, time, traceback
 from collections.abc import Callable, Iterable, Iterator
 from concurrent.futures import ThreadPoolExecutor, as_completed
 from dataclasses import dataclass
@@ -8,7 +8,7 @@ from typing import Any
 
 from . import packages
 from .building import built
-from .tree import PROCESSORS, TOP, Texts, libraries, progress, said
+from .tree import PROCESSORS, TOP, Texts, libraries, progress, said, side_by_side
 
 COUNTS = re.compile(r"^(\d+) passed, (\d+) failed\n\Z", re.M)
 
@@ -226,6 +226,21 @@ def main(tests: list[Test], words: list[str]) -> int:
     if options.name in by_name:
         return run_one(by_name[options.name], options)
     return run_several(families(tests).get(options.name, tests), options.jobs)
+
+
+def tried_in_folder(name: str, wrong_in: Callable[[int, int, str], str], seed: int, k: int) -> str:
+    """What is wrong with try K of a seed, which has a folder of its own; if something is, the folder is kept here, as NAME-SEED-K."""
+    with tempfile.TemporaryDirectory(prefix=f"{name}-{seed}-{k}.") as folder:
+        wrong = wrong_in(seed, k, folder)
+        if wrong:
+            shutil.copytree(folder, f"{name}-{seed}-{k}", dirs_exist_ok=True)
+        return f"{name}-{seed}-{k}: {wrong}" if wrong else ""
+
+
+def count_tries(tally: Tally, options: argparse.Namespace, name: str, wrong_in: Callable[[int, int, str], str]) -> None:
+    """Counts so many tries of a seed, side by side."""
+    tries = functools.partial(tried_in_folder, name, wrong_in, options.seed)
+    tally.count(options.count, filter(None, side_by_side(tries, range(options.count), True)))
 
 
 def environment(**more: str) -> dict[str, str]:

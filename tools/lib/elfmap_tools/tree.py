@@ -10,6 +10,8 @@ PROCESSORS = len(os.sched_getaffinity(0))
 PROGRAM = f"{TOP}/crates/elfmap/out/elfmap"
 RULES = f"{TOP}/rules/x86-64.rules"
 PACKAGE = f"{TOP}/bindings/python"
+# The status, standard output and standard error of a command.
+Answer = tuple[int, bytes, bytes]
 Ended = subprocess.CompletedProcess[bytes]
 Texts = subprocess.CompletedProcess[str]
 T = TypeVar("T")
@@ -67,6 +69,15 @@ def wanted(*words: str, folder: str | None = None, timeout: float | None = None)
     if ended.returncode:
         raise SystemExit(f"{os.path.basename(words[0])} ended with status {ended.returncode}: {ended.stdout[-2000:]}")
     return ended.stdout
+
+
+def answer_of(it: Ended) -> Answer:
+    return it.returncode, it.stdout, it.stderr
+
+
+def ending(it: Ended) -> str:
+    """How a command ended, in short."""
+    return f"ended with status {it.returncode}: {it.stdout[:80]!r} {it.stderr[:300]!r}"
 
 
 def by_cc(path: str, words: str, source: str) -> str:
