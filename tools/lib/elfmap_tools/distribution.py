@@ -50,15 +50,6 @@ def glibc_of(path: str) -> str:
     return "{}.{}".format(*max([(2, 5), *((int(major), int(minor)) for major, minor in found)]))
 
 
-def program() -> completions.Command:
-    def help_of(*words: str) -> str:
-        return said(PROGRAM, *words, "--help").stdout
-
-    whole = help_of()
-    own = [completions.Command(name, about, completions.options_of(help_of(name))) for name, about in completions.subcommands_of(whole)]
-    return completions.Command("elfmap", "", completions.options_of(whole), own)
-
-
 # ---- the packages of Debian
 
 
@@ -74,7 +65,7 @@ def put_elfmap(root: str, tree: str, version: str) -> None:
     copied(f"{tree}/elfmap", f"{root}/usr/lib/elfmap/elfmap")
     copied(f"{tree}/rules", f"{root}/usr/share/elfmap/rules")
     put(f"{root}/usr/bin/elfmap", release.runner(version, "lib/elfmap/elfmap"))
-    put_help(root, tree, program())
+    put_help(root, tree, completions.command_of("elfmap", lambda *words: said(PROGRAM, *words, "--help").stdout))
 
 
 def put_doc(root: str, tree: str, version: str) -> None:
@@ -107,7 +98,7 @@ def put_python(root: str, tree: str, version: str) -> None:
         put(f"{root}/{os.path.dirname(PYTHON)}/elfmap-{version}.dist-info/{name}", text)
     for name, (module, function) in commands().items():
         put(f"{root}/usr/bin/{name}", SCRIPT.format(module=module, function=function))
-        put_help(root, tree, completions.Command(name, "", completions.options_of(release.help_of(module))))
+        put_help(root, tree, completions.command_of(name, lambda: release.help_of(module)))
     for name, text in COMPILED.items():
         put(f"{root}/DEBIAN/{name}", text)
 

@@ -173,7 +173,7 @@ def tree(folder: str, version: str) -> None:
         "bin/elfmap": runner(version, "elfmap"),
         "doc/elfmap-doc.html": library_page(),
         "lib/pkgconfig/elfmap.pc": PKG_CONFIG.format(prefix="${pcfiledir}/../..", libdir="lib", version=version),
-        "share/man/man1/elfmap.1": man.page(read_text(man.MANUAL), version),
+        "share/man/man1/elfmap.1": man.page(version),
     }
     for name, (module, function) in commands().items():
         texts[f"bin/{name}"] = COMMAND.format(name=name, module=module, function=function)
