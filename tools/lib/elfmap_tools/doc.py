@@ -7,12 +7,14 @@ from collections.abc import Callable
 from html import escape
 
 from . import guarantees
-from .sources import PUBLIC_CRATES, WORD, Definition, Item, Uses, definition, items_of, module_file, named_in, source
+from .sources import PUBLIC_CRATES, WORD, Definition, Item, Uses, definition, items_of, module_file, named_in, reach, source
 from .suite import Tally, Test
 from .tree import matched, read_text, replaced
 
 # Where a word leads to, and its title.
 Place = tuple[str, str] | None
+# A paragraph, a table or a list; or code.
+TEXT = re.compile(r"((?:^(?!```).+\n)+)|^```.*\n((?:.*\n)*?)```.*\n", re.M)
 MARK = re.compile(r"`([^`]+)`|\[(`?)([^\]`]+)`?\](?:\(([^)]*)\))?")
 
 
@@ -22,7 +24,7 @@ class Page:
     def __init__(self) -> None:
         self.public_crates = {public_crate: list(items_of(f"elf_{public_crate}")) for public_crate in PUBLIC_CRATES}
         self.anchors: dict[tuple[str, str], str] = {}
-        self.wanted: dict[tuple[str, str], Definition] = {}
+        self.wanted: dict[Definition, None] = {}
         self.faults: list[str] = []
         homes: dict[tuple[str, str, str], str] = {}
         for public_crate, items in self.public_crates.items():
@@ -41,16 +43,13 @@ class Page:
 
     def want(self, found: Definition) -> str:
         """The anchor of a definition, which is then on the page, as those are that its text names."""
-        if (found.path, found.name) not in self.wanted:
-            self.wanted[found.path, found.name] = found
-            for other in filter(None, (named_in(found.path, word) for word in WORD.findall(found.text))):
-                self.want(other)
+        reach(found, self.wanted)
         return anchor_of(found)
 
     def glossary(self) -> str:
         """The definitions that contracts name, and those that these name, by file."""
         parts, path = [], ""
-        for found in sorted(self.wanted.values(), key=lambda it: it.path):
+        for found in sorted(self.wanted, key=lambda it: it.path):
             if found.path != path:
                 path = found.path
                 parts.append(f'<h4 class="place">{path}</h4>')
@@ -159,17 +158,8 @@ class PublicCrate:
 
     def told(self, docs: list[str], owner: str = "") -> str:
         """A doc comment: paragraphs, tables, lists and code."""
-        parts, lines = [], list(docs)
-        while lines:
-            if lines[0].startswith("```"):
-                end = next(at for at in range(1, len(lines)) if lines[at].startswith("```"))
-                parts.append(f"<pre>{escape(chr(10).join(lines[1:end]))}</pre>")
-                lines = lines[end + 1 :]
-                continue
-            end = next((at for at, line in enumerate(lines) if not line or line.startswith("```")), len(lines))
-            parts += [self.block(lines[:end], owner)] if end else []
-            lines = lines[end + (end < len(lines) and not lines[end]) :]
-        return "\n".join(parts)
+        parts = TEXT.findall("".join(f"{it}\n" for it in docs))
+        return "\n".join(self.block(text.splitlines(), owner) if text else f"<pre>{escape(code[:-1])}</pre>" for text, code in parts)
 
     def block(self, lines: list[str], owner: str) -> str:
         if lines[0].startswith("| "):

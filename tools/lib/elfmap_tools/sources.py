@@ -30,8 +30,8 @@ class Item:
     source: str
     docs: list[str]
     text: list[str]
-    uses: Uses = field(default_factory=dict)
     clauses: list[str] = field(default_factory=list)
+    uses: Uses = field(default_factory=dict)
     ghosts: list[str] = field(default_factory=list)
     traits: list[str] = field(default_factory=list)
     members: "list[Item]" = field(default_factory=list)
@@ -92,8 +92,8 @@ def unindented(lines: list[str]) -> list[str]:
     return [it.rstrip() for it in textwrap.dedent("\n".join(lines)).split("\n")]
 
 
-def signature_and_clauses(text: list[str], uses: Uses) -> tuple[list[str], Uses, list[str]]:
-    """A function's signature, what its words mean, and the clauses after it."""
+def signature_and_clauses(text: list[str]) -> tuple[list[str], list[str]]:
+    """A function's signature, and the clauses after it."""
     head, clauses = list[str](), list[list[str]]()
     for line in text:
         word = line.strip()
@@ -107,7 +107,7 @@ def signature_and_clauses(text: list[str], uses: Uses) -> tuple[list[str], Uses,
             head.append(line.removesuffix(" {"))
             if line.endswith(" {"):
                 break
-    return unindented(head), uses, ["\n".join(unindented(it)).removesuffix(";") for it in clauses]
+    return unindented(head), ["\n".join(unindented(it)).removesuffix(";") for it in clauses]
 
 
 def imports(text: str) -> Uses:
@@ -127,7 +127,7 @@ def members_of(text: list[str], source: str, is_trait: bool, uses: Uses) -> Iter
     for docs, _, part in blocks(lines):
         match = re.match(r"(pub )?(fn|const|type) (\w+)", part[0].strip())
         if match and (match[1] or is_trait):
-            yield Item(match[2], match[3], source, docs, *signature_and_clauses(part, uses))
+            yield Item(match[2], match[3], source, docs, *signature_and_clauses(part), uses)
 
 
 def ghosts_of(text: list[str]) -> list[str]:
@@ -151,8 +151,8 @@ def fields_of(text: list[str]) -> Iterator[tuple[list[str], str]]:
 def item_of(docs: list[str], marks: list[str], text: list[str], source: str, uses: Uses) -> Item:
     kind, name = matched(HEAD, text[0]).groups()
     if kind == "fn":
-        return Item(kind, name, source, docs, *signature_and_clauses(text, uses))
-    item = Item(kind, name, source, docs, unindented(text), uses)
+        return Item(kind, name, source, docs, *signature_and_clauses(text), uses)
+    item = Item(kind, name, source, docs, unindented(text), uses=uses)
     if kind in ("struct", "enum", "trait"):
         item.text = [it for it in marks if it.startswith("#[derive")] + [text[0].rstrip().removesuffix(" {")]
     if kind in ("struct", "enum"):
@@ -219,22 +219,18 @@ def module_file(crate: str, words: tuple[str, ...]) -> str:
     return f"crates/{crate}/src/{'/'.join(words or ('lib',))}.rt"
 
 
-def found(crate: str, words: tuple[str, ...], name: str) -> tuple[str, str]:
-    """The crate and the file in which a name of a module is defined."""
+def home_of(crate: str, words: tuple[str, ...], place: str) -> tuple[str, str]:
+    """The crate and the file in which the item of a path is defined, as a module of a crate names it."""
+    first, *rest, name = place.split("::")
+    is_other = os.path.isdir(f"{TOP}/crates/{first}")
+    crate, words = (first, tuple(rest)) if is_other else (crate, (*words, first, *rest))
     path = module_file(crate, words)
     if name in source(path)[1]:
         return crate, path
-    for _, shown, place in shown_by(path):
+    for _, shown, further in shown_by(path):
         if shown == name:
-            return followed(crate, words, place)
+            return home_of(crate, words, further)
     raise LookupError(f"{path}: there is no {name}")
-
-
-def followed(crate: str, words: tuple[str, ...], place: str) -> tuple[str, str]:
-    first, *rest = place.split("::")
-    if os.path.isdir(f"{TOP}/crates/{first}"):
-        return found(first, tuple(rest[:-1]), rest[-1])
-    return found(crate, (*words, first, *rest[:-1]), rest[-1])
 
 
 @functools.cache
@@ -257,8 +253,7 @@ def module(crate: str, words: tuple[str, ...]) -> Item:
 
 
 def item_of_place(crate: str, words: tuple[str, ...], place: str) -> Item:
-    where, path = followed(crate, words, place)
-    return item_at(where, path, place.rsplit("::", 1)[-1])
+    return item_at(*home_of(crate, words, place), place.rsplit("::", 1)[-1])
 
 
 def items_of(crate: str) -> Iterator[Item]:
@@ -272,7 +267,7 @@ def items_of(crate: str) -> Iterator[Item]:
 # ---- the definitions
 
 
-@dataclass
+@dataclass(eq=False)
 class Definition:
     """A definition of a file of specs/, with the comment above it and its own text."""
 
@@ -318,3 +313,18 @@ def named_in(path: str, word: str) -> Definition | None:
     """The definition that a word in a file of specs/ represents."""
     own, uses = definitions(path)
     return own.get(word) or (definition(*uses[word]) if word in uses else None)
+
+
+@functools.cache
+def named_by(found: Definition) -> list[Definition]:
+    """The definitions that the text of a definition names."""
+    named = (named_in(found.path, word) for word in dict.fromkeys(WORD.findall(found.text)))
+    return [it for it in named if it]
+
+
+def reach(found: Definition, reached: dict[Definition, None]) -> None:
+    """Adds a definition, and those that it is made of, to those that were reached."""
+    if found not in reached:
+        reached[found] = None
+        for it in named_by(found):
+            reach(it, reached)
