@@ -36,8 +36,11 @@ class Page:
 
     def add(self, public_crate: str, anchor: str, path: str, item: Item) -> None:
         self.anchors[public_crate, path] = item.anchor = anchor
-        for name in (name_of(text) for _, text in item.fields):
-            self.anchors[public_crate, f"{path}::{name}"] = f"{anchor}.{name}"
+        for docs, text in [(item.docs, ""), *item.fields]:
+            name = f"::{name_of(text)}" if text else ""
+            self.anchors[public_crate, path + name] = anchor + name.replace("::", ".")
+            if not "".join(docs).strip():
+                self.faults.append(f"{item.source}: {path}{name} has no doc comment")
         for it in item.members:
             self.add(public_crate, f"{anchor}.{it.name}", f"{path}::{it.name}", it)
 
@@ -199,22 +202,16 @@ class PublicCrate:
 
     # ---- items
 
-    def check_doc(self, item: Item, docs: list[str], name: str = "") -> None:
-        if not "".join(docs).strip():
-            self.page.faults.append(f"{item.source}: {self.name}: {item.name}{name} has no doc comment")
-
     def fields(self, item: Item) -> str:
         """The public fields of a struct, or the variants of an enum, each in one line."""
         lines = []
         for docs, text in item.fields:
-            self.check_doc(item, docs, f"::{name_of(text)}")
             line = " ".join(it.strip() for it in text.splitlines() if not it.strip().startswith("///"))
             code = escape(re.sub(r",? \}$", " }", line))
             lines.append(f'<dt id="{item.anchor}.{name_of(text)}"><code>{code}</code></dt><dd>{self.told(docs, item.name)}</dd>')
         return f"<dl>{''.join(lines)}</dl>" if lines else ""
 
     def member(self, item: Item, owner: Item) -> str:
-        self.check_doc(item, item.docs)
         head = f'<h4 id="{item.anchor}"><a href="#{item.anchor}">{item.name}</a></h4>'
         return f"""<div class="member" data-names="{owner.name} {item.name}">{head}
 {self.signature(item)}
@@ -227,13 +224,11 @@ class PublicCrate:
         rows = "".join(self.constant(it) for it in item.members if it.kind != "mod")
         parts = [f"<table>{rows}</table>"] if rows else []
         for it in (it for it in item.members if it.kind == "mod"):
-            self.check_doc(it, it.docs)
             inner = "\n".join(map(self.constant, it.members))
             parts.append(f'<h4 id="{it.anchor}">{item.name}::{it.name}</h4>{self.told(it.docs)}<table>{inner}</table>')
         return "\n".join(parts)
 
     def constant(self, item: Item) -> str:
-        self.check_doc(item, item.docs)
         _, _, value = " ".join(it.strip() for it in item.text).removesuffix(";").partition(" = ")
         cells = f"<code>{item.name}</code>", f"<code>{escape(value)}</code>", self.marked(" ".join(item.docs))
         return f'<tr id="{item.anchor}"><td>{"</td><td>".join(cells)}</td></tr>'
@@ -244,7 +239,6 @@ class PublicCrate:
         return f'<p class="place">Has the traits {named}.</p>' if named else ""
 
     def article(self, item: Item) -> str:
-        self.check_doc(item, item.docs)
         members = "\n".join(self.member(it, item) for it in item.members) if item.kind != "mod" else self.constants(item)
         return f"""<article data-names="{" ".join([item.name, *(it.name for it in item.members)])}">
 <h3 id="{item.anchor}"><span class="kind">{item.kind}</span> <a href="#{item.anchor}">{item.name}</a></h3>
@@ -273,7 +267,7 @@ def made() -> tuple[str, list[str]]:
     ids = collections.Counter(re.findall(r' id="([^"]+)"', text))
     wrong = [f"{anchor} is in the page {ids[anchor]} times" for anchor in sorted(set(page.anchors.values())) if ids[anchor] != 1]
     leads = set(re.findall(r' href="#([^"]+)"', text))
-    return text, [*page.faults, *wrong, *(f"{anchor} is nowhere in the page" for anchor in sorted(leads - set(ids)))]
+    return text, [*dict.fromkeys(page.faults), *wrong, *(f"{anchor} is nowhere in the page" for anchor in sorted(leads - set(ids)))]
 
 
 def main(options: argparse.Namespace) -> int:
