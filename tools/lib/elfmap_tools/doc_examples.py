@@ -15,7 +15,7 @@ from dataclasses import dataclass
 
 from . import sources
 from .kit import kit, said_by
-from .suite import Option, Tally, Test
+from .suite import Tally, Test
 from .tree import TOP, below, is_program, libraries, read_text, write
 
 GIVEN = {
@@ -132,15 +132,10 @@ def all_faults(examples: list[Example]) -> tuple[dict[Example, list[str]], str]:
     return found, ""
 
 
-CRATE: Option = ("--crate", {"action": "append", "metavar": "CRATE", "help": "the examples of this crate alone"})
-
-
-@Test("doc-examples", "each example in a doc comment compiles", options=(CRATE,))
+@Test("doc-examples", "each example in a doc comment compiles")
 def doc_examples(tally: Tally, options: Namespace) -> None:
     crates = [it for it in libraries() if not is_program(it)]
-    if not set(options.crate or ()) <= set(crates):
-        raise SystemExit(f"these are no libraries of crates.txt: {' '.join(options.crate)}")
-    examples = [it for crate in options.crate or crates for path in sources.sources_of(crate) for it in examples_in(crate, path)]
+    examples = [it for crate in crates for path in sources.sources_of(crate) for it in examples_in(crate, path)]
     faults, broken = all_faults(examples)
     if broken:
         tally.note(f"the compiler does not judge the examples:\n{broken}")
