@@ -49,7 +49,7 @@ def balance(line: str) -> int:
     return sum(bare.count(it) for it in "([{") - sum(bare.count(it) for it in ")]}")
 
 
-def end_of(lines: list[str], start: int, ends: str | tuple[str, ...]) -> int:
+def end_of(lines: list[str], start: int, ends: str) -> int:
     """Behind the last line of what begins at `start`: all brackets are closed, and it ends as such a text ends."""
     level, indent = 0, indent_of(lines[start])
     for at in range(start, len(lines)):
@@ -60,26 +60,24 @@ def end_of(lines: list[str], start: int, ends: str | tuple[str, ...]) -> int:
     return len(lines)
 
 
-def blocks(lines: list[str], ends: str | tuple[str, ...] = ";") -> Iterator[Block]:
+def blocks(lines: list[str], ends: str = ";") -> Iterator[Block]:
     """The texts of one level, each with the comment lines and attributes above it."""
-    at, docs, marks = 0, [], []
+    at, docs, marks = 0, list[str](), list[str]()
     while at < len(lines):
-        word = lines[at].strip()
+        word, end = lines[at].strip(), at + 1
         if word.startswith("///"):
             docs.append(word[3:].removeprefix(" "))
         elif word.startswith("//"):
             marks.append(word)
         elif word.startswith("#["):
-            end = next(k for k in range(at, len(lines)) if balance("".join(lines[at : k + 1])) == 0)
-            marks.append(" ".join(it.strip() for it in lines[at : end + 1]))
-            at = end
-        elif word:
-            end = end_of(lines, at, ends)
-            yield docs, marks, lines[at:end]
-            at, docs, marks = end - 1, [], []
+            end = next(k for k in range(end, len(lines) + 1) if balance("".join(lines[at:k])) == 0)
+            marks.append(" ".join(it.strip() for it in lines[at:end]))
         else:
+            if word:
+                end = end_of(lines, at, ends)
+                yield docs, marks, lines[at:end]
             docs, marks = [], []
-        at += 1
+        at = end
 
 
 def inside(text: list[str]) -> list[str]:
