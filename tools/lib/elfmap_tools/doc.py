@@ -2,14 +2,15 @@
 public item: signature, doc comment, and contract as it is in the source, where each word that is a definition of specs/ leads to that
 definition, at the end of the page with its comment and text. It fails where an item has no doc comment or is not in the page once."""
 
-import argparse, collections, functools, re, sys
+import argparse, collections, functools, itertools, re, sys
 from collections.abc import Callable
 from html import escape
 
-from . import guarantees
+from . import definitions, guarantees
+from .rules_tables import by_anchor
 from .sources import PUBLIC_CRATES, WORD, Definition, Item, Uses, definition, items_of, module_file, named_in, reach, source
 from .suite import Tally, Test
-from .tree import matched, read_text, replaced
+from .tree import cells, matched, read_text, replaced
 
 # Where a word leads to, and its title.
 Place = tuple[str, str] | None
@@ -51,15 +52,14 @@ class Page:
 
     def glossary(self) -> str:
         """The definitions that contracts name, and those that these name, by file."""
-        parts, path = [], ""
-        for found in sorted(self.wanted, key=lambda it: it.path):
-            if found.path != path:
-                path = found.path
-                parts.append(f'<h4 class="place">{path}</h4>')
-            name, said = escape(found.name), PublicCrate(self, "").marked(said_of(found))
-            text = linked(found.text, functools.partial(place_in, found))
-            head = f'<div data-names="{name}"><details id="{escape(anchor_of(found))}"><summary><code>{name}</code> {said}</summary>'
-            parts.append(f"{head}<pre>{text}</pre></details></div>")
+        parts = []
+        for path, own in itertools.groupby(sorted(self.wanted, key=lambda it: it.path), lambda it: it.path):
+            parts.append(f'<h4 class="place">{path}</h4>')
+            for found in own:
+                name, said = escape(found.name), PublicCrate(self, "").marked(said_of(found))
+                text = linked(found.text, functools.partial(place_in, found))
+                head = f'<div data-names="{name}"><details id="{escape(anchor_of(found))}"><summary><code>{name}</code> {said}</summary>'
+                parts.append(f"{head}<pre>{text}</pre></details></div>")
         return "\n".join(['<section><h2 id="definitions">Definitions</h2>', *parts, "</section>"])
 
     def whole(self) -> str:
@@ -103,11 +103,6 @@ def place_in(found: Definition, word: str) -> Place:
     return (anchor_of(other), said_of(other) or other.text) if other and other is not found else None
 
 
-def cells(line: str) -> list[str]:
-    """The cells of a line of a table."""
-    return [it.strip() for it in line.strip("| ").split(" | ")]
-
-
 def linked(text: str, place_of: Callable[[str], Place]) -> str:
     """A text of code, each word of it with the anchor and the title that it has, if it has one."""
 
@@ -127,10 +122,8 @@ def said_of(found: Definition) -> str:
 @functools.cache
 def table_words() -> dict[str, str]:
     """The sentence for each word of the tables of docs/RULES.md and docs/DEFINITIONS.md."""
-    rules = [cells(line) for line in read_text("docs/RULES.md").splitlines() if line.startswith("| <a id=")]
-    words = {re.findall(r"`(\w+)`", row[1])[0]: f"rule {row[0].rpartition('>')[2]}: {row[2]}" for row in rules}
-    rows = [cells(line) for line in read_text("docs/DEFINITIONS.md").splitlines() if line.startswith("| `")]
-    return words | {word: row[1] for row in rows for word in re.findall(r"`([^`]+)`", row[0])}
+    rules = {it.definition: f"rule {it.number}: {it.words}" for it in by_anchor().values()}
+    return rules | dict(definitions.ROW.findall(read_text(definitions.PAGE)))
 
 
 class PublicCrate:

@@ -7,7 +7,7 @@ from dataclasses import dataclass
 
 from .sources import PUBLIC_CRATES, WORD, Definition, Item, definition, imports, items_of, reach, signature_and_clauses, sources_of
 from .suite import TESTS, Tally, Test
-from .tree import TOP, libraries, read_text
+from .tree import TOP, cells, libraries, read_text
 
 PAGE = "docs/GUARANTEES.md"
 SPAN = re.compile(r"`([^`]+)`")
@@ -28,9 +28,9 @@ class Row:
 
 def rows() -> Iterator[Row]:
     for line in read_text(PAGE).splitlines():
-        parts = [it.strip() for it in line.split("|")][1:-1]
-        if len(parts) == 4 and parts[0] != "guarantee" and not parts[0].startswith("--"):
-            said, calls, contract, others = parts
+        row = cells(line)
+        if len(row) == 4 and row[0] != "guarantee" and not row[0].startswith("--"):
+            said, calls, contract, others = row
             names = [it for it in SPAN.findall(calls) if "::" in it]
             yield Row(said, names, SPAN.findall(contract), SPAN.findall(others), bool(contract or others))
 

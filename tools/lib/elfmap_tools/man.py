@@ -5,7 +5,7 @@ becomes a paragraph with its first cell as the tag."""
 import argparse, functools, re
 from collections.abc import Iterable
 
-from .tree import read_text, replaced
+from .tree import cells, read_text, replaced
 
 # Where the text is that the page is made of.
 MANUAL = "docs/MANUAL.md"
@@ -59,8 +59,7 @@ def is_example(block: str) -> bool:
 
 def rows(block: str) -> list[list[str]]:
     """The cells of each row of a table but its head."""
-    lines = [re.split(r"(?<!\\)\|", it.strip("|")) for it in block.split("\n")[2:]]
-    return [[it.strip().replace("\\|", "|") for it in line] for line in lines]
+    return [[it.replace("\\|", "|") for it in cells(line)] for line in block.split("\n")[2:]]
 
 
 # ---- The macros
