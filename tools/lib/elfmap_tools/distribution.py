@@ -1,16 +1,6 @@
-"""`tools/release packages`: all that people install, made of what is built:
-
-    elfmap-VERSION-x86_64-linux.tar.gz     the archive of `tools/release pack`
-    elfmap_VERSION_amd64.deb               the program, its manual page, completions, and files of rules
-    elfmap-doc_VERSION_all.deb             the manual: the pages, the page of the library, the page for a browser, and examples
-    libelfmap0_VERSION_amd64.deb           the shared library
-    libelfmap-dev_VERSION_amd64.deb        the header, the static library and the pkg-config file
-    python3-elfmap_VERSION_amd64.deb       the Python package, its commands, their manual pages and completions
-    elfmap-VERSION-py3-none-TAG.whl        the Python package with the library; TAG names the C library that this needs
-    elfmap-VERSION.crate                   the Rust crate with the static library
-    SHA256SUMS                             their sums
-
-The same build makes the same bytes: every file has the time of the commit."""
+"""`tools/release packages`: all that people install, made of what is built: the archive of `tools/release pack`, packages of Debian, the
+Python package as a wheel with the library in it, the Rust crate with the static library, and their SHA256SUMS. docs/MANUAL.md lists what
+each has. The same build makes the same bytes: every file has the time of the commit."""
 
 import argparse, base64, gzip, hashlib, os, re, shutil, tempfile, time, zipfile
 

@@ -1,11 +1,5 @@
-"""`tools/test packages`: makes the packages of `tools/release packages` twice, and installs and tries each in a root of Debian 12 that has
-neither the kit nor anything of the repository:
-
-- the bytes are the same the second time, and SHA256SUMS has their sums;
-- VERSION is the version of each package, of the bindings, of pkg-config and of the manual page;
-- the packages of Debian are installed: the program, the commands of Python, the manual page, a program in C over the shared library and one
-  over the static library, and the completions do what they are for; and all is gone after they are removed;
-- the wheel is installed by pip without a compiler, and the crate is built by Debian's own cargo.
+"""`tools/test packages`: makes the packages of `tools/release packages` twice, with the same bytes, and installs and tries each (STEPS) in a
+root of Debian 12 that has neither the kit nor anything of the repository. Each part of the repository has to have the version of VERSION.
 
 The root is made by debootstrap, once, and is kept in the cache; each run has a copy of it. Without root's rights, debootstrap or a mirror
 the tests in it are skipped by their names."""

@@ -2,9 +2,7 @@
 
 - In node: what the page's reader and its check of tables say of files of this machine, of cases/ and of changed copies of them is what
   `elfmap show` prints, line by line, but for the lines of groups.
-- In chromium, by its debugger: a sound file, a refused one, one whose tables break rules, an empty one, what is no file at all; by keys
-  alone; what the tree for readers of the screen has; that no message is in the console; that an object of 1,000,000 symbols is validated in
-  less than 200 ms."""
+- In chromium, by its debugger: what a person sees of sound and refused files, with a mouse, by keys alone, and by a reader of the screen."""
 
 import contextlib, json, os, random
 from argparse import Namespace
@@ -93,9 +91,8 @@ class InChromium:
     def opens(self, tab: str, words: str) -> None:
         """Chooses a tab, and waits until its table is there."""
         self.click(f"#tab-{tab}")
-        self.waits(
-            f"document.querySelector('#table-words').textContent.startsWith('{words}')", f"the tab {tab}: {self.text('#table-words')}"
-        )
+        is_open = f"document.querySelector('#table-words').textContent.startsWith('{words}')"
+        self.waits(is_open, f"the tab {tab}: {self.text('#table-words')}")
 
     def show(self, path: str, is_dropped: bool = False) -> None:
         """Opens a file in the page, and waits until it is shown."""
@@ -133,9 +130,7 @@ class InChromium:
 
     def filtered(self) -> None:
         self.opens("symbols", "Symbols")
-        self.value(
-            "document.querySelector('#filter').value = 'global'; document.querySelector('#filter').dispatchEvent(new Event('input'))"
-        )
+        self.value("const it = document.querySelector('#filter'); it.value = 'global'; it.dispatchEvent(new Event('input'))")
         self.waits("document.querySelector('#table-words').textContent.includes('found among')", "nothing is found")
         bindings = self.value(f"{ROWS}.map((it) => it.children[5].textContent)")
         self.check(bindings and set(bindings) == {"GLOBAL"}, f"the filter finds {bindings}")

@@ -1,17 +1,5 @@
 """`tools/release pack`: what is built in one archive, elfmap-VERSION-x86_64-linux.tar.gz, which is used on a Linux with the GNU C library
-and without the Rattle kit:
-
-    elfmap, VERSION, README.md and the other pages at the top
-    bin/elfmap                               runs elfmap with the memory settings of the script ./elfmap
-    bin/elfmap-*                             the commands of the Python package
-    lib/libelfmap.a, lib/libelfmap.so.0      the library for C
-    include/elfmap.h, lib/pkgconfig/         its header; pkg-config finds it wherever the directory is put
-    bindings/c/                              programs over it, sections.c and symbols.c, and its tests
-    bindings/rust/, bindings/python/         the crate and the package over it
-    elfmap.html                              the page for a browser, if wasm-opt is installed
-    share/man/man1/                          the manual pages
-    docs/, doc/elfmap-doc.html               the pages that README.md links to; the page of the library
-    examples/, rules/                        the sources of the examples; the files of rules
+and without the Rattle kit. docs/MANUAL.md lists what it has; elfmap.html is in it if wasm-opt is installed.
 
 A page's link to a file that the archive lacks becomes its words. VERSION is the first line of the file VERSION, unless another one is
 given. The same program, library, version, texts and commit make the same archive."""

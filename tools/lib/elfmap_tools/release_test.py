@@ -1,16 +1,5 @@
-"""`tools/test release`: packs a release of what is built, unpacks the archive in an empty folder, and there, with nothing on the PATH but
-/usr/bin and /bin:
-
-- the archive has the files that it is to have, and comes out the same, byte for byte, a second time;
-- each link of its pages leads to a file of the archive;
-- bin/elfmap gives its words to the program, from wherever a link to it is, with settings of memory where there are none;
-- the program accepts /bin/true and refuses changed copies of it, and its usage is what docs/MANUAL.md and the manual page say;
-- the library exports names that begin with `elfmap_` alone, and needs of the C library no more than its memory;
-- bindings/c/sections.c and symbols.c, compiled as include/elfmap.h says, say of these files what `elfmap show` and `elfmap check` say;
-- so do bindings/rust/examples/symbols.rs by cargo, which builds outside of the archive, and bindings/python/examples/symbols.py;
-- each command of the Python package runs over the shared library, without a compiler, and bin/elfmap-lint finds the changed copies;
-- what is built is packed in 30 seconds of a processor;
-- `man` and `groff` format the manual page without a warning."""
+"""`tools/test release`: packs a release of what is built twice, and unpacks the archive in an empty folder. There all of it has to work, with
+nothing on the PATH but /usr/bin and /bin. MOST_SECONDS of a processor have to be enough to pack it."""
 
 import glob, os, re, shutil, subprocess, sys
 from argparse import Namespace
@@ -90,6 +79,7 @@ class Release:
         self.check(ended.returncode == status and re.fullmatch(pattern, ended.stdout), f"{status} and '{pattern}' is not: {ended}")
 
     def program(self) -> None:
+        """It accepts a file of the machine, and refuses changed copies."""
         self.tries(0, rf"ok {os.path.getsize(TRUE)} .*\n", "./elfmap", "check", TRUE)
         for path in self.broken:
             self.tries(1, r"refused \d+ \d+\n", "./elfmap", "check", path)
@@ -152,6 +142,7 @@ class Release:
                 self.lister(f"./{name}", wanted=wanted)
 
     def rust(self) -> None:
+        """The crate's example by cargo, which builds outside of the archive."""
         path = f"{os.path.dirname(shutil.which('cargo') or '')}:{PLAIN['PATH']}"
         env = {**os.environ, "PATH": path, "CARGO_TARGET_DIR": f"{self.room}/target"}
         built = ran("cargo", "build", "--frozen", "--example", "symbols", folder=f"{self.folder}/bindings/rust", env=env)
@@ -182,6 +173,7 @@ class Release:
             self.tries(0, f"(?s).*{wanted}.*", f"bin/elfmap-{command}", *words, env=env)
 
     def manual(self) -> None:
+        """`man` and `groff` format the manual pages without a warning."""
         page = "share/man/man1/elfmap.1"
         self.check(re.findall(r"^\.SH (.*)", self.text(page), re.M) == SECTIONS, f"the manual page has other sections than {SECTIONS}")
         self.check(f'"elfmap {VERSION}"' in self.text(page), "the manual page has not the version")
