@@ -12,7 +12,7 @@ Block = tuple[list[str], list[str], list[str]]
 Uses = dict[str, tuple[str, str]]
 # The public crates, in the order of the table at the head of the crate `elf`.
 PUBLIC_CRATES = [it for it in re.findall(r"^//! \| \[`(\w+)`\]", read_text("crates/elf/src/lib.rt"), re.M) if f"elf_{it}" in libraries()]
-HEAD = re.compile(r"pub (fn|struct|enum|trait|const|mod|use|type) (\w+)")
+HEAD = re.compile(r"pub (fn|struct|enum|trait|const|mod|type) (\w+)")
 CLAUSE = re.compile(r"(requires|ensures)\b")
 # What holds no bracket that counts: strings, characters, comments.
 LITERAL = re.compile(r"""b?"(?:\\.|[^"\\])*"|b?'(?:\\.[^']*|[^'\\])'|//.*""")
@@ -162,20 +162,14 @@ def item_of(docs: list[str], marks: list[str], text: list[str], source: str, use
 
 
 @functools.cache
-def source(path: str) -> tuple[list[str], dict[str, Item], list[tuple[list[str], list[str]]], Uses]:
+def source(path: str) -> tuple[list[str], dict[str, Item], list[list[str]], Uses]:
     """The front doc of a source file, its public items by their names, and its impls."""
     lines = read_text(path).splitlines()
     front = [it[3:].removeprefix(" ") for it in lines if it.startswith("//!")]
-    items, impls, outer = {}, [], []
-    for docs, marks, text in blocks([it for it in lines if not it.startswith(("//!", "#!["))]):
-        if text[0].startswith("impl"):
-            impls.append((docs, text))
-        elif "use " in text[0][:10]:
-            outer += text
-        elif HEAD.match(text[0]):
-            items[matched(HEAD, text[0])[2]] = (docs, marks, text)
-    uses = imports("\n".join(outer))
-    return front, {name: item_of(*it, path, uses) for name, it in items.items()}, impls, uses
+    parts = list(blocks([it for it in lines if not it.startswith(("//!", "#!["))]))
+    uses = imports("\n".join(line for _, _, text in parts if "use " in text[0][:10] for line in text))
+    items = [item_of(docs, marks, text, path, uses) for docs, marks, text in parts if HEAD.match(text[0])]
+    return front, {it.name: it for it in items}, [text for _, _, text in parts if text[0].startswith("impl")], uses
 
 
 def sources_of(crate: str) -> list[str]:
@@ -186,7 +180,7 @@ def with_impls(item: Item, crate: str) -> Item:
     """An item with the public functions of all its impls, the traits that it has, and its ghost view."""
     for path in sorted(sources_of(crate), key=lambda it: it != item.source):
         _, _, impls, uses = source(path)
-        for docs, text in impls:
+        for text in impls:
             head = re.match(r"impl(?:<.*?>)? (?:([\w:]+)(?:<.*>)? for )?(\w+)(?:<.*>)? \{", text[0])
             if not head or head[2] != item.name:
                 continue
@@ -301,10 +295,7 @@ def definition(place: str, name: str) -> Definition | None:
         # A file of specs/ that the crate shows of another one.
         shown = re.search(rf"^pub use Rattle\.(\S+\.specs\.{re.escape(rest)})$", read_text(front), re.M)
         return definition(shown[1], name) if shown else None
-    found, uses = definitions(path)
-    if name in found:
-        return found[name]
-    return definition(*uses[name]) if name in uses else None
+    return named_in(path, name)
 
 
 def named_in(path: str, word: str) -> Definition | None:
@@ -313,16 +304,9 @@ def named_in(path: str, word: str) -> Definition | None:
     return own.get(word) or (definition(*uses[word]) if word in uses else None)
 
 
-@functools.cache
-def named_by(found: Definition) -> list[Definition]:
-    """The definitions that the text of a definition names."""
-    named = (named_in(found.path, word) for word in dict.fromkeys(WORD.findall(found.text)))
-    return [it for it in named if it]
-
-
 def reach(found: Definition, reached: dict[Definition, None]) -> None:
     """Adds a definition, and those that it is made of, to those that were reached."""
     if found not in reached:
         reached[found] = None
-        for it in named_by(found):
+        for it in filter(None, (named_in(found.path, word) for word in WORD.findall(found.text))):
             reach(it, reached)
