@@ -155,15 +155,17 @@ class PublicCrate:
     def told(self, docs: list[str], owner: str = "") -> str:
         """A doc comment: paragraphs, tables, lists and code."""
         parts = TEXT.findall("".join(f"{it}\n" for it in docs))
-        return "\n".join(self.block(text.splitlines(), owner) if text else f"<pre>{escape(code[:-1])}</pre>" for text, code in parts)
+        return "\n".join(self.block(text.rstrip("\n"), owner) if text else f"<pre>{escape(code[:-1])}</pre>" for text, code in parts)
 
-    def block(self, lines: list[str], owner: str) -> str:
-        if lines[0].startswith("| "):
-            rows = [[f"<td>{self.marked(it, owner)}</td>" for it in cells(line)] for line in lines if not line.startswith("|--")]
-            return f"<table>{''.join(f'<tr>{chr(10).join(row)}</tr>' for row in rows)}</table>"
-        if lines[0].startswith("- "):
-            return f"<ul>{''.join(f'<li>{self.marked(it, owner)}</li>' for it in chr(10).join(lines)[2:].split(chr(10) + '- '))}</ul>"
-        return f"<p>{self.marked(chr(10).join(lines), owner)}</p>"
+    def block(self, text: str, owner: str) -> str:
+        if text.startswith("| "):
+            rows = (cells(line) for line in text.split("\n") if not line.startswith("|--"))
+            marked = ("\n".join(f"<td>{self.marked(it, owner)}</td>" for it in row) for row in rows)
+            return f"<table>{''.join(f'<tr>{row}</tr>' for row in marked)}</table>"
+        if text.startswith("- "):
+            items = "".join(f"<li>{self.marked(it, owner)}</li>" for it in text[2:].split("\n- "))
+            return f"<ul>{items}</ul>"
+        return f"<p>{self.marked(text, owner)}</p>"
 
     # ---- signatures and contracts
 

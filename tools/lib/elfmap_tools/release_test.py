@@ -38,8 +38,8 @@ class Release:
     def __init__(self, tally: Tally, room: str) -> None:
         self.check, self.tally = tally.check, tally
         self.folder, self.room = f"{room}/empty/{NAME}", f"{room}/elsewhere"
-        for it in ("first", "second", "empty", "elsewhere"):
-            os.mkdir(f"{room}/{it}")
+        os.mkdir(f"{room}/empty")
+        os.mkdir(self.room)
         # The first one may build the module of the page.
         first, begun = pack(f"{room}/first", VERSION), sum(os.times()[:4])
         second = pack(f"{room}/second", VERSION)
@@ -50,8 +50,7 @@ class Release:
         names = {it[len(self.folder) + 1 :] for it in files_below(self.folder)}
         # What git has in these folders; of the crate and the package without their tests.
         listed = ran("git", "ls-files", "[A-Z]*.md", "docs", "rules", "bindings", "examples", folder=TOP).stdout.split()
-        texts = {it for it in listed if not re.search(r"^bindings/(rust|python)/tests/|^bindings/[^/]*$", it)}
-        wanted = {*FILES, *texts}
+        wanted = {*FILES, *(it for it in listed if not re.search(r"^bindings/(rust|python)/tests/|^bindings/[^/]*$", it))}
         self.check(names == wanted, f"the archive lacks {sorted(wanted - names)}, and has beyond that {sorted(names - wanted)}")
         self.check(self.text("VERSION") == f"{VERSION}\n", "the file VERSION has not the version")
         whole = read_bytes(TRUE)
