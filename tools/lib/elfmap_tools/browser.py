@@ -70,12 +70,13 @@ class Browser:
             self.note(message)
 
     def note(self, message: Message) -> None:
-        words = message.get("params", {})
-        if message.get("method") == "Runtime.exceptionThrown":
-            self.messages.append(words["exceptionDetails"].get("exception", {}).get("description") or words["exceptionDetails"]["text"])
-        elif message.get("method") == "Runtime.consoleAPICalled":
+        method, words = message.get("method"), message.get("params", {})
+        if method == "Runtime.exceptionThrown":
+            thrown = words["exceptionDetails"]
+            self.messages.append(thrown.get("exception", {}).get("description") or thrown["text"])
+        elif method == "Runtime.consoleAPICalled":
             self.messages.append(str([it.get("value", it.get("description")) for it in words["args"]]))
-        elif message.get("method") == "Log.entryAdded":
+        elif method == "Log.entryAdded":
             self.messages.append(words["entry"]["text"])
 
     # ---- The page
@@ -112,15 +113,15 @@ class Browser:
         node = self.call("DOM.querySelector", nodeId=root, selector=selector)["nodeId"]
         self.call("DOM.setFileInputFiles", nodeId=node, files=[path])
 
-    def drop(self, *paths: str) -> None:
-        """Drops files, or folders, onto the page."""
-        data = {"items": [], "files": list(paths), "dragOperationsMask": 1}
+    def drop(self, path: str) -> None:
+        """Drops a file, or a folder, onto the page."""
+        data = {"items": [], "files": [path], "dragOperationsMask": 1}
         for kind in ("dragEnter", "dragOver", "drop"):
             self.call("Input.dispatchDragEvent", type=kind, x=100, y=100, data=data)
 
-    def press(self, key: str, code: str | None = None) -> None:
-        codes = {"Tab": 9, "Enter": 13, "Escape": 27, "ArrowLeft": 37, "ArrowRight": 39, " ": 32}
-        words: Message = {"key": key, "code": code or key, "windowsVirtualKeyCode": codes.get(key, 0)}
+    def press(self, key: str) -> None:
+        codes = {"Tab": 9, "Enter": 13, "Escape": 27, "ArrowRight": 39}
+        words: Message = {"key": key, "code": key, "windowsVirtualKeyCode": codes[key]}
         self.call("Input.dispatchKeyEvent", type="keyDown", **words, **({"text": "\r"} if key == "Enter" else {}))
         self.call("Input.dispatchKeyEvent", type="keyUp", **words)
 

@@ -112,10 +112,10 @@ class Release:
 
     def names(self) -> None:
         """What the library exports and needs."""
-        names = [it.split() for it in ran("nm", "-g", "lib/libelfmap.a", folder=self.folder).stdout.splitlines() if " " in it]
-        defined = [it[-1] for it in names if it[-2] != "U"]
+        names = re.findall(r" (\w) (\S+)$", ran("nm", "-g", "lib/libelfmap.a", folder=self.folder).stdout, re.M)
+        defined = {name for kind, name in names if kind != "U"}
         self.check(defined and all(it.startswith("elfmap_") for it in defined), f"the library exports {defined}")
-        needed = {it[-1] for it in names if it[-2] == "U"} - set(defined)
+        needed = {name for kind, name in names if kind == "U"} - defined
         self.check(needed <= MEMORY, f"the library needs {sorted(needed)}")
 
     def by_show(self, kind: str, number: int, name: int) -> str:

@@ -2,7 +2,7 @@
 `src/rule_names.rt`; and with their sentences for the bindings: bindings/rust/src/rules.rs and bindings/python/elfmap/_rules.py.
 `tools/test rules-tables` fails where one of them differs."""
 
-import argparse, functools, glob, itertools, re, textwrap
+import argparse, functools, glob, re, textwrap
 from collections.abc import Iterable, Iterator
 from typing import NamedTuple
 
@@ -43,9 +43,8 @@ def by_anchor() -> dict[str, Rule]:
     return found
 
 
-def rules_of(kind: str, numbers: Iterable[int]) -> Iterator[Rule]:
-    anchors = (f"{kind}-{number}" for number in numbers)
-    return (by_anchor()[it] for it in itertools.takewhile(by_anchor().__contains__, anchors))
+def rules_of(kind: str, numbers: range) -> list[Rule]:
+    return [it for anchor, it in by_anchor().items() if anchor.startswith(f"{kind}-") and it.number in numbers]
 
 
 def file_rules() -> list[Rule]:
@@ -54,7 +53,7 @@ def file_rules() -> list[Rule]:
 
 
 def link_rules() -> list[Rule]:
-    return list(rules_of("link", itertools.count(1)))
+    return rules_of("link", range(1, 100))
 
 
 def filled(text: str, width: int) -> list[str]:
@@ -74,7 +73,7 @@ def rust_constants(rules: Iterable[Rule], indent: str = "") -> Iterator[str]:
 
 
 def rust_table(name: str, rules: list[Rule]) -> Iterator[str]:
-    yield from ("", "#[rustfmt::skip]", f"pub(crate) const {name}: [(u16, &str, &str); {len(rules)}] = [")
+    yield from ("#[rustfmt::skip]", f"pub(crate) const {name}: [(u16, &str, &str); {len(rules)}] = [")
     for it in rules:
         literal = "\\\n         ".join(pieces(it.sentence))
         yield from ("    (", f"        {it.number},", f'        "{it.name}",', f'        "{literal}",', "    ),")
@@ -85,8 +84,7 @@ def rust() -> str:
     lines = [f"//! The rules by their names. {MADE}", *rust_constants(file_rules())]
     lines += ["", "/// The rules of a link of objects.", "pub mod link {", *list(rust_constants(link_rules(), "    "))[1:], "}"]
     lines += ["", "// The number, the name and the sentence of each rule, by ascending numbers: of files, and of links."]
-    lines += list(rust_table("TABLE", file_rules()))[1:]
-    return "\n".join([*lines, *rust_table("LINK_TABLE", link_rules()), ""])
+    return "\n".join([*lines, *rust_table("TABLE", file_rules()), "", *rust_table("LINK_TABLE", link_rules()), ""])
 
 
 def python_table(name: str, words: str, rules: list[Rule]) -> Iterator[str]:
@@ -119,7 +117,7 @@ def tables() -> dict[str, str]:
     """What each file has to be."""
     of_crates = {
         "image": rattle("images (1 to 33), tables (40 to 69) and files read as objects (70 to 79)", file_rules()),
-        "object": rattle("objects", list(rules_of("object", range(1, 10)))),
+        "object": rattle("objects", rules_of("object", range(1, 10))),
         "link": rattle("the link", link_rules()),
     }
     paths = glob.glob("crates/elf_*/src/rule_names.rt", root_dir=TOP)
