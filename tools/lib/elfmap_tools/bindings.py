@@ -4,7 +4,6 @@ in a temporary folder. `tools/test explain` runs the package's tests of elfmap-e
 
 import ctypes, re, sys
 from argparse import Namespace
-from collections.abc import Mapping
 from typing import Any
 
 from .library import BOTH, FOLDER, PACKERS, calls, packed, structs
@@ -63,21 +62,17 @@ def python_parameters(kinds: list[str]) -> list[Any]:
     return [python_type(kind, after == "size_t") for kind, after in zip(kinds, [*kinds[1:], None])]
 
 
-def is_within(own: Mapping[str, object], declared: Mapping[str, object]) -> bool:
-    """What a binding declares, something at least, is declared so by the header, which may have more."""
-    return bool(own) and all(declared.get(name) == it for name, it in own.items())
-
-
 def declarations(tally: Tally) -> None:
+    """What a binding declares, something at least, is declared so by the header, which may have more."""
     c_structs = {tag: [(name, f"{kind}[{count}]" if count else kind) for kind, name, count in own] for tag, own in structs().items()}
     c_calls = calls()
     rust_structs, rust_calls = in_rust()
-    same = is_within(rust_structs, c_structs) and is_within(rust_calls, c_calls)
+    same = rust_structs and rust_calls and rust_structs.items() <= c_structs.items() and rust_calls.items() <= c_calls.items()
     tally.check(same, "bindings/rust/src/raw.rs declares other than include/elfmap.h")
     own = {tag: getattr(_library, it)._fields_ for it, tag in STRUCTS.items() if hasattr(_library, it)}
     python_structs = {tag: [(name, python_type(kind)) for name, kind in c_structs[tag]] for tag in own}
     python_calls = {name: python_parameters(c_calls[name]) for name in _library.CALLS}
-    same = is_within(own, python_structs) and is_within(_library.CALLS, python_calls)
+    same = own and python_calls and own == python_structs and _library.CALLS == python_calls
     tally.check(same, "bindings/python/elfmap/_library.py declares other than include/elfmap.h")
 
 

@@ -1,32 +1,36 @@
-"""A headless Chromium that is steered by its debugger's pipe, for `tools/test page` and the picture of the page in docs/."""
+"""A headless Chromium that is steered by its debugger's pipe, for `tools/test page`."""
 
-import base64, fcntl, json, os, select, struct, subprocess, tempfile, time, zlib
+import base64, json, os, select, subprocess, tempfile, time
 from typing import Any, cast
 
 Message = dict[str, Any]
+# The browser hears and says as 3 and 4 what it is started with as 0 and 1.
+PIPED = 'exec "$@" 3<&0 4>&1 < /dev/null > /dev/null'
+WORDS = "--headless=new --no-sandbox --disable-gpu --remote-debugging-pipe --no-first-run".split()
+# Counts the points of each colour of a picture.
+COLOURS = """(async () => {
+    const picture = await createImageBitmap(new Blob([Uint8Array.from(atob("%s"), (it) => it.charCodeAt())]));
+    const canvas = new OffscreenCanvas(picture.width, picture.height).getContext("2d");
+    canvas.drawImage(picture, 0, 0);
+    const found = {}, channels = canvas.getImageData(0, 0, picture.width, picture.height).data;
+    for (let at = 0; at < channels.length; at += 4) {
+        const colour = (channels[at] << 16 | channels[at + 1] << 8 | channels[at + 2]).toString(16).padStart(6, "0");
+        found[colour] = (found[colour] ?? 0) + 1;
+    }
+    return found;
+})()"""
 
 
 class Browser:
     """One page in a Chromium of its own. What its console says, and what its scripts throw, is gathered in `messages`."""
 
-    def __init__(self, command: str = "chromium") -> None:
+    def __init__(self) -> None:
         self.folder = tempfile.TemporaryDirectory(prefix="browser-")
-        to_browser, self.to = os.pipe()
-        self.from_, from_browser = os.pipe()
-
-        # The browser has them as 3 and 4, which they may be by chance.
-        to_browser, from_browser = (fcntl.fcntl(it, fcntl.F_DUPFD, 10) for it in (to_browser, from_browser))
-
-        def give_pipes() -> None:
-            os.dup2(to_browser, 3)
-            os.dup2(from_browser, 4)
-
-        words = [command, "--headless=new", "--no-sandbox", "--disable-gpu", "--remote-debugging-pipe", "--no-first-run"]
-        words.append(f"--user-data-dir={self.folder.name}/profile")
-        none = subprocess.DEVNULL
-        self.process = subprocess.Popen(words, stdin=none, stdout=none, stderr=none, close_fds=False, preexec_fn=give_pipes)
-        os.close(to_browser)
-        os.close(from_browser)
+        words = ["sh", "-c", PIPED, "sh", "chromium", *WORDS, f"--user-data-dir={self.folder.name}/profile"]
+        pipe, none = subprocess.PIPE, subprocess.DEVNULL
+        self.process = subprocess.Popen(words, bufsize=0, stdin=pipe, stdout=pipe, stderr=none)
+        assert self.process.stdin and self.process.stdout
+        self.to, self.from_ = self.process.stdin.fileno(), self.process.stdout.fileno()
         self.said, self.asked, self.session, self.messages = b"", 0, "", list[str]()
         target = self.call("Target.createTarget", url="about:blank")["targetId"]
         self.session = self.call("Target.attachToTarget", targetId=target, flatten=True)["sessionId"]
@@ -34,10 +38,8 @@ class Browser:
             self.call(f"{domain}.enable")
 
     def close(self) -> None:
-        self.process.kill()
-        self.process.wait()
-        os.close(self.to)
-        os.close(self.from_)
+        with self.process:
+            self.process.kill()
         self.folder.cleanup()
 
     # ---- The debugger's messages
@@ -68,12 +70,13 @@ class Browser:
             self.note(message)
 
     def note(self, message: Message) -> None:
-        words = message.get("params", {})
-        if message.get("method") == "Runtime.exceptionThrown":
-            self.messages.append(words["exceptionDetails"].get("exception", {}).get("description") or words["exceptionDetails"]["text"])
-        elif message.get("method") == "Runtime.consoleAPICalled":
+        method, words = message.get("method"), message.get("params", {})
+        if method == "Runtime.exceptionThrown":
+            thrown = words["exceptionDetails"]
+            self.messages.append(thrown.get("exception", {}).get("description") or thrown["text"])
+        elif method == "Runtime.consoleAPICalled":
             self.messages.append(str([it.get("value", it.get("description")) for it in words["args"]]))
-        elif message.get("method") == "Log.entryAdded":
+        elif method == "Log.entryAdded":
             self.messages.append(words["entry"]["text"])
 
     # ---- The page
@@ -110,15 +113,15 @@ class Browser:
         node = self.call("DOM.querySelector", nodeId=root, selector=selector)["nodeId"]
         self.call("DOM.setFileInputFiles", nodeId=node, files=[path])
 
-    def drop(self, *paths: str) -> None:
-        """Drops files, or folders, onto the page."""
-        data = {"items": [], "files": list(paths), "dragOperationsMask": 1}
+    def drop(self, path: str) -> None:
+        """Drops a file, or a folder, onto the page."""
+        data = {"items": [], "files": [path], "dragOperationsMask": 1}
         for kind in ("dragEnter", "dragOver", "drop"):
             self.call("Input.dispatchDragEvent", type=kind, x=100, y=100, data=data)
 
-    def press(self, key: str, code: str | None = None) -> None:
-        codes = {"Tab": 9, "Enter": 13, "Escape": 27, "ArrowLeft": 37, "ArrowRight": 39, " ": 32}
-        words: Message = {"key": key, "code": code or key, "windowsVirtualKeyCode": codes.get(key, 0)}
+    def press(self, key: str) -> None:
+        codes = {"Tab": 9, "Enter": 13, "Escape": 27, "ArrowRight": 39}
+        words: Message = {"key": key, "code": key, "windowsVirtualKeyCode": codes[key]}
         self.call("Input.dispatchKeyEvent", type="keyDown", **words, **({"text": "\r"} if key == "Enter" else {}))
         self.call("Input.dispatchKeyEvent", type="keyUp", **words)
 
@@ -134,40 +137,6 @@ class Browser:
         time.sleep(0.5)
         return base64.b64decode(self.call("Page.captureScreenshot", format="png")["data"])
 
-
-def colours(picture: bytes) -> dict[bytes, int]:
-    """How many points of each colour a PNG of eight bits a channel has."""
-    at, data, width, height, channels = 8, b"", 0, 0, 0
-    while at < len(picture):
-        size, kind = struct.unpack(">I4s", picture[at : at + 8])
-        content = picture[at + 8 : at + 8 + size]
-        if kind == b"IHDR":
-            width, height, _, colour = struct.unpack(">IIBB", content[:10])
-            channels = {2: 3, 6: 4}[colour]
-        data += content if kind == b"IDAT" else b""
-        at += 12 + size
-    raw, stride = zlib.decompress(data), width * channels
-    found, above = dict[bytes, int](), bytearray(stride)
-    for row in range(height):
-        start = row * (stride + 1)
-        line = unfiltered(raw[start], bytearray(raw[start + 1 : start + 1 + stride]), above, channels)
-        for k in range(0, stride, channels):
-            point = bytes(line[k : k + 3])
-            found[point] = found.get(point, 0) + 1
-        above = line
-    return found
-
-
-def unfiltered(kind: int, line: bytearray, above: bytearray, channels: int) -> bytearray:
-    """A row of a PNG without the filter that it was put through."""
-    for k in range(len(line)):
-        left = line[k - channels] if k >= channels else 0
-        corner = above[k - channels] if k >= channels else 0
-        guess = (0, left, above[k], (left + above[k]) // 2, nearest(left, above[k], corner))[kind]
-        line[k] = (line[k] + guess) & 255
-    return line
-
-
-def nearest(left: int, above: int, corner: int) -> int:
-    guess = left + above - corner
-    return min((left, above, corner), key=lambda it: abs(guess - it))
+    def colours(self, picture: bytes) -> dict[str, int]:
+        """How many points of each colour, as digits, a picture has."""
+        return cast(dict[str, int], self.value(COLOURS % base64.b64encode(picture).decode()))

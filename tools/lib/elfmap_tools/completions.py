@@ -2,11 +2,21 @@
 option takes. All other words are files."""
 
 import re
+from collections.abc import Callable
 from dataclasses import dataclass, field
 
 OPTION = re.compile(r"^ {2,8}(-\S.*?)(?:  +(.*))?$", re.M)
 # What completes as a file; other values are numbers and names.
 FILES = ("FILE", "RULES")
+BASH = """# bash completion of {name}
+{function}() {{
+    local word=${{COMP_WORDS[COMP_CWORD]}} words=""
+    case "{subject}" in
+{cases}    esac
+    COMPREPLY=($(compgen -W "$words" -- "$word"))
+}}
+complete -o default -F {function} {name}
+"""
 
 
 @dataclass
@@ -37,9 +47,11 @@ def options_of(help: str) -> list[Option]:
     return found
 
 
-def subcommands_of(help: str) -> list[tuple[str, str]]:
-    """The names of the subcommands that a help lists, and what it says of each."""
-    return re.findall(r"^  (\w+)  +(.*)$", help.partition("\nCommands:\n")[2].partition("\n\n")[0], re.M)
+def command_of(name: str, help_of: Callable[..., str]) -> Command:
+    """A command by its help, and by that of each subcommand that this lists."""
+    help = help_of()
+    listed = re.findall(r"^  (\w+)  +(.*)$", help.partition("\nCommands:\n")[2].partition("\n\n")[0], re.M)
+    return Command(name, "", options_of(help), [Command(sub, about, options_of(help_of(sub))) for sub, about in listed])
 
 
 def names_in(own: Command) -> str:
@@ -51,18 +63,17 @@ def quoted(text: str) -> str:
 
 
 def bash(own: Command) -> str:
-    function = "_" + re.sub(r"\W", "_", own.name)
-    cases = [f'    {own.name},*,{it.names[-1]}) words="{" ".join(it.choices)}" ;;' for it in own.options if it.choices]
-    cases += [f'    *,{sub.name},-*) words="{names_in(sub)}" ;;' for sub in own.subcommands]
-    lines = [f"# bash completion of {own.name}", f"{function}() {{", '    local word=${COMP_WORDS[COMP_CWORD]} words=""']
+    """Words by the number of the word, the subcommand and the word; or by the name, the word and the one in front of it."""
     if own.subcommands:
-        names = " ".join(it.name for it in own.subcommands)
-        lines += ['    case "$COMP_CWORD,${COMP_WORDS[1]},$word" in', f'    1,*) words="{names} {names_in(own)}" ;;']
+        subject = "$COMP_CWORD,${COMP_WORDS[1]},$word"
+        words = {"1,*": f"{' '.join(it.name for it in own.subcommands)} {names_in(own)}"}
+        words |= {f"*,{it.name},-*": names_in(it) for it in own.subcommands}
     else:
-        lines += [f'    case "{own.name},$word,${{COMP_WORDS[COMP_CWORD-1]}}" in', *cases, f'    *,-*,*) words="{names_in(own)}" ;;']
-        cases = []
-    lines += [*cases, "    esac", '    COMPREPLY=($(compgen -W "$words" -- "$word"))', "}"]
-    return "\n".join([*lines, f"complete -o default -F {function} {own.name}", ""])
+        subject = f"{own.name},$word,${{COMP_WORDS[COMP_CWORD-1]}}"
+        words = {f"{own.name},*,{it.names[-1]}": " ".join(it.choices) for it in own.options if it.choices}
+        words |= {"*,-*,*": names_in(own)}
+    cases = "".join(f'    {pattern}) words="{it}" ;;\n' for pattern, it in words.items())
+    return BASH.format(name=own.name, function="_" + re.sub(r"\W", "_", own.name), subject=subject, cases=cases)
 
 
 def zsh_words(own: Command) -> str:
@@ -77,26 +88,26 @@ def zsh_words(own: Command) -> str:
 
 def zsh(own: Command) -> str:
     lines = [f"#compdef {own.name}"]
-    if not own.subcommands:
-        return "\n".join([*lines, f"_arguments -s {zsh_words(own)}", ""])
-    described = " ".join(quoted(f"{it.name}:{it.about}") for it in own.subcommands)
-    lines += [f"local -a commands=({described})", "if (( CURRENT == 2 )); then _describe command commands; return; fi"]
-    lines += ["shift words; (( CURRENT-- ))", "case $words[1] in"]
-    lines += [f"{it.name}) _arguments -s {zsh_words(it)} ;;" for it in own.subcommands]
-    return "\n".join([*lines, "esac", ""])
+    if own.subcommands:
+        described = " ".join(quoted(f"{it.name}:{it.about}") for it in own.subcommands)
+        lines += [f"local -a commands=({described})", "if (( CURRENT == 2 )); then _describe command commands; return; fi"]
+        lines += ["shift words; (( CURRENT-- ))", "case $words[1] in"]
+        lines += [*(f"{it.name}) _arguments -s {zsh_words(it)} ;;" for it in own.subcommands), "esac"]
+    else:
+        lines.append(f"_arguments -s {zsh_words(own)}")
+    return "\n".join([*lines, ""])
 
 
 def fish(own: Command) -> str:
-    lines = []
-    for it in own.subcommands:
-        lines.append(f"complete -c {own.name} -n __fish_use_subcommand -f -a {it.name} -d {quoted(it.about)}")
+    complete = f"complete -c {own.name}"
+    lines = [f"{complete} -n __fish_use_subcommand -f -a {it.name} -d {quoted(it.about)}" for it in own.subcommands]
     for sub in own.subcommands or [own]:
         scope = f" -n '__fish_seen_subcommand_from {sub.name}'" if own.subcommands else ""
         for option in sub.options:
             names = " ".join(f"-l {it[2:]}" if it.startswith("--") else f"-s {it[1:]}" for it in option.names)
             value = f" -x -a '{' '.join(option.choices)}'" if option.choices else ""
             value = value or (" -r" if option.value in FILES else " -x" if option.value else "")
-            lines.append(f"complete -c {own.name}{scope} {names}{value} -d {quoted(option.about)}")
+            lines.append(f"{complete}{scope} {names}{value} -d {quoted(option.about)}")
     return "\n".join([*lines, ""])
 
 

@@ -1,11 +1,5 @@
-"""`tools/test packages`: makes the packages of `tools/release packages` twice, and installs and tries each in a root of Debian 12 that has
-neither the kit nor anything of the repository:
-
-- the bytes are the same the second time, and SHA256SUMS has their sums;
-- VERSION is the version of each package, of the bindings, of pkg-config and of the manual page;
-- the packages of Debian are installed: the program, the commands of Python, the manual page, a program in C over the shared library and one
-  over the static library, and the completions do what they are for; and all is gone after they are removed;
-- the wheel is installed by pip without a compiler, and the crate is built by Debian's own cargo.
+"""`tools/test packages`: makes the packages of `tools/release packages` twice, with the same bytes, and installs and tries each (STEPS) in a
+root of Debian 12 that has neither the kit nor anything of the repository. Each part of the repository has to have the version of VERSION.
 
 The root is made by debootstrap, once, and is kept in the cache; each run has a copy of it. Without root's rights, debootstrap or a mirror
 the tests in it are skipped by their names."""
@@ -83,14 +77,20 @@ def make_root() -> str:
     if not setup(["debootstrap"]):
         return "there is no debootstrap"
     os.makedirs(os.path.dirname(ROOT), exist_ok=True)
-    room = tempfile.mkdtemp(dir=os.path.dirname(ROOT))
-    made = said("timeout", "900", "debootstrap", "--variant=minbase", f"--include={INCLUDED}", SUITE, f"{room}/root")
-    if made.returncode == 0:
+    with tempfile.TemporaryDirectory(dir=os.path.dirname(ROOT)) as room:
+        made = said("timeout", "900", "debootstrap", "--variant=minbase", f"--include={INCLUDED}", SUITE, f"{room}/root")
+        if made.returncode:
+            return f"debootstrap fails: {made.stdout.strip().splitlines()[-1:]}"
         os.rename(f"{room}/root", ROOT)
-    shutil.rmtree(room)
-    return "" if made.returncode == 0 else f"debootstrap fails: {made.stdout.strip().splitlines()[-1:]}"
+    return ""
 
 
+# The places of the version.
+VERSIONS = {
+    "bindings/python/pyproject.toml": r'^version = "(.*)"', "bindings/python/elfmap/__init__.py": r'^__version__ = "(.*)"',
+    "bindings/rust/Cargo.toml": r'^version = "(.*)"', "bindings/rust/Cargo.lock": r'name = "elfmap"\nversion = "(.*)"',
+    "bindings/rust/README.md": r"elfmap-([\d.]+)\.crate", "bindings/python/README.md": r"elfmap-([\d.]+)-py3",
+}  # fmt: skip
 # Terminals too, for zsh.
 MOUNTED = 'mount -t proc proc "$1/proc" && mount --bind /dev/pts "$1/dev/pts" && exec chroot "$1" sh -c "$2"'
 
@@ -101,13 +101,10 @@ def inside(root: str, script: str) -> Texts:
     return said(*words, root, script, env=PLAIN)
 
 
-def in_clean_root(tally: Tally, folder: str, room: str) -> None:
-    why = make_root()
-    root = f"{room}/root"
-    if not why and said("cp", "-a", ROOT, root).returncode:
-        why = f"{ROOT} is not copied"
-    if not why and inside(root, "true").returncode:
-        why = "this machine lets nobody mount"
+def in_clean_root(tally: Tally, folder: str) -> None:
+    why, root = make_root(), f"{tally.folder}/root"
+    why = why or (f"{ROOT} is not copied" if said("cp", "-a", ROOT, root).returncode else "")
+    why = why or ("this machine lets nobody mount" if inside(root, "true").returncode else "")
     if why:
         return tally.note(f"skipped: without a clean root ({why}): {', '.join(title for title, *_ in STEPS)}")
     shutil.copytree(folder, f"{root}/packages")
@@ -116,27 +113,8 @@ def in_clean_root(tally: Tally, folder: str, room: str) -> None:
         tally.check(re.fullmatch(pattern, ran.stdout), f"{title}: in the clean root `{script}` says:\n{ran.stdout}")
 
 
-def is_same(first: str, second: str) -> bool:
-    names = sorted(os.listdir(first))
-    return names == sorted(os.listdir(second)) and all(read_bytes(f"{first}/{it}") == read_bytes(f"{second}/{it}") for it in names)
-
-
-def versions() -> dict[str, str]:
-    """The version that each part of the tree names."""
-    patterns = {
-        "bindings/python/pyproject.toml": r'^version = "(.*)"', "bindings/python/elfmap/__init__.py": r'^__version__ = "(.*)"',
-        "bindings/rust/Cargo.toml": r'^version = "(.*)"', "bindings/rust/Cargo.lock": r'name = "elfmap"\nversion = "(.*)"',
-        "bindings/rust/README.md": r"elfmap-([\d.]+)\.crate", "bindings/python/README.md": r"elfmap-([\d.]+)-py3",
-    }  # fmt: skip
-    found = {path: re.findall(pattern, read_text(path), re.M) for path, pattern in patterns.items()}
-    return {path: it[0] if it else "none" for path, it in found.items()} | {
-        "./elfmap --version": said("./elfmap", "--version").stdout[7:-1]
-    }
-
-
-def exported(path: str) -> list[str]:
-    lines = said("nm", "-D", "--defined-only", path).stdout.splitlines()
-    return sorted(it.split()[2].partition("@")[0] for it in lines if it.split()[1] != "A")
+def contents(folder: str) -> dict[str, bytes]:
+    return {os.path.basename(it): read_bytes(it) for it in files_below(folder)}
 
 
 TOOLS = f"{PACKERS} readelf nm git wasm-opt dpkg-deb unshare"
@@ -145,21 +123,23 @@ TOOLS = f"{PACKERS} readelf nm git wasm-opt dpkg-deb unshare"
 @Test("packages", "what people install is the same twice, and works in a clean root", commands=TOOLS, crates=f"elfmap {BOTH}")
 def packages(tally: Tally, options: Namespace) -> None:
     version, room = version_of(), tally.folder
-    for path, own in versions().items():
-        tally.check(own == version, f"{path} has the version {own}, and VERSION has {version}")
+    for path, pattern in VERSIONS.items():
+        found = re.findall(pattern, read_text(path), re.M)[:1]
+        tally.same(f"the version in {path}", found, [version])
+    tally.same("./elfmap --version", said("./elfmap", "--version").stdout, f"elfmap {version}\n")
     first, second = f"{room}/first", f"{room}/second"
     for it, mask, zone in ((first, "022", "UTC"), (second, "077", "Asia/Tokyo")):
         words = ["sh", "-c", f'umask {mask} && exec "$@"', "sh", sys.executable, f"{TOP}/tools/release", "packages", it]
         made = said(*words, folder=room, env=environment(TZ=zone))
         if not tally.check(made.returncode == 0, f"no packages are made: {made.stdout}"):
             return
-    tally.check(is_same(first, second), "the packages have other bytes the second time")
-    summed = said("sha256sum", "-c", "--quiet", "SHA256SUMS", folder=first)
-    others = {os.path.basename(it) for it in files_below(first)} - set(read_text(f"{first}/SHA256SUMS").split())
-    tally.check(summed.returncode == 0 and others == {"SHA256SUMS"}, f"SHA256SUMS: {summed.stdout} {others}")
-    names = [it for it in os.listdir(first) if it != "SHA256SUMS"]
+    tally.check(contents(first) == contents(second), "the packages have other bytes the second time")
+    summed, names = said("sha256sum", "-c", "--quiet", "SHA256SUMS", folder=first), contents(first).keys() - {"SHA256SUMS"}
+    is_whole = summed.returncode == 0 and names == set(read_text(f"{first}/SHA256SUMS").split()[1::2])
+    tally.check(is_whole, f"SHA256SUMS, beside {names}: {summed.stdout}")
     tally.check(all(re.search(rf"[-_]{re.escape(version)}[-_.]", it) for it in names), f"not all have the version {version}: {names}")
     said("dpkg-deb", "-x", f"{first}/libelfmap0_{version}_amd64.deb", f"{room}/own")
-    names = exported(f"{room}/own/{distribution.LIBRARIES}/libelfmap.so.0")
-    tally.check(names == sorted(calls()), f"the shared library exports {names}")
-    in_clean_root(tally, first, room)
+    lines = said("nm", "-D", "--defined-only", f"{room}/own/{distribution.LIBRARIES}/libelfmap.so.0").stdout.splitlines()
+    exported = sorted(name.partition("@")[0] for _, kind, name in map(str.split, lines) if kind != "A")
+    tally.same("what the shared library exports", exported, sorted(calls()))
+    in_clean_root(tally, first)

@@ -2,17 +2,20 @@
 public item: signature, doc comment, and contract as it is in the source, where each word that is a definition of specs/ leads to that
 definition, at the end of the page with its comment and text. It fails where an item has no doc comment or is not in the page once."""
 
-import argparse, collections, functools, re, sys
+import argparse, collections, functools, itertools, re, sys
 from collections.abc import Callable
 from html import escape
 
-from . import guarantees
-from .sources import PUBLIC_CRATES, WORD, Definition, Item, Uses, definition, items_of, module_file, named_in, source
+from . import definitions, guarantees
+from .rules_tables import by_anchor
+from .sources import PUBLIC_CRATES, WORD, Definition, Item, Uses, definition, items_of, module_file, named_in, reach, source
 from .suite import Tally, Test
-from .tree import matched, read_text, replaced
+from .tree import cells, matched, read_text, replaced
 
 # Where a word leads to, and its title.
 Place = tuple[str, str] | None
+# A paragraph, a table or a list; or code.
+TEXT = re.compile(r"((?:^(?!```).+\n)+)|^```.*\n((?:.*\n)*?)```.*\n", re.M)
 MARK = re.compile(r"`([^`]+)`|\[(`?)([^\]`]+)`?\](?:\(([^)]*)\))?")
 
 
@@ -22,7 +25,7 @@ class Page:
     def __init__(self) -> None:
         self.public_crates = {public_crate: list(items_of(f"elf_{public_crate}")) for public_crate in PUBLIC_CRATES}
         self.anchors: dict[tuple[str, str], str] = {}
-        self.wanted: dict[tuple[str, str], Definition] = {}
+        self.wanted: dict[Definition, None] = {}
         self.faults: list[str] = []
         homes: dict[tuple[str, str, str], str] = {}
         for public_crate, items in self.public_crates.items():
@@ -34,30 +37,29 @@ class Page:
 
     def add(self, public_crate: str, anchor: str, path: str, item: Item) -> None:
         self.anchors[public_crate, path] = item.anchor = anchor
-        for name in (name_of(text) for _, text in item.fields):
-            self.anchors[public_crate, f"{path}::{name}"] = f"{anchor}.{name}"
+        for docs, text in [(item.docs, ""), *item.fields]:
+            name = f"::{name_of(text)}" if text else ""
+            self.anchors[public_crate, path + name] = anchor + name.replace("::", ".")
+            if not "".join(docs).strip():
+                self.faults.append(f"{item.source}: {path}{name} has no doc comment")
         for it in item.members:
             self.add(public_crate, f"{anchor}.{it.name}", f"{path}::{it.name}", it)
 
     def want(self, found: Definition) -> str:
         """The anchor of a definition, which is then on the page, as those are that its text names."""
-        if (found.path, found.name) not in self.wanted:
-            self.wanted[found.path, found.name] = found
-            for other in filter(None, (named_in(found.path, word) for word in WORD.findall(found.text))):
-                self.want(other)
+        reach(found, self.wanted)
         return anchor_of(found)
 
     def glossary(self) -> str:
         """The definitions that contracts name, and those that these name, by file."""
-        parts, path = [], ""
-        for found in sorted(self.wanted.values(), key=lambda it: it.path):
-            if found.path != path:
-                path = found.path
-                parts.append(f'<h4 class="place">{path}</h4>')
-            name, said = escape(found.name), PublicCrate(self, "").marked(said_of(found))
-            text = linked(found.text, functools.partial(place_in, found))
-            head = f'<div data-names="{name}"><details id="{escape(anchor_of(found))}"><summary><code>{name}</code> {said}</summary>'
-            parts.append(f"{head}<pre>{text}</pre></details></div>")
+        parts = []
+        for path, own in itertools.groupby(sorted(self.wanted, key=lambda it: it.path), lambda it: it.path):
+            parts.append(f'<h4 class="place">{path}</h4>')
+            for found in own:
+                name, said = escape(found.name), PublicCrate(self, "").marked(said_of(found))
+                text = linked(found.text, functools.partial(place_in, found))
+                head = f'<div data-names="{name}"><details id="{escape(anchor_of(found))}"><summary><code>{name}</code> {said}</summary>'
+                parts.append(f"{head}<pre>{text}</pre></details></div>")
         return "\n".join(['<section><h2 id="definitions">Definitions</h2>', *parts, "</section>"])
 
     def whole(self) -> str:
@@ -101,11 +103,6 @@ def place_in(found: Definition, word: str) -> Place:
     return (anchor_of(other), said_of(other) or other.text) if other and other is not found else None
 
 
-def cells(line: str) -> list[str]:
-    """The cells of a line of a table."""
-    return [it.strip() for it in line.strip("| ").split(" | ")]
-
-
 def linked(text: str, place_of: Callable[[str], Place]) -> str:
     """A text of code, each word of it with the anchor and the title that it has, if it has one."""
 
@@ -125,10 +122,8 @@ def said_of(found: Definition) -> str:
 @functools.cache
 def table_words() -> dict[str, str]:
     """The sentence for each word of the tables of docs/RULES.md and docs/DEFINITIONS.md."""
-    rules = [cells(line) for line in read_text("docs/RULES.md").splitlines() if line.startswith("| <a id=")]
-    words = {re.findall(r"`(\w+)`", row[1])[0]: f"rule {row[0].rpartition('>')[2]}: {row[2]}" for row in rules}
-    rows = [cells(line) for line in read_text("docs/DEFINITIONS.md").splitlines() if line.startswith("| `")]
-    return words | {word: row[1] for row in rows for word in re.findall(r"`([^`]+)`", row[0])}
+    rules = {it.definition: f"rule {it.number}: {it.words}" for it in by_anchor().values()}
+    return rules | dict(definitions.ROW.findall(read_text(definitions.PAGE)))
 
 
 class PublicCrate:
@@ -159,25 +154,18 @@ class PublicCrate:
 
     def told(self, docs: list[str], owner: str = "") -> str:
         """A doc comment: paragraphs, tables, lists and code."""
-        parts, lines = [], list(docs)
-        while lines:
-            if lines[0].startswith("```"):
-                end = next(at for at in range(1, len(lines)) if lines[at].startswith("```"))
-                parts.append(f"<pre>{escape(chr(10).join(lines[1:end]))}</pre>")
-                lines = lines[end + 1 :]
-                continue
-            end = next((at for at, line in enumerate(lines) if not line or line.startswith("```")), len(lines))
-            parts += [self.block(lines[:end], owner)] if end else []
-            lines = lines[end + (end < len(lines) and not lines[end]) :]
-        return "\n".join(parts)
+        parts = TEXT.findall("".join(f"{it}\n" for it in docs))
+        return "\n".join(self.block(text.rstrip("\n"), owner) if text else f"<pre>{escape(code[:-1])}</pre>" for text, code in parts)
 
-    def block(self, lines: list[str], owner: str) -> str:
-        if lines[0].startswith("| "):
-            rows = [[f"<td>{self.marked(it, owner)}</td>" for it in cells(line)] for line in lines if not line.startswith("|--")]
-            return f"<table>{''.join(f'<tr>{chr(10).join(row)}</tr>' for row in rows)}</table>"
-        if lines[0].startswith("- "):
-            return f"<ul>{''.join(f'<li>{self.marked(it, owner)}</li>' for it in chr(10).join(lines)[2:].split(chr(10) + '- '))}</ul>"
-        return f"<p>{self.marked(chr(10).join(lines), owner)}</p>"
+    def block(self, text: str, owner: str) -> str:
+        if text.startswith("| "):
+            rows = (cells(line) for line in text.split("\n") if not line.startswith("|--"))
+            marked = ("\n".join(f"<td>{self.marked(it, owner)}</td>" for it in row) for row in rows)
+            return f"<table>{''.join(f'<tr>{row}</tr>' for row in marked)}</table>"
+        if text.startswith("- "):
+            items = "".join(f"<li>{self.marked(it, owner)}</li>" for it in text[2:].split("\n- "))
+            return f"<ul>{items}</ul>"
+        return f"<p>{self.marked(text, owner)}</p>"
 
     # ---- signatures and contracts
 
@@ -209,22 +197,16 @@ class PublicCrate:
 
     # ---- items
 
-    def check_doc(self, item: Item, docs: list[str], name: str = "") -> None:
-        if not "".join(docs).strip():
-            self.page.faults.append(f"{item.source}: {self.name}: {item.name}{name} has no doc comment")
-
     def fields(self, item: Item) -> str:
         """The public fields of a struct, or the variants of an enum, each in one line."""
         lines = []
         for docs, text in item.fields:
-            self.check_doc(item, docs, f"::{name_of(text)}")
             line = " ".join(it.strip() for it in text.splitlines() if not it.strip().startswith("///"))
             code = escape(re.sub(r",? \}$", " }", line))
             lines.append(f'<dt id="{item.anchor}.{name_of(text)}"><code>{code}</code></dt><dd>{self.told(docs, item.name)}</dd>')
         return f"<dl>{''.join(lines)}</dl>" if lines else ""
 
     def member(self, item: Item, owner: Item) -> str:
-        self.check_doc(item, item.docs)
         head = f'<h4 id="{item.anchor}"><a href="#{item.anchor}">{item.name}</a></h4>'
         return f"""<div class="member" data-names="{owner.name} {item.name}">{head}
 {self.signature(item)}
@@ -237,13 +219,11 @@ class PublicCrate:
         rows = "".join(self.constant(it) for it in item.members if it.kind != "mod")
         parts = [f"<table>{rows}</table>"] if rows else []
         for it in (it for it in item.members if it.kind == "mod"):
-            self.check_doc(it, it.docs)
             inner = "\n".join(map(self.constant, it.members))
             parts.append(f'<h4 id="{it.anchor}">{item.name}::{it.name}</h4>{self.told(it.docs)}<table>{inner}</table>')
         return "\n".join(parts)
 
     def constant(self, item: Item) -> str:
-        self.check_doc(item, item.docs)
         _, _, value = " ".join(it.strip() for it in item.text).removesuffix(";").partition(" = ")
         cells = f"<code>{item.name}</code>", f"<code>{escape(value)}</code>", self.marked(" ".join(item.docs))
         return f'<tr id="{item.anchor}"><td>{"</td><td>".join(cells)}</td></tr>'
@@ -254,7 +234,6 @@ class PublicCrate:
         return f'<p class="place">Has the traits {named}.</p>' if named else ""
 
     def article(self, item: Item) -> str:
-        self.check_doc(item, item.docs)
         members = "\n".join(self.member(it, item) for it in item.members) if item.kind != "mod" else self.constants(item)
         return f"""<article data-names="{" ".join([item.name, *(it.name for it in item.members)])}">
 <h3 id="{item.anchor}"><span class="kind">{item.kind}</span> <a href="#{item.anchor}">{item.name}</a></h3>
@@ -283,7 +262,7 @@ def made() -> tuple[str, list[str]]:
     ids = collections.Counter(re.findall(r' id="([^"]+)"', text))
     wrong = [f"{anchor} is in the page {ids[anchor]} times" for anchor in sorted(set(page.anchors.values())) if ids[anchor] != 1]
     leads = set(re.findall(r' href="#([^"]+)"', text))
-    return text, [*page.faults, *wrong, *(f"{anchor} is nowhere in the page" for anchor in sorted(leads - set(ids)))]
+    return text, [*dict.fromkeys(page.faults), *wrong, *(f"{anchor} is nowhere in the page" for anchor in sorted(leads - set(ids)))]
 
 
 def main(options: argparse.Namespace) -> int:

@@ -11,11 +11,11 @@ import functools, os, re, tempfile
 from argparse import Namespace
 from collections import Counter
 from collections.abc import Iterator
-from dataclasses import dataclass, field
+from dataclasses import dataclass
 
 from . import sources
 from .kit import kit, said_by
-from .suite import Option, Tally, Test
+from .suite import Tally, Test
 from .tree import TOP, below, is_program, libraries, read_text, write
 
 GIVEN = {
@@ -28,6 +28,7 @@ OF_STD = {
     "Abort": "process", "BuildHasherDefault": "hash", "FoldHasher": "hash", "Global": "alloc", "Print": "io", "Read": "io", "Seek": "io",
     "Write": "io",
 }  # fmt: skip
+FENCED = re.compile(r"^ *//[/!] ?```(?P<language>.*?) *\n(?P<lines>(?: *//[/!].*\n)*?) *//[/!] ?```", re.M)
 REFUSED = """pub fn refused(bytes: &mut [u8; 2]) {
     let first = &mut bytes[0];
     bytes[0] = 1;
@@ -43,7 +44,7 @@ class Example:
     crate: str
     path: str
     at: int
-    lines: list[str] = field(default_factory=list)
+    lines: list[str]
 
 
 def root_of(crate: str) -> str:
@@ -51,16 +52,10 @@ def root_of(crate: str) -> str:
 
 
 def examples_in(crate: str, path: str) -> Iterator[Example]:
-    fence, example = "", None
-    for at, line in enumerate(read_text(path).splitlines(), 1):
-        doc = re.match(r"\s*//[/!] ?(.*)", line)
-        text = doc[1] if doc else ""
-        if text.startswith("```"):
-            if example and fence == "```":
-                yield example
-            fence, example = (text.rstrip(), Example(crate, path, at)) if example is None else ("", None)
-        elif example:
-            example.lines.append(text)
+    text = read_text(path)
+    for it in FENCED.finditer(text):
+        if not it["language"]:
+            yield Example(crate, path, text.count("\n", 0, it.start()) + 1, re.findall(r"^ *//[/!] ?(.*)", it["lines"], re.M))
 
 
 @functools.cache
@@ -137,15 +132,10 @@ def all_faults(examples: list[Example]) -> tuple[dict[Example, list[str]], str]:
     return found, ""
 
 
-CRATE: Option = ("--crate", {"action": "append", "metavar": "CRATE", "help": "the examples of this crate alone"})
-
-
-@Test("doc-examples", "each example in a doc comment compiles", options=(CRATE,))
+@Test("doc-examples", "each example in a doc comment compiles")
 def doc_examples(tally: Tally, options: Namespace) -> None:
     crates = [it for it in libraries() if not is_program(it)]
-    if not set(options.crate or ()) <= set(crates):
-        raise SystemExit(f"these are no libraries of crates.txt: {' '.join(options.crate)}")
-    examples = [it for crate in options.crate or crates for path in sources.sources_of(crate) for it in examples_in(crate, path)]
+    examples = [it for crate in crates for path in sources.sources_of(crate) for it in examples_in(crate, path)]
     faults, broken = all_faults(examples)
     if broken:
         tally.note(f"the compiler does not judge the examples:\n{broken}")

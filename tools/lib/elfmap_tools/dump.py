@@ -15,6 +15,8 @@ from .reference import (
 )  # fmt: skip
 from .tree import read_bytes, write
 
+TABLES = (SYMTAB, DYNSYM, RELA, REL, DYNAMIC_SECTION, NOTE)
+
 # ---- the entries of tables: also of those that break a rule, as far as they lie in the file
 
 
@@ -87,12 +89,6 @@ def end_of(broken: Broken | None) -> str:
 OWNERS = {"header": 0, "sections": 1, "segments": 2, "content": 3, "gap": 2**64 - 1}
 
 
-def part_lines(f: Any) -> Iterator[str]:
-    for start, size, whose in parts(f):
-        kind, _, index = whose.partition(" ")
-        yield f"part {start} {size} {OWNERS[kind] + (int(index) if kind == 'content' else 0)}"
-
-
 def loaded(f: Any, address: int) -> object:
     """The byte that the first loadable segment with this address gives it, or 'none'."""
     for it in f.segments():
@@ -100,20 +96,6 @@ def loaded(f: Any, address: int) -> object:
         if it.p_type == LOAD and 0 <= k < it.p_memsz:
             return f.bytes[it.p_offset + k] if k < it.p_filesz else 0
     return "none"
-
-
-def load_lines(f: Any) -> Iterator[str]:
-    for it in (it for it in f.segments() if it.p_type == LOAD):
-        for k in (0, it.p_filesz - 1, it.p_filesz, it.p_memsz - 1, it.p_memsz):
-            address = (it.p_vaddr + k) % 2**64
-            yield f"load {address} {loaded(f, address)}"
-
-
-def record_lines(f: Any) -> Iterator[str]:
-    yield f"file {f.header.e_phoff} {f.header.e_shoff} {f.section_count} {f.segment_count} {f.name_table} {f.bytes[5]}"
-    yield f"header {f.bytes[:16].hex()} {fields(f.header, HEADER)}"
-    yield from (f"section {fields(it, SECTION_HEADER)} {name_of(f, it).hex()}" for _, it in f.sections())
-    yield from (f"segment {fields(it, PROGRAM_HEADER)}" for it in f.segments())
 
 
 def found(words: list[int], names: list[bytes], name: bytes) -> object:
@@ -129,6 +111,7 @@ def found(words: list[int], names: list[bytes], name: bytes) -> object:
 
 
 def found_lines(f: Any, i: int) -> Iterator[str]:
+    """Of a hash table: which symbol of each name it finds."""
     linked, strings = (content_of(f, k) for k in beside(f, i))
     names = [string(strings, int.from_bytes(linked[at : at + 4], f.order)) for at in range(0, len(linked) // 24 * 24, 24)]
     words = [it for _, it in f.words(i)]
@@ -148,25 +131,32 @@ def entry_lines(f: Any, i: int, kind: int) -> list[str]:
     return list(found_lines(f, i))
 
 
-def place(f: Any, i: int | None) -> str:
-    """Where the bytes of section i are."""
-    return "0 0" if i is None else f"{f.section(i).sh_offset} {len(content_of(f, i))}"
-
-
-def is_linked(f: Any, i: int) -> bool:
-    """Whether the sections are there that the table in section i links to."""
-    kind, link = f.section(i).sh_type, f.section(i).sh_link
-    return kind == NOTE or is_section(f, link) and (kind != HASH or is_section(f, f.section(link).sh_link))
-
-
-def table_lines(f: Any, i: int) -> Iterator[str]:
-    kind = f.section(i).sh_type
-    if kind in (SYMTAB, DYNSYM, RELA, REL, DYNAMIC_SECTION, NOTE, HASH) and is_linked(f, i):
+def table_lines(f: Any, i: int, kind: int) -> Iterator[str]:
+    """Of a table whose linked sections are there: where it is and those beside it are, how many entries it has, and these."""
+    link = f.section(i).sh_link
+    if kind == NOTE or is_section(f, link) and (kind != HASH or is_section(f, f.section(link).sh_link)):
         lines = entry_lines(f, i, kind)
         count = len(notes(f, i)) if kind == NOTE else len(lines) if kind == DYNAMIC_SECTION else f.section(i).sh_size // ENTRY_SIZE[kind]
-        beside_it = " ".join(place(f, it) for it in beside(f, i))
-        yield f"table {i} {place(f, i)} {beside_it} {count} {kind} {f.bytes[5]}"
+        places = ("0 0" if it is None else f"{f.section(it).sh_offset} {len(content_of(f, it))}" for it in (i, *beside(f, i)))
+        yield f"table {i} {' '.join(places)} {count} {kind} {f.bytes[5]}"
         yield from lines
+
+
+def kept_lines(f: Any) -> Iterator[str]:
+    """The lines on a file that keeps the rules: its parts, its records, bytes at the ends of its segments in memory, and its tables."""
+    for start, size, whose in parts(f):
+        kind, _, index = whose.partition(" ")
+        yield f"part {start} {size} {OWNERS[kind] + (int(index) if kind == 'content' else 0)}"
+    yield f"file {f.header.e_phoff} {f.header.e_shoff} {f.section_count} {f.segment_count} {f.name_table} {f.bytes[5]}"
+    yield f"header {f.bytes[:16].hex()} {fields(f.header, HEADER)}"
+    yield from (f"section {fields(it, SECTION_HEADER)} {name_of(f, it).hex()}" for _, it in f.sections())
+    yield from (f"segment {fields(it, PROGRAM_HEADER)}" for it in f.segments())
+    for it in (it for it in f.segments() if it.p_type == LOAD):
+        for address in ((it.p_vaddr + k) % 2**64 for k in (0, it.p_filesz - 1, it.p_filesz, it.p_memsz - 1, it.p_memsz)):
+            yield f"load {address} {loaded(f, address)}"
+    for i, it in f.sections():
+        if it.sh_type in (*TABLES, HASH):
+            yield from table_lines(f, i, it.sh_type)
 
 
 def c_lines(content: bytes) -> list[str]:
@@ -174,10 +164,7 @@ def c_lines(content: bytes) -> list[str]:
     f, broken = File(content), verdict(content)
     lines = [f"verdict {end_of(broken)}", *by_rooms(f, broken, 3 + f.section_count)]
     lines += [f"parts {it}" for it in by_rooms(f, broken, 3 * (3 + f.section_count) + 1)]
-    if broken:
-        return lines
-    tables = (line for i, _ in f.sections() for line in table_lines(f, i))
-    return [*lines, *part_lines(f), *record_lines(f), *load_lines(f), *tables]
+    return lines if broken else [*lines, *kept_lines(f)]
 
 
 # ---- for bindings/rust and bindings/python
@@ -226,8 +213,7 @@ def lines_of(content: bytes) -> list[str]:
     if len(content) > LONG:
         return lines
     lines += [f"part {start} {size} {'gap' if owner.startswith('gap') else owner}" for start, size, owner in parts(f)]
-    tables = (SYMTAB, DYNSYM, RELA, REL, DYNAMIC_SECTION, NOTE)
-    lines += [line for i, it in f.sections() if it.sh_type in tables for line in entries(f, i, it.sh_type)]
+    lines += [line for i, it in f.sections() if it.sh_type in TABLES for line in entries(f, i, it.sh_type)]
     refusal, written = rewritten(content) or ("", b"")
     return [*lines, f"show ={shown(content).encode().hex()}", f"rewrite {refusal.strip()}" if refusal else f"rewrite ={written.hex()}"]
 

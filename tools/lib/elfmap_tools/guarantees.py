@@ -5,9 +5,9 @@ from argparse import Namespace
 from collections.abc import Iterator
 from dataclasses import dataclass
 
-from .sources import PUBLIC_CRATES, WORD, Definition, Item, definition, imports, items_of, named_in, signature_and_clauses, sources_of
-from .suite import Tally, Test
-from .tree import TOP, libraries, read_text
+from .sources import PUBLIC_CRATES, WORD, Definition, Item, definition, imports, items_of, reach, signature_and_clauses, sources_of
+from .suite import TESTS, Tally, Test
+from .tree import TOP, cells, libraries, read_text
 
 PAGE = "docs/GUARANTEES.md"
 SPAN = re.compile(r"`([^`]+)`")
@@ -28,9 +28,9 @@ class Row:
 
 def rows() -> Iterator[Row]:
     for line in read_text(PAGE).splitlines():
-        parts = [it.strip() for it in line.split("|")][1:-1]
-        if len(parts) == 4 and parts[0] != "guarantee" and not parts[0].startswith("--"):
-            said, calls, contract, others = parts
+        row = cells(line)
+        if len(row) == 4 and row[0] != "guarantee" and not row[0].startswith("--"):
+            said, calls, contract, others = row
             names = [it for it in SPAN.findall(calls) if "::" in it]
             yield Row(said, names, SPAN.findall(contract), SPAN.findall(others), bool(contract or others))
 
@@ -62,7 +62,7 @@ def functions_of(crate: str) -> Iterator[Item]:
         text = read_text(path)
         for found in re.finditer(r'^(?:pub )?(?:extern "C" )?fn (\w+)', text, re.M):
             lines = text[found.start() :].splitlines()
-            yield Item("fn", found[1], path, [], *signature_and_clauses(lines, imports(text)))
+            yield Item("fn", found[1], path, [], *signature_and_clauses(lines), imports(text))
 
 
 def call(path: str) -> Item | None:
@@ -89,41 +89,24 @@ def public_calls() -> Iterator[tuple[str, Item]]:
 # ---- the contracts
 
 
-def clause_names(item: Item) -> list[str]:
-    """The names of a function's promises."""
-    return [name for it in item.clauses for name in re.findall(r"^ensures (\w+) \{", it)]
-
-
-def definitions_of(item: Item) -> Iterator[Definition]:
-    """The definitions that the contract of an item names, and those that these name."""
-    seen: set[tuple[str, str]] = set()
-    text = "\n".join([*item.clauses, *item.ghosts])
-    waiting = [definition(*item.uses[word]) for word in dict.fromkeys(WORD.findall(text)) if word in item.uses]
-    while waiting:
-        found = waiting.pop()
-        if found and (found.path, found.name) not in seen:
-            seen.add((found.path, found.name))
-            yield found
-            waiting += [named_in(found.path, word) for word in dict.fromkeys(WORD.findall(found.text))]
-
-
 @functools.cache
 def words_of(path: str) -> frozenset[str]:
-    """The clauses and the definitions that the contract of a call, or of all calls of a type, names."""
-    item = call(path)
-    items = [*functions(path), *([item] if item else [])]
-    return frozenset(name for it in items for name in [*clause_names(it), *(own.name for own in definitions_of(it))])
+    """The clauses that the contract of a call has, or the contracts of all calls of a type, and the definitions that they name."""
+    item, clauses, reached = call(path), list[str](), dict[Definition, None]()
+    for it in [*functions(path), *([item] if item else [])]:
+        clauses += it.clauses
+        named = (definition(*it.uses[word]) for word in WORD.findall("\n".join([*it.clauses, *it.ghosts])) if word in it.uses)
+        for own in filter(None, named):
+            reach(own, reached)
+    return frozenset([*re.findall(r"^ensures (\w+) \{", "\n".join(clauses), re.M), *(it.name for it in reached)])
 
 
 # ---- laws and tests
 
 
-@functools.cache
-def tests_of_tools() -> set[str]:
-    """The tests of `tools/test`: the gate runs all of them, and one whose commands are missing fails."""
-    from .tests import TESTS as ALL
-
-    return {it.name for it in ALL}
+def is_test_of_tools(name: str) -> bool:
+    """Whether `tools/test` has it: the gate runs all of them, and one whose commands are missing fails."""
+    return any(it.name == name for it in TESTS)
 
 
 def runs(crate: str, module: str) -> bool:
@@ -131,12 +114,12 @@ def runs(crate: str, module: str) -> bool:
     source, root = (f"{TOP}/crates/{crate}/src/{it}.rt" for it in (module, "main" if crate in CALLED_BY else "lib"))
     if crate not in libraries() or not os.path.isfile(source) or not re.search(rf"^mod {module};$", read_text(root), re.M):
         return False
-    return CALLED_BY[crate] in tests_of_tools() if crate in CALLED_BY else "#[test]" in read_text(source)
+    return is_test_of_tools(CALLED_BY[crate]) if crate in CALLED_BY else "#[test]" in read_text(source)
 
 
 def is_law_or_test(name: str) -> bool:
     if name.startswith("tools/test "):
-        return name.removeprefix("tools/test ") in tests_of_tools()
+        return is_test_of_tools(name.removeprefix("tools/test "))
     crate, _, path = name.partition("::")
     if crate.startswith("tests_"):
         return runs(crate, path)
@@ -171,6 +154,7 @@ def by_call() -> dict[Key, list[str]]:
     return found
 
 
+@Test("guarantees", "each name of docs/GUARANTEES.md exists, and each public call is in a row")
 def guarantees(tally: Tally, options: Namespace) -> None:
     named = set[Key]()
     for row in rows():
@@ -181,6 +165,3 @@ def guarantees(tally: Tally, options: Namespace) -> None:
         tally.check(key_of(item) in named, f"{path} is in no row")
     for place, holds in wrong_bodies():
         tally.check(holds, f"there is no wrong body {place}")
-
-
-TESTS = [Test("guarantees", "each name of docs/GUARANTEES.md exists, and each public call is in a row", guarantees)]

@@ -2,17 +2,18 @@
 command has a part of its own, whose text up to the first example comes below COMMANDS, and what follows below EXAMPLES. A row of a table
 becomes a paragraph with its first cell as the tag."""
 
-import argparse, re
+import argparse, functools, re
+from collections.abc import Iterable
 
-from .tree import read_text
+from .tree import cells, read_text, replaced
 
 # Where the text is that the page is made of.
 MANUAL = "docs/MANUAL.md"
-# The names of the parts that the page has.
-HERE: set[str] = set()
 # Parts that are no command, and their names in the page.
 OTHERS = {"Exit status": "EXIT STATUS", "Files of rules": "FILES", "Limits": "LIMITS"}
 MARK = re.compile(r"\[((?:`[^`]*`|[^\]`])*)\]\(([^)]*)\)|`([^`]*)`|\*\*([^*]*)\*\*")
+# The signs of ASCII, of which groff would make others.
+SIGNS = str.maketrans({"-": r"\-", "'": r"\(aq", "`": r"\(ga", "^": r"\(ha", "~": r"\(ti"})
 WIDTH = 68
 SEE_ALSO = r""".BR readelf (1),
 .BR ld (1),
@@ -39,21 +40,17 @@ the calls for C."""
 # ---- docs/MANUAL.md
 
 
-def part(text: str, title: str, level: str) -> str:
-    """The text below a title, up to the next one of its level or above."""
-    found = re.search(rf"^{level} {re.escape(title)}\n(.*?)(?=^#{{2,{len(level)}}} |\Z)", text, re.M | re.S)
-    if not found:
-        raise SystemExit(f"man: {MANUAL} has no part '{level} {title}'")
-    return found[1].strip("\n")
-
-
 def blocks(text: str) -> list[str]:
     """Its paragraphs, tables and examples, each as one text."""
-    return re.split(r"\n\n+", text)
+    return re.split(r"\n\n+", text.strip("\n"))
 
 
-def is_code(block: str) -> bool:
-    return block.startswith("    ")
+@functools.cache
+def parts() -> dict[str, list[str]]:
+    """The blocks of the section "The commands": of its beginning, and of each part by its title."""
+    text = read_text(MANUAL).partition("\n## The commands\n")[2].partition("\n## ")[0]
+    first, *titles_and_texts = re.split(r"^### (.*)\n", text, flags=re.M)
+    return {"": blocks(first), **dict(zip(titles_and_texts[::2], map(blocks, titles_and_texts[1::2])))}
 
 
 def is_example(block: str) -> bool:
@@ -62,8 +59,7 @@ def is_example(block: str) -> bool:
 
 def rows(block: str) -> list[list[str]]:
     """The cells of each row of a table but its head."""
-    lines = [re.split(r"(?<!\\)\|", it.strip("|")) for it in block.split("\n")[2:]]
-    return [[it.strip().replace("\\|", "|") for it in line] for line in lines]
+    return [[it.replace("\\|", "|") for it in cells(line)] for line in block.split("\n")[2:]]
 
 
 # ---- The macros
@@ -74,31 +70,26 @@ def escaped(text: str) -> str:
 
 
 def literal(text: str) -> str:
-    """Text that is typed or printed so: with the signs of ASCII."""
-    text = escaped(re.sub(r"(?<![\w/.])\./elfmap\b", "elfmap", text))
-    for sign, name in (("-", r"\-"), ("'", r"\(aq"), ("`", r"\(ga"), ("^", r"\(ha"), ("~", r"\(ti")):
-        text = text.replace(sign, name)
-    return text
+    """Text that is typed or printed so."""
+    return escaped(re.sub(r"(?<![\w/.])\./elfmap\b", "elfmap", text)).translate(SIGNS)
 
 
-def whole(text: str) -> str:
-    """Text no word of which is cut at the end of a line."""
-    return re.sub(r"\S+", lambda it: rf"\%{it[0]}", text)
+def bold(code: str) -> str:
+    """Code, no word of which is cut at the end of a line."""
+    return r"\fB" + re.sub(r"(\S+)", r"\%\1", literal(code)) + r"\fP"
 
 
 def marked(text: str) -> str:
-    """Text whose code and stress are bold. A link is its words; one that leads to another section of the manual says so."""
-    found, at = list[str](), 0
-    for it in MARK.finditer(text):
-        words, target, code, stress = it.groups()
-        found.append(escaped(text[at : it.start()]))
+    """Text whose code and stress are bold. A link is its words; one that leads to a part of the manual that the page lacks says so."""
+    here = {f"#{it.lower().replace(' ', '-')}" for it in parts()}
+
+    def own(mark: re.Match[str]) -> str:
+        words, target, code, stress = mark.groups()
         if words is None:
-            found.append(rf"\fB{whole(literal(code)) if code is not None else escaped(stress)}\fP")
-        else:
-            is_beyond = target.startswith("#") and target[1:] not in HERE
-            found.append(marked(words) + (f" ({MANUAL})" if is_beyond else ""))
-        at = it.end()
-    return "".join([*found, escaped(text[at:])])
+            return bold(code) if code is not None else rf"\fB{escaped(stress)}\fP"
+        return marked(words) + (f" ({MANUAL})" if target.startswith("#") and target not in here else "")
+
+    return replaced(MARK, text, own, escaped)
 
 
 def guarded(line: str) -> str:
@@ -118,15 +109,10 @@ def folded(line: str) -> list[str]:
     return [*(f"{it} \\" for it in lines[:-1]), lines[-1]]
 
 
-def tagged(row: list[str]) -> list[str]:
-    """A row of a table: its first cell as a tag, and the others as its text."""
-    return [".TP", guarded(marked(row[0])), guarded(marked(", ".join(row[1:])))]
-
-
 def macros(block: str) -> list[str]:
     if block.startswith("|"):
-        return [line for row in rows(block) for line in tagged(row)]
-    if not is_code(block):
+        return [it for tag, *texts in rows(block) for it in (".TP", guarded(marked(tag)), guarded(marked(", ".join(texts))))]
+    if not block.startswith("    "):
         return [".PP", *(guarded(it) for it in marked(block).split("\n"))]
     lines = [it for line in block.split("\n") for it in folded(line.removeprefix("    "))]
     return [".PP", ".RS 4", ".EX", *(guarded(literal(it)) for it in lines), ".EE", ".RE"]
@@ -135,50 +121,37 @@ def macros(block: str) -> list[str]:
 def usage(line: str) -> list[str]:
     """A synopsis: what is typed so is bold, what a word or a file stands for is italic."""
     command, sub, rest = line.split(None, 2)
-    groups = re.findall(r"\[[^\]]*\]|--\w+ [A-Z]+|\S+", rest)
 
     def styled(word: re.Match[str]) -> str:
         return (r"\fB" if word[0][0] == "-" else r"\fI") + literal(word[0]) + r"\fP"
 
-    shown = [re.sub(r"--\w+|[A-Z]+", styled, it).replace(" ", r"\ ") for it in groups]
-    return [f'.SY "{command} {sub}"', *shown, ".YS"]
+    groups = re.findall(r"\[[^\]]*\]|--\w+ [A-Z]+|\S+", rest)
+    return [f'.SY "{command} {sub}"', *(re.sub(r"--\w+|[A-Z]+", styled, it).replace(" ", r"\ ") for it in groups), ".YS"]
 
 
 # ---- The page
 
 
-def section(title: str, blocks: list[str]) -> list[str]:
-    return [f".SH {title}", *(line for it in blocks for line in macros(it))]
+def section(title: str, blocks: Iterable[str]) -> list[str]:
+    return [title, *(line for it in blocks for line in macros(it))]
 
 
-def commands_and_examples(parts: dict[str, list[str]]) -> tuple[list[str], list[str]]:
-    """The lines of both sections: of each part its text, and what follows from its first example on."""
-    texts, examples = [".SH COMMANDS"], [".SH EXAMPLES"]
-    for title, found in parts.items():
-        first = next((at for at, it in enumerate(found) if is_example(it)), len(found))
-        if title not in OTHERS:
-            texts += [f".SS {title}", *(line for it in found[:first] for line in macros(it))]
-        if found[first:]:
-            examples += [f".SS {title}", *(line for it in found[first:] for line in macros(it))]
-    return texts, examples
-
-
-def page(manual: str, version: str) -> str:
-    summary = blocks(manual)[1]
-    commands = part(manual, "The commands", "##")
-    titles = re.findall(r"^### (.*)", commands, re.M)
-    parts = {it: blocks(part(commands, it, "###")) for it in titles}
-    HERE.update(it.lower().replace(" ", "-") for it in titles)
-    texts, examples = commands_and_examples(parts)
+def page(version: str) -> str:
+    summary = blocks(read_text(MANUAL))[1]
     name = summary.partition(", the ")[0].replace("elfmap ", r"elfmap \- ", 1)
     lines = [f'.TH ELFMAP 1 "" "elfmap {escaped(version)}" "elfmap"', ".ad l", ".SH NAME", name, ".SH SYNOPSIS"]
-    lines += [it for line in blocks(commands)[0].split("\n") for it in usage(line)]
-    lines += [*section("DESCRIPTION", [summary]), *texts]
+    lines += [it for line in parts()[""][0].split("\n") for it in usage(line)]
+    lines += [*section(".SH DESCRIPTION", [summary]), ".SH COMMANDS"]
+    examples = [".SH EXAMPLES"]
+    for title, found in list(parts().items())[1:]:
+        first = next((at for at, it in enumerate(found) if is_example(it)), len(found))
+        lines += section(f".SS {title}", found[:first]) if title not in OTHERS else []
+        examples += section(f".SS {title}", found[first:]) if found[first:] else []
     for title, name in OTHERS.items():
-        lines += section(name, [it for it in parts[title] if not is_example(it)])
+        lines += section(f".SH {name}", (it for it in parts()[title] if not is_example(it)))
     return "\n".join([*lines, *examples, ".SH SEE ALSO", SEE_ALSO, ""])
 
 
 def main(options: argparse.Namespace) -> int:
-    print(page(read_text(MANUAL), options.version or read_text("VERSION").strip()), end="")
+    print(page(options.version or read_text("VERSION").strip()), end="")
     return 0

@@ -8,30 +8,25 @@ did after the last look at it is lost, two seconds at most."""
 import argparse, collections, os, signal, time
 
 TICKS = 60 * os.sysconf("SC_CLK_TCK")
+COLUMNS = ("all", "proof", "tests", "edits", "mutations")
 SCRIPTED = ("python3", "python", "bash", "sh", "env")
 # When a process began, the one that started it, and the processor time of itself and of those that it waited for.
 Process = tuple[str, int, int]
 
 
-def processes() -> dict[int, Process]:
-    found = {}
-    for pid in filter(str.isdigit, os.listdir("/proc")):
-        try:
-            with open(f"/proc/{pid}/stat", encoding="utf-8", errors="replace") as it:
-                # The name, in parentheses, may hold blanks and parentheses.
-                fields = it.read().rpartition(")")[2].split()
-        except OSError:
-            continue
-        found[int(pid)] = (fields[19], int(fields[1]), sum(map(int, fields[11:15])))
-    return found
-
-
-def words_of(pid: int) -> list[str]:
+def text_of(pid: int, name: str) -> str:
+    """A file of /proc; nothing of a process that is gone."""
     try:
-        with open(f"/proc/{pid}/cmdline", encoding="utf-8", errors="replace") as it:
-            return it.read().split("\0")[:-1]
+        with open(f"/proc/{pid}/{name}", encoding="utf-8", errors="replace") as it:
+            return it.read()
     except OSError:
-        return []
+        return ""
+
+
+def processes() -> dict[int, Process]:
+    # The name, in parentheses, may hold blanks and parentheses.
+    found = {int(pid): text_of(int(pid), "stat").rpartition(")")[2].split() for pid in filter(str.isdigit, os.listdir("/proc"))}
+    return {pid: (fields[19], int(fields[1]), sum(map(int, fields[11:15]))) for pid, fields in found.items() if fields}
 
 
 def name_of(words: list[str]) -> str:
@@ -52,9 +47,9 @@ def work_of(words: list[str]) -> tuple[str, str] | None:
 class Minutes:
     def __init__(self, top: int) -> None:
         self.top = top
-        # By process: which part it is, or which part, kind and crate the checker is run for, with the time that was seen last.
+        # By process and when it began: which part it is, or which crate and kind of work the checker is run for, with the time seen last.
         self.parts: dict[tuple[int, str], tuple[str, int]] = {}
-        self.works: dict[tuple[int, str], tuple[str, str, str, int]] = {}
+        self.works: dict[tuple[int, str], tuple[str, str, int]] = {}
 
     def look(self) -> None:
         found, children = processes(), collections.defaultdict[int, list[int]](list)
@@ -65,18 +60,18 @@ class Minutes:
             return found[pid][2] + sum(map(total, children[pid]))
 
         def see(pid: int, part: str) -> None:
-            words, key = words_of(pid), (pid, found[pid][0])
+            words, key = text_of(pid, "cmdline").split("\0")[:-1], (pid, found[pid][0])
             if not part:
                 part = name_of(words).removeprefix("test ")
-                if part == "test":
-                    # A run of all tests has a process for each of them.
-                    part = ""
-                else:
+                # A run of all tests has a process for each of them.
+                part = "" if part == "test" else part
+                if part:
                     self.parts[key] = part, total(pid)
             work = work_of(words) if part else None
-            if work:
-                # The checker's copies of itself belong to the run that made them.
-                self.works[key] = (part, *work, total(pid))
+            if work and part in ("rt", "mutations"):
+                kind, crate = work
+                self.works[key] = crate, "mutations" if part == "mutations" else kind, total(pid)
+            # The checker's copies of itself belong to the run that made them.
             for child in [] if work else children[pid]:
                 see(child, part)
 
@@ -88,17 +83,14 @@ class Minutes:
         parts, crates = collections.Counter[str](), collections.defaultdict[str, collections.Counter[str]](collections.Counter)
         for part, ticks in self.parts.values():
             parts[part] += ticks
-        for part, kind, crate, ticks in self.works.values():
-            if part in ("rt", "mutations"):
-                crates[crate]["mutations" if part == "mutations" else kind] += ticks
-                crates[crate]["all"] += ticks
-        columns = ("all", "proof", "tests", "edits", "mutations")
-        print(
-            "processor minutes: " + ", ".join(f"{part} {ticks / TICKS:.1f}" for part, ticks in parts.most_common() if ticks >= TICKS / 20)
-        )
-        print("processor minutes by crate:".ljust(30) + "".join(it.rjust(11) for it in columns))
+        for crate, kind, ticks in self.works.values():
+            crates[crate].update({kind: ticks, "all": ticks})
+        shown = (f"{part} {ticks / TICKS:.1f}" for part, ticks in parts.most_common() if ticks >= TICKS / 20)
+        print(f"processor minutes: {', '.join(shown)}")
+        print(f"{'processor minutes by crate:':30}" + "".join(f"{it:>11}" for it in COLUMNS))
         for crate, counts in sorted(crates.items(), key=lambda it: -it[1]["all"]):
-            print(f"  {crate}".ljust(30) + "".join((f"{counts[it] / TICKS:.1f}" if counts[it] else "-").rjust(11) for it in columns))
+            cells = (f"{counts[it] / TICKS:.1f}" if counts[it] else "-" for it in COLUMNS)
+            print(f"{f'  {crate}':30}" + "".join(f"{it:>11}" for it in cells))
 
 
 def main(options: argparse.Namespace) -> int:

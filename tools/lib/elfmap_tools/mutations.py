@@ -12,6 +12,7 @@ its contracts refuse a wrong body."""
 
 import os, re, shutil, tempfile
 from argparse import Namespace
+from collections import Counter
 from collections.abc import Iterable
 from concurrent.futures import ThreadPoolExecutor, as_completed
 
@@ -23,8 +24,8 @@ from .tree import PROCESSORS, TOP, below, libraries, read_text, write
 class Edit:
     """A bug of mutations.txt, or an edit of must-fail/, which names no function."""
 
-    def __init__(self, crate: str, name: str, lines: list[str], is_bug: bool) -> None:
-        words = [(key, text.removeprefix(" ")) for key, _, text in (line.partition(":") for line in lines)]
+    def __init__(self, crate: str, name: str, text: str, is_bug: bool) -> None:
+        words = re.findall(r"^(.*?): ?(.*)", text, re.M)
         said, own = dict(words), dict[str, str]()
         self.crate, self.name, self.is_bug, self.is_for_gate = crate, name, is_bug, said.get("gate") == "yes"
         self.function = f"{crate}::{said['function']}" if "function" in said else ""
@@ -60,38 +61,21 @@ class Edit:
 def bugs_of(crate: str) -> list[Edit]:
     """The bugs in the list of a crate."""
     path = f"{TOP}/crates/{crate}/mutations.txt"
-    paragraphs: dict[str, list[str]] = {}
-    for line in read_text(path).split("\n") if os.path.isfile(path) else []:
-        if line.startswith("[") and line.endswith("]"):
-            name = line[1:-1]
-            if name in paragraphs:
-                raise SystemExit(f"{path}: [{name}] stands twice")
-            paragraphs[name] = []
-        elif line:
-            paragraphs[name].append(line)
-    return [Edit(crate, name, lines, True) for name, lines in paragraphs.items()]
+    _, *parts = re.split(r"^\[(.*)\]\n", read_text(path), flags=re.M) if os.path.isfile(path) else [""]
+    twice = [name for name, count in Counter(parts[::2]).items() if count > 1]
+    if twice:
+        raise SystemExit(f"{path}: {twice} are in it twice")
+    return [Edit(crate, name, text, True) for name, text in zip(parts[::2], parts[1::2])]
 
 
 def must_fail_of(crate: str) -> list[Edit]:
     """The edits in must-fail/ of a crate."""
     path = f"{TOP}/crates/{crate}/must-fail"
     names = sorted(it for it in os.listdir(path) if it.endswith(".edit")) if os.path.isdir(path) else []
-    return [Edit(crate, name, read_text(f"{path}/{name}").split("\n"), False) for name in names]
+    return [Edit(crate, name, read_text(f"{path}/{name}"), False) for name in names]
 
 
 # ---- what the check says of planted bugs
-
-
-def copy_of(crate: str, folder: str) -> None:
-    """Copies a crate's text, and what an earlier check kept of it."""
-    kept = f"{TOP}/crates/{crate}/out/incremental"
-    for part in ("src", "specs", "proofs"):
-        if os.path.isdir(f"{TOP}/crates/{crate}/{part}"):
-            shutil.copytree(f"{TOP}/crates/{crate}/{part}", f"{folder}/{part}")
-    shutil.copytree(f"{folder}/src", f"{folder}/as_it_is")
-    if os.path.isdir(kept):
-        shutil.copytree(kept, f"{folder}/kept")
-    os.makedirs(f"{folder}/kept", exist_ok=True)
 
 
 def check(crate: str, functions: Iterable[str], folder: str, folder_of: FolderOf) -> str:
@@ -169,12 +153,16 @@ def planted(picked: list[Edit], folder: str, folder_of: FolderOf) -> dict[Edit, 
 def try_all(left: list[Edit], folder_of: FolderOf) -> list[tuple[Edit, str]]:
     """Tries the bugs of a crate, as many at a time as it can: how each ended."""
     ends: list[tuple[Edit, str]] = []
-    alone = False
+    alone, crate = False, f"{TOP}/crates/{left[0].crate}"
     with tempfile.TemporaryDirectory(prefix="mutations-") as folder:
-        copy_of(left[0].crate, folder)
+        # With what an earlier check kept.
+        os.mkdir(f"{folder}/kept")
+        for part, name in (("specs", "specs"), ("proofs", "proofs"), ("out/incremental", "kept")):
+            if os.path.isdir(f"{crate}/{part}"):
+                shutil.copytree(f"{crate}/{part}", f"{folder}/{name}", dirs_exist_ok=True)
         while left:
-            shutil.rmtree(f"{folder}/src")
-            shutil.copytree(f"{folder}/as_it_is", f"{folder}/src")
+            shutil.rmtree(f"{folder}/src", ignore_errors=True)
+            shutil.copytree(f"{crate}/src", f"{folder}/src")
             ended = planted(left[:1] if alone else pick(left), folder, folder_of)
             ends += [(bug, end) for bug, end in ended.items() if end]
             alone = not any(ended.values())
@@ -208,9 +196,8 @@ def mutations(tally: Tally, options: Namespace) -> None:
             why = edit.texts(f"{TOP}/crates/{edit.crate}")[1]
             tally.check(not why, f"{edit.crate}: {edit.name}: {why}")
     else:
-        everything = options.all or bool(options.crates) or bool(options.only)
-        bugs = [[it for it in bugs_of(crate) if it.is_for_gate or everything] for crate in crates]
-        bugs = [[it for it in own if options.only in ("", it.name)] for own in bugs]
+        everything = bool(options.all or options.crates or options.only)
+        bugs = [[it for it in bugs_of(crate) if (everything or it.is_for_gate) and options.only in ("", it.name)] for crate in crates]
         bugs = [it for it in bugs if it]
         if options.only and not bugs:
             return tally.fail(f"no bug of the name {options.only}")

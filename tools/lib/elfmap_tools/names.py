@@ -20,13 +20,9 @@ def names(tally: Tally, options: Namespace) -> None:
             places[name].append(it)
     several = {name: own for name, own in sorted(places.items()) if len({it.path.split("/")[1] for it in own}) > 1}
     for name, own in several.items():
-        tally.fail(f"{name}: {', '.join(f'{it.path}:{line_of(it)}' for it in own)}")
+        lines = ((it.path, read_text(it.path).partition(it.text)[0].count("\n") + 1) for it in own)
+        tally.fail(f"{name}: {', '.join(f'{path}:{line}' for path, line in lines)}")
     tally.check(places and not several, "a name is defined in more than one crate")
-
-
-def line_of(it: Definition) -> int:
-    before, _, _ = read_text(it.path).partition(it.text)
-    return before.count("\n") + 1
 
 
 # ---- must-not-compile: what borrows from a file's bytes must not outlive them

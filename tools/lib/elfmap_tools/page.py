@@ -4,15 +4,14 @@ It is one file, which needs no network: the library for C as a WebAssembly modul
 The module is made of the same proved crates as the library for C: the kit's compiler makes it for a memory of 64-bit addresses, which not
 every browser has, and wasm-opt (of binaryen) lowers it to one of 32-bit addresses."""
 
-import argparse, base64, ctypes, json, os, shutil, sys, tempfile
+import argparse, base64, ctypes, json, os, shutil, sys
 from typing import Any
 
 from . import library
-from .browser import Browser
 from .kit import built_below, is_current, kit, words
 from .library import VERDICTS as CRATE
 from .rules_tables import file_rules
-from .tree import PACKAGE, TOP, read_bytes, read_text, wanted, write
+from .tree import PACKAGE, TOP, read_bytes, read_text, wanted
 
 sys.path.insert(0, PACKAGE)
 from elfmap import _names as names  # noqa: E402
@@ -48,9 +47,8 @@ def module() -> str:
 def layout() -> Structs:
     """The structs of include/elfmap.h: the size of each, and its fields with their offsets, as C lays them out."""
     found: Structs = {}
-    types: dict[str, Any] = {
-        f"{sign}int{8 * width}_t": getattr(ctypes, f"c_{sign}int{8 * width}") for sign in ("", "u") for width in (1, 2, 4, 8)
-    }
+    numbers = [f"{sign}int{width}" for sign in ("", "u") for width in (8, 16, 32, 64)]
+    types: dict[str, Any] = {f"{it}_t": getattr(ctypes, f"c_{it}") for it in numbers}
     for tag, fields in library.structs().items():
         if any(kind not in types for kind, _, _ in fields):
             continue  # It belongs to the engines, which the page has not.
@@ -58,11 +56,11 @@ def layout() -> Structs:
         made = types[f"struct {tag}"] = type(tag, (ctypes.Structure,), {"_fields_": own})
         found[tag] = {"size": ctypes.sizeof(made), "align": ctypes.alignment(made), "fields": []}
         for kind, name, count in fields:
-            more: dict[str, Any] = {"struct": kind[7:]} if kind.startswith("struct ") else {}
-            more |= {"count": int(count)} if count else {}
-            more |= {"signed": True} if kind.startswith("int") else {}
-            place = {"name": name, "at": getattr(made, name).offset, "width": ctypes.sizeof(types[kind])}
-            found[tag]["fields"].append(place | more)
+            place: dict[str, Any] = {"name": name, "at": getattr(made, name).offset, "width": ctypes.sizeof(types[kind])}
+            place |= {"struct": kind[7:]} if kind.startswith("struct ") else {}
+            place |= {"count": int(count)} if count else {}
+            place |= {"signed": True} if kind.startswith("int") else {}
+            found[tag]["fields"].append(place)
     return found
 
 
@@ -71,22 +69,18 @@ def rules() -> dict[int, list[str]]:
     return {it.number: [it.name, it.sentence.replace("`", ""), it.advice.replace("`", "")] for it in file_rules()}
 
 
-def constant(name: str, value: object) -> str:
-    return f"const {name} = {json.dumps(value, separators=(',', ':'))};\n"
-
-
-def name_constants() -> str:
-    """The names of numbers, as the Python package has them."""
-    relocations = {machine: names.relocation_types(machine) for machine in names.machines_with_relocations()}
-    constants = {"MACHINES": names.MACHINES, "SECTION_TYPES": names.SECTION_TYPES, "RELOCATION_TYPES": relocations}
-    return "".join(constant(name, value) for name, value in constants.items())
+def constants(**values: object) -> str:
+    return "".join(f"const {name} = {json.dumps(it, separators=(',', ':'))};\n" for name, it in values.items())
 
 
 def page() -> str:
     code = base64.b64encode(read_bytes(module())).decode("ascii")
-    common = constant("LAYOUT", layout()) + name_constants() + read_text("page/words.js")
+    # The names of numbers, as the Python package has them.
+    relocations = {machine: names.relocation_types(machine) for machine in names.machines_with_relocations()}
+    of_numbers = {"MACHINES": names.MACHINES, "SECTION_TYPES": names.SECTION_TYPES, "RELOCATION_TYPES": relocations}
+    common = constants(LAYOUT=layout(), **of_numbers) + read_text("page/words.js")
     worker = common + "".join(read_text(f"page/{it}.js") for it in ("reader", "tables", "worker"))
-    script = common + constant("RULES", rules()) + constant("MODULE", code) + read_text("page/draw.js")
+    script = common + constants(RULES=rules(), MODULE=code) + read_text("page/draw.js")
     if "</script" in worker + script:
         raise SystemExit("page: a script ends its own element")
     made = read_text("page/page.html")
@@ -96,20 +90,5 @@ def page() -> str:
 
 
 def main(options: argparse.Namespace) -> int:
-    print(module() if options.module else page(), end="\n" if options.module else "")
-    return 0
-
-
-def picture(options: argparse.Namespace) -> int:
-    """`tools/release page-picture FILE PICTURE.png`: what the page looks like in chromium with a file on it."""
-    with tempfile.TemporaryDirectory(prefix="page-picture-") as room:
-        browser = Browser()
-        try:
-            browser.open(write(f"{room}/elfmap.html", page()))
-            browser.choose("#chosen", os.path.abspath(options.file))
-            if not browser.wait("document.body.dataset.ready"):
-                raise SystemExit(f"page-picture: {options.file} is not shown: {browser.text('#said')}")
-            write(options.picture, browser.screen(1000, 760))
-        finally:
-            browser.close()
+    print(page(), end="")
     return 0

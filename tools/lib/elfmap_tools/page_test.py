@@ -2,14 +2,13 @@
 
 - In node: what the page's reader and its check of tables say of files of this machine, of cases/ and of changed copies of them is what
   `elfmap show` prints, line by line, but for the lines of groups.
-- In chromium, by its debugger: a sound file, a refused one, one whose tables break rules, an empty one, what is no file at all; by keys
-  alone; what the tree for readers of the screen has; that no message is in the console; that an object of 1,000,000 symbols is validated in
-  less than 200 ms."""
+- In chromium, by its debugger: what a person sees of sound and refused files, with a mouse, by keys alone, and by a reader of the screen."""
 
-import json, os, random
+import contextlib, json, os, random
 from argparse import Namespace
+from collections.abc import Iterator
 
-from .browser import Browser, colours
+from .browser import Browser
 from .cases import case_files, cases_of
 from .library import VERDICTS as CRATE
 from .page import layout, module, page
@@ -35,12 +34,6 @@ def changed(content: bytes, choose: random.Random) -> bytes:
     return bytes(made)
 
 
-def changed_files(room: str, whole: list[str], count: int) -> list[str]:
-    choose = random.Random(48)
-    short = [it for it in map(read_bytes, whole) if 64 <= len(it) <= LONGEST]
-    return [write(f"{room}/changed-{k}", changed(choose.choice(short), choose)) for k in range(count)]
-
-
 def in_node(tally: Tally, room: str, count: int) -> None:
     write(f"{room}/layout.json", json.dumps(layout()))
     os.mkdir(f"{room}/files")
@@ -48,7 +41,8 @@ def in_node(tally: Tally, room: str, count: int) -> None:
     for path in filter(os.path.isfile, MACHINE_FILES):
         contents.setdefault(read_bytes(path), path.replace("/", "-"))
     files = [write(f"{room}/files/{name}", content) for content, name in contents.items()]
-    files += changed_files(f"{room}/files", files, count)
+    choose, short = random.Random(48), [it for it in map(read_bytes, files) if 64 <= len(it) <= LONGEST]
+    files += [write(f"{room}/files/changed-{k}", changed(choose.choice(short), choose)) for k in range(count)]
     told: dict[str, list[str]] = {}
     for k in range(0, len(files), 500):
         ran = said("node", f"{TOP}/page/lines.js", module(), f"{room}/layout.json", *files[k : k + 500])
@@ -68,11 +62,20 @@ SYMBOLS = 1_000_000
 MOST_MILLISECONDS = 200
 SOUND = "Sound: this file keeps all 33 rules of an ELF-64 file."
 ROWS = "[...document.querySelectorAll('#table tbody tr')]"
-# What the tree for readers of the screen has: a role and a name.
-READ = (
-    "heading Verdict, heading Map of the file, heading Tables, heading Bytes, tablist Kinds of tables, searchbox Filter, columnheader name"
-)
+# What the tree for readers of the screen has: names by their roles.
+READ = {
+    "heading": ("Verdict", "Map of the file", "Tables", "Bytes"), "tablist": ("Kinds of tables",), "searchbox": ("Filter",),
+    "columnheader": ("name",), "group": ("The parts of the file, to scale",),
+}  # fmt: skip
+PRESSED = ("button", "tab", "link", "textbox", "searchbox", "combobox")
 SOURCE = 'int limit = 3; int work(int); const char *name(void) { return "answer"; } int answer(int x) { return x < limit ? work(x) : 42; }'
+
+
+def explained(kind: str) -> Iterator[tuple[str, bytes, str]]:
+    """The cases of explain.txt of this kind of rule: the number of its rule, its file, and what the program prints."""
+    case = cases_of(f"{TOP}/cases/explain.txt")
+    for it in (it for it in case.cases if it.note.startswith(kind)):
+        yield it.note.split(" ", 2)[1], bytes(case.files[it.needs[0].partition("=")[2]]), it.out.decode()
 
 
 class InChromium:
@@ -88,9 +91,8 @@ class InChromium:
     def opens(self, tab: str, words: str) -> None:
         """Chooses a tab, and waits until its table is there."""
         self.click(f"#tab-{tab}")
-        self.waits(
-            f"document.querySelector('#table-words').textContent.startsWith('{words}')", f"the tab {tab}: {self.text('#table-words')}"
-        )
+        is_open = f"document.querySelector('#table-words').textContent.startsWith('{words}')"
+        self.waits(is_open, f"the tab {tab}: {self.text('#table-words')}")
 
     def show(self, path: str, is_dropped: bool = False) -> None:
         """Opens a file in the page, and waits until it is shown."""
@@ -128,9 +130,7 @@ class InChromium:
 
     def filtered(self) -> None:
         self.opens("symbols", "Symbols")
-        self.value(
-            "document.querySelector('#filter').value = 'global'; document.querySelector('#filter').dispatchEvent(new Event('input'))"
-        )
+        self.value("const it = document.querySelector('#filter'); it.value = 'global'; it.dispatchEvent(new Event('input'))")
         self.waits("document.querySelector('#table-words').textContent.includes('found among')", "nothing is found")
         bindings = self.value(f"{ROWS}.map((it) => it.children[5].textContent)")
         self.check(bindings and set(bindings) == {"GLOBAL"}, f"the filter finds {bindings}")
@@ -158,20 +158,19 @@ class InChromium:
     def for_readers(self) -> None:
         """What a reader of the screen is told."""
         tree = self.browser.tree()
-        wanted = [(role, name) for role, _, name in (it.partition(" ") for it in READ.split(", "))]
-        missing = {*wanted, ("group", "The parts of the file, to scale")} - {*tree}
+        missing = {(role, name) for role, names in READ.items() for name in names} - {*tree}
         self.check(not missing, f"the tree has no {missing}")
-        nameless = [it for it in tree if it[0] in ("button", "tab", "link", "textbox", "searchbox", "combobox") and not it[1]]
+        nameless = [it for it in tree if it[0] in PRESSED and not it[1]]
         self.check(not nameless, f"the tree has {len(nameless)} things to press without a name: {nameless[:3]}")
 
     def on_screens(self) -> None:
         """The colours of the map are seen, light and dark; and a screen of 360 points is wide enough."""
         for dark in (False, True):
-            seen = colours(self.browser.screen(1200, 1000, dark))
+            seen = self.browser.colours(self.browser.screen(1200, 1000, dark))
             for colour in ("6b7689", "c0504d", "4f81bd"):
-                self.check(seen.get(bytes.fromhex(colour), 0) > 100, f"the colour {colour} is not seen, dark: {dark}")
+                self.check(seen.get(colour, 0) > 100, f"the colour {colour} is not seen, dark: {dark}")
             ground = max(seen, key=seen.__getitem__)
-            self.check((sum(ground) < 200) == dark, f"the ground is {ground.hex()}, dark: {dark}")
+            self.check((sum(bytes.fromhex(ground)) < 200) == dark, f"the ground is {ground}, dark: {dark}")
         self.browser.screen(360, 800)
         self.check(self.value("document.documentElement.scrollWidth") <= 360, "a screen of 360 points is too small")
         self.browser.screen(1200, 1000)
@@ -196,11 +195,9 @@ class InChromium:
 
     def shared_byte(self) -> None:
         """A byte of two sections: both are named, and a link leads to it."""
-        case = cases_of(f"{TOP}/cases/explain.txt")
-        content, at = next(
-            (case.files[it.needs[0].partition("=")[2]], it.out.split()[2]) for it in case.cases if it.note.startswith("image 33 ")
-        )
-        self.show(write(f"{self.room}/shared", bytes(content)))
+        _, content, out = next(explained("image 33 "))
+        at = out.split()[2]
+        self.show(write(f"{self.room}/shared", content))
         words = self.text("#advice")
         for name in ("section 1 .text", "section 2 .data"):
             self.check(f"the content of {name} [0x" in words, f"a byte of two sections: {words}")
@@ -213,11 +210,9 @@ class InChromium:
 
     def broken_tables(self) -> None:
         """Each rule of tables that a file of the cases breaks is told, with its name, its place and what to do."""
-        case = cases_of(f"{TOP}/cases/explain.txt")
-        for it in (it for it in case.cases if it.note.startswith("table ")):
-            rule, words = it.note.split(" ", 2)[1:]
-            self.show(write(f"{self.room}/table-{rule}", bytes(case.files[it.needs[0].partition("=")[2]])))
-            _, section, _, at = next(line.split() for line in it.out.decode().splitlines() if line.startswith("refused "))
+        for rule, content, out in explained("table "):
+            self.show(write(f"{self.room}/table-{rule}", content))
+            _, section, _, at = next(line.split() for line in out.splitlines() if line.startswith("refused "))
             found = self.text("#findings li")
             is_told = f": rule {rule}, " in found and f" at {int(at):#x}, " in found and "What to do: " in found
             self.check(is_told and self.text("#verdict") == SOUND, f"rule {rule} of the table in section {section}: {found}")
@@ -244,8 +239,7 @@ class InChromium:
 def in_chromium(tally: Tally, room: str) -> None:
     html, file = write(f"{room}/elfmap.html", page()), f"{room}/object.o"
     said("cc", "-c", "-O1", write(f"{room}/object.c", SOURCE), "-o", file)
-    browser = Browser()
-    try:
+    with contextlib.closing(Browser()) as browser:
         browser.open(html)
         it = InChromium(tally, browser, room)
         it.sound_file(file)
@@ -254,13 +248,9 @@ def in_chromium(tally: Tally, room: str) -> None:
         it.sound_file("/bin/true")
         tally.check(not browser.value("document.querySelector('#memory-section').hidden"), "an executable has no bar by address")
         it.refused_files(file)
-        it.shared_byte()
-        it.broken_tables()
-        it.folder()
-        it.million()
+        for part in (it.shared_byte, it.broken_tables, it.folder, it.million):
+            part()
         tally.check(not browser.messages, f"the console says {browser.messages[:3]}")
-    finally:
-        browser.close()
 
 
 ABOUT, TOOLS = "the page for a browser, in node beside `elfmap show`, and in chromium", "node wasm-opt chromium cc"

@@ -11,7 +11,7 @@ its idea."""
 import glob, re, statistics
 from argparse import Namespace
 
-from .suite import Tally, Test, families
+from .suite import TESTS, Tally, Test, families
 from .tree import TOP, read_text
 
 MEDIAN, LONG, WORDS = 18, 30, 30_000
@@ -20,6 +20,8 @@ COMMANDS = "    $ ./elfmap check ", "    $ rt ci"
 PATTERNS = ("README.md", "CONTRIBUTING.md", "CHANGELOG.md", "SECURITY.md", "docs/*.md", "bindings/*/README.md")
 TABLES = {"docs/DEFINITIONS.md", "docs/GUARANTEES.md"}
 QUOTES = re.compile(r"^```\w+ (\S+)\n(.*?)^```", re.M | re.S)
+# A block of code, fenced or indented. That comes after an empty line or more code; other indented lines continue an item.
+CODE = re.compile(r"^(?P<fence> *)```.*\n(?P<fenced>(?:.*\n)*?) *```|(?:\A|(?<=\n))\n(?P<indented>(?:    .*\n|\n(?=    ))+)", re.M)
 # Where a paragraph ends: an empty line, or the next item of a list.
 PARAGRAPHS = re.compile(r"\n\s*\n|\n(?= *(?:[-*]|\d+\.) )")
 # Where a sentence ends: at its mark, if what follows begins one.
@@ -28,9 +30,7 @@ SENTENCES = re.compile(r"(?<=[.!?])[\"')*]*\s+(?=[\"'(*`\[]*[A-Z`\[])")
 
 def prose(text: str) -> str:
     """The text of a page without fenced and indented code, tables, headings, images and the targets of links."""
-    text = re.sub(r"^ *```.*?^ *```", "", text, flags=re.M | re.S)
-    # Code is indented and comes after an empty line or more code; other indented lines continue an item.
-    text = re.sub(r"(?:\A|(?<=\n))\n(?:    .*\n|\n(?=    ))+", "\n", text)
+    text = CODE.sub("\n", text)
     text = re.sub(r"^(?:#|\||<|!\[).*$", "", text, flags=re.M)
     return re.sub(r"\[([^\]]*)\]\([^)]*\)", r"\1", text)
 
@@ -54,43 +54,33 @@ def all_pages() -> list[str]:
     return [it for pattern in PATTERNS for it in sorted(glob.glob(pattern, root_dir=TOP))]
 
 
-def unknown_tests(text: str) -> list[str]:
-    """The tests that a page names and that are none."""
-    from .tests import TESTS as ALL
-
-    known = {"setup", *families(ALL), *(it.name for it in ALL)}
-    return [it for it in re.findall(r"\btools/test ([a-z][\w-]*)", text) if it not in known]
-
-
 def without_idea() -> list[str]:
     """The long proof files that do not open with a comment."""
     proofs = sorted(glob.glob("crates/*/proofs/**/*.antt", root_dir=TOP, recursive=True))
-    texts = {it: read_text(f"{TOP}/{it}") for it in proofs}
-    return [it for it, text in texts.items() if text.count("\n") > PROOF_LINES and not text.startswith("-- ")]
+    return [it for it in proofs if read_text(it).count("\n") > PROOF_LINES and not read_text(it).startswith("-- ")]
 
 
+@Test("pages", "the sentences of the pages are short")
 def pages(tally: Tally, options: Namespace) -> None:
-    first = read_text(f"{TOP}/README.md").splitlines()
+    first = read_text("README.md").splitlines()
     tally.check(len(first) <= README_LINES, f"README.md has {len(first)} lines, more than {README_LINES}")
     shown = [it for it in COMMANDS if any(line.startswith(it) for line in first[:SCREEN])]
     tally.check(len(shown) == len(COMMANDS), f"README.md has {shown} of {COMMANDS} in its first {SCREEN} lines")
-    tally.check(not without_idea(), f"proof files that do not open with their idea: {without_idea()}")
-    total = 0
+    tally.same("proof files that do not open with their idea", without_idea(), [])
+    tests, total = {"setup", *families(TESTS), *(it.name for it in TESTS)}, 0
     for path in all_pages():
-        text = read_text(f"{TOP}/{path}")
-        found = sentences(text)
-        lengths = [length(it) for it in found]
-        median, total = statistics.median(lengths or [0]), total + sum(lengths)
-        long = [it for it in found if length(it) > LONG]
-        tally.note(f"{path}: {sum(lengths)} words, median {median:g}, {len(long)} sentences of more than {LONG} words")
-        for it in long:
-            tally.note(f"{path}: {length(it)} words: {it}")
-        tally.check(not unknown_tests(text), f"{path} names tests that are not there: {unknown_tests(text)}")
+        text = read_text(path)
+        lengths = [(length(it), it) for it in sentences(text)]
+        words, median = sum(it for it, _ in lengths), statistics.median([it for it, _ in lengths] or [0])
+        long = [it for it in lengths if it[0] > LONG]
+        tally.note(f"{path}: {words} words, median {median:g}, {len(long)} sentences of more than {LONG} words")
+        for count, it in long:
+            tally.note(f"{path}: {count} words: {it}")
+        unknown = [it for it in re.findall(r"\btools/test ([a-z][\w-]*)", text) if it not in tests]
+        tally.check(not unknown, f"{path} names tests that are not there: {unknown}")
         for file, lines in QUOTES.findall(text):
-            tally.check(lines in read_text(f"{TOP}/{file}"), f"{path} quotes what is not in {file}:\n{lines}")
+            tally.check(lines in read_text(file), f"{path} quotes what is not in {file}:\n{lines}")
         tally.check(path in TABLES or median <= MEDIAN, f"{path}: the median sentence has {median:g} words, more than {MEDIAN}")
+        total += words
     tally.note(f"all pages: {total} words of at most {WORDS}")
     tally.check(total <= WORDS, f"the pages have {total} words, more than {WORDS}")
-
-
-TESTS = [Test("pages", "the sentences of the pages are short", pages)]

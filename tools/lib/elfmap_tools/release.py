@@ -1,17 +1,5 @@
 """`tools/release pack`: what is built in one archive, elfmap-VERSION-x86_64-linux.tar.gz, which is used on a Linux with the GNU C library
-and without the Rattle kit:
-
-    elfmap, VERSION, README.md and the other pages at the top
-    bin/elfmap                               runs elfmap with the memory settings of the script ./elfmap
-    bin/elfmap-*                             the commands of the Python package
-    lib/libelfmap.a, lib/libelfmap.so.0      the library for C
-    include/elfmap.h, lib/pkgconfig/         its header; pkg-config finds it wherever the directory is put
-    bindings/c/                              programs over it, sections.c and symbols.c, and its tests
-    bindings/rust/, bindings/python/         the crate and the package over it
-    elfmap.html                              the page for a browser, if wasm-opt is installed
-    share/man/man1/                          the manual pages
-    docs/, doc/elfmap-doc.html               the pages that README.md links to; the page of the library
-    examples/, rules/                        the sources of the examples; the files of rules
+and without the Rattle kit. docs/MANUAL.md lists what it has; elfmap.html is in it if wasm-opt is installed.
 
 A page's link to a file that the archive lacks becomes its words. VERSION is the first line of the file VERSION, unless another one is
 given. The same program, library, version, texts and commit make the same archive."""
@@ -20,7 +8,8 @@ import argparse, functools, glob, os, re, shutil, sys, tempfile
 
 from . import doc, library, man, page
 from .building import output_of
-from .tree import PROGRAM, TOP, below, read_bytes, read_text, run, said, wanted, write
+from .kit import is_current
+from .tree import PROGRAM, TOP, files_below, read_text, run, said, wanted, write
 
 RUNNER = """#!/bin/sh
 # elfmap WORDS..: the program elfmap, with settings of the C library's memory.
@@ -50,10 +39,11 @@ Version: {version}
 Cflags: -I${{includedir}}
 Libs: -L${{libdir}} -lelfmap
 """
-# What git has of the bindings, but for their tests, which need the repository.
-BINDINGS = {"rust": "Cargo.lock Cargo.toml README.md build.rs examples src", "python": "README.md pyproject.toml examples elfmap"}
-# Those of these files that the repository has.
-PAGES = "README.md CONTRIBUTING.md CHANGELOG.md SECURITY.md docs/* rules/*.rules examples/* bindings/c/*.[ch] include/elfmap.h".split()
+# The files of the repository that it has: those of the bindings but for their tests, which need the repository.
+FILES = """README.md CONTRIBUTING.md CHANGELOG.md SECURITY.md docs/* rules/*.rules examples/* include/elfmap.h bindings/c/*.[ch]
+    bindings/rust/Cargo.lock bindings/rust/Cargo.toml bindings/rust/README.md bindings/rust/build.rs bindings/rust/examples/*
+    bindings/rust/src/* bindings/python/README.md bindings/python/pyproject.toml bindings/python/examples/* bindings/python/elfmap/*.py
+    bindings/python/elfmap/py.typed""".split()
 LINK = re.compile(r"(?<!!)\[((?:`[^`]*`|[^\]`])*)\]\((?!https?:|#)([^)#\s]+)[^)]*\)")
 
 
@@ -62,15 +52,11 @@ def stop(why: str) -> SystemExit:
 
 
 def check_built(crate: str) -> None:
-    """Stops where what is built of a crate is missing, or older than the code of the crate or of one that it needs."""
-    how = f"build it with tools/dev prove {crate}, which needs the Rattle kit's command rt"
+    """Stops where what is built of a crate is missing, or older than the texts of the crate or of one that it needs."""
     path = output_of(crate)
-    if not os.path.isfile(path):
-        raise stop(f"there is no {path}: {how}")
-    sources = (it for own in (crate, *below(crate)) for it in glob.glob(f"{TOP}/crates/{own}/src/**/*.rt", recursive=True))
-    newer = next((it for it in sources if os.path.getmtime(it) > os.path.getmtime(path)), None)
-    if newer:
-        raise stop(f"{newer} is newer than {path}: {how}")
+    if not is_current(crate, path):
+        how = f"build it with tools/dev prove {crate}, which needs the Rattle kit's command rt"
+        raise stop(f"{path} is missing, or older than a text in crates/: {how}")
 
 
 def check_needs() -> None:
@@ -120,14 +106,19 @@ def page_of(name: str, module: str, version: str) -> str:
     return "\n".join([*lines, ".SH EXIT STATUS", man.escaped(rest[-1]), ".SH SEE ALSO", ".BR elfmap (1)", ""])
 
 
-def put(path: str, text: str | bytes, mode: int = 0o644) -> None:
-    """Writes a file, in a folder that is made if it is not there."""
+def put(path: str, text: str | bytes) -> None:
+    """Writes a file, in a folder that is made if it is not there. A script can be run."""
     os.makedirs(os.path.dirname(path), exist_ok=True)
-    os.chmod(write(path, text), mode)
+    os.chmod(write(path, text), 0o755 if text[:2] in ("#!", b"#!") else 0o644)
 
 
-def copied(source: str, path: str, mode: int = 0o644) -> None:
-    put(path, read_bytes(source), mode)
+def copied(source: str, path: str) -> None:
+    """Copies a file, or a folder, into a folder that is made if it is not there."""
+    os.makedirs(os.path.dirname(path), exist_ok=True)
+    if os.path.isdir(source):
+        shutil.copytree(source, path)
+    else:
+        shutil.copy(source, path)
 
 
 def runner(version: str, program: str) -> str:
@@ -146,51 +137,15 @@ def library_page() -> str:
     return f"{text}\n"
 
 
-def put_programs(folder: str, version: str) -> None:
-    copied(PROGRAM, f"{folder}/elfmap", 0o755)
-    put(f"{folder}/VERSION", f"{version}\n")
-    put(f"{folder}/bin/elfmap", runner(version, "elfmap"), 0o755)
-    for name, (module, function) in commands().items():
-        put(f"{folder}/bin/{name}", COMMAND.format(name=name, module=module, function=function), 0o755)
-
-
-def put_texts(folder: str, version: str) -> None:
-    for it in (path for pattern in PAGES for path in glob.glob(pattern, root_dir=TOP)):
-        copied(f"{TOP}/{it}", f"{folder}/{it}")
-    put(f"{folder}/doc/elfmap-doc.html", library_page())
-    put(f"{folder}/share/man/man1/elfmap.1", man.page(read_text(man.MANUAL), version))
-    for name, (module, _) in commands().items():
-        put(f"{folder}/share/man/man1/{name}.1", page_of(name, module, version))
-    if shutil.which("wasm-opt"):
-        put(f"{folder}/elfmap.html", page.page())
-    else:
-        print("release: without elfmap.html: there is no wasm-opt", file=sys.stderr)
-
-
-def put_library(folder: str, version: str) -> None:
-    put(f"{folder}/lib/pkgconfig/elfmap.pc", PKG_CONFIG.format(prefix="${pcfiledir}/../..", libdir="lib", version=version))
-    library.shared(library.pack(f"{folder}/lib"), f"{folder}/lib")
-
-
-def put_bindings(folder: str) -> None:
-    for it in (f"bindings/{language}/{name}" for language, names in BINDINGS.items() for name in names.split()):
-        if os.path.isdir(f"{TOP}/{it}"):
-            shutil.copytree(f"{TOP}/{it}", f"{folder}/{it}", ignore=shutil.ignore_patterns("__pycache__", "*.so"))
-        else:
-            copied(f"{TOP}/{it}", f"{folder}/{it}")
-
-
 def without_dead_links(folder: str) -> None:
     """Makes the links of the pages that lead to no file of the folder words."""
-    for it in glob.glob("**/*.md", root_dir=folder, recursive=True):
-        own = os.path.dirname(f"{folder}/{it}")
+    for page in (it for it in files_below(folder) if it.endswith(".md")):
 
-        def kept(link: re.Match[str], own: str = own) -> str:
-            target = os.path.normpath(f"{own}/{link[2]}")
+        def kept(link: re.Match[str]) -> str:
+            target = os.path.normpath(f"{os.path.dirname(page)}/{link[2]}")
             return link[0] if target.startswith(folder) and os.path.exists(target) else link[1]
 
-        text = read_text(f"{folder}/{it}")
-        write(f"{folder}/{it}", LINK.sub(kept, text))
+        write(page, LINK.sub(kept, read_text(page)))
 
 
 def tree(folder: str, version: str) -> None:
@@ -198,11 +153,26 @@ def tree(folder: str, version: str) -> None:
     for crate in ("elfmap", library.VERDICTS, library.ENGINES):
         check_built(crate)
     check_needs()
-    os.makedirs(folder)
-    put_programs(folder, version)
-    put_texts(folder, version)
-    put_library(folder, version)
-    put_bindings(folder)
+    copied(PROGRAM, f"{folder}/elfmap")
+    for it in (path for pattern in FILES for path in glob.glob(pattern, root_dir=TOP)):
+        copied(f"{TOP}/{it}", f"{folder}/{it}")
+    texts = {
+        "VERSION": f"{version}\n",
+        "bin/elfmap": runner(version, "elfmap"),
+        "doc/elfmap-doc.html": library_page(),
+        "lib/pkgconfig/elfmap.pc": PKG_CONFIG.format(prefix="${pcfiledir}/../..", libdir="lib", version=version),
+        "share/man/man1/elfmap.1": man.page(version),
+    }
+    for name, (module, function) in commands().items():
+        texts[f"bin/{name}"] = COMMAND.format(name=name, module=module, function=function)
+        texts[f"share/man/man1/{name}.1"] = page_of(name, module, version)
+    if shutil.which("wasm-opt"):
+        texts["elfmap.html"] = page.page()
+    else:
+        print("release: without elfmap.html: there is no wasm-opt", file=sys.stderr)
+    for place, text in texts.items():
+        put(f"{folder}/{place}", text)
+    library.shared(library.pack(f"{folder}/lib"), f"{folder}/lib")
     without_dead_links(folder)
 
 

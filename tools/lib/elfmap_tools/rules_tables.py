@@ -2,23 +2,29 @@
 `src/rule_names.rt`; and with their sentences for the bindings: bindings/rust/src/rules.rs and bindings/python/elfmap/_rules.py.
 `tools/test rules-tables` fails where one of them differs."""
 
-import argparse, functools, glob, itertools, re, textwrap
+import argparse, functools, glob, re, textwrap
 from collections.abc import Iterable, Iterator
 from typing import NamedTuple
 
 from .suite import Tally, Test
-from .tree import TOP, read_text, write
+from .tree import TOP, cells, read_text, write
 
 MADE = "Made by `tools/release tables` from docs/RULES.md."
 
 
 class Rule(NamedTuple):
-    """A rule: its number, its name, what is refused and why, and what to do."""
+    """A rule: its number, its definition, its name, what is refused and why, and what to do."""
 
     number: int
+    definition: str
     name: str
-    sentence: str
+    refused: str
+    words: str
     advice: str
+
+    @property
+    def sentence(self) -> str:
+        return f"{self.refused} {self.words}"
 
 
 @functools.cache
@@ -26,20 +32,19 @@ def by_anchor() -> dict[str, Rule]:
     """The rules of docs/RULES.md by their anchors, as `image-33`."""
     found: dict[str, Rule] = {}
     refused, advice = "", ""
-    for line in read_text("docs/RULES.md").splitlines():
-        cells = [cell.strip() for cell in line.strip().strip("|").split(" | ")]
-        if line.startswith("| rule |"):
-            refused = cells[2]
-        anchor = re.match(r'\| <a id="(\w+-(\d+))"></a>', line)
+    for row in map(cells, read_text("docs/RULES.md").splitlines()):
+        if row[0] == "rule":
+            refused = row[2]
+        anchor = re.match(r'<a id="(\w+-(\d+))"></a>', row[0])
         if anchor:
-            advice = advice if cells[4] == "the same" else cells[4]
-            found[anchor[1]] = Rule(int(anchor[2]), re.findall(r"`(\w+)`", cells[1])[1], f"{refused} {cells[2]}", advice)
+            advice = advice if row[4] == "the same" else row[4]
+            definition, name, *_ = re.findall(r"`(\w+)`", row[1])
+            found[anchor[1]] = Rule(int(anchor[2]), definition, name, refused, row[2], advice)
     return found
 
 
-def rules_of(kind: str, numbers: Iterable[int]) -> Iterator[Rule]:
-    anchors = (f"{kind}-{number}" for number in numbers)
-    return (by_anchor()[it] for it in itertools.takewhile(by_anchor().__contains__, anchors))
+def rules_of(kind: str, numbers: range) -> list[Rule]:
+    return [it for anchor, it in by_anchor().items() if anchor.startswith(f"{kind}-") and it.number in numbers]
 
 
 def file_rules() -> list[Rule]:
@@ -48,7 +53,7 @@ def file_rules() -> list[Rule]:
 
 
 def link_rules() -> list[Rule]:
-    return list(rules_of("link", itertools.count(1)))
+    return rules_of("link", range(1, 100))
 
 
 def filled(text: str, width: int) -> list[str]:
@@ -62,16 +67,16 @@ def pieces(text: str) -> list[str]:
 
 
 def rust_constants(rules: Iterable[Rule], indent: str = "") -> Iterator[str]:
-    for number, name, sentence, _ in rules:
-        comment = (f"{indent}/// {it}" for it in filled(f"Rule {number}: {sentence}.", 90 - len(indent)))
-        yield from ("", *comment, f"{indent}pub const {name}: u16 = {number};")
+    for it in rules:
+        comment = (f"{indent}/// {line}" for line in filled(f"Rule {it.number}: {it.sentence}.", 90 - len(indent)))
+        yield from ("", *comment, f"{indent}pub const {it.name}: u16 = {it.number};")
 
 
 def rust_table(name: str, rules: list[Rule]) -> Iterator[str]:
-    yield from ("", "#[rustfmt::skip]", f"pub(crate) const {name}: [(u16, &str, &str); {len(rules)}] = [")
-    for number, word, sentence, _ in rules:
-        literal = "\\\n         ".join(pieces(sentence))
-        yield from ("    (", f"        {number},", f'        "{word}",', f'        "{literal}",', "    ),")
+    yield from ("#[rustfmt::skip]", f"pub(crate) const {name}: [(u16, &str, &str); {len(rules)}] = [")
+    for it in rules:
+        literal = "\\\n         ".join(pieces(it.sentence))
+        yield from ("    (", f"        {it.number},", f'        "{it.name}",', f'        "{literal}",', "    ),")
     yield "];"
 
 
@@ -79,16 +84,15 @@ def rust() -> str:
     lines = [f"//! The rules by their names. {MADE}", *rust_constants(file_rules())]
     lines += ["", "/// The rules of a link of objects.", "pub mod link {", *list(rust_constants(link_rules(), "    "))[1:], "}"]
     lines += ["", "// The number, the name and the sentence of each rule, by ascending numbers: of files, and of links."]
-    lines += list(rust_table("TABLE", file_rules()))[1:]
-    return "\n".join([*lines, *rust_table("LINK_TABLE", link_rules()), ""])
+    return "\n".join([*lines, *rust_table("TABLE", file_rules()), "", *rust_table("LINK_TABLE", link_rules()), ""])
 
 
 def python_table(name: str, words: str, rules: list[Rule]) -> Iterator[str]:
     yield from ("", f"# {words}", f"{name} = {{")
-    for number, *texts in rules:
-        yield f"    {number}: ("
-        for *before, last in map(pieces, texts):
-            yield from (*(f'        "{it}"' for it in before), f'        "{last}",')
+    for it in rules:
+        yield f"    {it.number}: ("
+        for *before, last in map(pieces, (it.name, it.sentence, it.advice)):
+            yield from (*(f'        "{line}"' for line in before), f'        "{last}",')
         yield "    ),"
     yield "}"
 
@@ -113,7 +117,7 @@ def tables() -> dict[str, str]:
     """What each file has to be."""
     of_crates = {
         "image": rattle("images (1 to 33), tables (40 to 69) and files read as objects (70 to 79)", file_rules()),
-        "object": rattle("objects", list(rules_of("object", range(1, 10)))),
+        "object": rattle("objects", rules_of("object", range(1, 10))),
         "link": rattle("the link", link_rules()),
     }
     paths = glob.glob("crates/elf_*/src/rule_names.rt", root_dir=TOP)

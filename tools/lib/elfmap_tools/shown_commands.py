@@ -14,13 +14,13 @@ from argparse import Namespace
 from collections.abc import Iterator
 
 from .library import BOTH
-from .pages import all_pages
+from .pages import CODE, all_pages
 from .release import pack
 from .suite import Tally, Test, environment
-from .tree import PROGRAM, TOP, read_text, run, write
+from .tree import PROGRAM, TOP, read_text, said, wanted, write
 
 # The folders that a release has not.
-FOLDERS = ["bench", "cases", "crates", "reference", "scripts", "tools"]
+FOLDERS = ["bench", "cases", "crates", "reference", "tools"]
 ARCHIVE = "elfmap-VERSION-x86_64-linux"
 LONGEST = 60
 # Commands that are not run here, and why.
@@ -48,56 +48,32 @@ MACHINE_FILES = {"/bin/true": 35664}
 # What commands make, and the file of the repository that has to be the same.
 PICTURES = {"answer.svg": "docs/picture.svg"}
 # A code line that begins so is a command.
-COMMAND_LIKE = re.compile(r"(?:\./|scripts/|tools/|bench/|\.ci/|rt |tar |man |gcc |cc |cargo |python3 )")
+COMMAND_LIKE = re.compile(r"^(?:\./|scripts/|tools/|bench/|\.ci/|rt |tar |man |gcc |cc |cargo |python3 ).*", re.M)
+
+# A command, which goes on in further lines, and the lines below it.
+COMMAND = re.compile(r"^\$ ((?:.*\\\n)*.*)\n((?:(?!\$ ).*\n)*)", re.M)
 
 # ---- the pages
 
 
-def blocks(text: str) -> list[list[str]]:
-    """The code blocks of a page, indented or fenced, each as a list of its lines."""
-    found: list[list[str]] = [[]]
-    fence: int | None = None
-    is_open = True
-    for line in text.split("\n"):
-        if re.match(r" *```", line):
-            fence = None if fence is not None else len(line) - len(line.lstrip())
-            found.append([])
-        elif fence is not None:
-            found[-1].append(line[fence:])
-        elif line.startswith("    ") and (found[-1] or is_open):
-            found[-1].append(line[4:])
-        elif line and found[-1]:
-            found.append([])
-        elif found[-1]:
-            found[-1].append("")
-        # An indented line is code behind an empty one alone; elsewhere it goes on with a paragraph or an item.
-        is_open = not line
-    return [it for it in found if it]
+def blocks(text: str) -> Iterator[str]:
+    """The code blocks of a page."""
+    for it in CODE.finditer(text):
+        indent = 4 if it["fence"] is None else len(it["fence"])
+        yield re.sub(f"^ {{{indent}}}", "", it["fenced"] or it["indented"], flags=re.M)
 
 
-def commands(lines: list[str]) -> list[tuple[str, str]]:
-    """The commands of a block, each with the lines that stand below it."""
-    found: list[tuple[str, list[str]]] = []
-    for line in lines:
-        if line.startswith("$ "):
-            found.append((line[2:], []))
-        elif found and found[-1][0].endswith("\\") and not found[-1][1]:
-            found[-1] = (found[-1][0][:-1] + line.strip(), [])
-        elif found:
-            found[-1][1].append(line)
-    return [(command, "\n".join(shown).rstrip("\n")) for command, shown in found]
+def commands(block: str) -> list[tuple[str, str]]:
+    """The commands of a block, each with the lines below it."""
+    return [(re.sub(r"\\\n *", "", command), shown.rstrip("\n")) for command, shown in COMMAND.findall(block)]
 
 
 def is_as_shown(said: str, shown: str) -> bool:
     """Whether a command said what a page shows."""
     pattern = ""
-    for line in shown.split("\n") if shown else []:
-        if line == "..":
-            pattern += r"(?:.*\n)*"
-        elif line.endswith(" .."):
-            pattern += re.escape(line.rpartition(" ")[0]) + r".*\n"
-        else:
-            pattern += re.escape(line) + r"\n"
+    for line in shown.splitlines():
+        whole = re.escape(line.removesuffix(" .."))
+        pattern += r"(?:.*\n)*" if line == ".." else rf"{whole}.*\n" if line.endswith(" ..") else rf"{whole}\n"
     return re.fullmatch(pattern, said + "\n" if said and not said.endswith("\n") else said) is not None
 
 
@@ -137,7 +113,7 @@ def made_by(command: str) -> set[str]:
 
 
 def version_of(tool: str) -> str:
-    found = re.search(r"\d+\.\d[.\d]*", run(tool, "--version").stdout.decode(errors="replace"))
+    found = re.search(r"\d+\.\d[.\d]*", said(tool, "--version").stdout)
     return found[0] if found else "unknown"
 
 
@@ -167,10 +143,11 @@ class Page:
         for why in filter(None, map(self.foreign, tools_of(command))):
             return why
         for path in (os.path.normpath(it) for it in words_of(command)):
+            length = MACHINE_FILES.get(path)
             if path in self.lacking:
                 return self.lacking[path]
-            if path in MACHINE_FILES and (not os.path.isfile(path) or os.path.getsize(path) != MACHINE_FILES[path]):
-                return f"{path} is not {MACHINE_FILES[path]} bytes long"
+            if length and (not os.path.isfile(path) or os.path.getsize(path) != length):
+                return f"{path} is not {length} bytes long"
             if re.match(r"crates/\w+/out/", path) and not os.path.exists(f"{self.folder}/{path}"):
                 return f"{path} is not built"
         return ""
@@ -183,13 +160,10 @@ class Page:
         state = f"{self.folder}/.state"
         before = f'. "{state}"' if os.path.exists(state) else ":"
         script = f'{before}\n{command}\nstatus=$?\n{{ export -p; printf "cd %q\\n" "$PWD"; }} > "{state}"\nexit $status'
-        pipes = {"stdin": subprocess.DEVNULL, "stdout": subprocess.PIPE, "stderr": subprocess.STDOUT}
-        words = ["bash", "-c", script]
         try:
-            ran = subprocess.run(words, cwd=self.folder, env=self.environment, timeout=LONGEST, **pipes)  # type: ignore[call-overload]
+            return said("bash", "-c", script, folder=self.folder, env=self.environment, timeout=LONGEST).stdout
         except subprocess.TimeoutExpired:
             return f"it took more than {LONGEST} s\n"
-        return str(ran.stdout.decode("utf-8", "replace"))
 
     def try_command(self, command: str, shown: str) -> None:
         why = self.why_skipped(command)
@@ -197,30 +171,29 @@ class Page:
             self.skip(command, why)
             self.lacking |= dict.fromkeys(made_by(command), why) if command not in SKIPPED else {}
             return
-        said = self.run(command)
-        self.tally.check(is_as_shown(said, shown), f"{self.name} shows below '{command}':\n{shown}\nand it says:\n{said}")
+        output = self.run(command)
+        self.tally.check(is_as_shown(output, shown), f"{self.name} shows below '{command}':\n{shown}\nand it says:\n{output}")
 
-    def try_python(self, lines: list[str]) -> None:
-        """The lines of a block of Python, as doctest has them."""
-        text = "\n".join(lines)
-        lacks = next((why for name, why in self.lacking.items() if f'"{name}"' in text), "")
+    def try_python(self, block: str) -> None:
+        """A block of Python, as doctest has it."""
+        lacks = next((why for name, why in self.lacking.items() if f'"{name}"' in block), "")
         if lacks:
             return self.skip(">>> ..", lacks)
-        write(f"{self.folder}/shown.txt", re.sub(r" \.\.$", " ...", text, flags=re.M) + "\n")
+        write(f"{self.folder}/shown.txt", re.sub(r" \.\.$", " ...", block, flags=re.M))
         env = f'PYTHONDONTWRITEBYTECODE=1 PYTHONPATH="{self.folder}/bindings/python"'
-        said = self.run(f'{env} "{sys.executable}" -m doctest -o ELLIPSIS "{self.folder}/shown.txt"')
-        self.tally.check(not said, f"{self.name} shows other lines of Python than there are:\n{said}")
+        output = self.run(f'{env} "{sys.executable}" -m doctest -o ELLIPSIS "{self.folder}/shown.txt"')
+        self.tally.check(not output, f"{self.name} shows other lines of Python than there are:\n{output}")
 
     def try_all(self) -> None:
-        for lines in blocks(self.text):
-            bare = [it for it in lines if COMMAND_LIKE.match(it)] if not any(it.startswith("$ ") for it in lines) else []
-            if bare:
+        for block in blocks(self.text):
+            bare = COMMAND_LIKE.search(block)
+            if bare and not commands(block):
                 self.tally.fail(f"{self.name} has a command without its '$ ': {bare[0]}")
-            for command, shown in commands(lines):
+            for command, shown in commands(block):
                 self.try_command(command, shown)
             # The pages of the bindings are tried by their own tests.
-            if any(it.startswith(">>> ") for it in lines) and not self.name.startswith("bindings/"):
-                self.try_python(lines)
+            if re.search("^>>> ", block, re.M) and not self.name.startswith("bindings/"):
+                self.try_python(block)
         for made, kept in PICTURES.items():
             if os.path.exists(f"{self.folder}/{made}"):
                 self.tally.check(read_text(f"{self.folder}/{made}") == read_text(kept), f"{kept} is not the {made} of {self.name}")
@@ -232,7 +205,7 @@ class Page:
 
 
 def furnish(folder: str, archive: str) -> None:
-    subprocess.run(["tar", "xf", archive, "--strip-components=1"], cwd=folder, check=True)
+    wanted("tar", "xf", archive, "--strip-components=1", folder=folder)
     for it in FOLDERS:
         os.symlink(f"{TOP}/{it}", f"{folder}/{it}")
     shutil.copy(archive, folder)
@@ -244,7 +217,7 @@ TOOLS = " ".join([*PACKAGES, "cc ar pkg-config wasm-opt"])
 @Test("shown-commands", "the commands that the pages show print what is below them", commands=TOOLS, crates=f"elfmap {BOTH}")
 def shown_commands(tally: Tally, options: Namespace) -> None:
     pages = [f"{TOP}/{it}" for it in all_pages()]
-    every = [command for path in pages for lines in blocks(read_text(path)) for command, _ in commands(lines)]
+    every = [command for path in pages for block in blocks(read_text(path)) for command, _ in commands(block)]
     for command in SKIPPED:
         tally.check(command in every, f"no page shows the command that is skipped: {command}")
     archive = pack(tally.folder, "VERSION")

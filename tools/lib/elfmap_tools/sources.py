@@ -12,7 +12,7 @@ Block = tuple[list[str], list[str], list[str]]
 Uses = dict[str, tuple[str, str]]
 # The public crates, in the order of the table at the head of the crate `elf`.
 PUBLIC_CRATES = [it for it in re.findall(r"^//! \| \[`(\w+)`\]", read_text("crates/elf/src/lib.rt"), re.M) if f"elf_{it}" in libraries()]
-HEAD = re.compile(r"pub (fn|struct|enum|trait|const|mod|use|type) (\w+)")
+HEAD = re.compile(r"pub (fn|struct|enum|trait|const|mod|type) (\w+)")
 CLAUSE = re.compile(r"(requires|ensures)\b")
 # What holds no bracket that counts: strings, characters, comments.
 LITERAL = re.compile(r"""b?"(?:\\.|[^"\\])*"|b?'(?:\\.[^']*|[^'\\])'|//.*""")
@@ -30,8 +30,8 @@ class Item:
     source: str
     docs: list[str]
     text: list[str]
-    uses: Uses = field(default_factory=dict)
     clauses: list[str] = field(default_factory=list)
+    uses: Uses = field(default_factory=dict)
     ghosts: list[str] = field(default_factory=list)
     traits: list[str] = field(default_factory=list)
     members: "list[Item]" = field(default_factory=list)
@@ -49,7 +49,7 @@ def balance(line: str) -> int:
     return sum(bare.count(it) for it in "([{") - sum(bare.count(it) for it in ")]}")
 
 
-def end_of(lines: list[str], start: int, ends: str | tuple[str, ...]) -> int:
+def end_of(lines: list[str], start: int, ends: str) -> int:
     """Behind the last line of what begins at `start`: all brackets are closed, and it ends as such a text ends."""
     level, indent = 0, indent_of(lines[start])
     for at in range(start, len(lines)):
@@ -60,26 +60,24 @@ def end_of(lines: list[str], start: int, ends: str | tuple[str, ...]) -> int:
     return len(lines)
 
 
-def blocks(lines: list[str], ends: str | tuple[str, ...] = ";") -> Iterator[Block]:
+def blocks(lines: list[str], ends: str = ";") -> Iterator[Block]:
     """The texts of one level, each with the comment lines and attributes above it."""
-    at, docs, marks = 0, [], []
+    at, docs, marks = 0, list[str](), list[str]()
     while at < len(lines):
-        word = lines[at].strip()
+        word, end = lines[at].strip(), at + 1
         if word.startswith("///"):
             docs.append(word[3:].removeprefix(" "))
         elif word.startswith("//"):
             marks.append(word)
         elif word.startswith("#["):
-            end = next(k for k in range(at, len(lines)) if balance("".join(lines[at : k + 1])) == 0)
-            marks.append(" ".join(it.strip() for it in lines[at : end + 1]))
-            at = end
-        elif word:
-            end = end_of(lines, at, ends)
-            yield docs, marks, lines[at:end]
-            at, docs, marks = end - 1, [], []
+            end = next(k for k in range(end, len(lines) + 1) if balance("".join(lines[at:k])) == 0)
+            marks.append(" ".join(it.strip() for it in lines[at:end]))
         else:
+            if word:
+                end = end_of(lines, at, ends)
+                yield docs, marks, lines[at:end]
             docs, marks = [], []
-        at += 1
+        at = end
 
 
 def inside(text: list[str]) -> list[str]:
@@ -92,8 +90,8 @@ def unindented(lines: list[str]) -> list[str]:
     return [it.rstrip() for it in textwrap.dedent("\n".join(lines)).split("\n")]
 
 
-def signature_and_clauses(text: list[str], uses: Uses) -> tuple[list[str], Uses, list[str]]:
-    """A function's signature, what its words mean, and the clauses after it."""
+def signature_and_clauses(text: list[str]) -> tuple[list[str], list[str]]:
+    """A function's signature, and the clauses after it."""
     head, clauses = list[str](), list[list[str]]()
     for line in text:
         word = line.strip()
@@ -107,7 +105,7 @@ def signature_and_clauses(text: list[str], uses: Uses) -> tuple[list[str], Uses,
             head.append(line.removesuffix(" {"))
             if line.endswith(" {"):
                 break
-    return unindented(head), uses, ["\n".join(unindented(it)).removesuffix(";") for it in clauses]
+    return unindented(head), ["\n".join(unindented(it)).removesuffix(";") for it in clauses]
 
 
 def imports(text: str) -> Uses:
@@ -127,7 +125,7 @@ def members_of(text: list[str], source: str, is_trait: bool, uses: Uses) -> Iter
     for docs, _, part in blocks(lines):
         match = re.match(r"(pub )?(fn|const|type) (\w+)", part[0].strip())
         if match and (match[1] or is_trait):
-            yield Item(match[2], match[3], source, docs, *signature_and_clauses(part, uses))
+            yield Item(match[2], match[3], source, docs, *signature_and_clauses(part), uses)
 
 
 def ghosts_of(text: list[str]) -> list[str]:
@@ -151,8 +149,8 @@ def fields_of(text: list[str]) -> Iterator[tuple[list[str], str]]:
 def item_of(docs: list[str], marks: list[str], text: list[str], source: str, uses: Uses) -> Item:
     kind, name = matched(HEAD, text[0]).groups()
     if kind == "fn":
-        return Item(kind, name, source, docs, *signature_and_clauses(text, uses))
-    item = Item(kind, name, source, docs, unindented(text), uses)
+        return Item(kind, name, source, docs, *signature_and_clauses(text), uses)
+    item = Item(kind, name, source, docs, unindented(text), uses=uses)
     if kind in ("struct", "enum", "trait"):
         item.text = [it for it in marks if it.startswith("#[derive")] + [text[0].rstrip().removesuffix(" {")]
     if kind in ("struct", "enum"):
@@ -164,20 +162,14 @@ def item_of(docs: list[str], marks: list[str], text: list[str], source: str, use
 
 
 @functools.cache
-def source(path: str) -> tuple[list[str], dict[str, Item], list[tuple[list[str], list[str]]], Uses]:
+def source(path: str) -> tuple[list[str], dict[str, Item], list[list[str]], Uses]:
     """The front doc of a source file, its public items by their names, and its impls."""
     lines = read_text(path).splitlines()
     front = [it[3:].removeprefix(" ") for it in lines if it.startswith("//!")]
-    items, impls, outer = {}, [], []
-    for docs, marks, text in blocks([it for it in lines if not it.startswith(("//!", "#!["))]):
-        if text[0].startswith("impl"):
-            impls.append((docs, text))
-        elif "use " in text[0][:10]:
-            outer += text
-        elif HEAD.match(text[0]):
-            items[matched(HEAD, text[0])[2]] = (docs, marks, text)
-    uses = imports("\n".join(outer))
-    return front, {name: item_of(*it, path, uses) for name, it in items.items()}, impls, uses
+    parts = list(blocks([it for it in lines if not it.startswith(("//!", "#!["))]))
+    uses = imports("\n".join(line for _, _, text in parts if "use " in text[0][:10] for line in text))
+    items = [item_of(docs, marks, text, path, uses) for docs, marks, text in parts if HEAD.match(text[0])]
+    return front, {it.name: it for it in items}, [text for _, _, text in parts if text[0].startswith("impl")], uses
 
 
 def sources_of(crate: str) -> list[str]:
@@ -188,7 +180,7 @@ def with_impls(item: Item, crate: str) -> Item:
     """An item with the public functions of all its impls, the traits that it has, and its ghost view."""
     for path in sorted(sources_of(crate), key=lambda it: it != item.source):
         _, _, impls, uses = source(path)
-        for docs, text in impls:
+        for text in impls:
             head = re.match(r"impl(?:<.*?>)? (?:([\w:]+)(?:<.*>)? for )?(\w+)(?:<.*>)? \{", text[0])
             if not head or head[2] != item.name:
                 continue
@@ -219,22 +211,18 @@ def module_file(crate: str, words: tuple[str, ...]) -> str:
     return f"crates/{crate}/src/{'/'.join(words or ('lib',))}.rt"
 
 
-def found(crate: str, words: tuple[str, ...], name: str) -> tuple[str, str]:
-    """The crate and the file in which a name of a module is defined."""
+def home_of(crate: str, words: tuple[str, ...], place: str) -> tuple[str, str]:
+    """The crate and the file in which the item of a path is defined, as a module of a crate names it."""
+    first, *rest, name = place.split("::")
+    is_other = os.path.isdir(f"{TOP}/crates/{first}")
+    crate, words = (first, tuple(rest)) if is_other else (crate, (*words, first, *rest))
     path = module_file(crate, words)
     if name in source(path)[1]:
         return crate, path
-    for _, shown, place in shown_by(path):
+    for _, shown, further in shown_by(path):
         if shown == name:
-            return followed(crate, words, place)
+            return home_of(crate, words, further)
     raise LookupError(f"{path}: there is no {name}")
-
-
-def followed(crate: str, words: tuple[str, ...], place: str) -> tuple[str, str]:
-    first, *rest = place.split("::")
-    if os.path.isdir(f"{TOP}/crates/{first}"):
-        return found(first, tuple(rest[:-1]), rest[-1])
-    return found(crate, (*words, first, *rest[:-1]), rest[-1])
 
 
 @functools.cache
@@ -257,8 +245,7 @@ def module(crate: str, words: tuple[str, ...]) -> Item:
 
 
 def item_of_place(crate: str, words: tuple[str, ...], place: str) -> Item:
-    where, path = followed(crate, words, place)
-    return item_at(where, path, place.rsplit("::", 1)[-1])
+    return item_at(*home_of(crate, words, place), place.rsplit("::", 1)[-1])
 
 
 def items_of(crate: str) -> Iterator[Item]:
@@ -272,7 +259,7 @@ def items_of(crate: str) -> Iterator[Item]:
 # ---- the definitions
 
 
-@dataclass
+@dataclass(eq=False)
 class Definition:
     """A definition of a file of specs/, with the comment above it and its own text."""
 
@@ -308,13 +295,18 @@ def definition(place: str, name: str) -> Definition | None:
         # A file of specs/ that the crate shows of another one.
         shown = re.search(rf"^pub use Rattle\.(\S+\.specs\.{re.escape(rest)})$", read_text(front), re.M)
         return definition(shown[1], name) if shown else None
-    found, uses = definitions(path)
-    if name in found:
-        return found[name]
-    return definition(*uses[name]) if name in uses else None
+    return named_in(path, name)
 
 
 def named_in(path: str, word: str) -> Definition | None:
     """The definition that a word in a file of specs/ represents."""
     own, uses = definitions(path)
     return own.get(word) or (definition(*uses[word]) if word in uses else None)
+
+
+def reach(found: Definition, reached: dict[Definition, None]) -> None:
+    """Adds a definition, and those that it is made of, to those that were reached."""
+    if found not in reached:
+        reached[found] = None
+        for it in filter(None, (named_in(found.path, word) for word in WORD.findall(found.text))):
+            reach(it, reached)

@@ -45,6 +45,11 @@ def replaced(pattern: re.Pattern[str], text: str, own: Callable[[re.Match[str]],
     return "".join([*parts, other(text[at:])])
 
 
+def cells(line: str) -> list[str]:
+    """The cells of a line of a table of a page."""
+    return [it.strip() for it in re.split(r"(?<!\\)\|", line.strip()[1:-1])]
+
+
 def matched(pattern: str | re.Pattern[str], text: str) -> re.Match[str]:
     """A match at the beginning of a text, which has to be there."""
     found = re.match(pattern, text)
