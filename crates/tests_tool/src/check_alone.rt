@@ -1,5 +1,4 @@
-//! The program that has `check` alone: it refuses the other commands, and ends as the program with all commands does, which `cases/`
-//! shows too.
+//! The program that has `check` alone: which words it takes. That it ends as the program with all commands does, `cases/` shows.
 use crate::program::{HEADER, LimitedWriter, OneFile, Outcome, ROOM, assert_ran};
 use elf_tool_check::run_check;
 use std::alloc::Global;
@@ -18,16 +17,35 @@ fn run_on(alloc: Global, words: &[&str]) -> Outcome {
 }
 
 #[test]
-fn other_commands_are_wrong_usage(rt: HostRuntime) {
-    let rows: [&[&str]; 4] = [
+fn other_words_are_wrong_usage(rt: HostRuntime) {
+    let rows: [&[&str]; 10] = [
+        &[],
+        &["elfmap"],
+        &["elfmap", "check"],
+        &["elfmap", "check", "-x"],
+        &["elfmap", "check", "--"],
+        &["elfmap", "check", "a.o", "b.o"],
         &["elfmap", "check", "--seek", "a.o"],
         &["elfmap", "show", "a.o"],
-        &["elfmap", "rewrite", "a.o"],
+        &["elfmap", "rewrite", "--", "a.o"],
         &["elfmap", "map", "--base", "0", "--page", "1", "a.o"],
     ];
     for words in rows {
         let told = "this program has the command check FILE alone\n";
         assert_ran(&rt, &run_on(rt.alloc(), words), 2, "", told);
+    }
+}
+
+#[test]
+fn behind_dashes_each_word_is_a_file(rt: HostRuntime) {
+    let rows = [
+        ("a.o", 0, "ok 64 0 0\n", ""),
+        ("-x", 3, "", "cannot open -x\n"),
+        ("--", 3, "", "cannot open --\n"),
+    ];
+    for (file, status, said, complained) in rows {
+        let ran = run_on(rt.alloc(), &["elfmap", "check", "--", file]);
+        assert_ran(&rt, &ran, status, said, complained);
     }
 }
 
