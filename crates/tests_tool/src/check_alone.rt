@@ -1,7 +1,18 @@
 //! The program that has `check` alone: which words it takes. That it ends as the program with all commands does, `cases/` shows.
+ghost use Rattle.std.specs.Prelude.{ℕ, List};
+ghost use Rattle.std.specs.Borrow.{Bor};
+ghost use Rattle.elf_tool_check.specs.Ending.{AsksFor};
+ghost use Rattle.elf_tool_words.specs.Words.{IsAskedBy};
+ghost use Rattle.elf_tool_words.specs.declared.words.Request.TheVariants.{Check};
+
 use crate::program::{HEADER, LimitedWriter, OneFile, Outcome, ROOM, assert_ran};
 use elf_tool_check::run_check;
 use std::alloc::Global;
+
+/// The words with which it opens a file ask the program with all commands to check this file.
+pub fn takes_the_same_file()
+    ensures { (words : List (List ℕ)) (file : Bor (List ℕ)) → AsksFor words file.now → IsAskedBy words (Check file) }
+{}
 
 /// What it comes to where `a.o` is a header.
 fn run_on(alloc: Global, words: &[&str]) -> Outcome {
