@@ -1,7 +1,7 @@
 -- How a program ends, and what was written then.
-use Rattle.std.specs.Prelude.{◌≡◌, Bool, false, ◌⊎◌, ℕ, List, Option, Some, Result, Ok, Err, IfSome}
+use Rattle.std.specs.Prelude.{◌≡◌, Bool, false, ◌⊎◌, ℕ, List, [], ◌∷◌, codes, nat_eq, Option, Some, Result, Ok, Err, IfSome}
 use Rattle.std.specs.Io.KnownBytes.{Keeps}
-use Rattle.clap.specs.Walk.{Text}
+use Rattle.std.specs.List.{starts_with}
 use Rattle.elf_tool_check.specs.Check.{IsChecked}
 use Rattle.elf_tool_check.specs.declared.ending.Status.TheVariants.{Done, Refused as StatusRefused, Usage, Failed}
 use Rattle.elf_tool_check.specs.declared.ending.Status.{Status}
@@ -9,11 +9,6 @@ use Rattle.elf_tool_check.specs.declared.opener.OpenFault.TheVariants.{Refused, 
 use Rattle.elf_tool_check.specs.declared.opener.OpenFault.{OpenFault}
 use Rattle.elf_tool_text.specs.declared.engine.ToolFault.{ToolFault}
 use Rattle.elf_tool_text.specs.declared.engine.Verdict.{Verdict}
-use Rattle.elf_tool_words.specs.Words.{IsAskedBy, IsRefusedBy}
-use Rattle.elf_tool_words.specs.declared.words.Request.TheVariants.{Check, CheckSource, Show, Rewrite, Map, Link}
-use Rattle.elf_tool_words.specs.declared.words.Request.{Request}
-use Rattle.elf_tool_words.specs.declared.words.WordsFault.TheVariants.{Words, TooManyFiles, BadNumber, OutOfMemory as WordsFaultOutOfMemory}
-use Rattle.elf_tool_words.specs.declared.words.WordsFault.{WordsFault}
 use Rattle.elf_tool_text.specs.declared.engine.Verdict.TheVariants as verdict
 
 -- What an opener of files returns.
@@ -48,30 +43,17 @@ EndsFile call known opens old new status =
     × call input rest old new answer × (status ≡ ending_of answer))
     ⊎ ((fault : OpenFault) × IsOpenFault opens fault × (status ≡ Failed) × Keeps old new)
 
--- how the program ends where its words ask for nothing
-abbrev pub unasked : WordsFault → Status
-unasked (Words error) = Usage
-unasked TooManyFiles = Usage
-unasked BadNumber = Usage
-unasked WordsFaultOutOfMemory = Failed
-
--- it ends so, and nothing was written
-abbrev pub EndsWords : Option (List ℕ) → Option (List ℕ) → WordsFault → Status → Type 0
-EndsWords old new fault status = (status ≡ unasked fault) × Keeps old new
-
 -- How the program ends that has the command `check` alone.
 
--- each command, over the files' known bytes by name, and which are known to open: any but `check` is wrong usage, and nothing was written
-abbrev pub EndsAsCheck : (Text → Option (List ℕ)) → (Text → Bool) → Option (List ℕ) → Option (List ℕ) → Request → Status → Type 0
-EndsAsCheck holds opens old new (Check file) status = EndsFile IsChecked (holds file.now) (opens file.now) old new status
-EndsAsCheck holds opens old new (CheckSource file) status = (status ≡ Usage) × Keeps old new
-EndsAsCheck holds opens old new (Show file) status = (status ≡ Usage) × Keeps old new
-EndsAsCheck holds opens old new (Rewrite file) status = (status ≡ Usage) × Keeps old new
-EndsAsCheck holds opens old new (Map base page rules files) status = (status ≡ Usage) × Keeps old new
-EndsAsCheck holds opens old new (Link base page entry rules files) status = (status ≡ Usage) × Keeps old new
+-- the command line asks for this file: it is `NAME check FILE`, where FILE does not begin with `-`, or `NAME check -- FILE`
+abbrev pub AsksFor : List (List ℕ) → List ℕ → Type 0
+AsksFor words file =
+    ((name : List ℕ) × (words ≡ name ∷ codes "check" ∷ file ∷ []) × (starts_with nat_eq file (codes "-") ≡ false))
+    ⊎ ((name : List ℕ) × (words ≡ name ∷ codes "check" ∷ codes "--" ∷ file ∷ []))
 
--- the whole of it
-abbrev pub EndsCheck : List Text → (Text → Option (List ℕ)) → (Text → Bool) → Option (List ℕ) → Option (List ℕ) → Status → Type 0
+-- the whole of it, over the files' known bytes by name, and which are known to open: a command line that asks for no file is wrong usage,
+-- and nothing was written
+abbrev pub EndsCheck : List (List ℕ) → (List ℕ → Option (List ℕ)) → (List ℕ → Bool) → Option (List ℕ) → Option (List ℕ) → Status → Type 0
 EndsCheck words holds opens old new status =
-    ((request : Request) × IsAskedBy words request × EndsAsCheck holds opens old new request status)
-    ⊎ ((fault : WordsFault) × IsRefusedBy words fault × EndsWords old new fault status)
+    ((file : List ℕ) × AsksFor words file × EndsFile IsChecked (holds file) (opens file) old new status)
+    ⊎ (((file : List ℕ) → AsksFor words file → ⊥) × (status ≡ Usage) × Keeps old new)

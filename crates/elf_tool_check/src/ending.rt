@@ -2,12 +2,11 @@
 ghost use Rattle.std.specs.Prelude.{◌≡◌, ◌≢◌};
 ghost use Rattle.std.specs.IoError.{error_kind};
 ghost use Rattle.std.specs.declared.io.ErrorKind.TheVariants.{InvalidData};
-ghost use Rattle.elf_tool_check.specs.Ending.{code_of, ending_of, unasked};
+ghost use Rattle.elf_tool_check.specs.Ending.{code_of, ending_of};
 ghost use Rattle.elf_tool_check.specs.declared.ending.Status.{Status as Ending};
 
 use crate::opener::OpenFault;
 use elf_tool_text::{ToolFault, Verdict};
-use elf_tool_words::WordsFault;
 use std::fmt::Display;
 use std::io;
 use std::io::Write;
@@ -41,22 +40,6 @@ pub fn refuse_words<E: Write>(error: &io::Error, err: &mut E) -> u8
         _ => fail(error, err),
     };
     status as u8
-}
-
-/// How the program ends where its words ask for nothing: as wrong usage, or when out of memory as failed.
-pub fn no_request<E: Write>(fault: &WordsFault, err: &mut E) -> Status
-    ensures { result ≡ unasked fault.now }
-{
-    match fault {
-        WordsFault::Words(error) => {
-            // This text ends with a line feed of its own.
-            let _ = write!(err, "{error}");
-            Status::Usage
-        }
-        WordsFault::TooManyFiles => misused("too many files", err),
-        WordsFault::BadNumber => misused("bad number", err),
-        WordsFault::OutOfMemory => fail(&ToolFault::OutOfMemory, err),
-    }
 }
 
 /// How it ends where what it was given is not what it takes, with this text.

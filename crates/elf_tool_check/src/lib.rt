@@ -19,7 +19,7 @@ mod opener;
 mod program;
 
 pub use elf_tool_text::{Refusal, ToolFault, Verdict};
-pub use ending::{Status, fail, misused, no_request, refuse_words, status_of, unopened};
+pub use ending::{Status, fail, misused, refuse_words, status_of, unopened};
 pub use engine::check;
 pub use machine::{check_on_machine, words_of};
 pub use opener::{MachineFiles, OpenFault, Opener};

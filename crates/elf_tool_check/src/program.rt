@@ -1,23 +1,22 @@
 //! The program that has the command `check` alone.
-ghost use Rattle.std.specs.Prelude.{◌≡◌, map as map_list};
+ghost use Rattle.std.specs.Prelude.{◌≡◌, ℕ, List, MatchOption, map as map_list};
 ghost use Rattle.elf_tool_check.specs.Check.{IsChecked};
-ghost use Rattle.elf_tool_check.specs.Ending.{EndsFile, code_of, EndsCheck};
+ghost use Rattle.elf_tool_check.specs.Ending.{AsksFor, EndsCheck, EndsFile, code_of};
 ghost use Rattle.elf_tool_check.specs.declared.ending.Status.{Status as Ending};
 
-use crate::ending::{Status, misused, no_request, status_of, unopened};
+use crate::ending::{Status, misused, status_of, unopened};
 use crate::engine::check;
 use crate::opener::Opener;
-use elf_tool_words::{Request, read_words};
 use std::alloc::Global;
 use std::convert::AsStr;
 use std::io::Write;
 
 /// Runs the program that has `check` alone: `words` is its command line, whose first word is its own name, `files` opens the file
 /// that the words name, `out` takes what is said of it, and `err` takes the text of what goes wrong. A failed write to `err` changes
-/// nothing. It reads the words as the program with all commands does; where they ask for another command, that is wrong usage.
+/// nothing. After the name it takes `check FILE`, where FILE does not begin with `-`, or `check -- FILE`. The program with all commands
+/// reads the same FILE from these words. Anything else is wrong usage.
 ///
-/// Returns the exit status: 0 done, 1 refused, 2 wrong usage or a call for help, 3 a file that cannot be opened, a failed read or write, or
-/// out of memory.
+/// Returns the exit status: 0 done, 1 refused, 2 wrong usage, 3 a file that cannot be opened, a failed read or write, or out of memory.
 pub fn run_check<S: AsStr, O: Opener, W: Write, E: Write>(
     alloc: Global,
     words: &[S],
@@ -40,10 +39,33 @@ fn ending<S: AsStr, O: Opener, W: Write, E: Write>(
 ) -> Status
     ensures { EndsCheck (map_list S.text words.now) (O.holds files.old) (O.opens files.old) (W.contents out.old) (W.contents out.new) result }
 {
-    match read_words(alloc, words) {
-        Ok(Request::Check { file }) => check_file(alloc, file, files, out, err),
-        Ok(_) => misused("this program has the command check FILE alone", err),
-        Err(fault) => no_request(&fault, err),
+    match asked_file(words) {
+        Some(file) => check_file(alloc, file, files, out, err),
+        None => misused("this program has the command check FILE alone", err),
+    }
+}
+
+// The file that these words ask for. With clap the first `./elfmap check FILE` would have more to prove and to compile.
+fn asked_file<S: AsStr>(words: &[S]) -> Option<&str>
+    ensures { MatchOption result
+        ((file : List ℕ) → AsksFor (map_list S.text words.now) file → ⊥) (λ file. AsksFor (map_list S.text words.now) file.now) }
+{
+    match words {
+        [_, command, file] => {
+            if command.as_str() == "check" && !file.as_str().as_bytes().starts_with(b"-") {
+                Some(file.as_str())
+            } else {
+                None
+            }
+        }
+        [_, command, dashes, file] => {
+            if command.as_str() == "check" && dashes.as_str() == "--" {
+                Some(file.as_str())
+            } else {
+                None
+            }
+        }
+        _ => None,
     }
 }
 

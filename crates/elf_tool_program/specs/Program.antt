@@ -6,7 +6,7 @@ use Rattle.elf_image_rules.specs.Rules.{MAX_LEN}
 use Rattle.elf_link_field.specs.declared.rule.RelocRule.{RelocRule}
 use Rattle.elf_link_files.specs.declared.fault.Options.{Options}
 use Rattle.elf_tool_check.specs.Check.{IsChecked}
-use Rattle.elf_tool_check.specs.Ending.{IsOpenFault, EndsFile, EndsWords, ending_of}
+use Rattle.elf_tool_check.specs.Ending.{IsOpenFault, EndsFile, ending_of}
 use Rattle.elf_tool_check.specs.declared.ending.Status.TheVariants.{Usage, Failed}
 use Rattle.elf_tool_check.specs.declared.ending.Status.{Status}
 use Rattle.elf_tool_link.specs.Link.{IsLinkCall}
@@ -24,6 +24,7 @@ use Rattle.elf_tool_text.specs.declared.engine.Verdict.{Verdict}
 use Rattle.elf_tool_words.specs.Words.{IsAskedBy, IsRefusedBy}
 use Rattle.elf_tool_words.specs.declared.words.Request.TheVariants.{Check, CheckSource, Show, Rewrite, Map, Link}
 use Rattle.elf_tool_words.specs.declared.words.Request.{Request}
+use Rattle.elf_tool_words.specs.declared.words.WordsFault.TheVariants.{Words, TooManyFiles, BadNumber, OutOfMemory as WordsFaultOutOfMemory}
 use Rattle.elf_tool_words.specs.declared.words.WordsFault.{WordsFault}
 use Rattle.elf_tool_program.specs.declared.opening.NoRules.TheVariants as no_rules
 
@@ -121,6 +122,17 @@ EndsRequest holds opens old new (Map base page rules files) status =
     EndsMap (record { base = base; page = page; entry = None }) holds opens (option_copied rules) (map (λ f. f.now) files.items) old new status
 EndsRequest holds opens old new (Link base page entry rules files) status =
     (opt : Options) × AreOptions base page entry.now opt × EndsLink opt holds opens rules.now (map (λ f. f.now) files.items) old new status
+
+-- how the program ends where its words ask for nothing
+abbrev pub unasked : WordsFault → Status
+unasked (Words error) = Usage
+unasked TooManyFiles = Usage
+unasked BadNumber = Usage
+unasked WordsFaultOutOfMemory = Failed
+
+-- it ends so, and nothing was written
+abbrev pub EndsWords : Option (List ℕ) → Option (List ℕ) → WordsFault → Status → Type 0
+EndsWords old new fault status = (status ≡ unasked fault) × Keeps old new
 
 -- the whole program
 abbrev pub EndsRun : List Text → (Text → Option (List ℕ)) → (Text → Bool) → Option (List ℕ) → Option (List ℕ) → Status → Type 0

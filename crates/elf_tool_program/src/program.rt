@@ -7,20 +7,18 @@ ghost use Rattle.elf_tool_rewrite.specs.Rewrite.{IsRewritten};
 ghost use Rattle.elf_tool_show.specs.Show.{IsShown};
 ghost use Rattle.elf_tool_link.specs.Link.{IsLinkCall};
 ghost use Rattle.elf_tool_link.specs.Map.{IsMapped};
-ghost use Rattle.elf_tool_program.specs.Program.{EndsFiles, EndsLink, EndsMap, EndsRun, unruled};
+ghost use Rattle.elf_tool_program.specs.Program.{EndsFiles, EndsLink, EndsMap, EndsRun, unasked, unruled};
 
 use crate::opening::{NoRules, open_all, rules_of};
 use crate::scan_check::check_source;
 use elf_link_field::RelocRule;
-use elf_tool_check::{
-    OpenFault, Opener, Status, check_file, fail, misused, no_request, status_of, unopened,
-};
+use elf_tool_check::{OpenFault, Opener, Status, check_file, fail, misused, status_of, unopened};
 use elf_tool_link::{Options, link, map};
 use elf_tool_rewrite::rewrite;
 use elf_tool_rule_file::RulesFault;
 use elf_tool_show::show;
 use elf_tool_text::{Refusal, ToolFault, Verdict};
-use elf_tool_words::{Request, read_words};
+use elf_tool_words::{Request, WordsFault, read_words};
 use std::alloc::Global;
 use std::convert::AsStr;
 use std::io::Write;
@@ -90,6 +88,22 @@ fn ending<S: AsStr, O: Opener, W: Write, E: Write>(
             link_by_rules(alloc, &options, rules, &names, files, out, err)
         }
         Err(fault) => no_request(&fault, err),
+    }
+}
+
+// How the program ends where its words ask for nothing: as wrong usage, or when out of memory as failed.
+fn no_request<E: Write>(fault: &WordsFault, err: &mut E) -> Status
+    ensures { result ≡ unasked fault.now }
+{
+    match fault {
+        WordsFault::Words(error) => {
+            // This text ends with a line feed of its own.
+            let _ = write!(err, "{error}");
+            Status::Usage
+        }
+        WordsFault::TooManyFiles => misused("too many files", err),
+        WordsFault::BadNumber => misused("bad number", err),
+        WordsFault::OutOfMemory => fail(&ToolFault::OutOfMemory, err),
     }
 }
 

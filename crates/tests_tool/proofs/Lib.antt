@@ -1,2 +1,3 @@
--- Lemmas on what the program's exit status says.
+-- Lemmas on what the exit status of the program says, and on the words that both programs take.
+pub mod AskedFile
 pub mod Statuses
