@@ -2,6 +2,5 @@
 pub mod CanonicalLayout
 pub mod PlainSections
 pub mod Going
-mod Waiting
 pub mod HeaderTables
 pub mod Public

@@ -29,11 +29,11 @@ fn is_long(placed: &PlacedObject<'_, '_>, position: usize, out: u64, waiting: &V
     requires there { position < length (plain_sections placed.now.object) }
     requires before { out ≤ slice_index placed.now.layout.places position }
 {
-    placed.prove_placed();
     let section = placed.section(position);
     let laid = LaidSection { placed, section };
     let padding = placed.place(position) - out;
-    padding + laid.content_size() > waiting.capacity().saturating_sub(waiting.len()) as u64
+    padding.saturating_add(laid.content_size())
+        > waiting.capacity().saturating_sub(waiting.len()) as u64
 }
 
 /// Adds the content of the section of this position, at its place, to the bytes that wait, the last of the `out` that are before it. The

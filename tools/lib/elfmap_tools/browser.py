@@ -1,4 +1,4 @@
-"""A headless Chromium that is steered by its debugger's pipe, for `tools/test page`."""
+"""A headless Chromium that is steered by its debugger's pipe, for `tools/test page` and the picture of the page in docs/."""
 
 import base64, json, os, select, subprocess, tempfile, time
 from typing import Any, cast

@@ -4,14 +4,15 @@ It is one file, which needs no network: the library for C as a WebAssembly modul
 The module is made of the same proved crates as the library for C: the kit's compiler makes it for a memory of 64-bit addresses, which not
 every browser has, and wasm-opt (of binaryen) lowers it to one of 32-bit addresses."""
 
-import argparse, base64, ctypes, json, os, shutil, sys
+import argparse, base64, contextlib, ctypes, json, os, shutil, sys, tempfile
 from typing import Any
 
 from . import library
+from .browser import Browser
 from .kit import built_below, is_current, kit, words
 from .library import VERDICTS as CRATE
 from .rules_tables import file_rules
-from .tree import PACKAGE, TOP, read_bytes, read_text, wanted
+from .tree import PACKAGE, TOP, read_bytes, read_text, wanted, write
 
 sys.path.insert(0, PACKAGE)
 from elfmap import _names as names  # noqa: E402
@@ -91,4 +92,15 @@ def page() -> str:
 
 def main(options: argparse.Namespace) -> int:
     print(page(), end="")
+    return 0
+
+
+def picture(options: argparse.Namespace) -> int:
+    """`tools/release page-picture FILE PICTURE.png`: what the page looks like in chromium with a file on it."""
+    with tempfile.TemporaryDirectory(prefix="page-picture-") as room, contextlib.closing(Browser()) as browser:
+        browser.open(write(f"{room}/elfmap.html", page()))
+        browser.choose("#chosen", os.path.abspath(options.file))
+        if not browser.wait("document.body.dataset.ready"):
+            raise SystemExit(f"page-picture: {options.file} is not shown: {browser.text('#said')}")
+        write(options.picture, browser.screen(1000, 760))
     return 0

@@ -49,12 +49,14 @@ DEV: list[Command] = [
 ]
 VERSION, HERE = word("version", "the version", nargs="?", default=""), word("folder", "where to (here)", nargs="?", default=".")
 THERE = word("folder", "where to (crates/elf_c/out)", nargs="?", default=library.FOLDER)
+PICTURE = [word("file", "an ELF file"), word("picture", "the picture, as PNG")]
 RELEASE: list[Command] = [
     ("pack", "pack what is built into one archive", releasing.main, [HERE, VERSION]),
     ("packages", "make all packages of what is built: of Debian, Python and Rust, and the archive", distribution.main, [HERE]),
     ("library", "pack the library for C", library.main, [THERE]),
     ("man", "print the manual page", man.main, [VERSION]),
     ("page", "print the page for a browser", page.main, []),
+    ("page-picture", "take a picture of the page with a file on it (docs/page.png)", page.picture, PICTURE),
     ("tables", "write the tables of the rules' names, from docs/RULES.md", rules_tables.main, []),
     ("definitions", "write docs/DEFINITIONS.md, from the comments in crates/*/specs/", definitions.main, []),
 ]

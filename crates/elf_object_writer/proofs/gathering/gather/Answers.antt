@@ -1,7 +1,7 @@
 use Rattle.std.proofs.Common.{◌∙◌}
 use Rattle.elf_object_writer.specs.PlacedObject.{plain_section}
 use Rattle.elf_object_writer.specs.declared.placed_object.PlacedSection.TheVariants.{Names}
-use Rattle.elf_object_writer.proofs.Waiting.{undone}
+use Rattle.elf_object_writer.proofs.Going.{undone}
 use Rattle.elf_object_writer.proofs.gathering.gather.Goals as goal
 
 pub returns-in-Err-clause-kept : goal.returns-in-Err-clause-kept

@@ -1,6 +1,6 @@
 use Rattle.elf_object_writer.specs.PlacedObject.{plain_section}
 use Rattle.elf_object_writer.specs.declared.placed_object.PlacedSection.TheVariants.{Names}
-use Rattle.elf_object_writer.proofs.Waiting.{joined, joined_long, passed, passed_cut, waiting_cut}
+use Rattle.elf_object_writer.proofs.Going.{joined, joined_long, passed, passed_cut, waiting_cut}
 use Rattle.elf_object_writer.proofs.gathering.pass_part.Goals as goal
 
 pub returns-in-Some-clause-few : goal.returns-in-Some-clause-few
