@@ -315,7 +315,7 @@ class VerdictTest(unittest.TestCase):
 
     def expected(self, content):
         """What the reference implementation says of a file as an object, and of its link alone."""
-        words = reference.mapped([content], 0, 1).split()
+        words = reference.mapped([content], "0", "1").split()
         if words[:1] == ["file"]:
             return [(False, int(words[3]), int(words[4]))]
         if words[:1] != ["refused"] or int(words[1]) not in range(3, 8):
