@@ -1,6 +1,6 @@
 """A headless Chromium that is steered by its debugger's pipe, for `tools/test page` and the picture of the page in docs/."""
 
-import base64, json, os, select, subprocess, tempfile, time
+import base64, json, os, select, signal, subprocess, tempfile, time
 from typing import Any, cast
 
 Message = dict[str, Any]
@@ -25,10 +25,10 @@ class Browser:
     """One page in a Chromium of its own. What its console says, and what its scripts throw, is gathered in `messages`."""
 
     def __init__(self) -> None:
-        self.folder = tempfile.TemporaryDirectory(prefix="browser-")
+        self.folder = tempfile.TemporaryDirectory(prefix="browser-", ignore_cleanup_errors=True)
         words = ["sh", "-c", PIPED, "sh", "chromium", *WORDS, f"--user-data-dir={self.folder.name}/profile"]
         pipe, none = subprocess.PIPE, subprocess.DEVNULL
-        self.process = subprocess.Popen(words, bufsize=0, stdin=pipe, stdout=pipe, stderr=none)
+        self.process = subprocess.Popen(words, bufsize=0, stdin=pipe, stdout=pipe, stderr=none, start_new_session=True)
         assert self.process.stdin and self.process.stdout
         self.to, self.from_ = self.process.stdin.fileno(), self.process.stdout.fileno()
         self.said, self.asked, self.session, self.messages = b"", 0, "", list[str]()
@@ -38,8 +38,9 @@ class Browser:
             self.call(f"{domain}.enable")
 
     def close(self) -> None:
+        """Ends it with the processes that it began. They may write to its folder until they have ended, so what can't be removed is left."""
         with self.process:
-            self.process.kill()
+            os.killpg(self.process.pid, signal.SIGKILL)
         self.folder.cleanup()
 
     # ---- The debugger's messages
