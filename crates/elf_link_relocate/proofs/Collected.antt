@@ -3,7 +3,7 @@
 -- 12. After the last file the list has all fields.
 use Rattle.std.proofs.Common.{◌≡◌, ℕ, ◌+◌, ◌<◌, inl, inr, subst, arith, List, sym, ◌∙◌, ap, ◌⊎◌, refl, [], ◌∷◌, ◌++◌, length, length-append, Bool, ◌↔◌, true, false, ◌≤◌}
 use Rattle.std.proofs.lemmas.Bool.{cases_lt}
-use Rattle.std.specs.Prelude.{Some, slice_get, MatchOption, Option, None}
+use Rattle.std.specs.Prelude.{Some, slice_get, MatchOption, Option, None, IfSome}
 use Rattle.std.proofs.lemmas.List.{get_or_push}
 use Rattle.std.proofs.Math.ListN.{get_or-append}
 use Rattle.elf_extent.specs.Extent.{Never}
@@ -14,12 +14,13 @@ use Rattle.elf_link_files.specs.Files.{section_in}
 use Rattle.elf_link_files.specs.Rows.{Before, IsFirstAt}
 use Rattle.elf_link_files.specs.declared.site.Site.{Site}
 use Rattle.elf_link_map.specs.LinkMap.{LinkMapValue}
-use Rattle.elf_link_relocate.specs.Fields.{IsApplied, entry_at, HasField, no_rule, AreApplied, entries_of, Share, AtField, IsFieldOutOfRange, SharesEarlier}
-use Rattle.elf_link_relocate.specs.Passes.{entry_site, AreFields, AreFieldsBefore, field_at, no_field, AreFieldsRead, IsRead, BreaksFieldTest, HasNone, IsFirst, AreFoundBefore, IsJudgedField, first_of, AllWithin, HasNoOverlap, IsFirstOverlappingField, SharesBefore}
+use Rattle.elf_link_relocate.specs.Fields.{IsApplied, entry_at, HasField, no_rule, AreApplied, entries_of, Share, AtField, IsFieldOutOfRange, SharesEarlier, fields_overlap}
+use Rattle.elf_link_relocate.specs.Passes.{entry_site, AreFields, AreFieldsBefore, field_at, no_field, BreaksFieldTest, HasNone, IsFirst, AreFoundBefore, IsJudgedField, first_of, AllWithin, HasNoOverlap, IsFirstOverlappingField, SharesBefore, IsSeen, IsSeenNext, none_seen, IsLast, StandsBehind, AreAscending, IsFirstSite}
 use Rattle.elf_link_relocate.specs.declared.field.Field.{Field}
 use Rattle.elf_link_relocate.specs.declared.field.FieldTest.TheVariants.{FieldOutOfRange, Unplaced, ValueOutOfRange}
-use Rattle.elf_link_relocate.specs.declared.field.Fields.{Fields}
+use Rattle.elf_link_relocate.specs.declared.field.Found.{Found}
 use Rattle.elf_link_relocate.specs.declared.field.Judged.{Judged}
+use Rattle.elf_link_relocate.specs.declared.field.Seen.{Seen}
 use Rattle.elf_object_type.specs.Object.{ObjectValue}
 use Rattle.elf_object_type.specs.ObjectView.{body_value}
 use Rattle.elf_object_type.specs.declared.parts.Body.TheVariants.{Bits, NoBits, Relocs, Group}
@@ -326,20 +327,30 @@ module _ (fs : List ObjectValue) (rules : List RelocRule) (f s : ℕ) (ds : List
 -- The first field that breaks a rule, kept up as fields are added. It changes only if nothing was found before and the new field breaks
 -- the rule, so at the end it is the first of the list.
 
-pub first_more : (P : Site → RelocRule → Type 0) (ds : List Field) (new : Field) (before : Option ℕ) (broken : Bool) →
-    MatchOption before (HasNone P ds) (IsFirst P ds) → (broken ≡ true) ↔ P new.site new.rule →
-    MatchOption (first_of before broken (length ds)) (HasNone P (ds ++ new ∷ [])) (IsFirst P (ds ++ new ∷ []))
-first_more P ds new (Some k) broken (lt, holds, first) is =
+abbrev IsFirstOf : (Site → RelocRule → Type 0) → List Field → Option Site → Type 0
+IsFirstOf P ds first = MatchOption first (HasNone P ds) (λ p. (k : ℕ) × IsFirst P ds k × ((field_at ds k).site ≡ p))
+
+first_more : (P : Site → RelocRule → Type 0) (ds : List Field) (new : Field) (before : Option Site) (broken : Bool) →
+    IsFirstOf P ds before → (broken ≡ true) ↔ P new.site new.rule → IsFirstOf P (ds ++ new ∷ []) (first_of before broken new.site)
+first_more P ds new (Some p) broken (k, (lt, holds, first), at) is =
     let long = longer ds new in (
-      omega arith,
-      subst (λ (d : Field). P d.site d.rule) (sym (kept ds new k lt)) holds,
-      (λ j below there. first j below (subst (λ (d : Field). P d.site d.rule) (kept ds new j (omega arith)) there)),
+      k,
+      (
+        omega arith,
+        subst (λ (d : Field). P d.site d.rule) (sym (kept ds new k lt)) holds,
+        (λ j below there. first j below (subst (λ (d : Field). P d.site d.rule) (kept ds new j (omega arith)) there)),
+      ),
+      ap (λ (d : Field). d.site) (kept ds new k lt) ∙ at,
     )
 first_more P ds new None true none is =
     let long = longer ds new in (
-      omega arith,
-      subst (λ (d : Field). P d.site d.rule) (sym (last ds new (length ds) refl)) (is.0 refl),
-      (λ j below there. none j below (subst (λ (d : Field). P d.site d.rule) (kept ds new j below) there)),
+      length ds,
+      (
+        omega arith,
+        subst (λ (d : Field). P d.site d.rule) (sym (last ds new (length ds) refl)) (is.0 refl),
+        (λ j below there. none j below (subst (λ (d : Field). P d.site d.rule) (kept ds new j below) there)),
+      ),
+      ap (λ (d : Field). d.site) (last ds new (length ds) refl),
     )
 first_more P ds new None false none is = λ k lt there.
     let long = longer ds new in
@@ -351,59 +362,70 @@ first_more P ds new None false none is = λ k lt there.
           absurd (cc))
     ]
 
+first_now : (P : Site → RelocRule → Type 0) (ds : List Field) (new : Field) (before after : Option Site) (broken : Bool) →
+    after ≡ first_of before broken new.site → IsFirstOf P ds before → (broken ≡ true) ↔ P new.site new.rule → IsFirstOf P (ds ++ new ∷ []) after
+first_now P ds new before after broken next first is = rw next (first_more P ds new before broken first is)
+
+-- Fields that ascend, and the last of them.
+
+last_more : (ds : List Field) (new : Field) (now : Option Field) → now ≡ Some new → IsLast (ds ++ new ∷ []) now
+last_more ds new now is = rw is (length ds, longer ds new, last ds new (length ds) refl)
+
+follows : (ds : List Field) (new : Field) (before : Option Field) (k : ℕ) → IsLast ds before → IfSome before (λ d. StandsBehind d new) → length ds ≡ k + 1 →
+    StandsBehind (field_at ds k) new
+follows ds new None k none behind long = absurd (omega (arith, none))
+follows ds new (Some d) k (j, count, at) behind long =
+    let same : j ≡ k = omega arith in
+    subst (λ (i : ℕ). StandsBehind (field_at ds i) new) same (subst (λ (e : Field). StandsBehind e new) (sym at) behind)
+
+ascending_more : (ds : List Field) (new : Field) (before : Option Field) → AreAscending ds → IsLast ds before → IfSome before (λ d. StandsBehind d new) →
+    AreAscending (ds ++ new ∷ [])
+ascending_more ds new before are is_last behind k lt =
+    let long = longer ds new in
+    let k_in : k < length ds = omega arith in
+    subst (λ (d : Field). StandsBehind d (field_at (ds ++ new ∷ []) (k + 1))) (sym (kept ds new k k_in))
+    (elim (cases_lt (k + 1) (length ds)) [
+      | inl below ↦ subst (λ (d : Field). StandsBehind (field_at ds k) d) (sym (kept ds new (k + 1) below)) (are k below)
+      | inr above ↦ (
+          let end : length ds ≡ k + 1 = omega arith in
+          subst (λ (d : Field). StandsBehind (field_at ds k) d) (sym (last ds new (k + 1) end)) (follows ds new before k is_last behind end))
+    ])
+
+-- What is seen of the fields: of none, and of one more.
+
+pub seen_none : (fs : List ObjectValue) (m : LinkMapValue) → IsSeen fs m [] none_seen
+seen_none fs m = record {
+  unplaced = λ k lt. absurd (omega arith);
+  out_of_range = λ k lt. absurd (omega arith);
+  refused = λ k lt. absurd (omega arith);
+  last = refl;
+  ascending = λ _ k lt. absurd (omega arith);
+}
+
+pub seen_more : (fs : List ObjectValue) (m : LinkMapValue) (rules : List RelocRule) (p : Site) (ds : List Field) (seen : Seen) (j : Judged) (next : Seen) →
+    IsJudgedField fs m rules p j → IsSeen fs m ds seen → IsSeenNext seen j next → IsSeen fs m (ds ++ j.field ∷ []) next
+seen_more fs m rules p ds seen j next is old step = record {
+  unplaced = first_now (BreaksFieldTest fs m Unplaced) ds j.field seen.unplaced next.unplaced j.unplaced step.unplaced old.unplaced is.unplaced;
+  out_of_range = first_now (BreaksFieldTest fs m FieldOutOfRange) ds j.field seen.out_of_range next.out_of_range j.out_of_range step.out_of_range
+      old.out_of_range is.out_of_range;
+  refused = first_now (BreaksFieldTest fs m ValueOutOfRange) ds j.field seen.refused next.refused j.refused step.refused old.refused is.refused;
+  last = last_more ds j.field next.last step.last;
+  ascending = λ yes. (let (before, behind) = step.ascending yes in ascending_more ds j.field seen.last (old.ascending before) old.last behind);
+}
+
 -- another site with the same fields before it
-pub found_on : (fs : List ObjectValue) (m : LinkMapValue) (rules : List RelocRule) (stop next : Site) (found : Fields) →
-    (AreFieldsBefore fs rules stop found.list.items → AreFieldsBefore fs rules next found.list.items) → AreFoundBefore fs m rules stop found →
-    AreFoundBefore fs m rules next found
-found_on fs m rules stop next found on is = record { before = on is.before; read = is.read; firsts = is.firsts }
-
--- at first
-first_none : (P : Site → RelocRule → Type 0) (ds : List Field) (first : Option ℕ) → ds ≡ [] → first ≡ None → MatchOption first (HasNone P ds) (IsFirst P ds)
-first_none P ds first none is = rw (none, is) (λ k lt. absurd (omega arith))
-
-pub found_none : (fs : List ObjectValue) (m : LinkMapValue) (rules : List RelocRule) (found : Fields) → found.list.items ≡ [] → found.unplaced ≡ None →
-    found.out_of_range ≡ None → found.refused ≡ None → AreFoundBefore fs m rules (entry_site 0 0 0) found
-found_none fs m rules found none unplaced out refused =
-    let ds = found.list.items in
-    record {
-      before = subst (λ (now : List Field). AreFieldsBefore fs rules (entry_site 0 0 0) now) (sym none) (fields_none fs rules);
-      read = subst (λ (now : List Field). AreFieldsRead fs m now) (sym none) (λ k lt. absurd (omega arith));
-      firsts = record {
-        unplaced = first_none (BreaksFieldTest fs m Unplaced) ds found.unplaced none unplaced;
-        out_of_range = first_none (BreaksFieldTest fs m FieldOutOfRange) ds found.out_of_range none out;
-        refused = first_none (BreaksFieldTest fs m ValueOutOfRange) ds found.refused none refused;
-      };
-    }
+pub found_on : (fs : List ObjectValue) (m : LinkMapValue) (rules : List RelocRule) (listing : Bool) (stop next : Site) (found : Found) →
+    ((ds : List Field) → AreFieldsBefore fs rules stop ds → AreFieldsBefore fs rules next ds) → AreFoundBefore fs m rules listing stop found →
+    AreFoundBefore fs m rules listing next found
+found_on fs m rules listing stop next found on (ds, before, is) = (ds, on ds before, is)
 
 -- one field more
-first_now : (P : Site → RelocRule → Type 0) (ds now : List Field) (new : Field) (before after : Option ℕ) (broken : Bool) →
-    now ≡ ds ++ new ∷ [] → after ≡ first_of before broken (length ds) →
-    MatchOption before (HasNone P ds) (IsFirst P ds) → (broken ≡ true) ↔ P new.site new.rule → MatchOption after (HasNone P now) (IsFirst P now)
-first_now P ds now new before after broken longer next first is = rw (longer, next) (first_more P ds new before broken first is)
-
-pub found_more : (fs : List ObjectValue) (m : LinkMapValue) (rules : List RelocRule) (p : Site) (found : Fields) (j : Judged) (next : Fields) →
-    IsJudgedField fs m rules p j → AreFoundBefore fs m rules p found →
-    next.list.items ≡ found.list.items ++ j.field ∷ [] → next.unplaced ≡ first_of found.unplaced j.unplaced (length found.list.items) →
-    next.out_of_range ≡ first_of found.out_of_range j.out_of_range (length found.list.items) →
-    next.refused ≡ first_of found.refused j.refused (length found.list.items) →
-    AreFoundBefore fs m rules (entry_site p.file p.index (p.entry + 1)) next
-found_more fs m rules p found j next is old items unplaced out refused =
-    let ds = found.list.items in
-    let now = next.list.items in
-    let stop = entry_site p.file p.index (p.entry + 1) in
+pub fields_next : (fs : List ObjectValue) (m : LinkMapValue) (rules : List RelocRule) (p : Site) (ds : List Field) (j : Judged) → IsJudgedField fs m rules p j →
+    AreFieldsBefore fs rules p ds → AreFieldsBefore fs rules (entry_site p.file p.index (p.entry + 1)) (ds ++ j.field ∷ [])
+fields_next fs m rules p ds j is before =
     let rule = subst (λ (q : Site). IsFirstRelocationRule (entry_at fs q).kind rules j.field.rule) is.site is.has.rule in
-    record {
-      before = subst (λ (l : List Field). AreFieldsBefore fs rules stop l) (sym items)
-          (fields_more fs rules p stop j.field.rule ds (λ q. before_more q p.file p.index p.entry) (λ q. before_next q p.file p.index p.entry) rule old.before
-          j.field is.site is.has (itself_next p.file p.index p.entry));
-      read = subst (λ (l : List Field). AreFieldsRead fs m l) (sym items) (pushed (IsRead fs m) ds j.field old.read is.read);
-      firsts = record {
-        unplaced = first_now (BreaksFieldTest fs m Unplaced) ds now j.field found.unplaced next.unplaced j.unplaced items unplaced old.firsts.unplaced is.unplaced;
-        out_of_range = first_now (BreaksFieldTest fs m FieldOutOfRange) ds now j.field found.out_of_range next.out_of_range j.out_of_range items out
-            old.firsts.out_of_range is.out_of_range;
-        refused = first_now (BreaksFieldTest fs m ValueOutOfRange) ds now j.field found.refused next.refused j.refused items refused old.firsts.refused is.refused;
-      };
-    }
+    fields_more fs rules p (entry_site p.file p.index (p.entry + 1)) j.field.rule ds (λ q. before_more q p.file p.index p.entry)
+    (λ q. before_next q p.file p.index p.entry) rule before j.field is.site is.has (itself_next p.file p.index p.entry)
 
 -- The rows of rules 13 to 16 by the list of all fields. The list has each applied entry with a field once, in order; so a rule is broken
 -- at an entry exactly if it is at a field of the list, and the first one there is the first site.
@@ -445,6 +467,15 @@ module _ (fs : List ObjectValue) (rules : List RelocRule) (ds : List Field) (are
         first j below (moved P (field_at ds j).site q (field_at ds j).rule r at same there));
   }
 
+  -- the first field of the list that breaks a rule stands at the first site of the row
+  pub first_site : (P : Site → RelocRule → Type 0) (first : Option Site) → IsFirstOf P ds first → IsFirstSite (AtField fs rules P) first
+  first_site P None none = none_at_field P none
+  first_site P (Some p) (k, is, at) = subst (λ (q : Site). IsFirstAt (AtField fs rules P) q) at (first_at_field P k is)
+
+  -- none of a row is none of the list
+  pub none_in_list : (P : Site → RelocRule → Type 0) → Never (AtField fs rules P) → HasNone P ds
+  none_in_list P never k lt holds = never (field_at ds k).site ((field_at ds k).rule, are.each k lt, holds)
+
   -- ---- rule 15
 
   pub shares_earlier : (k : ℕ) → k < length ds → SharesBefore fs ds k → SharesEarlier fs rules (field_at ds k).site (field_at ds k).rule
@@ -455,6 +486,9 @@ module _ (fs : List ObjectValue) (rules : List RelocRule) (ds : List Field) (are
       let (j, j_in, at, same) = position q s has in
       let below = below_of j k j_in lt (subst (λ (u : Site). Before u (field_at ds k).site) (sym at) before) in
       (j, below, moved (λ u v. Share fs u v (field_at ds k).site (field_at ds k).rule) (field_at ds j).site q (field_at ds j).rule s at same share)
+
+  pub none_shared : Never (fields_overlap fs rules) → HasNoOverlap fs ds
+  none_shared never k lt shares = none_in_list (SharesEarlier fs rules) never k lt (shares_earlier k lt shares)
 
   pub no_overlap : HasNoOverlap fs ds → HasNone (SharesEarlier fs rules) ds
   no_overlap none k lt shares = none k lt (shares_before k lt shares)
@@ -469,6 +503,9 @@ within_or a b never = elim (cases_lt b a) [
   | inl above ↦ absurd (never (λ le. omega arith))
   | inr below ↦ below
 ]
+
+pub within_unless : (broken : Bool) (a b : ℕ) → (broken ≡ true) ↔ (a ≤ b → ⊥) → broken ≡ false → a ≤ b
+within_unless broken a b is unbroken = within_or a b (λ out. (let never : true ≡ false = sym (is.1 out) ∙ unbroken in absurd (cc)))
 
 pub all_within : (fs : List ObjectValue) (ds : List Field) → HasNone (IsFieldOutOfRange fs) ds → AllWithin fs ds
 all_within fs ds none k lt = within_or _ _ (none k lt)

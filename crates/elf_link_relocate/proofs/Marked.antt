@@ -1,19 +1,16 @@
 -- Marks of fields, one field after the other. A byte is marked exactly if one of the fields so far has it, so the next field shares a byte
 -- with an earlier one exactly if it finds a mark.
-use Rattle.std.proofs.Common.{◌≡◌, ◌≢◌, ℕ, ◌<◌, ◌⊎◌, List, [], get_or, length, map, set, inl, inr, sym, ◌∙◌, ap, ◌+◌, ◌-◌, ◌≤◌, Bool, true, false, refl, subst, arith, zero, suc, Some, slice_get, option_map}
+use Rattle.std.proofs.Common.{◌≡◌, ◌≢◌, ℕ, ◌<◌, ◌⊎◌, List, [], get_or, length, map, set, inl, inr, sym, ◌∙◌, ap, ◌+◌, ◌-◌, ◌≤◌, Bool, true, false, refl, subst, arith, zero, suc}
 use Rattle.std.proofs.lemmas.Bool.{cases_eq, cases_lt}
 use Rattle.std.specs.Global.{Vec}
 use Rattle.std.specs.Vec.{with_item}
 use Rattle.std.proofs.lemmas.List.{get_or-map, get_or-set_other, get_or-set_same, length-map, length-set, map-set, length-replicate}
 use Rattle.std.specs.Prelude.{replicate}
-use Rattle.std.proofs.lemmas.Option.{slice_get-get_or, slice_get-map}
-use Rattle.elf_extent.specs.Extent.{Doubly, HasAt, Never}
 use Rattle.elf_link_field.specs.Field.{AreTaken, IsMarked, size_of}
 use Rattle.elf_link_map.specs.LinkMap.{LinkMapValue}
-use Rattle.elf_link_map.specs.Standing.{address_in}
 use Rattle.elf_link_relocate.specs.Fields.{target_at, HasOffset, content_in, field_start, Share}
 use Rattle.elf_link_relocate.specs.Linked.{IsGrid, item, with, IsSectionOf}
-use Rattle.elf_link_relocate.specs.Passes.{field_at, AreMarksFor, AreUnmarkedRows, IsCovered, IsFieldIn, SharesBefore, AreFieldsRead, IsInTarget, HasNoOverlap, AreAscending, StandsBehind, no_field, field_extent}
+use Rattle.elf_link_relocate.specs.Passes.{field_at, AreMarksFor, AreUnmarkedRows, IsCovered, IsFieldIn, SharesBefore, AreFieldsRead, IsInTarget, HasNoOverlap, AreAscending, StandsBehind}
 use Rattle.elf_link_relocate.specs.declared.field.Field.{Field}
 use Rattle.elf_object_type.specs.Object.{ObjectValue}
 
@@ -230,7 +227,7 @@ behind_on a b c (inr (same, inl target)) (inr (again, inr (section, offset))) = 
 behind_on a b c (inr (same, inr (section, offset))) (inr (again, inl other)) = inr (same ∙ again, inl (omega arith))
 behind_on a b c (inr (same, inr (section, offset))) (inr (again, inr (there, end))) = inr (same ∙ again, inr (section ∙ there, omega arith))
 
-behind_all : (ds : List Field) → AreAscending ds (length ds) → (j k : ℕ) → j < k → k < length ds → StandsBehind (field_at ds j) (field_at ds k)
+behind_all : (ds : List Field) → AreAscending ds → (j k : ℕ) → j < k → k < length ds → StandsBehind (field_at ds j) (field_at ds k)
 behind_all ds are j zero lt within = absurd (omega arith)
 behind_all ds are j (suc k) lt within =
     let next : k + 1 ≡ suc k = omega arith in
@@ -240,16 +237,6 @@ behind_all ds are j (suc k) lt within =
       | inl below ↦ behind_on (field_at ds j) (field_at ds k) (field_at ds (k + 1)) (behind_all ds are j k below (omega arith)) last
       | inr above ↦ (let same : k ≡ j = omega arith in subst (λ (i : ℕ). StandsBehind (field_at ds i) (field_at ds (k + 1))) same last)
     ])
-
--- one more
-pub ascending_more : (ds : List Field) (k : ℕ) → AreAscending ds k → StandsBehind (field_at ds (k - 1)) (field_at ds k) → AreAscending ds (k + 1)
-ascending_more ds k are last j lt = elim (cases_lt (j + 1) k) [
-  | inl below ↦ are j below
-  | inr above ↦ (
-      let same : k ≡ j + 1 = omega arith in
-      let before : k - 1 ≡ j = omega arith in
-      subst (λ (i : ℕ). StandsBehind (field_at ds j) (field_at ds i)) same (subst (λ (i : ℕ). StandsBehind (field_at ds i) (field_at ds k)) before last))
-]
 
 behind_apart : (fs : List ObjectValue) (d e : Field) → IsInTarget fs d → IsInTarget fs e → StandsBehind d e → Share fs d.site d.rule e.site e.rule → ⊥
 behind_apart fs d e at there (inl file) ((same, target), common) = omega arith
@@ -262,34 +249,7 @@ behind_apart fs d e at there (inr (file, inr (section, end))) ((same, target), (
     let second = there.offset in
     omega arith
 
-pub ascending_apart : (fs : List ObjectValue) (m : LinkMapValue) (ds : List Field) → AreFieldsRead fs m ds → AreAscending ds (length ds) → HasNoOverlap fs ds
+pub ascending_apart : (fs : List ObjectValue) (m : LinkMapValue) (ds : List Field) → AreFieldsRead fs m ds → AreAscending ds → HasNoOverlap fs ds
 ascending_apart fs m ds read are k lt (j, below, share) =
     let j_in : j < length ds = omega arith in
     behind_apart fs (field_at ds j) (field_at ds k) (read j j_in).place (read k lt).place (behind_all ds are j k below lt) share
-
--- Fields that share a byte of a section share an address, because a section has one address. So if no address is in two extents of fields,
--- no byte is in two fields.
-
--- the extent at a position of the list
-extent_at : (fs : List ObjectValue) (m : LinkMapValue) (ds : List Field) (k : ℕ) → k < length ds →
-    slice_get (map (field_extent fs m) ds) k ≡ Some (field_extent fs m (field_at ds k))
-extent_at fs m ds k lt =
-    slice_get-map (field_extent fs m) ds k ∙ ap (option_map (field_extent fs m)) (slice_get-get_or ds k no_field lt)
-
--- a byte of a field is at an address of it
-at_address : (fs : List ObjectValue) (m : LinkMapValue) (ds : List Field) (k x a : ℕ) → k < length ds →
-    a ≡ address_in m (field_at ds k).site.file (target_at fs (field_at ds k).site) → HasOffset fs (field_at ds k).site (field_at ds k).rule x →
-    HasAt (map (field_extent fs m) ds) k (a + x)
-at_address fs m ds k x a lt is (low, high) = (field_extent fs m (field_at ds k), extent_at fs m ds k lt, (omega arith, omega arith))
-
-pub apart_by_address : (fs : List ObjectValue) (m : LinkMapValue) (ds : List Field) →
-    Never (Doubly (map (field_extent fs m) ds)) → HasNoOverlap fs ds
-apart_by_address fs m ds never k lt (j, below, shares) =
-    let (target_same, common) = shares in
-    let (file, target) = target_same in
-    let (x, first, second) = common in
-    let p = (field_at ds j).site in
-    let q = (field_at ds k).site in
-    let a = address_in m p.file (target_at fs p) in
-    let there : a ≡ address_in m q.file (target_at fs q) = ap (λ (f : ℕ). address_in m f (target_at fs p)) file ∙ ap (λ (s : ℕ). address_in m q.file s) target in
-    never (a + x) (j, k, below, at_address fs m ds j x a (omega arith) refl first, at_address fs m ds k x a lt there second)

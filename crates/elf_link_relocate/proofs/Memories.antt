@@ -105,7 +105,7 @@ module _ (fs : List ObjectValue) (m : LinkMapValue) (rules : List RelocRule) (ds
         let p = (field_at ds j).site in
         let r = (field_at ds j).rule in
         let start = field_start fs p in
-        let (z, number) = some_number (λ (value : ℕ). relocation_number r.form value (addend_of fs p r) (field_address fs m p)) (value_at fs m p) (are.placed j lt) in
+        let (z, number) = some_number (λ (value : ℕ). relocation_number r.form value (addend_of fs p r) (field_address fs m p)) (value_at fs m p) (are.kept.placed j lt) in
         let cell_at : cell m.addresses p.file (target_at fs p) ≡ Some a = rw (file, target) begins in
         let address : address_in m p.file (target_at fs p) ≡ a = ap (λ (o : Option ℕ). or_zero o) cell_at in
         let offset : start + (k - start) ≡ k = omega arith in (
@@ -122,7 +122,7 @@ module _ (fs : List ObjectValue) (m : LinkMapValue) (rules : List RelocRule) (ds
         let (b, there) = target_begins p r has in
         let address : address_in m p.file (target_at fs p) ≡ b = ap (λ (o : Option ℕ). or_zero o) there in
         let start = field_start fs p in
-        let within : IsWithin fs p r = subst (λ (q : Site). IsWithin fs q r) site_is (subst (λ (u : RelocRule). IsWithin fs (field_at ds j).site u) rule_is (are.within j lt)) in
+        let within : IsWithin fs p r = subst (λ (q : Site). IsWithin fs q r) site_is (subst (λ (u : RelocRule). IsWithin fs (field_at ds j).site u) rule_is (are.kept.within j lt)) in
         let fits = content_fits (section_in fs p.file (target_at fs p)).body in
         let mine = content_fits (section_in fs f s).body in
         let long = is.long in

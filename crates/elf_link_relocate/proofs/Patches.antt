@@ -1,6 +1,6 @@
 -- Copies with one more number in its field. Patching changes the bytes of that field alone, and fields share no byte; so after k fields
 -- the copies have the numbers of the first k, and all else as it was.
-use Rattle.std.proofs.Common.{◌≡◌, ℕ, ◌<◌, Bool, true, List, length, arith, ◌≢◌, map, ◌+◌, ◌≤◌, ◌⊎◌, ℤ, [], ◌∷◌, zero, suc, inl, inr, refl, sym, ◌∙◌, ap, subst}
+use Rattle.std.proofs.Common.{◌≡◌, ℕ, ◌<◌, Bool, true, List, length, arith, ◌≢◌, map, ◌+◌, ◌≤◌, ◌⊎◌, ℤ, [], ◌∷◌, zero, suc, inl, inr, refl, sym, ◌∙◌, ap, subst, ◌++◌, false}
 use Rattle.std.specs.Prelude.{IfSome, None, Option, Some, get_or, option_map, slice_index}
 use Rattle.std.specs.Global.{Vec}
 use Rattle.std.proofs.lemmas.Bool.{cases_eq, cases_lt}
@@ -12,12 +12,15 @@ use Rattle.elf_link_files.specs.Files.{object_at, symbol_in}
 use Rattle.elf_link_files.specs.declared.site.Site.{Site}
 use Rattle.elf_link_map.specs.LinkMap.{LinkMapValue}
 use Rattle.elf_link_map.specs.Naming.{AreBindingNumbers, IsBindingNumber, IsBindingAt}
-use Rattle.elf_link_relocate.proofs.Marked.{grid_with, item_here, item_other}
-use Rattle.elf_link_relocate.specs.Fields.{IsEntrySite, entries_of, entry_at, target_at, target_of, HasField, HasOffset, IsWithin, content_in, field_start, addend_of, field_address, number_at, value_at}
+use Rattle.elf_link_relocate.proofs.Collected.{kept, last, longer, pushed, fields_none, fields_next, seen_none, seen_more, first_site, none_at_field, none_in_list, none_shared, no_overlap, all_within}
+use Rattle.elf_link_relocate.proofs.Marked.{ascending_apart, grid_with, item_here, item_other}
+use Rattle.elf_link_relocate.specs.Fields.{IsEntrySite, entries_of, entry_at, target_at, target_of, HasField, HasOffset, IsWithin, field_start, addend_of, field_address, number_at, value_at, Share, IsUnplaced, IsFieldOutOfRange, IsValueOutOfRange, SharesEarlier}
 use Rattle.elf_link_relocate.specs.Linked.{IsSectionOf, HasLiveBits, IsGrid, item, with, number_byte}
-use Rattle.elf_link_relocate.specs.Passes.{field_at, AreJudged, IsRead, IsCovered, IsFieldIn, AreAllCopies, AreRelocated, IsCopy, IsRelocated}
+use Rattle.elf_link_relocate.specs.Passes.{field_at, AreKept, IsRead, IsCovered, IsFieldIn, AreAllCopies, AreRelocated, IsCopy, IsRelocated, HaveCopies, IsFieldPatched, IsPatchedOrBroken, AreFoundBefore, AreAllFound, AreFoundInOrder, IsJudgedField, IsSeenNext, copies_view, entry_site, none_seen}
 use Rattle.elf_link_relocate.specs.Views.{IsFileSymbol}
 use Rattle.elf_link_relocate.specs.declared.field.Field.{Field}
+use Rattle.elf_link_relocate.specs.declared.field.Found.{Found}
+use Rattle.elf_link_relocate.specs.declared.field.Judged.{Judged}
 use Rattle.elf_object_type.proofs.Public.{references_there, relocations_there}
 use Rattle.elf_object_type.specs.Object.{BodyValue, bits, no_bits, relocs, group, ObjectValue, no_relocation, section_at, is_bits, binding}
 use Rattle.elf_object_type.specs.ObjectRules.{HasReferences, IsObject}
@@ -131,7 +134,7 @@ relocated_none fs m ds rows are =
 
 -- ---- one field more
 
-same_bytes : (a b : List ℕ) → Some a ≡ Some b → a ≡ b
+pub same_bytes : (a b : List ℕ) → Some a ≡ Some b → a ≡ b
 same_bytes a b e = cc
 
 same_number : (a b : ℤ) → Some a ≡ Some b → a ≡ b
@@ -155,8 +158,8 @@ target_live fs rules p r has is =
     let there = has.applied.0 in
     (target_section fs p there is, has.applied.1.1, (target_has_bits (object_at fs p.file) p.index p.entry is there.section there.entry).1)
 
-module _ (fs : List ObjectValue) (m : LinkMapValue) (rules : List RelocRule) (ds : List Field) (n : ℕ) (z : ℤ)
-    (are : AreJudged fs m rules ds) (n_in : n < length ds) (number : number_at fs m (field_at ds n).site (field_at ds n).rule ≡ Some z) where
+module _ (fs : List ObjectValue) (m : LinkMapValue) (ds : List Field) (n : ℕ) (z : ℤ) (are : AreKept fs m ds) (n_in : n < length ds)
+    (number : number_at fs m (field_at ds n).site (field_at ds n).rule ≡ Some z) where
   abbrev d : Field
   d = field_at ds n
 
@@ -262,8 +265,178 @@ module _ (fs : List ObjectValue) (m : LinkMapValue) (rules : List RelocRule) (ds
         ];
       }
 
-pub copy_long : (fs : List ObjectValue) (m : LinkMapValue) (ds : List Field) (n f s : ℕ) (rows : List (List (Option (List ℕ)))) (copy : List ℕ) →
-    AreRelocated fs m ds n rows → HasLiveBits fs f s → item None rows f s ≡ Some copy → length copy ≡ length (content_in fs f s)
-copy_long fs m ds n f s rows copy is live at =
-    let (old, at_old, relocated) = is.each f s live in
-    ap (λ (b : List ℕ). length b) (same_bytes copy old (sym at ∙ at_old)) ∙ relocated.long
+-- Copies while fields are found: each is as long as its section's content, and if the fields so far keep rules 13 to 15, it holds their
+-- numbers.
+
+-- at first
+pub copies_none : (fs : List ObjectValue) (m : LinkMapValue) (rows : List (List (Option (List ℕ)))) → AreAllCopies fs (length fs) rows → HaveCopies fs rows
+copies_none fs m rows are =
+    let is = relocated_none fs m [] rows are in
+    record {
+      grid = is.grid;
+      each = λ f s live. (let (after, at, relocated) = is.each f s live in (after, at, relocated.long));
+    }
+
+-- a patched copy is as long
+copies_patched : (fs : List ObjectValue) (d : Field) (rows new : List (List (Option (List ℕ)))) → HaveCopies fs rows → IsFieldPatched fs d rows new →
+    HaveCopies fs new
+copies_patched fs d rows new have is =
+    let f = d.site.file in
+    let t = target_at fs d.site in
+    let f_in : f < length rows = (let files = have.grid.files in let lt = is.live.0.0 in omega arith) in
+    let t_in : t < length (get_or rows f []) = (let sections = have.grid.sections f is.live.0.0 in let lt = is.live.0.1 in omega arith) in
+    rw is.new_is (record {
+      grid = grid_with None rows f t (Some is.after) f_in fs have.grid;
+      each = λ g s live. (
+          let (copy, at, long) = have.each g s live in
+          elim (cases_eq g f) [
+            | inr file ↦ (copy, item_other None rows f t (Some is.after) f_in g s (inl file) ∙ at, long)
+            | inl file ↦ elim (cases_eq s t) [
+              | inr section ↦ (copy, item_other None rows f t (Some is.after) f_in g s (inr section) ∙ at, long)
+              | inl section ↦ (
+                  let (old, old_at, old_long) = have.each f t is.live in
+                  let same : is.copy ≡ old = same_bytes is.copy old (sym is.at ∙ old_at) in
+                  rw (file, section) (
+                    is.after,
+                    item_here None rows f t (Some is.after) f_in t_in,
+                    is.patched.long ∙ (ap (λ (b : List ℕ). length b) same ∙ old_long),
+                  ))
+            ]
+          ]);
+    })
+
+-- the fields before one more one
+module _ (fs : List ObjectValue) (m : LinkMapValue) (ds : List Field) (new : Field) where
+  abbrev now : List Field
+  now = ds ++ new ∷ []
+
+  share_kept : (j k : ℕ) → j < length ds → k < length ds →
+      Share fs (field_at ds j).site (field_at ds j).rule (field_at ds k).site (field_at ds k).rule →
+      Share fs (field_at now j).site (field_at now j).rule (field_at now k).site (field_at now k).rule
+  share_kept j k j_in k_in share =
+      subst (λ (d : Field). Share fs d.site d.rule (field_at now k).site (field_at now k).rule) (sym (kept ds new j j_in))
+      (subst (λ (d : Field). Share fs (field_at ds j).site (field_at ds j).rule d.site d.rule) (sym (kept ds new k k_in)) share)
+
+  kept_before : AreKept fs m now → AreKept fs m ds
+  kept_before are =
+      let long = longer ds new in
+      record {
+        placed = λ k lt none. are.placed k (omega arith) (subst (λ (d : Field). value_at fs m d.site ≡ None) (sym (kept ds new k lt)) none);
+        within = λ k lt. subst (λ (d : Field). IsWithin fs d.site d.rule) (kept ds new k lt) (are.within k (omega arith));
+        apart = λ k lt (j, below, share). are.apart k (omega arith) (j, below, share_kept j k (omega arith) lt share);
+      }
+
+  relocated_before : (rows : List (List (Option (List ℕ)))) → AreRelocated fs m ds (length ds) rows → AreRelocated fs m now (length ds) rows
+  relocated_before rows is = record {
+    grid = is.grid;
+    each = λ f s live. (
+        let (after, at, relocated) = is.each f s live in (
+          after,
+          at,
+          record {
+            long = relocated.long;
+            inside = λ j lt. subst
+                (λ (d : Field). IsFieldIn fs d f s → (z : ℤ) → number_at fs m d.site d.rule ≡ Some z → (k : ℕ) → k < size_of d.rule.width →
+                slice_index after (field_start fs d.site + k) ≡ number_byte fs d.site d.rule z k)
+                (sym (kept ds new j lt)) (relocated.inside j lt);
+            outside = λ x none. relocated.outside x (λ (j, lt, at, has). none (
+              j,
+              lt,
+              subst (λ (d : Field). IsFieldIn fs d f s) (sym (kept ds new j lt)) at,
+              subst (λ (d : Field). HasOffset fs d.site d.rule x) (sym (kept ds new j lt)) has,
+            ));
+          },
+        ));
+    others = is.others;
+  }
+
+  -- the last one is patched
+  relocated_now : (old rows : List (List (Option (List ℕ)))) → AreKept fs m now → IsRead fs m new → IsFieldPatched fs new old rows →
+      AreRelocated fs m ds (length ds) old → AreRelocated fs m now (length now) rows
+  relocated_now old rows are read put is =
+      let n = length ds in
+      let long = longer ds new in
+      let n_in : n < length now = omega arith in
+      let at = last ds new n refl in
+      let number = subst (λ (d : Field). number_at fs m d.site d.rule ≡ Some new.number) (sym at)
+      (number_there fs m new (subst (λ (d : Field). value_at fs m d.site ≡ None → ⊥) at (are.placed n n_in))
+      (subst (λ (d : Field). IsWithin fs d.site d.rule) at (are.within n n_in)) read) in
+      let patched = subst (λ (d : Field). IsPatched (object_at fs d.site.file).order put.copy (field_start fs d.site) (size_of d.rule.width) new.number put.after)
+      (sym at) put.patched in
+      let live = subst (λ (d : Field). HasLiveBits fs d.site.file (target_at fs d.site)) (sym at) put.live in
+      let there = subst (λ (d : Field). item None old d.site.file (target_at fs d.site) ≡ Some put.copy) (sym at) put.at in
+      let more = relocated_more fs m now n new.number are n_in number old put.copy put.after live there patched (relocated_before old is) in
+      rw (put.new_is, long) (subst (λ (d : Field). AreRelocated fs m now (n + 1) (with old d.site.file (target_at fs d.site) (Some put.after))) at more)
+
+-- What is found before the first field, and with one more.
+
+pub found_none : (fs : List ObjectValue) (m : LinkMapValue) (rules : List RelocRule) (listing : Bool) (found : Found) → found.list.items ≡ [] →
+    found.seen ≡ none_seen → AreAllCopies fs (length fs) (copies_view found.copies.items) → AreFoundBefore fs m rules listing (entry_site 0 0 0) found
+found_none fs m rules listing found none seen are = (
+  [],
+  fields_none fs rules,
+  record {
+    read = λ k lt. absurd (omega arith);
+    seen = rw seen (seen_none fs m);
+    list = λ _. none;
+    copies = copies_none fs m (copies_view found.copies.items) are;
+    relocated = λ _. relocated_none fs m [] (copies_view found.copies.items) are;
+  },
+)
+
+pub found_more : (fs : List ObjectValue) (m : LinkMapValue) (rules : List RelocRule) (listing : Bool) (p : Site) (found : Found) (j : Judged) (next : Found) →
+    IsJudgedField fs m rules p j → AreFoundBefore fs m rules listing p found → IsSeenNext found.seen j next.seen →
+    (listing ≡ true → next.list.items ≡ found.list.items ++ j.field ∷ []) →
+    IsPatchedOrBroken fs j (copies_view found.copies.items) (copies_view next.copies.items) →
+    AreFoundBefore fs m rules listing (entry_site p.file p.index (p.entry + 1)) next
+found_more fs m rules listing p found j next is (ds, before, old) seen listed (inl put) = (
+  ds ++ j.field ∷ [],
+  fields_next fs m rules p ds j is before,
+  record {
+    read = pushed (IsRead fs m) ds j.field old.read is.read;
+    seen = seen_more fs m rules p ds found.seen j next.seen is old.seen seen;
+    list = λ yes. listed yes ∙ ap (λ (l : List Field). l ++ j.field ∷ []) (old.list yes);
+    copies = copies_patched fs j.field (copies_view found.copies.items) (copies_view next.copies.items) old.copies put;
+    relocated = λ are. relocated_now fs m ds j.field (copies_view found.copies.items) (copies_view next.copies.items) are is.read put
+        (old.relocated (kept_before fs m ds j.field are));
+  },
+)
+found_more fs m rules listing p found j next is (ds, before, old) seen listed (inr (broken, same)) = (
+  ds ++ j.field ∷ [],
+  fields_next fs m rules p ds j is before,
+  record {
+    read = pushed (IsRead fs m) ds j.field old.read is.read;
+    seen = seen_more fs m rules p ds found.seen j next.seen is old.seen seen;
+    list = λ yes. listed yes ∙ ap (λ (l : List Field). l ++ j.field ∷ []) (old.list yes);
+    copies = rw same old.copies;
+    relocated = λ are. (
+        let n = length ds in
+        let long = longer ds j.field in
+        let n_in : n < length (ds ++ j.field ∷ []) = omega arith in
+        let at = last ds j.field n refl in
+        absurd (elim broken [
+          | inl unplaced ↦ subst (λ (d : Field). value_at fs m d.site ≡ None → ⊥) at (are.placed n n_in) (is.unplaced.0 unplaced)
+          | inr out ↦ is.out_of_range.0 out (subst (λ (d : Field). IsWithin fs d.site d.rule) at (are.within n n_in))
+        ]));
+  },
+)
+
+-- What is found of all fields, as the rows of rules 13 to 16.
+
+pub found_in_order : (fs : List ObjectValue) (m : LinkMapValue) (rules : List RelocRule) (listing : Bool) (found : Found) →
+    AreAllFound fs m rules listing found → (found.seen.ascending ≡ false → listing ≡ true) → AreFoundInOrder fs m rules found
+found_in_order fs m rules listing found (ds, are, is) listed = record {
+  placed = first_site fs rules ds are (IsUnplaced fs m) found.seen.unplaced is.seen.unplaced;
+  within = first_site fs rules ds are (IsFieldOutOfRange fs) found.seen.out_of_range is.seen.out_of_range;
+  admitted = first_site fs rules ds are (IsValueOutOfRange fs m) found.seen.refused is.seen.refused;
+  apart = λ yes. none_at_field fs rules ds are (SharesEarlier fs rules) (no_overlap fs rules ds are (ascending_apart fs m ds is.read (is.seen.ascending yes)));
+  fields = λ no. rw (is.list (listed no)) are;
+  read = λ no. rw (is.list (listed no)) is.read;
+  copies = λ placed within apart. (
+      let kept_all : AreKept fs m ds = record {
+        placed = none_in_list fs rules ds are (IsUnplaced fs m) placed;
+        within = all_within fs ds (none_in_list fs rules ds are (IsFieldOutOfRange fs) within);
+        apart = none_shared fs rules ds are apart;
+      } in
+      (ds, record { fields = are; kept = kept_all }, is.relocated kept_all));
+}

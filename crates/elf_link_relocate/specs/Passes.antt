@@ -1,12 +1,10 @@
 -- What the passes over the entries and the fields of a link look at, collect and return.
-use Rattle.std.specs.Prelude.{List, ◌≡◌, ℕ, ◌<◌, pos, get_or, length, Some, ℤ, ◌↔◌, Bool, true, false, MatchOption, Option, None, [], map, replicate, ◌+◌, ◌≤◌, ◌⊎◌, slice_index}
+use Rattle.std.specs.Prelude.{List, ◌≡◌, ℕ, ◌<◌, pos, get_or, length, Some, ℤ, ◌↔◌, Bool, true, false, MatchOption, Option, None, [], map, replicate, ◌+◌, ◌≤◌, ◌⊎◌, slice_index, option_map, IfSome}
 use Rattle.std.specs.Global.{Vec}
 use Rattle.elf_extent.specs.Extent.{Never}
-use Rattle.elf_extent.specs.declared.extent.Extent.{Extent}
 use Rattle.elf_field.specs.declared.number.Order.{Order}
 use Rattle.elf_image_rules.specs.Rows.{Row}
-use Rattle.elf_image_rules.specs.declared.image_rules.Broken.{Broken}
-use Rattle.elf_link_field.specs.Field.{AreTaken, IsMarked, size_of, patched}
+use Rattle.elf_link_field.specs.Field.{AreTaken, IsMarked, IsPatched, size_of, patched}
 use Rattle.elf_link_field.specs.declared.rule.Form.TheVariants.{Abs}
 use Rattle.elf_link_field.specs.declared.rule.Range.TheVariants.{Signed}
 use Rattle.elf_link_field.specs.declared.rule.RelocRule.{RelocRule}
@@ -17,13 +15,14 @@ use Rattle.elf_link_files.specs.declared.fault.LinkFault.TheVariants.{Rule, OutO
 use Rattle.elf_link_files.specs.declared.fault.LinkFault.{LinkFault}
 use Rattle.elf_link_files.specs.declared.site.Site.{Site}
 use Rattle.elf_link_map.specs.LinkMap.{LinkMapValue}
-use Rattle.elf_link_relocate.specs.Fields.{HasField, no_rule, AtField, IsFieldOutOfRange, IsUnplaced, IsValueOutOfRange, target_at, IsWithin, field_start, number_at, HasOffset, Share, content_in, fields_overlap, field_address}
+use Rattle.elf_link_relocate.specs.Fields.{HasField, no_rule, IsFieldOutOfRange, IsUnplaced, IsValueOutOfRange, target_at, IsWithin, field_start, number_at, HasOffset, Share, content_in, fields_overlap, field_out_of_range, unplaced, value_out_of_range}
 use Rattle.elf_link_relocate.specs.Linked.{IsGrid, IsSectionOf, item, with, HasLiveBits, number_byte}
 use Rattle.elf_link_relocate.specs.declared.field.Field.{Field}
 use Rattle.elf_link_relocate.specs.declared.field.FieldTest.TheVariants.{FieldOutOfRange, Unplaced, ValueOutOfRange}
 use Rattle.elf_link_relocate.specs.declared.field.FieldTest.{FieldTest}
-use Rattle.elf_link_relocate.specs.declared.field.Fields.{Fields}
+use Rattle.elf_link_relocate.specs.declared.field.Found.{Found}
 use Rattle.elf_link_relocate.specs.declared.field.Judged.{Judged}
+use Rattle.elf_link_relocate.specs.declared.field.Seen.{Seen}
 use Rattle.elf_object_type.specs.Object.{ObjectValue}
 
 -- What contracts see of a link while its fields are looked at: its objects, their map, and the relocation rules.
@@ -112,14 +111,6 @@ test_number Unplaced = 13
 test_number FieldOutOfRange = 14
 test_number ValueOutOfRange = 16
 
--- its row
-abbrev pub test_row : List ObjectValue → LinkMapValue → List RelocRule → FieldTest → Row Site
-test_row fs m rules test = AtField fs rules (BreaksFieldTest fs m test)
-
--- the rule of a test is the fault, at its first site
-abbrev pub IsTestFault : List ObjectValue → LinkMapValue → List RelocRule → FieldTest → Broken Site → Type 0
-IsTestFault fs m rules test broken = (broken.rule ≡ test_number test) × IsFirstAt (test_row fs m rules test) broken.at
-
 -- What is known of a link while its fields are looked at.
 
 -- the section that a field carries, and the offset there, are those of its entry
@@ -135,13 +126,7 @@ pub record IsRead (fs : List ObjectValue) (m : LinkMapValue) (d : Field) : Type 
 abbrev pub AreFieldsRead : List ObjectValue → LinkMapValue → List Field → Type 0
 AreFieldsRead fs m ds = (k : ℕ) → k < length ds → IsRead fs m (field_at ds k)
 
--- The fields before a site with what they carry, and the first ones that break the rules of one field.
-
--- the first position of a list that is n long and gets one more
-abbrev pub first_of : Option ℕ → Bool → ℕ → Option ℕ
-first_of (Some k) broken n = Some k
-first_of None true n = Some n
-first_of None false n = None
+-- A field with the rules that it breaks.
 
 -- the field of the entry at a site, and which rules it breaks
 pub record IsJudgedField (fs : List ObjectValue) (m : LinkMapValue) (rules : List RelocRule) (p : Site) (j : Judged) : Type 0 where
@@ -152,21 +137,50 @@ pub record IsJudgedField (fs : List ObjectValue) (m : LinkMapValue) (rules : Lis
   pub out_of_range : (j.out_of_range ≡ true) ↔ BreaksFieldTest fs m FieldOutOfRange j.field.site j.field.rule
   pub refused : (j.refused ≡ true) ↔ BreaksFieldTest fs m ValueOutOfRange j.field.site j.field.rule
 
--- the first field of the list that breaks a rule, or none
-abbrev pub IsFirstBroken : List ObjectValue → LinkMapValue → List Field → FieldTest → Option ℕ → Type 0
-IsFirstBroken fs m ds test first = MatchOption first (HasNone (BreaksFieldTest fs m test) ds) (IsFirst (BreaksFieldTest fs m test) ds)
+-- What is seen of the fields of a list, one after the other.
 
--- the first one that breaks each rule
-pub record AreFirsts (fs : List ObjectValue) (m : LinkMapValue) (found : Fields) : Type 0 where
-  pub unplaced : IsFirstBroken fs m found.list.items Unplaced found.unplaced
-  pub out_of_range : IsFirstBroken fs m found.list.items FieldOutOfRange found.out_of_range
-  pub refused : IsFirstBroken fs m found.list.items ValueOutOfRange found.refused
+-- the first site where something holds, of one found before and the next one
+abbrev pub first_of : Option Site → Bool → Site → Option Site
+first_of (Some first) holds p = Some first
+first_of None true p = Some p
+first_of None false p = None
 
--- the fields before the site, with what they carry
-pub record AreFoundBefore (fs : List ObjectValue) (m : LinkMapValue) (rules : List RelocRule) (stop : Site) (found : Fields) : Type 0 where
-  pub before : AreFieldsBefore fs rules stop found.list.items
-  pub read : AreFieldsRead fs m found.list.items
-  pub firsts : AreFirsts fs m found
+-- the site of the first field of the list that breaks a rule, or none
+abbrev pub IsFirstBroken : List ObjectValue → LinkMapValue → List Field → FieldTest → Option Site → Type 0
+IsFirstBroken fs m ds test first = MatchOption first (HasNone (BreaksFieldTest fs m test) ds)
+    (λ p. (k : ℕ) × IsFirst (BreaksFieldTest fs m test) ds k × ((field_at ds k).site ≡ p))
+
+-- the last field of the list, or none
+abbrev pub IsLast : List Field → Option Field → Type 0
+IsLast ds last = MatchOption last (length ds ≡ 0) (λ d. (k : ℕ) × (length ds ≡ k + 1) × (field_at ds k ≡ d))
+
+-- a field is after another one: in a later file, in a later section of its file, or after its end in its section
+abbrev pub StandsBehind : Field → Field → Type 0
+StandsBehind d e =
+    (d.site.file < e.site.file) ⊎
+    ((d.site.file ≡ e.site.file) × ((d.target < e.target) ⊎ ((d.target ≡ e.target) × (d.offset + size_of d.rule.width ≤ e.offset))))
+
+-- each field but the first one is after the one before it
+abbrev pub AreAscending : List Field → Type 0
+AreAscending ds = (k : ℕ) → k + 1 < length ds → StandsBehind (field_at ds k) (field_at ds (k + 1))
+
+-- of no field; of some fields; and of these and one more
+abbrev pub none_seen : Seen
+none_seen = record { unplaced = None; out_of_range = None; refused = None; last = None; ascending = true }
+
+pub record IsSeen (fs : List ObjectValue) (m : LinkMapValue) (ds : List Field) (seen : Seen) : Type 0 where
+  pub unplaced : IsFirstBroken fs m ds Unplaced seen.unplaced
+  pub out_of_range : IsFirstBroken fs m ds FieldOutOfRange seen.out_of_range
+  pub refused : IsFirstBroken fs m ds ValueOutOfRange seen.refused
+  pub last : IsLast ds seen.last
+  pub ascending : seen.ascending ≡ true → AreAscending ds
+
+pub record IsSeenNext (old : Seen) (j : Judged) (new : Seen) : Type 0 where
+  pub unplaced : new.unplaced ≡ first_of old.unplaced j.unplaced j.field.site
+  pub out_of_range : new.out_of_range ≡ first_of old.out_of_range j.out_of_range j.field.site
+  pub refused : new.refused ≡ first_of old.refused j.refused j.field.site
+  pub last : new.last ≡ Some j.field
+  pub ascending : new.ascending ≡ true → (old.ascending ≡ true) × IfSome old.last (λ d. StandsBehind d j.field)
 
 -- Marks on the bytes that fields have, a mark for each byte of each section.
 
@@ -217,38 +231,31 @@ abbrev pub IsMarkedIn : List (List (List Bool)) → ℕ → ℕ → ℕ → ℕ 
 IsMarkedIn old f s x n taken new =
     (after : List Bool) × (new ≡ with old f s after) × ((taken ≡ true) ↔ AreTaken (item [] old f s) x n) × IsMarked (item [] old f s) x n after
 
--- The fields of a link that breaks none of rules 12 to 16.
+-- The fields of a link that breaks none of rules 12 to 15.
 
--- all fields, with what they carry; each has a number, ends within its target, and shares no byte with another
-pub record AreJudged (fs : List ObjectValue) (m : LinkMapValue) (rules : List RelocRule) (ds : List Field) : Type 0 where
-  pub fields : AreFields fs rules ds
-  pub read : AreFieldsRead fs m ds
+-- each has a value, ends within its target, and shares no byte with another
+pub record AreKept (fs : List ObjectValue) (m : LinkMapValue) (ds : List Field) : Type 0 where
   pub placed : HasNone (IsUnplaced fs m) ds
   pub within : AllWithin fs ds
   pub apart : HasNoOverlap fs ds
+
+pub record AreJudged (fs : List ObjectValue) (m : LinkMapValue) (rules : List RelocRule) (ds : List Field) : Type 0 where
+  pub fields : AreFields fs rules ds
+  pub kept : AreKept fs m ds
 
 -- rule 15 is the fault, at its first site
 abbrev pub IsOverlapFault : List ObjectValue → List RelocRule → LinkFault → Type 0
 IsOverlapFault fs rules (Rule number file index entry) = (number ≡ 15) × IsFirstAt (fields_overlap fs rules) (entry_site file index entry)
 IsOverlapFault fs rules OutOfMemory = Unit {0}
 
--- The bytes of fields in memory, and fields in ascending order.
-
--- those of a field: from its address on, as many as its width says
-abbrev pub field_extent : List ObjectValue → LinkMapValue → Field → Extent
-field_extent fs m d = record { start = field_address fs m d.site; len = size_of d.rule.width }
-
--- a field is after another one: in a later file, in a later section of its file, or after its end in its section
-abbrev pub StandsBehind : Field → Field → Type 0
-StandsBehind d e =
-    (d.site.file < e.site.file) ⊎
-    ((d.site.file ≡ e.site.file) × ((d.target < e.target) ⊎ ((d.target ≡ e.target) × (d.offset + size_of d.rule.width ≤ e.offset))))
-
--- each of the first n fields but the first one is after the one before it
-abbrev pub AreAscending : List Field → ℕ → Type 0
-AreAscending ds n = (k : ℕ) → k + 1 < n → StandsBehind (field_at ds k) (field_at ds (k + 1))
-
 -- Copies of the live sections with bits, with numbers in their fields.
+
+-- a grid of copies, as contracts see it
+abbrev pub copy_view : Option (Vec ℕ) → Option (List ℕ)
+copy_view = option_map (λ copy. copy.items)
+
+abbrev pub copies_view : List (Vec (Option (Vec ℕ))) → List (List (Option (List ℕ)))
+copies_view rows = map (λ row. map copy_view row.items) rows
 
 -- the first n fields hold their numbers in section s of file f, and its other bytes are those of the input
 pub record IsRelocated (fs : List ObjectValue) (m : LinkMapValue) (ds : List Field) (n f s : ℕ) (after : List ℕ) : Type 0 where
@@ -282,3 +289,57 @@ HasRoom rows f s x n = (copy : List ℕ) × (item None rows f s ≡ Some copy) �
 abbrev pub IsPatchedIn : Order → List (List (Option (List ℕ))) → ℕ → ℕ → ℕ → ℕ → ℤ → List (List (Option (List ℕ))) → Type 0
 IsPatchedIn o old f s x n z new =
     (copy : List ℕ) × (item None old f s ≡ Some copy) × (new ≡ with old f s (Some (patched o copy x n z)))
+
+-- each live section with bits has a copy that is as long
+pub record HaveCopies (fs : List ObjectValue) (rows : List (List (Option (List ℕ)))) : Type 0 where
+  pub grid : IsGrid fs rows
+  pub each : (f s : ℕ) → HasLiveBits fs f s → (copy : List ℕ) × (item None rows f s ≡ Some copy) × (length copy ≡ length (content_in fs f s))
+
+-- the copy of a field's section holds the field's number in it now
+pub record IsFieldPatched (fs : List ObjectValue) (d : Field) (old new : List (List (Option (List ℕ)))) : Type 0 where
+  pub copy : List ℕ
+  pub after : List ℕ
+  pub live : HasLiveBits fs d.site.file (target_at fs d.site)
+  pub at : item None old d.site.file (target_at fs d.site) ≡ Some copy
+  pub patched : IsPatched (object_at fs d.site.file).order copy (field_start fs d.site) (size_of d.rule.width) d.number after
+  pub new_is : new ≡ with old d.site.file (target_at fs d.site) (Some after)
+
+-- or the field breaks rule 13 or 14, and the copies are as before
+abbrev pub IsPatchedOrBroken : List ObjectValue → Judged → List (List (Option (List ℕ))) → List (List (Option (List ℕ))) → Type 0
+IsPatchedOrBroken fs j old new = IsFieldPatched fs j.field old new ⊎ (((j.unplaced ≡ true) ⊎ (j.out_of_range ≡ true)) × (new ≡ old))
+
+-- What a pass over the entries finds, and the bytes that it relocates.
+
+-- of the fields of a list: if rules 13 to 15 are kept, the copies hold their numbers
+pub record IsFound (fs : List ObjectValue) (m : LinkMapValue) (listing : Bool) (ds : List Field) (found : Found) : Type 0 where
+  pub read : AreFieldsRead fs m ds
+  pub seen : IsSeen fs m ds found.seen
+  pub list : listing ≡ true → found.list.items ≡ ds
+  pub copies : HaveCopies fs (copies_view found.copies.items)
+  pub relocated : AreKept fs m ds → AreRelocated fs m ds (length ds) (copies_view found.copies.items)
+
+-- of the fields before a site; and of all
+abbrev pub AreFoundBefore : List ObjectValue → LinkMapValue → List RelocRule → Bool → Site → Found → Type 0
+AreFoundBefore fs m rules listing stop found = (ds : List Field) × AreFieldsBefore fs rules stop ds × IsFound fs m listing ds found
+
+abbrev pub AreAllFound : List ObjectValue → LinkMapValue → List RelocRule → Bool → Found → Type 0
+AreAllFound fs m rules listing found = (ds : List Field) × AreFields fs rules ds × IsFound fs m listing ds found
+
+-- the copies hold the numbers of all fields, which keep rules 13 to 15
+abbrev pub AreRelocatedCopies : List ObjectValue → LinkMapValue → List RelocRule → List (List (Option (List ℕ))) → Type 0
+AreRelocatedCopies fs m rules rows = (ds : List Field) × AreJudged fs m rules ds × AreRelocated fs m ds (length ds) rows
+
+-- the first site of a row, or none where it has none
+abbrev pub IsFirstSite : Row Site → Option Site → Type 0
+IsFirstSite row first = MatchOption first (Never row) (IsFirstAt row)
+
+-- the first site of each rule of one field; the list of all fields, if they do not ascend; and the copies
+pub record AreFoundInOrder (fs : List ObjectValue) (m : LinkMapValue) (rules : List RelocRule) (found : Found) : Type 0 where
+  pub placed : IsFirstSite (unplaced fs m rules) found.seen.unplaced
+  pub within : IsFirstSite (field_out_of_range fs rules) found.seen.out_of_range
+  pub admitted : IsFirstSite (value_out_of_range fs m rules) found.seen.refused
+  pub apart : found.seen.ascending ≡ true → Never (fields_overlap fs rules)
+  pub fields : found.seen.ascending ≡ false → AreFields fs rules found.list.items
+  pub read : found.seen.ascending ≡ false → AreFieldsRead fs m found.list.items
+  pub copies : Never (unplaced fs m rules) → Never (field_out_of_range fs rules) → Never (fields_overlap fs rules) →
+      AreRelocatedCopies fs m rules (copies_view found.copies.items)

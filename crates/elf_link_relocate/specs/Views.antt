@@ -1,12 +1,11 @@
 -- What contracts see of the types of this crate.
-use Rattle.std.specs.Prelude.{ℕ, Option, List, map, option_map, map as map_list, ◌<◌, length, ◌≡◌}
-use Rattle.std.specs.Global.{Vec}
+use Rattle.std.specs.Prelude.{ℕ, List, map, map as map_list, ◌<◌, length, ◌≡◌}
 use Rattle.elf_link_files.specs.Files.{object_at}
 use Rattle.elf_link_map.specs.Naming.{AreBindingNumbers}
 use Rattle.elf_link_map.specs.Standing.{AreObjects, ObjectsFit}
 use Rattle.elf_link_relocate.specs.Fields.{IsApplied, body_at, entry_at, is_rela, target_at, HasField}
 use Rattle.elf_link_relocate.specs.Linked.{LinkedValue, MappedValue, IsMapOfSome, IsSoundMap}
-use Rattle.elf_link_relocate.specs.Passes.{LinkingValue, FieldOfValue, IsInTarget, AreFields, FieldListValue, AreFieldsRead, AllWithin}
+use Rattle.elf_link_relocate.specs.Passes.{copies_view, LinkingValue, FieldOfValue, IsInTarget, AreFields, FieldListValue, AreFieldsRead, AllWithin}
 use Rattle.elf_link_relocate.specs.declared.field.Entry.{Entry}
 use Rattle.elf_link_relocate.specs.declared.field.FieldList.TheInside.{Inside as FieldListInside}
 use Rattle.elf_link_relocate.specs.declared.linked.Linked.TheInside.{Inside}
@@ -15,14 +14,6 @@ use Rattle.elf_link_relocate.specs.declared.numbers.FieldOf.TheInside.{Inside as
 use Rattle.elf_link_relocate.specs.declared.values.Linking.TheInside.{Inside as LinkingInside}
 use Rattle.elf_link_relocate.specs.declared.values.Values.TheInside.{Inside as ValuesInside}
 use Rattle.elf_object_type.specs.Object.{ObjectValue}
-
--- A grid of copies, as contracts see it.
-
-abbrev pub copy_view : Option (Vec ℕ) → Option (List ℕ)
-copy_view = option_map (λ copy. copy.items)
-
-abbrev pub copies_view : List (Vec (Option (Vec ℕ))) → List (List (Option (List ℕ)))
-copies_view rows = map (λ row. map copy_view row.items) rows
 
 -- What contracts see of the relocated bytes of a link, and what is true of them.
 

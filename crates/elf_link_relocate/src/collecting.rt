@@ -1,13 +1,15 @@
-//! All fields of a link, in order.
-ghost use Rattle.std.specs.Prelude.{◌≡◌, ◌↔◌, IsTrue, ◌+◌, ◌^◌, ◌<◌, IfErr, IfOk, OnOk, length};
+//! A pass over all entries of a link, in order.
+ghost use Rattle.std.specs.Prelude.{◌≡◌, ◌↔◌, IsTrue, true, ◌+◌, ◌^◌, ◌<◌, ◌++◌, ◌∷◌, [], IfErr, IfOk, OnOk, length};
 ghost use Rattle.elf_link_files.specs.Files.{Live, Discarded};
 ghost use Rattle.elf_link_relocate.specs.Fields.{content_in, content_of as content_of_body};
 ghost use Rattle.elf_link_relocate.specs.Linked.{IsSectionOf};
 ghost use Rattle.elf_object_type.specs.ObjectView.{body_value};
-ghost use Rattle.elf_link_relocate.specs.Passes.{AreFields, entry_site, IsRuleFault, NoneUnruled, AreFirsts, AreFoundBefore, first_of as first_of_list, AreFieldsRead};
+ghost use Rattle.elf_link_relocate.specs.Passes.{AreAllFound, AreFoundBefore, entry_site, first_of as first_site, IsRuleFault, IsSeenNext, none_seen, NoneUnruled};
 ghost use Rattle.elf_link_relocate.specs.Views.{IsAppliedEntry};
 
-use crate::field::{Entry, Field, Fields};
+use crate::copies::{all_copies, patch_field};
+use crate::field::{Entry, Field, Found, Judged, Seen};
+use crate::marks::is_behind;
 use crate::numbers::FieldOf;
 use crate::rules::NO_RULE;
 use crate::values::{Linking, Values};
@@ -15,7 +17,7 @@ use elf_link_field::{Form, rule_of};
 use elf_link_map::files::{prove_rules, section_count, section_of};
 use elf_link_map::{Broken, LinkFault, Site};
 use elf_object_type::{Body, Object};
-use std::alloc::Global;
+use std::alloc::{AllocError, Global};
 
 // The sections that relocation entries speak of (gABI chapter 4, Relocation).
 
@@ -59,32 +61,73 @@ pub(crate) fn are_applied(
     !linking.map.discarded(file, section) && is_live(linking, file, target)
 }
 
-/// The first position that something holds at, of those before, and then of this one.
-fn first_of(before: Option<usize>, holds: bool, position: usize) -> Option<usize>
-    ensures { result ≡ first_of_list before holds position }
+// What a pass over the entries does with each.
+
+/// The first site that something holds at, of those before, and then of this one.
+fn first_of(before: Option<Site>, holds: bool, site: Site) -> Option<Site>
+    ensures { result ≡ first_site before holds site }
 {
     match before {
-        Some(k) => Some(k),
-        None => { if holds { Some(position) } else { None } }
+        Some(first) => Some(first),
+        None => { if holds { Some(site) } else { None } }
     }
 }
 
+impl Seen {
+    /// Nothing seen.
+    fn none() -> Seen
+        ensures { result ≡ none_seen }
+    {
+        Seen {
+            unplaced: None,
+            out_of_range: None,
+            refused: None,
+            last: None,
+            ascending: true,
+        }
+    }
+
+    /// With one more field.
+    fn with(self, judged: Judged) -> Seen
+        ensures { IsSeenNext self judged result }
+    {
+        let field = judged.field;
+        let follows = match self.last {
+            Some(last) => is_behind(last, field),
+            None => true,
+        };
+        Seen {
+            unplaced: first_of(self.unplaced, judged.unplaced, field.site),
+            out_of_range: first_of(self.out_of_range, judged.out_of_range, field.site),
+            refused: first_of(self.refused, judged.refused, field.site),
+            last: Some(field),
+            ascending: self.ascending && follows,
+        }
+    }
+}
+
+/// Adds a field to the list, if it is asked for.
+fn list_field(list: &mut Vec<Field>, listing: bool, field: Field) -> Result<(), AllocError>
+    ensures { OnOk result (listing ≡ true → list.new.items ≡ list.old.items ++ field ∷ []) }
+{
+    if listing {
+        list.push(field)?;
+    }
+    Ok(())
+}
+
 impl<'f, 'v, 'l, 'a> FieldOf<'f, 'v, 'l, 'a> {
-    /// Adds it to the fields before it.
-    fn push(&self, fields: &mut Fields) -> Result<(), LinkFault>
-        requires { AreFoundBefore self.now.objects self.now.map self.now.rules self.now.field.site fields.old }
-        ensures ok { OnOk result (AreFoundBefore self.now.objects self.now.map self.now.rules (entry_site self.now.field.site.file self.now.field.site.index (self.now.field.site.entry + 1)) fields.new) }
+    /// Adds it to what was found before it, and puts its number into its place.
+    fn push(&self, listing: bool, found: &mut Found) -> Result<(), LinkFault>
+        requires { AreFoundBefore self.now.objects self.now.map self.now.rules listing self.now.field.site found.old }
+        ensures ok { OnOk result (AreFoundBefore self.now.objects self.now.map self.now.rules listing (entry_site self.now.field.site.file self.now.field.site.index (self.now.field.site.entry + 1)) found.new) }
         ensures err { IfErr result (IsRuleFault self.now.objects self.now.rules) }
     {
         let judged = self.judged();
-        let position = fields.list.len();
-        fields.unplaced = first_of(fields.unplaced, judged.unplaced, position);
-        fields.out_of_range = first_of(fields.out_of_range, judged.out_of_range, position);
-        fields.refused = first_of(fields.refused, judged.refused, position);
-        match fields.list.push(judged.field) {
-            Ok(()) => Ok(()),
-            Err(_) => Err(LinkFault::OutOfMemory),
-        }
+        found.seen = found.seen.with(judged);
+        patch_field(self.values.linking(), judged, &mut found.copies);
+        list_field(&mut found.list, listing, judged.field)?;
+        Ok(())
     }
 }
 
@@ -92,12 +135,13 @@ impl<'f, 'v, 'l, 'a> FieldOf<'f, 'v, 'l, 'a> {
 fn push_entry(
     values: &Values<'_, '_, '_>,
     entry: Entry,
-    fields: &mut Fields,
+    listing: bool,
+    found: &mut Found,
 ) -> Result<(), LinkFault>
     requires entry { IsAppliedEntry values.now.objects entry }
-    requires before { AreFoundBefore values.now.objects values.now.map values.now.rules entry.site fields.old }
+    requires before { AreFoundBefore values.now.objects values.now.map values.now.rules listing entry.site found.old }
     requires fits { entry.site.entry + 1 < 2 ^ 64 }
-    ensures ok { OnOk result (AreFoundBefore values.now.objects values.now.map values.now.rules (entry_site entry.site.file entry.site.index (entry.site.entry + 1)) fields.new) }
+    ensures ok { OnOk result (AreFoundBefore values.now.objects values.now.map values.now.rules listing (entry_site entry.site.file entry.site.index (entry.site.entry + 1)) found.new) }
     ensures err { IfErr result (IsRuleFault values.now.objects values.now.rules) }
 {
     let linking = values.linking();
@@ -119,7 +163,7 @@ fn push_entry(
         entry,
         field,
     };
-    field_of.push(fields)
+    field_of.push(listing, found)
 }
 
 /// Adds the fields of a section's entries.
@@ -127,11 +171,12 @@ fn push_section(
     values: &Values<'_, '_, '_>,
     file: usize,
     index: usize,
-    fields: &mut Fields,
+    listing: bool,
+    found: &mut Found,
 ) -> Result<(), LinkFault>
     requires section { IsSectionOf values.now.objects file index }
-    requires before { AreFoundBefore values.now.objects values.now.map values.now.rules (entry_site file index 0) fields.old }
-    ensures ok { OnOk result (AreFoundBefore values.now.objects values.now.map values.now.rules (entry_site file (index + 1) 0) fields.new) }
+    requires before { AreFoundBefore values.now.objects values.now.map values.now.rules listing (entry_site file index 0) found.old }
+    ensures ok { OnOk result (AreFoundBefore values.now.objects values.now.map values.now.rules listing (entry_site file (index + 1) 0) found.new) }
     ensures err { IfErr result (IsRuleFault values.now.objects values.now.rules) }
 {
     let linking = values.linking();
@@ -154,45 +199,51 @@ fn push_section(
             target: *target,
             relocation: entries.entry(entry),
         };
-        push_entry(values, read, fields)?;
+        push_entry(values, read, listing, found)?;
     }
     Ok(())
 }
 
 /// Adds the fields of a file's entries.
-fn push_file(values: &Values<'_, '_, '_>, file: usize, fields: &mut Fields) -> Result<(), LinkFault>
+fn push_file(
+    values: &Values<'_, '_, '_>,
+    file: usize,
+    listing: bool,
+    found: &mut Found,
+) -> Result<(), LinkFault>
     requires file { file < length values.now.objects }
-    requires before { AreFoundBefore values.now.objects values.now.map values.now.rules (entry_site file 0 0) fields.old }
-    ensures ok { OnOk result (AreFoundBefore values.now.objects values.now.map values.now.rules (entry_site (file + 1) 0 0) fields.new) }
+    requires before { AreFoundBefore values.now.objects values.now.map values.now.rules listing (entry_site file 0 0) found.old }
+    ensures ok { OnOk result (AreFoundBefore values.now.objects values.now.map values.now.rules listing (entry_site (file + 1) 0 0) found.new) }
     ensures err { IfErr result (IsRuleFault values.now.objects values.now.rules) }
 {
     let linking = values.linking();
     let objects = linking.objects;
     for index in 0..section_count(&objects[file]) {
-        push_section(values, file, index, fields)?;
+        push_section(values, file, index, listing, found)?;
     }
     Ok(())
 }
 
-/// The fields of all applied entries, by file, section and entry. Returns rule 12, at the first applied entry whose kind has no relocation
-/// rule.
-pub(crate) fn all_fields(alloc: Global, values: &Values<'_, '_, '_>) -> Result<Fields, LinkFault>
-    ensures fields { IfOk result (λ fields. AreFields values.now.objects values.now.rules fields.list.items) }
-    ensures read { IfOk result (λ fields. AreFieldsRead values.now.objects values.now.map fields.list.items) }
-    ensures firsts { IfOk result (AreFirsts values.now.objects values.now.map) }
+/// What one pass over all entries finds, with the list of the fields if it is asked for. Returns rule 12, at the first applied entry whose
+/// kind has no relocation rule.
+pub(crate) fn all_fields(
+    alloc: Global,
+    values: &Values<'_, '_, '_>,
+    listing: bool,
+) -> Result<Found, LinkFault>
+    ensures found { IfOk result (AreAllFound values.now.objects values.now.map values.now.rules listing) }
     ensures ruled { OnOk result (NoneUnruled values.now.objects values.now.rules) }
     ensures err { IfErr result (IsRuleFault values.now.objects values.now.rules) }
 {
-    let mut fields = Fields {
-        list: Vec::new(alloc),
-        unplaced: None,
-        out_of_range: None,
-        refused: None,
-    };
     let linking = values.linking();
+    let mut found = Found {
+        seen: Seen::none(),
+        list: Vec::new(alloc),
+        copies: all_copies(alloc, linking)?,
+    };
     let objects = linking.objects;
     for file in 0..objects.len() {
-        push_file(values, file, &mut fields)?;
+        push_file(values, file, listing, &mut found)?;
     }
-    Ok(fields)
+    Ok(found)
 }

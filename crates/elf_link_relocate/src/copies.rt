@@ -1,13 +1,13 @@
 //! Copies of the live sections with bits.
 ghost use Rattle.std.specs.Prelude.{◌≡◌, ◌<◌, IfOk, length, map as map_list, ◌+◌, [], get_or};
 ghost use Rattle.elf_link_files.specs.Files.{object_at};
-ghost use Rattle.elf_link_relocate.specs.Views.{copies_view, copy_view};
+ghost use Rattle.elf_link_relocate.specs.Passes.{copies_view, copy_view};
 ghost use Rattle.elf_link_relocate.specs.Linked.{IsSectionOf};
-ghost use Rattle.elf_link_relocate.specs.Passes.{AreAllCopies, AreCopies, IsCopy, AreJudged, AreRelocated, HasRoom, IsPatchedIn};
+ghost use Rattle.elf_link_relocate.specs.Passes.{AreAllCopies, AreCopies, HasRoom, HaveCopies, IsCopy, IsJudgedField, IsPatchedIn, IsPatchedOrBroken};
 ghost use Rattle.elf_link_field.specs.Field.{size_of};
 
 use crate::collecting::is_live;
-use crate::field::Field;
+use crate::field::Judged;
 use crate::values::Linking;
 use elf_field::Order;
 use elf_link_field::{Width, patch, patched_field};
@@ -88,14 +88,16 @@ fn patch_in(
     }
 }
 
-/// Puts the number of field `k` into it.
-fn patch_field(linking: &Linking<'_, '_>, fields: &[Field], k: usize, copies: &mut Copies)
-    requires fields { AreJudged linking.now.objects linking.now.map linking.now.rules fields.now }
-    requires below { k < length fields.now }
-    requires before { AreRelocated linking.now.objects linking.now.map fields.now k (copies_view copies.old.items) }
-    ensures { AreRelocated linking.now.objects linking.now.map fields.now (k + 1) (copies_view copies.new.items) }
+/// Puts the number of a field into it, where it has one and ends within its target.
+pub(crate) fn patch_field(linking: &Linking<'_, '_>, judged: Judged, copies: &mut Copies)
+    requires judged { IsJudgedField linking.now.objects linking.now.map linking.now.rules judged.field.site judged }
+    requires copies { HaveCopies linking.now.objects (copies_view copies.old.items) }
+    ensures { IsPatchedOrBroken linking.now.objects judged (copies_view copies.old.items) (copies_view copies.new.items) }
 {
-    let field = fields[k];
+    if judged.unplaced || judged.out_of_range {
+        return;
+    }
+    let field = judged.field;
     patched_field();
     let objects = linking.objects;
     prove_rules(objects, field.site.file);
@@ -108,15 +110,4 @@ fn patch_field(linking: &Linking<'_, '_>, fields: &[Field], k: usize, copies: &m
         field.rule.width,
         field.number,
     );
-}
-
-/// Puts the number of each field into it, in one pass.
-pub(crate) fn patch_all(linking: &Linking<'_, '_>, fields: &[Field], copies: &mut Copies)
-    requires fields { AreJudged linking.now.objects linking.now.map linking.now.rules fields.now }
-    requires before { AreRelocated linking.now.objects linking.now.map fields.now 0 (copies_view copies.old.items) }
-    ensures { AreRelocated linking.now.objects linking.now.map fields.now (length fields.now) (copies_view copies.new.items) }
-{
-    for k in 0..fields.len() {
-        patch_field(linking, fields, k, copies);
-    }
 }

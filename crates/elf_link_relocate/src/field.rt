@@ -3,6 +3,7 @@ ghost use Rattle.std.specs.Prelude.{◌≡◌, ◌<◌, length};
 ghost use Rattle.elf_link_relocate.specs.Passes.{field_at, IsInTarget, test_number};
 ghost use Rattle.elf_link_relocate.specs.Fields.{HasField, IsWithin};
 
+use crate::copies::Copies;
 use crate::rules::{FIELD_OUT_OF_RANGE, UNPLACED, VALUE_OUT_OF_RANGE};
 use crate::values::{Linking, Values};
 use elf_link_field::RelocRule;
@@ -51,18 +52,30 @@ pub(crate) struct Judged {
     pub refused: bool,
 }
 
-/// Fields by file, section and entry, and of each rule that looks at one field by itself the first one that breaks it, by its position
-/// in the list.
+/// What a pass over the entries has seen of their fields.
+#[derive(Clone, Copy)]
+pub(crate) struct Seen {
+    /// The entry of the first field that breaks rule 13.
+    pub unplaced: Option<Site>,
+    /// The entry of the first one that breaks rule 14.
+    pub out_of_range: Option<Site>,
+    /// The entry of the first one that breaks rule 16.
+    pub refused: Option<Site>,
+    /// The last field.
+    pub last: Option<Field>,
+    /// Whether each field is after the one before it. Then no two share a byte.
+    pub ascending: bool,
+}
+
+/// What a pass over the entries has found, and the bytes that it relocates.
 #[derive(Drop)]
-pub(crate) struct Fields {
-    /// The fields.
+pub(crate) struct Found {
+    /// What it has seen of the fields.
+    pub seen: Seen,
+    /// The fields by file, section and entry, if they are asked for.
     pub list: Vec<Field>,
-    /// The first one that breaks rule 13.
-    pub unplaced: Option<usize>,
-    /// The first one that breaks rule 14.
-    pub out_of_range: Option<usize>,
-    /// The first one that breaks rule 16.
-    pub refused: Option<usize>,
+    /// A copy of each live section with bits. A field that has a number and ends within its target holds it.
+    pub copies: Copies,
 }
 
 // The fields of a link, once each is known to end within its target.

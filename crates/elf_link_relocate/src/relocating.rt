@@ -1,15 +1,15 @@
 //! The relocation of a link.
-ghost use Rattle.std.specs.Prelude.{◌≡◌, IfErr, IfOk, None, OnOk, map as map_list};
+ghost use Rattle.std.specs.Prelude.{◌≡◌, IfErr, IfOk, None, OnOk, Some, map as map_list};
 ghost use Rattle.elf_extent.specs.Extent.{Never};
 ghost use Rattle.elf_link_files.specs.Rows.{FirstAmong};
-ghost use Rattle.elf_link_relocate.specs.Passes.{AreFields, BreaksFieldTest, HasNone, IsTestFault, test_row, IsFirstBroken, AreJudged, IsOverlapFault, HasNoOverlap};
-ghost use Rattle.elf_link_relocate.specs.Fields.{IsRelocationFault, applied_entry_rules, fields_overlap};
+ghost use Rattle.elf_link_relocate.specs.Passes.{AreFoundInOrder, AreRelocatedCopies, IsOverlapFault, IsRuleFault, NoneUnruled, copies_view, test_number};
+ghost use Rattle.elf_link_relocate.specs.Fields.{IsRelocationFault, applied_entry_rules, field_out_of_range, fields_overlap};
 ghost use Rattle.elf_link_map.specs.Naming.{AreBindingNumbers};
 ghost use Rattle.elf_link_relocate.specs.Linked.{IsLinked, IsMapButOptions, IsMapOfSome, IsReadyLink};
 
 use crate::collecting::all_fields;
-use crate::copies::{all_copies, patch_all};
-use crate::field::{Field, FieldList, FieldTest};
+use crate::copies::Copies;
+use crate::field::{Field, FieldList, FieldTest, Found};
 use crate::linked::Linked;
 use crate::rules::FIELDS_OVERLAP;
 use crate::values::{Linking, Values};
@@ -20,69 +20,67 @@ use std::alloc::Global;
 
 // Rules 12 to 16 of the link, in their order.
 
-impl Values<'_, '_, '_> {
-    /// Returns a rule at the first of these fields that breaks it, whose position this is.
-    fn refuse_first(
-        &self,
-        test: FieldTest,
-        fields: &[Field],
-        first: Option<usize>,
-    ) -> Result<(), Broken<Site>>
-        requires fields { AreFields self.now.objects self.now.rules fields.now }
-        requires first { IsFirstBroken self.now.objects self.now.map fields.now test first }
-        ensures ok { OnOk result (HasNone (BreaksFieldTest self.now.objects self.now.map test) fields.now) }
-        ensures nowhere { OnOk result (Never (test_row self.now.objects self.now.map self.now.rules test)) }
-        ensures err { IfErr result (IsTestFault self.now.objects self.now.map self.now.rules test) }
-    {
-        match first {
-            Some(k) => Err(Broken::new(test.rule(), fields[k].site)),
-            None => Ok(()),
-        }
+/// Returns a rule at the first site where it is broken, if there is one.
+fn refuse(test: FieldTest, first: Option<Site>) -> Result<(), Broken<Site>>
+    ensures ok { OnOk result (first ≡ None) }
+    ensures err { IfErr result (λ broken. (broken.rule ≡ test_number test) × (first ≡ Some broken.at)) }
+{
+    match first {
+        Some(site) => Err(Broken::new(test.rule(), site)),
+        None => Ok(()),
     }
 }
 
-impl<'f, 'v, 'l, 'a> FieldList<'f, 'v, 'l, 'a> {
-    /// Returns rule 15 at the first field that shares a byte with one before it. Which one that is is looked for only where two may share
-    /// one.
-    fn refuse_overlap(&self, alloc: Global) -> Result<(), LinkFault>
-        ensures ok { OnOk result (HasNoOverlap self.now.objects self.now.fields) }
-        ensures nowhere { OnOk result (Never (fields_overlap self.now.objects self.now.rules)) }
+impl Values<'_, '_, '_> {
+    /// Returns rule 15 at the first field that shares a byte with one before it. Fields that ascend share none.
+    fn refuse_overlap(&self, alloc: Global, found: &Found) -> Result<(), LinkFault>
+        requires found { AreFoundInOrder self.now.objects self.now.map self.now.rules found.now }
+        requires within { Never (field_out_of_range self.now.objects self.now.rules) }
+        ensures ok { OnOk result (Never (fields_overlap self.now.objects self.now.rules)) }
         ensures err { IfErr result (IsOverlapFault self.now.objects self.now.rules) }
     {
-        let fields = self.fields;
-        if !self.may_share(alloc)? {
+        if found.seen.ascending {
             return Ok(());
         }
-        match self.first_overlap(alloc)? {
+        let fields: &[Field] = &found.list;
+        let list = FieldList {
+            values: self,
+            fields,
+        };
+        match list.first_overlap(alloc)? {
             Some(k) => Err(Broken::new(FIELDS_OVERLAP, fields[k].site).into()),
             None => Ok(()),
         }
     }
 }
 
-/// The fields of a link, by file, section and entry, with their numbers. Returns the first of rules 12 to 16 that is broken.
-pub(crate) fn judged_fields(
-    alloc: Global,
-    values: Values<'_, '_, '_>,
-) -> Result<Vec<Field>, LinkFault>
-    ensures fields { IfOk result (λ fields. AreJudged values.entry.objects values.entry.map values.entry.rules fields.items) }
+/// What one pass over all entries finds, or a second one, with the list of the fields, if these do not ascend. Returns rule 12, at the
+/// first applied entry whose kind has no relocation rule.
+fn found_in_order(alloc: Global, values: &Values<'_, '_, '_>) -> Result<Found, LinkFault>
+    ensures found { IfOk result (AreFoundInOrder values.now.objects values.now.map values.now.rules) }
+    ensures ruled { OnOk result (NoneUnruled values.now.objects values.now.rules) }
+    ensures err { IfErr result (IsRuleFault values.now.objects values.now.rules) }
+{
+    let found = all_fields(alloc, values, false)?;
+    if found.seen.ascending {
+        return Ok(found);
+    }
+    drop(found);
+    all_fields(alloc, values, true)
+}
+
+/// The copies of the live sections with bits, each field with its number. Returns the first of rules 12 to 16 that is broken.
+fn relocated_copies(alloc: Global, values: Values<'_, '_, '_>) -> Result<Copies, LinkFault>
+    ensures copies { IfOk result (λ copies. AreRelocatedCopies values.entry.objects values.entry.map values.entry.rules (copies_view copies.items)) }
     ensures sound { OnOk result (FirstAmong (applied_entry_rules values.entry.objects values.entry.map values.entry.rules) None) }
     ensures err { IfErr result (IsRelocationFault values.entry.objects values.entry.map values.entry.rules) }
 {
-    let fields = all_fields(alloc, &values)?;
-    values.refuse_first(FieldTest::Unplaced, &fields.list, fields.unplaced)?;
-    values.refuse_first(
-        FieldTest::FieldOutOfRange,
-        &fields.list,
-        fields.out_of_range,
-    )?;
-    let list = FieldList {
-        values: &values,
-        fields: &fields.list,
-    };
-    list.refuse_overlap(alloc)?;
-    values.refuse_first(FieldTest::ValueOutOfRange, &fields.list, fields.refused)?;
-    Ok(fields.list)
+    let found = found_in_order(alloc, &values)?;
+    refuse(FieldTest::Unplaced, found.seen.unplaced)?;
+    refuse(FieldTest::FieldOutOfRange, found.seen.out_of_range)?;
+    values.refuse_overlap(alloc, &found)?;
+    refuse(FieldTest::ValueOutOfRange, found.seen.refused)?;
+    Ok(found.copies)
 }
 
 /// The relocated bytes of these objects, as [`relocate`] returns them, by the numbers of the names that `map_numbered` of `elf_link_map`
@@ -105,9 +103,7 @@ pub fn relocate_numbered<'m, 'a>(
         rules,
     };
     let values = Values::new(&linking, numbers);
-    let fields = judged_fields(alloc, values)?;
-    let mut copies = all_copies(alloc, &linking)?;
-    patch_all(&linking, &fields, &mut copies);
+    let copies = relocated_copies(alloc, values)?;
     prove_objects(objects);
     Ok(Linked {
         map,
@@ -125,10 +121,9 @@ pub fn relocate_numbered<'m, 'a>(
 /// write the relocated bytes.
 ///
 /// [`LinkFault::Rule`] is the first of rules 12 to 16 ([`rules`](crate::rules)) that is broken, at its first entry by file, section and
-/// position. [`LinkFault::OutOfMemory`] comes only if an allocation fails: a number for each symbol, a field for each applied entry, a
-/// copy of each live section with bits; where the fields don't ascend, an extent for each; and where two of these share an address, a mark
-/// for each byte. Takes log n comparisons at most for each symbol and each field, and a look through the rules for each entry; all else is
-/// linear in the bytes, entries and symbols.
+/// position. [`LinkFault::OutOfMemory`] comes only if an allocation fails: a number for each symbol, a copy of each live section
+/// with bits; and where the fields don't ascend, the list of them and a mark for each byte. Takes log n comparisons at most for each
+/// symbol, and a look through the rules for each entry; all else is linear in the bytes, entries and symbols.
 pub fn relocate<'m, 'a>(
     alloc: Global,
     map: &'m LinkMap<'a>,

@@ -13,7 +13,7 @@ returns-in_default-clause-err c =
     let p = c.args.entry.site in
     let none = rw same_rules at (rw c.requires.entry.relocation at c.in_default.ensures) in
     rw (c.into.ensures, c.new.ensures)
-    (refl, first_unruled l.objects l.rules p c.args.fields.now.list.items c.requires.entry.applied none c.requires.before.before)
+    (refl, first_unruled l.objects l.rules p c.requires.before.0 c.requires.entry.applied none c.requires.before.1)
 
 pub returns-then-eq-clause-ok : goal.returns-then-eq-clause-ok
 returns-then-eq-clause-ok c =
@@ -21,8 +21,8 @@ returns-then-eq-clause-ok c =
     let l = c.args.values.now in
     let p = c.args.entry.site in
     let first = rw same_rules at (rw c.requires.entry.relocation at c.in-Some.ensures) in
-    found_on l.objects l.map l.rules _ _ c.args.fields.now
-    (λ is. fields_past l.objects l.rules p _ c.in-Some.rule c.args.fields.now.list.items
+    found_on l.objects l.map l.rules c.args.listing _ _ c.args.found.now
+    (λ ds is. fields_past l.objects l.rules p _ c.in-Some.rule ds
     (λ q. before_more q p.file p.index p.entry) (λ q. before_next q p.file p.index p.entry) first is (search rules))
     c.requires.before
 

@@ -18,7 +18,7 @@ returns-clause-ok c =
     let end : c.loop-index.index ≡ n = omega arith in
     let m = c.args.values.now.map in
     let rules = c.args.values.now.rules in
-    let is = subst (λ (i : ℕ). AreFoundBefore fs m rules (entry_site f i 0) c.loop-index.fields) end c.loop-index.invariant in
-    found_on fs m rules _ _ c.loop-index.fields
-    (fields_same fs rules (entry_site f n 0) (entry_site (f + 1) 0 0) c.loop-index.fields.list.items (λ p. next_file p f n)
+    let is = subst (λ (i : ℕ). AreFoundBefore fs m rules c.args.listing (entry_site f i 0) c.loop-index.found) end c.loop-index.invariant in
+    found_on fs m rules c.args.listing _ _ c.loop-index.found
+    (λ ds. fields_same fs rules (entry_site f n 0) (entry_site (f + 1) 0 0) ds (λ p. next_file p f n)
     (λ p applied before. in_file p f n (λ file. subst (λ (g : ℕ). p.index < length (object_at fs g).sections) file applied.0.section) before)) is

@@ -25,8 +25,8 @@ returns-in_default c =
     let rules = c.args.values.now.rules in
     let body = body_read _ _ c.args.file c.args.index c.section_of.result.now _ linking c.section_of.ensures refl in
     record {
-      ok = found_on fs m rules _ _ c.args.fields.now
-          (no_relocations fs rules c.args.file c.args.index c.args.fields.now.list.items c.section_of.result.now.body (sym body) c.in_default.not-Relocs)
+      ok = found_on fs m rules c.args.listing _ _ c.args.found.now
+          (λ ds. no_relocations fs rules c.args.file c.args.index ds c.section_of.result.now.body (sym body) c.in_default.not-Relocs)
           c.requires.before;
       err = tt;
     }
@@ -45,8 +45,8 @@ returns-then-not-are_applied-clause-ok c =
     let linking = c.linking.view_is ∙ c.linking-linking.ensures in
     let same = body_read _ _ c.args.file c.args.index c.section_of.result.now _ linking c.section_of.ensures c.in-Relocs.is in
     let rules = c.args.values.now.rules in
-    found_on fs c.args.values.now.map rules _ _ c.args.fields.now
-    (not_applied fs rules c.args.file c.args.index c.args.fields.now.list.items
+    found_on fs c.args.values.now.map rules c.args.listing _ _ c.args.found.now
+    (λ ds. not_applied fs rules c.args.file c.args.index ds
     (λ applied. (
     let live = rw same at applied.1 in
     let never : false ≡ true = (rw c.linking-linking.ensures at c.if-not-are_applied.ensures).1 (applied.0, live) in
@@ -62,8 +62,8 @@ returns-clause-ok c =
     let count = c.len-entry-end.ensures in
     let past = c.loop-entry-test.false in
     let rules = c.args.values.now.rules in
-    found_on fs c.args.values.now.map rules _ _ c.loop-entry.fields
-    (section_done fs rules c.args.file c.args.index c.loop-entry.fields.list.items c.loop-entry.entry (omega arith))
+    found_on fs c.args.values.now.map rules c.args.listing _ _ c.loop-entry.found
+    (λ ds. section_done fs rules c.args.file c.args.index ds c.loop-entry.entry (omega arith))
     c.loop-entry.invariant
 
 pub push_entry-requires-clause-entry : goal.push_entry-requires-clause-entry

@@ -1,7 +1,7 @@
 use Rattle.std.proofs.Common.{map, []}
 use Rattle.std.proofs.lemmas.List.{map_push}
 use Rattle.elf_link_files.proofs.Public.{each_more}
-use Rattle.elf_link_relocate.specs.Views.{copies_view, copy_view}
+use Rattle.elf_link_relocate.specs.Passes.{copies_view, copy_view}
 use Rattle.elf_link_relocate.proofs.copies.all_copies.Goals as goal
 
 pub loop-file-preserved : goal.loop-file-preserved

@@ -1,4 +1,4 @@
-use Rattle.elf_link_relocate.specs.Views.{copies_view}
+use Rattle.elf_link_relocate.specs.Passes.{copies_view}
 use Rattle.elf_link_relocate.specs.Passes.{AreAllCopies}
 use Rattle.elf_link_relocate.proofs.copies.all_copies.Given as goal
 

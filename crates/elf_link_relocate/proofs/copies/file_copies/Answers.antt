@@ -1,7 +1,7 @@
 use Rattle.std.proofs.Common.{None, map}
 use Rattle.std.proofs.lemmas.List.{map_push}
 use Rattle.elf_link_files.proofs.Public.{each_more}
-use Rattle.elf_link_relocate.specs.Views.{copy_view}
+use Rattle.elf_link_relocate.specs.Passes.{copy_view}
 use Rattle.elf_link_relocate.proofs.copies.file_copies.Goals as goal
 
 pub loop-section-preserved : goal.loop-section-preserved

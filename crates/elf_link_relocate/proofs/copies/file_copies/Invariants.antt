@@ -1,5 +1,5 @@
 use Rattle.std.proofs.Common.{map}
-use Rattle.elf_link_relocate.specs.Views.{copy_view}
+use Rattle.elf_link_relocate.specs.Passes.{copy_view}
 use Rattle.elf_link_relocate.specs.Passes.{AreCopies}
 use Rattle.elf_link_relocate.proofs.copies.file_copies.Given as goal
 

@@ -3,7 +3,7 @@ use Rattle.std.specs.Global.{Vec}
 use Rattle.std.specs.Prelude.{Option, None, Some}
 use Rattle.std.proofs.Math.Facts.{to_z-of_z}
 use Rattle.std.proofs.lemmas.List.{with_items_is}
-use Rattle.elf_link_relocate.specs.Views.{copies_view, copy_view}
+use Rattle.elf_link_relocate.specs.Passes.{copies_view, copy_view}
 use Rattle.elf_link_relocate.specs.Linked.{with}
 use Rattle.elf_link_relocate.proofs.Marked.{view_item, view_row, view_set}
 use Rattle.elf_link_relocate.proofs.copies.patch_in.Goals as goal

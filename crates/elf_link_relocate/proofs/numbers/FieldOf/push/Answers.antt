@@ -1,16 +1,16 @@
-use Rattle.std.proofs.Common.{◌≡◌, ℕ, length, ap, ◌∙◌, arith}
-use Rattle.elf_link_relocate.specs.Passes.{first_of}
-use Rattle.elf_link_relocate.proofs.Collected.{found_more}
+-- What is seen of the fields, the list and the copies are each those of one field more.
+use Rattle.std.proofs.Common.{List, ap, subst, ◌∙◌}
+use Rattle.elf_object_type.specs.Object.{ObjectValue}
+use Rattle.elf_link_relocate.specs.Passes.{FieldOfValue, IsPatchedOrBroken, LinkingValue, copies_view}
+use Rattle.elf_link_relocate.proofs.Patches.{found_more}
 use Rattle.elf_link_relocate.proofs.numbers.FieldOf.push.Goals as goal
 
-pub returns-in-Ok-clause-ok : goal.returns-in-Ok-clause-ok
-returns-in-Ok-clause-ok c =
+pub returns-clause-ok : goal.returns-clause-ok
+returns-clause-ok c =
     let l = c.args.self.now in
-    let old = c.args.fields.now in
-    let judged = c.judged-judged.result in
-    let long = old.list.ok.0 in
-    let position : c.len-position.result ≡ length old.list.items = omega (arith, c.len-position.ensures) in
-    found_more l.objects l.map l.rules c.args.self.now.field.site old judged _ c.judged-judged.ensures c.requires c.in-Ok.ensures.items
-    (c.first_of-fields.ensures ∙ ap (λ (n : ℕ). first_of old.unplaced judged.unplaced n) position)
-    (c.first_of-fields-2.ensures ∙ ap (λ (n : ℕ). first_of old.out_of_range judged.out_of_range n) position)
-    (c.first_of-fields-3.ensures ∙ ap (λ (n : ℕ). first_of old.refused judged.refused n) position)
+    let objects = ap (λ (now : LinkingValue). now.objects) c.linking.ensures ∙ ap (λ (now : FieldOfValue). now.objects) c.self.view_is in
+    let put = subst
+    (λ (fs : List ObjectValue). IsPatchedOrBroken fs c.judged-judged.result (copies_view c.args.found.now.copies.items) (copies_view c.patch_field.new.copies.items))
+    objects c.patch_field.ensures in
+    found_more l.objects l.map l.rules c.args.listing l.field.site c.args.found.now c.judged-judged.result _ c.judged-judged.ensures c.requires
+    c.with-found.ensures c.in_ok-list_field.ensures put
