@@ -1,5 +1,5 @@
 -- An object with its string tables and its canonical layout.
-use Rattle.std.specs.Prelude.{◌≡◌, ℕ, List, map, ◌<◌, ◌≤◌, ◌+◌, ◌^◌, All, codes, get_or, length, ◌-◌, take, Option, Result, Ok, Err, MatchResult}
+use Rattle.std.specs.Prelude.{◌≡◌, ℕ, List, map, ◌<◌, ◌≤◌, ◌+◌, ◌^◌, All, codes, get_or, length, ◌-◌, take, Option, Result, Ok, Err, MatchResult, ◌++◌, replicate, slice_index}
 use Rattle.std.specs.Io.KnownBytes.{Appends}
 use Rattle.std.specs.List.{flat_map}
 use denote.Struct.Props.{props}
@@ -121,6 +121,10 @@ abbrev pub WritesBehind : ℕ → Option (List ℕ) → Option (List ℕ) → Li
 WritesBehind out before after bytes result = MatchResult result
     (λ end. (end ≡ out + length bytes) × Appends before after bytes)
     (λ fault. (out ≤ fault.written) × (fault.written < out + length bytes) × Appends before after (take (fault.written - out) bytes))
+
+-- the content of the section at a position of the layout, behind the zeros that it needs after so many bytes
+abbrev pub part_bytes : PlacedValue → ℕ → ℕ → PlainSection → List ℕ
+part_bytes p position out d = replicate (slice_index p.layout.places position - out) 0 ++ (get_or (plain_sections p.object) position d).content
 
 -- the bytes of the section header table
 unfoldable pub header_table : ObjectValue → List ℕ → List ℕ

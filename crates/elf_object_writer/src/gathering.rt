@@ -1,10 +1,9 @@
 //! Short parts of a layout, gathered to go out together: a call of the writer may cost more than the bytes that it takes.
 ghost use Rattle.std.specs.Io.KnownBytes.{Appends, append_known};
-ghost use Rattle.std.specs.Prelude.{◌≡◌, ◌<◌, ◌≤◌, ◌-◌, ◌++◌, [], Err, IfErr, IfOk, IfSome, None, Ok, OnOk, Some, get_or, length, replicate, slice_index};
+ghost use Rattle.std.specs.Prelude.{◌≡◌, ◌<◌, ◌≤◌, ◌-◌, ◌++◌, [], Err, IfErr, IfOk, IfSome, None, Ok, OnOk, Some, length, slice_index};
 ghost use Rattle.elf_object_writer.specs.Laid.{PlainSection, plain_sections};
-ghost use Rattle.elf_object_writer.specs.PlacedObject.{WritesBehind};
+ghost use Rattle.elf_object_writer.specs.PlacedObject.{WritesBehind, part_bytes};
 
-use crate::object_writing::write_part;
 use crate::placed_object::{LaidSection, PlacedObject};
 use elf_image_stream::WriteFault;
 use elf_image_stream::output::write_whole;
@@ -21,45 +20,6 @@ pub(crate) fn none_waiting(alloc: Global) -> Vec<u8>
     match Vec::with_capacity(alloc, ROOM) {
         Ok(waiting) => waiting,
         Err(_) => Vec::new(alloc),
-    }
-}
-
-/// Whether the content of the section of this position, with the zeros before it, has no room behind the bytes that wait.
-fn is_long(placed: &PlacedObject<'_, '_>, position: usize, out: u64, waiting: &Vec<u8>) -> bool
-    requires there { position < length (plain_sections placed.now.object) }
-    requires before { out ≤ slice_index placed.now.layout.places position }
-{
-    let section = placed.section(position);
-    let laid = LaidSection { placed, section };
-    let padding = placed.place(position) - out;
-    padding.saturating_add(laid.content_size())
-        > waiting.capacity().saturating_sub(waiting.len()) as u64
-}
-
-/// Adds the content of the section of this position, at its place, to the bytes that wait, the last of the `out` that are before it. The
-/// answer is where it ends; None if there is no room for it, and nothing is added.
-fn gather(
-    placed: &PlacedObject<'_, '_>,
-    position: usize,
-    out: u64,
-    waiting: &mut Vec<u8>,
-) -> Option<u64>
-    requires there { position < length (plain_sections placed.now.object) }
-    requires before { out ≤ slice_index placed.now.layout.places position }
-    ensures gathered { let p = placed.now in IfSome result (λ end. (d : PlainSection) → WritesBehind out (Some waiting.old.items) (Some waiting.new.items)
-        (replicate (slice_index p.layout.places position - out) 0 ++ (get_or (plain_sections p.object) position d).content) (Ok end)) }
-    ensures kept { result ≡ None → waiting.new.items ≡ waiting.old.items }
-{
-    let waited = waiting.len();
-    if is_long(placed, position, out, waiting) {
-        return None;
-    }
-    match write_part(placed, position, out, waiting) {
-        Ok(end) => Some(end),
-        Err(_) => {
-            waiting.truncate(waited);
-            None
-        }
     }
 }
 
@@ -87,35 +47,78 @@ pub(crate) fn write_waiting<W: Write>(
     }
 }
 
-/// The content of the section of this position, at its place, behind the first `out` bytes, of which the last may wait: it waits too if it
-/// is short. The answer is where it ends; a fault counts the bytes that are written.
-pub(crate) fn pass_part<W: Write>(
-    placed: &PlacedObject<'_, '_>,
-    position: usize,
-    out: u64,
-    waiting: &mut Vec<u8>,
-    writer: &mut W,
-) -> Result<u64, WriteFault>
-    requires there { position < length (plain_sections placed.now.object) }
-    requires before { out ≤ slice_index placed.now.layout.places position }
-    requires waiting { length waiting.old.items ≤ out }
-    ensures ok { let p = placed.now in IfOk result (λ end. (d : PlainSection) →
-        WritesBehind out (append_known (W.contents writer.old) waiting.old.items) (append_known (W.contents writer.new) waiting.new.items)
-        (replicate (slice_index p.layout.places position - out) 0 ++ (get_or (plain_sections p.object) position d).content) (Ok end)) }
-    ensures few { IfOk result (λ end. length waiting.new.items ≤ end) }
-    ensures err { let p = placed.now in IfErr result (λ fault. (d : PlainSection) →
-        WritesBehind (out - length waiting.old.items) (W.contents writer.old) (W.contents writer.new)
-        (waiting.old.items ++ (replicate (slice_index p.layout.places position - out) 0 ++ (get_or (plain_sections p.object) position d).content)) (Err fault)) }
-{
-    if let Some(end) = gather(placed, position, out, waiting) {
-        return Ok(end);
+/// The content of a section of a layout, which goes out next, with the zeros before it.
+#[derive(Drop)]
+pub(crate) struct NextPart<'p, 'o, 'a> {
+    /// The object in its layout.
+    pub placed: &'p PlacedObject<'o, 'a>,
+    /// The position of the section in the layout.
+    pub position: usize,
+    /// How many bytes of the layout are before it, of which the last may wait.
+    pub out: u64,
+    ghost there: { position < length (plain_sections placed.now.object) },
+    ghost behind: { out ≤ slice_index placed.now.layout.places position },
+}
+
+impl NextPart<'_, '_, '_> {
+    /// Whether it has no room behind the bytes that wait.
+    fn is_long(&self, waiting: &Vec<u8>) -> bool {
+        let section = self.placed.section(self.position);
+        let laid = LaidSection {
+            placed: self.placed,
+            section,
+        };
+        let padding = self.placed.place(self.position) - self.out;
+        padding.saturating_add(laid.content_size())
+            > waiting.capacity().saturating_sub(waiting.len()) as u64
     }
-    match write_waiting(out, waiting, writer) {
-        Ok(()) => {}
-        Err(fault) => return Err(fault),
+
+    /// Adds it to the bytes that wait, which are the last before it. The answer is where it ends; None if there is no room for it, and
+    /// nothing is added.
+    fn gather(&self, waiting: &mut Vec<u8>) -> Option<u64>
+        ensures gathered { let part = self.now in IfSome result (λ end. (d : PlainSection) →
+            WritesBehind part.out (Some waiting.old.items) (Some waiting.new.items) (part_bytes part.placed.now part.position part.out d) (Ok end)) }
+        ensures kept { result ≡ None → waiting.new.items ≡ waiting.old.items }
+    {
+        let waited = waiting.len();
+        if self.is_long(waiting) {
+            return None;
+        }
+        match self.write(waiting) {
+            Ok(end) => Some(end),
+            Err(_) => {
+                waiting.truncate(waited);
+                None
+            }
+        }
     }
-    match write_part(placed, position, out, writer) {
-        Ok(end) => Ok(end),
-        Err(fault) => Err(fault),
+
+    /// Puts it behind the bytes before it: it waits with them if it is short, and else it goes out after them. The answer is where it ends;
+    /// a fault counts the bytes that are written.
+    pub(crate) fn pass<W: Write>(
+        &self,
+        waiting: &mut Vec<u8>,
+        writer: &mut W,
+    ) -> Result<u64, WriteFault>
+        requires { length waiting.old.items ≤ self.now.out }
+        ensures ok { let part = self.now in IfOk result (λ end. (d : PlainSection) →
+            WritesBehind part.out (append_known (W.contents writer.old) waiting.old.items) (append_known (W.contents writer.new) waiting.new.items)
+            (part_bytes part.placed.now part.position part.out d) (Ok end)) }
+        ensures few { IfOk result (λ end. length waiting.new.items ≤ end) }
+        ensures err { let part = self.now in IfErr result (λ fault. (d : PlainSection) →
+            WritesBehind (part.out - length waiting.old.items) (W.contents writer.old) (W.contents writer.new)
+            (waiting.old.items ++ part_bytes part.placed.now part.position part.out d) (Err fault)) }
+    {
+        if let Some(end) = self.gather(waiting) {
+            return Ok(end);
+        }
+        match write_waiting(self.out, waiting, writer) {
+            Ok(()) => {}
+            Err(fault) => return Err(fault),
+        }
+        match self.write(writer) {
+            Ok(end) => Ok(end),
+            Err(fault) => Err(fault),
+        }
     }
 }

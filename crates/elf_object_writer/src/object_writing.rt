@@ -3,10 +3,10 @@ ghost use Rattle.std.specs.Prelude.{◌≡◌, ◌<◌, ◌≤◌, ℕ, ◌+◌,
 ghost use Rattle.elf_field.specs.Headers.{ehdr_bytes};
 ghost use Rattle.elf_image_stream.specs.Output.{Writes};
 ghost use Rattle.elf_object_writer.specs.Laid.{file_header, layout_bytes, PlainSection, plain_sections};
-ghost use Rattle.elf_object_writer.specs.PlacedObject.{WritesBehind, header_table, plain_section, IsLayoutWritten};
+ghost use Rattle.elf_object_writer.specs.PlacedObject.{WritesBehind, header_table, part_bytes, plain_section, IsLayoutWritten};
 ghost use Rattle.elf_image_rules.specs.Rules.{MAX_LEN};
 
-use crate::gathering::{none_waiting, pass_part, write_waiting};
+use crate::gathering::{NextPart, none_waiting, write_waiting};
 use crate::headers::{SectionHeaders, file_header};
 use crate::layout::LayoutFault;
 use crate::name_tables::ObjectWithEnds;
@@ -38,7 +38,12 @@ pub(crate) fn write_placed<W: Write>(
     let mut out = EHDR_SIZE;
     let mut waiting = none_waiting(alloc);
     for position in 0..placed.section_count() {
-        match pass_part(placed, position, out, &mut waiting, writer) {
+        let part = NextPart {
+            placed,
+            position,
+            out,
+        };
+        match part.pass(&mut waiting, writer) {
             Ok(end) => out = end,
             Err(fault) => return Err(fault),
         }
@@ -61,25 +66,21 @@ fn write_header<W: Write>(placed: &PlacedObject<'_, '_>, writer: &mut W) -> Resu
     write_records(writer, placed.object().order(), &[file_header(placed)])
 }
 
-/// The content of the section of this position, at its place, where so many bytes are written before it. The answer is where it ends.
-pub(crate) fn write_part<W: Write>(
-    placed: &PlacedObject<'_, '_>,
-    position: usize,
-    out: u64,
-    writer: &mut W,
-) -> Result<u64, WriteFault>
-    requires there { position < length (plain_sections placed.now.object) }
-    requires before { out ≤ slice_index placed.now.layout.places position }
-    ensures { let p = placed.now in (d : PlainSection) → WritesBehind out (W.contents writer.old) (W.contents writer.new)
-        (replicate (slice_index p.layout.places position - out) 0 ++ (get_or (plain_sections p.object) position d).content) result }
-{
-    placed.prove_placed();
-    let section = placed.section(position);
-    let laid = LaidSection { placed, section };
-    let padding = placed.place(position) - out;
-    let size = laid.content_size();
-    let sent = laid.write_padded(padding, writer);
-    behind(out, padding + size, sent)
+impl NextPart<'_, '_, '_> {
+    /// Writes it at its place, where all bytes before it are written. The answer is where it ends.
+    pub(crate) fn write<W: Write>(&self, writer: &mut W) -> Result<u64, WriteFault>
+        ensures { let part = self.now in (d : PlainSection) → WritesBehind part.out (W.contents writer.old) (W.contents writer.new)
+            (part_bytes part.placed.now part.position part.out d) result }
+    {
+        let placed = self.placed;
+        placed.prove_placed();
+        let section = placed.section(self.position);
+        let laid = LaidSection { placed, section };
+        let padding = placed.place(self.position) - self.out;
+        let size = laid.content_size();
+        let sent = laid.write_padded(padding, writer);
+        behind(self.out, padding + size, sent)
+    }
 }
 
 impl<'p, 'o, 'a> LaidSection<'p, 'o, 'a> {
@@ -200,7 +201,8 @@ pub enum ObjectWriteFault {
 /// flushed.
 ///
 /// Memory is taken for the string tables and the places of the parts, and 16 KiB, if there are so many, for short contents, which go out
-/// together. Longer ones are passed on as they are in the object, and the entries of tables are made as they are written. It takes the time of [`lay_out`](crate::lay_out), and is linear in the bytes written.
+/// together. Longer ones are passed on as they are in the object, and the entries of tables are made as they are written. It takes the time
+/// of [`lay_out`](crate::lay_out), and is linear in the bytes written.
 pub fn write_layout<W: Write>(
     alloc: Global,
     source: &ObjectWithEnds<'_, '_>,

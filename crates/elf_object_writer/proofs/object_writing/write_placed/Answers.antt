@@ -18,27 +18,27 @@ loop-position-init g c = rw c.none_waiting-waiting.ensures (record {
   few = omega arith;
 })
 
-pub pass_part-requires-clause-before : goal.pass_part-requires-clause-before
-pass_part-requires-clause-before g c =
+pub invariant_of-part-clause-behind : goal.invariant_of-part-clause-behind
+invariant_of-part-clause-behind g c =
     let count = c.section_count-position-end.ensures.value in
     content_place c.args.placed.now _ _ c.loop-position.out c.loop-position.position c.prove_placed.ensures (omega arith) c.loop-position.invariant.going
 
-pub pass_part-requires-clause-waiting : goal.pass_part-requires-clause-waiting
-pass_part-requires-clause-waiting g c = c.loop-position.invariant.few
+pub pass-requires : goal.pass-requires
+pass-requires g c = c.loop-position.invariant.few
 
-pub returns-in-Err-pass_part : goal.returns-in-Err-pass_part
-returns-in-Err-pass_part g c =
+pub returns-in-Err-pass : goal.returns-in-Err-pass
+returns-in-Err-pass g c =
     let count = c.section_count-position-end.ensures.value in
-    content_fails c.args.placed.now _ _ _ c.loop-position.waiting.items c.loop-position.out c.loop-position.position c.in-Err-pass_part.fault
-    c.prove_placed.ensures (omega arith) c.loop-position.invariant.going c.loop-position.invariant.few c.in-Err-pass_part.ensures.err
+    content_fails c.args.placed.now _ _ _ c.loop-position.waiting.items c.loop-position.out c.loop-position.position c.in-Err-pass.fault
+    c.prove_placed.ensures (omega arith) c.loop-position.invariant.going c.loop-position.invariant.few c.in-Err-pass.ensures.err
 
 pub loop-position-preserved : goal.loop-position-preserved
 loop-position-preserved g c =
     let count = c.section_count-position-end.ensures.value in
     record {
-      going = content_sent c.args.placed.now _ _ _ c.loop-position.out c.in-Ok-pass_part.end c.loop-position.position c.prove_placed.ensures (omega arith)
-          c.loop-position.invariant.going c.in-Ok-pass_part.ensures.ok;
-      few = c.in-Ok-pass_part.ensures.few;
+      going = content_sent c.args.placed.now _ _ _ c.loop-position.out c.in-Ok-pass.end c.loop-position.position c.prove_placed.ensures (omega arith)
+          c.loop-position.invariant.going c.in-Ok-pass.ensures.ok;
+      few = c.in-Ok-pass.ensures.few;
     }
 
 pub write_waiting-requires : goal.write_waiting-requires
