@@ -1,7 +1,8 @@
 //! The records of elf_field.
-ghost use Rattle.std.specs.Prelude.{◌≡◌, ◌≤◌, length};
+ghost use Rattle.std.specs.Prelude.{◌≤◌};
 
 use elf_field::{Dyn, Ehdr, Order, Phdr, Record, Rel, Rela, Shdr, Sym, abi, get_at};
+use std::fmt::Debug;
 use std::process::Abort;
 
 // The header of an empty relocatable file, little-endian, and the same in big-endian.
@@ -47,14 +48,16 @@ fn first_wrong(order: Order, fields: &[(u64, u64, u64)]) -> Option<u64> {
     None
 }
 
-// The record that is at the beginning of the bytes, through the bound, put back into `copy`.
-fn through_bound<T: Record>(order: Order, bytes: &[u8], copy: &mut [u8]) -> T
-    requires read { T.SIZE ≤ length bytes.now }
-    requires written { length copy.old ≡ T.SIZE }
+// The record at the start of the ruler, read through the bound. `get` reads the same one, and `put` writes the same bytes.
+fn through_bound<T: Record + Copy + PartialEq + Debug>(rt: &impl Abort, order: Order) -> T
+    requires { T.SIZE ≤ 64 }
 {
-    let record: T = get_at(order, bytes, 0);
+    let bytes = &RULER[..T::SIZE];
+    let record: T = get_at(order, RULER, 0);
+    let mut copy = [0; 64];
     record.fits();
-    record.put(order, copy);
+    record.put(order, &mut copy[..T::SIZE]);
+    assert_eq!(rt; (T::get(order, bytes), &copy[..T::SIZE]), (record, bytes));
     record
 }
 
@@ -148,18 +151,6 @@ fn header_fields(record: &Ehdr) -> [(u64, u64, u64); 13] {
     ]
 }
 
-/// A header has its fields where the ruler says.
-fn assert_header_layout(rt: &impl Abort, order: Order) {
-    let mut copy = [0; 64];
-    let record: Ehdr = through_bound(order, RULER, &mut copy);
-    let wrong = first_wrong(order, &header_fields(&record));
-    let read = (Ehdr::get(order, &RULER[..64]), record.e_ident.as_slice());
-    assert_eq!(rt;
-        (read, copy.as_slice(), wrong),
-        ((record, &RULER[..16]), &RULER[..64], None)
-    );
-}
-
 /// The fields of a section header.
 fn section_fields(record: &Shdr) -> [(u64, u64, u64); 10] {
     [
@@ -176,18 +167,6 @@ fn section_fields(record: &Shdr) -> [(u64, u64, u64); 10] {
     ]
 }
 
-/// A section header has its fields where the ruler says.
-fn assert_section_layout(rt: &impl Abort, order: Order) {
-    let mut copy = [0; 64];
-    let record: Shdr = through_bound(order, RULER, &mut copy);
-    let wrong = first_wrong(order, &section_fields(&record));
-    let read = Shdr::get(order, &RULER[..64]);
-    assert_eq!(rt;
-        (read, copy.as_slice(), wrong),
-        (record, &RULER[..64], None)
-    );
-}
-
 /// The fields of a program header.
 fn segment_fields(record: &Phdr) -> [(u64, u64, u64); 8] {
     [
@@ -202,18 +181,6 @@ fn segment_fields(record: &Phdr) -> [(u64, u64, u64); 8] {
     ]
 }
 
-/// A program header has its fields where the ruler says.
-fn assert_segment_layout(rt: &impl Abort, order: Order) {
-    let mut copy = [0; 56];
-    let record: Phdr = through_bound(order, RULER, &mut copy);
-    let wrong = first_wrong(order, &segment_fields(&record));
-    let read = Phdr::get(order, &RULER[..56]);
-    assert_eq!(rt;
-        (read, copy.as_slice(), wrong),
-        (record, &RULER[..56], None)
-    );
-}
-
 /// The fields of a symbol.
 fn symbol_fields(record: &Sym) -> [(u64, u64, u64); 6] {
     [
@@ -226,33 +193,9 @@ fn symbol_fields(record: &Sym) -> [(u64, u64, u64); 6] {
     ]
 }
 
-/// A symbol has its fields where the ruler says.
-fn assert_symbol_layout(rt: &impl Abort, order: Order) {
-    let mut copy = [0; 24];
-    let record: Sym = through_bound(order, RULER, &mut copy);
-    let wrong = first_wrong(order, &symbol_fields(&record));
-    let read = Sym::get(order, &RULER[..24]);
-    assert_eq!(rt;
-        (read, copy.as_slice(), wrong),
-        (record, &RULER[..24], None)
-    );
-}
-
 /// The fields of a relocation.
 fn rel_fields(record: &Rel) -> [(u64, u64, u64); 2] {
     [(record.r_offset, 0, 8), (record.r_info, 8, 8)]
-}
-
-/// A relocation has its fields where the ruler says.
-fn assert_rel_layout(rt: &impl Abort, order: Order) {
-    let mut copy = [0; 16];
-    let record: Rel = through_bound(order, RULER, &mut copy);
-    let wrong = first_wrong(order, &rel_fields(&record));
-    let read = Rel::get(order, &RULER[..16]);
-    assert_eq!(rt;
-        (read, copy.as_slice(), wrong),
-        (record, &RULER[..16], None)
-    );
 }
 
 /// The fields of a relocation with an addend.
@@ -264,56 +207,44 @@ fn rela_fields(record: &Rela) -> [(u64, u64, u64); 3] {
     ]
 }
 
-/// A relocation with an addend has its fields where the ruler says.
-fn assert_rela_layout(rt: &impl Abort, order: Order) {
-    let mut copy = [0; 24];
-    let record: Rela = through_bound(order, RULER, &mut copy);
-    let wrong = first_wrong(order, &rela_fields(&record));
-    let read = Rela::get(order, &RULER[..24]);
-    assert_eq!(rt;
-        (read, copy.as_slice(), wrong),
-        (record, &RULER[..24], None)
-    );
-}
-
 /// The fields of an entry of the dynamic array.
 fn entry_fields(record: &Dyn) -> [(u64, u64, u64); 2] {
     [(record.d_tag.cast_unsigned(), 0, 8), (record.d_un, 8, 8)]
 }
 
-/// An entry of the dynamic array has its fields where the ruler says.
-fn assert_entry_layout(rt: &impl Abort, order: Order) {
-    let mut copy = [0; 16];
-    let record: Dyn = through_bound(order, RULER, &mut copy);
-    let wrong = first_wrong(order, &entry_fields(&record));
-    let read = Dyn::get(order, &RULER[..16]);
+/// Each record has its fields where the ruler says, and a header begins with its 16 bytes of `e_ident`.
+fn assert_layouts(rt: &impl Abort, order: Order) {
+    let header: Ehdr = through_bound(rt, order);
+    let section: Shdr = through_bound(rt, order);
+    let segment: Phdr = through_bound(rt, order);
+    let symbol: Sym = through_bound(rt, order);
+    let rel: Rel = through_bound(rt, order);
+    let rela: Rela = through_bound(rt, order);
+    let entry: Dyn = through_bound(rt, order);
+    let wrong = [
+        first_wrong(order, &header_fields(&header)),
+        first_wrong(order, &section_fields(&section)),
+        first_wrong(order, &segment_fields(&segment)),
+        first_wrong(order, &symbol_fields(&symbol)),
+        first_wrong(order, &rel_fields(&rel)),
+        first_wrong(order, &rela_fields(&rela)),
+        first_wrong(order, &entry_fields(&entry)),
+    ];
     assert_eq!(rt;
-        (read, copy.as_slice(), wrong),
-        (record, &RULER[..16], None)
+        (header.e_ident.as_slice(), wrong),
+        (&RULER[..16], [None; 7])
     );
 }
 
 #[test]
 fn each_record_has_its_fields_where_the_ruler_says(rt: HostRuntime) {
-    for order in [Order::Little, Order::Big] {
-        assert_header_layout(&rt, order);
-        assert_section_layout(&rt, order);
-        assert_segment_layout(&rt, order);
-        assert_symbol_layout(&rt, order);
-        assert_rel_layout(&rt, order);
-        assert_rela_layout(&rt, order);
-        assert_entry_layout(&rt, order);
-    }
+    assert_layouts(&rt, Order::Little);
+    assert_layouts(&rt, Order::Big);
 }
 
 #[test]
 fn words(rt: HostRuntime) {
-    let mut copy = [0; 4];
-    let word: u32 = through_bound(Order::Little, RULER, &mut copy);
-    let read = <u32 as Record>::get(Order::Little, &RULER[..4]);
+    let word: u32 = through_bound(&rt, Order::Little);
     let other = get_at::<u32>(Order::Big, RULER, 5);
-    assert_eq!(rt;
-        (read, word, copy, other),
-        (word, 0x0302_0100, [0, 1, 2, 3], 0x0506_0708)
-    );
+    assert_eq!(rt; (word, other), (0x0302_0100, 0x0506_0708));
 }

@@ -1,6 +1,12 @@
-//! Images and objects of generated files.
+//! Images and objects of generated files; and objects by their parts.
 use crate::{Field, set_header};
 use elf_field::Order;
+use elf_object_type::{
+    Body, Info, Object, ObjectFault, ObjectParts, Place, Relocation, Section, Symbol,
+};
+use std::alloc::{AllocError, Global};
+use std::fmt;
+use std::fmt::Write;
 
 // Worked files of images, in either byte order.
 
@@ -310,4 +316,150 @@ pub fn callee() -> [u8; 488] {
     set_header(&mut file, Order::Little, &CALLEE);
     file[120..161].copy_from_slice(b"\0callee\0\0.text\0.symtab\0.strtab\0.shstrtab\0");
     file
+}
+
+/// The header, the program header and the code of the executable of both at 0x1000, without a gap between them.
+const EXECUTABLE_OF_A_CALL: [Field; 17] = [
+    (16, 2, 2),
+    (24, 8, 0x1000),
+    (32, 8, 64),
+    (54, 2, 56),
+    (56, 2, 1),
+    (64, 4, 1),
+    (68, 4, 5),
+    (72, 8, 120),
+    (80, 8, 0x1000),
+    (88, 8, 0x1000),
+    (96, 8, 7),
+    (104, 8, 7),
+    (112, 8, 1),
+    (120, 1, 0xe8),
+    (121, 4, 1),
+    (125, 1, 0xc3),
+    (126, 1, 0xc3),
+];
+
+/// The executable of `main` and `callee`: the header, one program header, and a segment of seven bytes, the code with its call.
+pub fn executable_of_a_call() -> [u8; 127] {
+    let mut file = [0; 127];
+    set_header(&mut file, Order::Little, &EXECUTABLE_OF_A_CALL);
+    file
+}
+
+// Objects by their parts.
+
+/// The info of a global symbol.
+pub const GLOBAL: u8 = 0x10;
+
+/// How many digits a numbered name has.
+pub const DIGITS: usize = 7;
+
+/// The decimal digits of the positions below this count, `DIGITS` each, one after the other.
+pub fn numbered(alloc: Global, count: usize) -> Result<String, fmt::Error> {
+    let mut names = String::new(alloc);
+    for position in 0..count {
+        write!(names, "{position:07}")?;
+    }
+    Ok(names)
+}
+
+/// These items, in a vector.
+pub fn list<T: Drop, const N: usize>(alloc: Global, items: [T; N]) -> Result<Vec<T>, AllocError> {
+    Ok(Vec::from_array(alloc, items)?)
+}
+
+/// A section without an address, a link and entries of its own.
+pub fn section<'a>(name: &'a [u8], flags: u64, align: u64, body: Body<'a>) -> Section<'a> {
+    Section {
+        name,
+        flags,
+        addr: 0,
+        align,
+        entsize: 0,
+        link: None,
+        info: Info::Number(0),
+        body,
+    }
+}
+
+/// A section of relocations, with their addends beside them.
+pub fn relocs<'a>(target: usize, entries: Vec<Relocation>) -> Section<'a> {
+    let body = Body::Relocs {
+        rela: true,
+        target,
+        entries: entries.into(),
+    };
+    Section {
+        entsize: 24,
+        ..section(b".rela", 0, 8, body)
+    }
+}
+
+/// A symbol without a size.
+pub fn symbol<'a>(name: &'a [u8], info: u8, place: Place, value: u64) -> Symbol<'a> {
+    Symbol {
+        name,
+        info,
+        other: 0,
+        place,
+        value,
+        size: 0,
+    }
+}
+
+/// An object of these sections and symbols, for machine 62.
+pub fn object<'a>(
+    alloc: Global,
+    order: Order,
+    sections: Vec<Section<'a>>,
+    symbols: Vec<Symbol<'a>>,
+) -> Result<Object<'a>, ObjectFault> {
+    let parts = ObjectParts {
+        order,
+        osabi: 0,
+        abi: 0,
+        machine: 62,
+        flags: 0,
+        sections,
+        symbols,
+    };
+    Object::new(alloc, parts)
+}
+
+/// The code of `main`, with its call.
+fn caller_sections(alloc: Global) -> Result<Vec<Section<'static>>, AllocError> {
+    let call = Relocation {
+        offset: 1,
+        symbol: Some(1),
+        kind: 2,
+        addend: -4,
+    };
+    let relocs = relocs(0, list(alloc, [call])?);
+    let text = section(b".text", 6, 1, Body::Bits(1, b"\xe8\0\0\0\0\xc3"));
+    list(alloc, [text, relocs])
+}
+
+/// `main`, and the name that it calls.
+fn caller_symbols(alloc: Global) -> Result<Vec<Symbol<'static>>, AllocError> {
+    list(
+        alloc,
+        [
+            symbol(b"main", GLOBAL, Place::In(0), 0),
+            symbol(b"callee", GLOBAL, Place::Undef, 0),
+        ],
+    )
+}
+
+/// `main`, which calls `callee`, as an object.
+pub fn caller_object(alloc: Global) -> Result<Object<'static>, ObjectFault> {
+    let sections = caller_sections(alloc)?;
+    let symbols = caller_symbols(alloc)?;
+    object(alloc, Order::Little, sections, symbols)
+}
+
+/// `callee`, at the start of its section.
+pub fn callee_object(alloc: Global) -> Result<Object<'static>, ObjectFault> {
+    let sections = list(alloc, [section(b".text", 6, 1, Body::Bits(1, b"\xc3"))])?;
+    let symbols = list(alloc, [symbol(b"callee", GLOBAL, Place::In(0), 0)])?;
+    object(alloc, Order::Little, sections, symbols)
 }

@@ -1,4 +1,5 @@
-//! Files for tests, given by their fields, in either byte order; and readers, sources and writers that give or take little, or fail.
+//! Files for tests, given by their fields, in either byte order; objects by their parts; and readers, sources and writers that give or
+//! take little, or fail.
 //!
 //! ```
 //! let mut file = [0; 64];
@@ -12,8 +13,9 @@ mod streams;
 
 use elf_field::Order;
 pub use files::{
-    callee, caller, empty_contents, empty_object, filled_gap, header_alone, long_parts,
-    one_section, one_segment, two_of_each,
+    DIGITS, GLOBAL, callee, callee_object, caller, caller_object, empty_contents, empty_object,
+    executable_of_a_call, filled_gap, header_alone, list, long_parts, numbered, object,
+    one_section, one_segment, relocs, section, symbol, two_of_each,
 };
 pub use streams::{
     Counter, Failure, OnceFailingReader, OnceFailingWriter, PIECE, PartialSource, Pieces, Sink,

@@ -9,8 +9,8 @@ use std::alloc::Global;
 use std::io::Read;
 use std::process::Abort;
 use tests_files::{
-    Field, PartialSource, Pieces, empty_contents, empty_object, filled_gap, one_section,
-    one_segment, set, set_header, two_of_each,
+    Field, PartialSource, Pieces, empty_contents, empty_object, executable_of_a_call, filled_gap,
+    one_section, one_segment, set, set_header, two_of_each,
 };
 
 // Sources read as images, without their contents. Files that a scan rejects are in `cases/`, under `check --seek`.
@@ -375,33 +375,6 @@ fn parse_tells_the_verdict(rt: HostRuntime) {
 }
 
 // The bytes that segments of hand-written files give their addresses.
-
-/// The header and the program header of an executable: the one segment of code, which a call and what it calls make.
-const EXECUTABLE_OF_A_CALL: [Field; 17] = [
-    (16, 2, 2),
-    (24, 8, 0x1000),
-    (32, 8, 64),
-    (54, 2, 56),
-    (56, 2, 1),
-    (64, 4, 1),
-    (68, 4, 5),
-    (72, 8, 120),
-    (80, 8, 0x1000),
-    (88, 8, 0x1000),
-    (96, 8, 7),
-    (104, 8, 7),
-    (112, 8, 1),
-    (120, 1, 0xe8),
-    (121, 1, 1),
-    (125, 1, 0xc3),
-    (126, 1, 0xc3),
-];
-
-fn executable_of_a_call() -> [u8; 127] {
-    let mut file = [0; 127];
-    set_header(&mut file, Order::Little, &EXECUTABLE_OF_A_CALL);
-    file
-}
 
 /// The file of two segments and sections, with other fields.
 fn two_of_each_with(order: Order, fields: &[Field]) -> [u8; 384] {

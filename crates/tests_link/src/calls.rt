@@ -1,53 +1,14 @@
 //! A function in one file that is called in another. Its bytes, and links of it that are refused, are in `cases/links.txt`.
-use crate::parts::{
-    GLOBAL, WEAK, data, list, mapped, mapped_by, object, relocs, rule, section, symbol,
-};
+use crate::parts::{WEAK, data, mapped, mapped_by, rule};
 use elf_field::Order;
 use elf_link_field::{Form, Range, RelocRule, Width};
 use elf_link_map::{Binding, LinkFault, LinkMap, Member, Named, Options};
 use elf_link_relocate::{Identity, relocate};
-use elf_object_type::{Body, Object, ObjectFault, ObjectParts, Place, Relocation, Section, Symbol};
-use std::alloc::{AllocError, Global};
+use elf_object_type::{Object, ObjectFault, ObjectParts, Place};
+use std::alloc::Global;
 use std::process::Abort;
 use std::test::Fail;
-
-/// The code of `main`, with its call.
-fn caller_sections(alloc: Global) -> Result<Vec<Section<'static>>, AllocError> {
-    let call = Relocation {
-        offset: 1,
-        symbol: Some(1),
-        kind: 2,
-        addend: -4,
-    };
-    let relocs = relocs(0, list(alloc, [call])?);
-    let text = section(b".text", 6, 1, Body::Bits(1, b"\xe8\0\0\0\0\xc3"));
-    list(alloc, [text, relocs])
-}
-
-/// `main`, and the name that it calls.
-fn caller_symbols(alloc: Global) -> Result<Vec<Symbol<'static>>, AllocError> {
-    list(
-        alloc,
-        [
-            symbol(b"main", GLOBAL, Place::In(0), 0),
-            symbol(b"callee", GLOBAL, Place::Undef, 0),
-        ],
-    )
-}
-
-/// `main`, which calls `callee`.
-fn caller(alloc: Global) -> Result<Object<'static>, ObjectFault> {
-    let sections = caller_sections(alloc)?;
-    let symbols = caller_symbols(alloc)?;
-    object(alloc, Order::Little, sections, symbols)
-}
-
-/// `callee`, at the start of its section.
-fn callee(alloc: Global) -> Result<Object<'static>, ObjectFault> {
-    let sections = list(alloc, [section(b".text", 6, 1, Body::Bits(1, b"\xc3"))])?;
-    let symbols = list(alloc, [symbol(b"callee", GLOBAL, Place::In(0), 0)])?;
-    object(alloc, Order::Little, sections, symbols)
-}
+use tests_files::{GLOBAL, callee_object, caller_object, list, object, symbol};
 
 /// The link map of these objects, each output at its least place.
 fn linked<'a>(
@@ -147,7 +108,7 @@ fn assert_mapped(rt: &impl Abort, link: &LinkMap<'_>) {
 // The example of the root of `elf_link_map`.
 #[test]
 fn maps_two_files(rt: HostRuntime) -> Result<(), Fail> {
-    let objects = [caller(rt.alloc())?, callee(rt.alloc())?];
+    let objects = [caller_object(rt.alloc())?, callee_object(rt.alloc())?];
     let link = linked(rt.alloc(), &objects, Some(b"main"))?;
     assert_mapped(&rt, &link);
     Ok(())
@@ -168,7 +129,7 @@ fn counts_of(link: &LinkMap<'_>) -> ([usize; 3], u64) {
 fn maps_no_files_and_no_entry(rt: HostRuntime) -> Result<(), Fail> {
     let none: [Object<'static>; 0] = [];
     let empty = linked(rt.alloc(), &none, None)?;
-    let objects = [caller(rt.alloc())?, callee(rt.alloc())?];
+    let objects = [caller_object(rt.alloc())?, callee_object(rt.alloc())?];
     let link = linked(rt.alloc(), &objects, None)?;
     let counts = [counts_of(&empty), counts_of(&link)];
     assert_eq!(rt; counts, [([0; 3], 0), ([1, 0, 2], 0)]);

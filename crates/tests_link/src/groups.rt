@@ -1,5 +1,4 @@
 //! Two COMDAT groups of one signature, linked by a hasher that spreads no keys: no clause names the hasher.
-use crate::parts::{GLOBAL, list, object, section, symbol};
 use elf_field::Order;
 use elf_link_map::{Binding, LinkMap, Options, map};
 use elf_object_type::{Body, Info, Object, ObjectFault, Place, Section};
@@ -7,6 +6,7 @@ use std::alloc::Global;
 use std::hash::{BuildHasher, Hasher};
 use std::process::Abort;
 use std::test::Fail;
+use tests_files::{GLOBAL, list, object, section, symbol};
 
 /// A hasher that gives 0 for every key, so that all keys meet.
 #[derive(Clone, Copy, Debug)]

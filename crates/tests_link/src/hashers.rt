@@ -1,11 +1,12 @@
 //! A link by a hasher that spreads no keys is the same as by one that does: no clause names the hasher.
 use crate::groups::Flat;
-use crate::parts::{GLOBAL, WEAK, data, list, mapped_by, object, symbol};
+use crate::parts::{WEAK, data, mapped_by};
 use elf_field::Order;
 use elf_link_map::{Binding, LinkMap, Options, map};
 use elf_object_type::{Object, ObjectFault, Place};
 use std::alloc::Global;
 use std::test::Fail;
+use tests_files::{GLOBAL, list, object, symbol};
 
 /// Outputs of three names, at multiples of 16.
 const OPTIONS: Options<'static> = Options {

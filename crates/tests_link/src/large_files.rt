@@ -2,12 +2,13 @@
 //! defines 17 names, one of them long, and has five fields, in its section 1.
 //!
 //! Section `s` of file `f` is number `4 f + s`. Number `k` goes to output `k mod 40`, as its member `k / 40`: that is where it is.
-use crate::parts::{GLOBAL, WEAK, data, list, object, relocs, symbol};
+use crate::parts::{WEAK, data};
 use elf_field::Order;
 use elf_object_type::{Object, ObjectFault, Place, Relocation, Section, Symbol};
 use std::alloc::{AllocError, Global};
 use std::fmt::Write;
 use std::test::Fail;
+use tests_files::{GLOBAL, list, object, relocs, symbol};
 
 /// How many files there are.
 pub(crate) const FILES: u8 = 66;

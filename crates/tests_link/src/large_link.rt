@@ -3,7 +3,7 @@ use crate::large_files::{
     FILES, LINKS, LONG, OUTPUTS, SECTIONS, address_of, digits, files, long_name, name_of,
     short_name,
 };
-use crate::parts::{list, mapped, push_number, rule};
+use crate::parts::{mapped, push_number, rule};
 use elf_field::Order;
 use elf_link_field::{Form, Range, Width};
 use elf_link_map::{Binding, LinkFault, LinkMap, Named, Output};
@@ -11,6 +11,7 @@ use elf_link_relocate::{Linked, relocate};
 use elf_object_type::Object;
 use std::alloc::{AllocError, Global};
 use std::test::Fail;
+use tests_files::list;
 
 /// How many sections go to an output, and their bytes: 264 is six times 40 and 24.
 fn size_of(output: u16) -> (usize, u64) {

@@ -2,7 +2,8 @@
 //! sections, names and fields, where a limit would hide. Hand-written links, and one for each rule that breaks it, are in
 //! `cases/links.txt`.
 //!
-//! `large_files` has the 66 files of one large link, which `large_link` tests. Each other module makes links of its own, from `parts`.
+//! `large_files` has the 66 files of one large link, which `large_link` tests. Each other module makes links of its own, from `parts` and
+//! the parts of `tests_files`.
 #![tactic(auto)]
 
 #[cfg(test)]

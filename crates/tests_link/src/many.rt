@@ -1,16 +1,15 @@
 //! Links of many names and many addends.
 ghost use Rattle.std.specs.Prelude.{◌<◌};
 
-use crate::parts::{
-    DIGITS, GLOBAL, data, holds, list, mapped, numbered, object, push_number, rule, symbol,
-};
+use crate::parts::{data, holds, mapped, push_number, rule};
 use elf_field::Order;
 use elf_link_field::{Form, Range, Width};
 use elf_link_map::{Binding, LinkFault, LinkMap};
 use elf_link_relocate::relocate;
-use elf_object_type::{Body, Info, Object, ObjectFault, Place, Relocation, Section, Symbol};
+use elf_object_type::{Body, Object, ObjectFault, Place, Relocation, Section, Symbol};
 use std::alloc::{AllocError, Global};
 use std::test::Fail;
+use tests_files::{DIGITS, GLOBAL, list, numbered, object, section, symbol};
 
 // Forty thousand fields of one, two, four and eight bytes, whose addends are in them.
 
@@ -67,19 +66,14 @@ fn entries(alloc: Global) -> Result<Vec<Relocation>, AllocError> {
 
 /// A section of relocations without addends beside them.
 fn rel<'a>(entries: Vec<Relocation>) -> Section<'a> {
+    let body = Body::Relocs {
+        rela: false,
+        target: 0,
+        entries: entries.into(),
+    };
     Section {
-        name: b".rel",
-        flags: 0,
-        addr: 0,
-        align: 8,
         entsize: 16,
-        link: None,
-        info: Info::Number(0),
-        body: Body::Relocs {
-            rela: false,
-            target: 0,
-            entries: entries.into(),
-        },
+        ..section(b".rel", 0, 8, body)
     }
 }
 

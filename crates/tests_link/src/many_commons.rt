@@ -1,12 +1,13 @@
 //! Five thousand commons, each of which has an entry in each of forty files.
 ghost use Rattle.std.specs.Prelude.{◌<◌};
 
-use crate::parts::{DIGITS, GLOBAL, mapped, numbered, object, symbol};
+use crate::parts::mapped;
 use elf_field::Order;
 use elf_link_map::LinkMap;
 use elf_object_type::{Object, Place, Symbol};
 use std::alloc::{AllocError, Global};
 use std::test::Fail;
+use tests_files::{DIGITS, GLOBAL, numbered, object, symbol};
 
 const NAMES: u64 = 5_000;
 

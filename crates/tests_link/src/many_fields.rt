@@ -1,7 +1,7 @@
 //! A million fields of one byte, side by side.
 ghost use Rattle.std.specs.Prelude.{◌<◌};
 
-use crate::parts::{GLOBAL, data, list, mapped, object, relocs, rule, symbol};
+use crate::parts::{data, mapped, rule};
 use elf_field::Order;
 use elf_link_field::{Form, Range, Width};
 use elf_link_map::LinkFault;
@@ -9,6 +9,7 @@ use elf_link_relocate::{Linked, relocate};
 use elf_object_type::{Object, ObjectFault, Place, Relocation};
 use std::alloc::{AllocError, Global};
 use std::test::Fail;
+use tests_files::{GLOBAL, list, object, relocs, symbol};
 
 const COUNT: usize = 1_000_000;
 

@@ -8,7 +8,7 @@ ghost use Rattle.elf_link_relocate.specs.Linked.{IsLinked, LinkedValue, IsMapBut
 ghost use Rattle.elf_link_relocate.specs.Fields.{applied_entry_rules};
 ghost use Rattle.elf_object_type.specs.Object.{ObjectValue};
 
-use crate::parts::{list, mapped_by, object, section};
+use crate::parts::mapped_by;
 use elf_field::Order;
 use elf_link_map::{LinkFault, LinkMap, Options, are_paged, outputs_stand, prove_objects};
 use elf_link_relocate::{
@@ -17,6 +17,7 @@ use elf_link_relocate::{
 use elf_object_type::{Body, Object, ObjectFault};
 use std::alloc::{AllocError, Global};
 use std::test::Fail;
+use tests_files::{list, object, section};
 
 // What the laws say about the memory of a link, when they are put together.
 

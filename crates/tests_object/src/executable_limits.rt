@@ -1,26 +1,12 @@
 //! The most segments and the longest file of an executable, and one more.
 use crate::executables::{options, write_linked};
-use crate::written::{object, section};
 use elf_exec::ExecFault;
 use elf_field::Order;
 use elf_link_map::{LinkFault, Options};
 use elf_object_type::{Body, Object, ObjectFault, Section};
 use std::alloc::{AllocError, Global};
-use std::fmt::Write;
 use std::test::Fail;
-use tests_files::Counter;
-
-/// The digits of each name.
-const LETTERS: usize = 5;
-
-/// The names of so many sections, one after the other.
-fn names(alloc: Global, count: usize) -> Result<String, Fail> {
-    let mut names = String::new(alloc);
-    for position in 0..count {
-        write!(names, "{position:05}")?;
-    }
-    Ok(names)
-}
+use tests_files::{Counter, DIGITS, numbered, object, section};
 
 /// A section of these names each, of one byte, and one of the last bytes.
 fn sections<'a>(
@@ -29,7 +15,7 @@ fn sections<'a>(
     last: &'a [u8],
 ) -> Result<Vec<Section<'a>>, AllocError> {
     let mut sections = Vec::new(alloc);
-    for name in names.chunks(LETTERS) {
+    for name in names.chunks(DIGITS) {
         sections.push(section(name, 2, 1, Body::Bits(1, b"\x01")))?;
     }
     sections.push(section(b"last", 2, 1, Body::Bits(1, last)))?;
@@ -54,7 +40,7 @@ fn outcome(
     last: &[u8],
     page: u64,
 ) -> Result<(Result<Result<(), ExecFault>, LinkFault>, u64, u8), Fail> {
-    let names = names(alloc, count)?;
+    let names = numbered(alloc, count)?;
     let sections = sections(alloc, names.as_bytes(), last)?;
     let objects = [object(alloc, Order::Little, sections, Vec::new(alloc))?];
     Ok(written(alloc, &objects, &options(0, page, None)))

@@ -2,20 +2,20 @@
 ghost use Rattle.std.specs.Prelude.{IfOk};
 ghost use Rattle.elf_link_relocate.specs.Linked.{IsMapOfSome};
 
-use crate::parts::list;
-use crate::written::{function, object, section};
 use elf_exec::{ExecFault, write_exec};
 use elf_field::Order;
 use elf_link_field::{Form, Range, RelocRule, Width};
 use elf_link_map::{LinkFault, LinkMap, Options, map};
 use elf_link_relocate::relocate;
-use elf_object_type::{Body, Object, Place, Relocation, Section, Symbol};
-use std::alloc::{AllocError, Global};
+use elf_object_type::Object;
+use std::alloc::Global;
 use std::hash::{BuildHasherDefault, DefaultHasher};
 use std::io::{ErrorKind, Write};
 use std::process::Abort;
 use std::test::Fail;
-use tests_files::{Failure, Field, OnceFailingWriter, set_header};
+use tests_files::{
+    Failure, OnceFailingWriter, callee_object, caller_object, executable_of_a_call, set_header,
+};
 
 // The executable of objects: their link, written.
 
@@ -61,83 +61,6 @@ pub(crate) fn write_linked<W: Write>(
     Ok(write_exec(alloc, &linked, writer))
 }
 
-/// How many bytes the executable of a call has.
-pub(crate) const LEN: usize = 127;
-
-/// That executable: the header, the segment of seven bytes, and the code with its call.
-pub(crate) fn call_file() -> [u8; LEN] {
-    const FIELDS: [Field; 17] = [
-        (16, 2, 2),
-        (24, 8, 0x1000),
-        (32, 8, 64),
-        (54, 2, 56),
-        (56, 2, 1),
-        (64, 4, 1),
-        (68, 4, 5),
-        (72, 8, 120),
-        (80, 8, 0x1000),
-        (88, 8, 0x1000),
-        (96, 8, 7),
-        (104, 8, 7),
-        (112, 8, 1),
-        (120, 1, 0xe8),
-        (121, 4, 1),
-        (125, 1, 0xc3),
-        (126, 1, 0xc3),
-    ];
-    let mut file = [0; LEN];
-    set_header(&mut file, Order::Little, &FIELDS);
-    file
-}
-
-/// The relocations of the call.
-fn relocs(alloc: Global) -> Result<Section<'static>, AllocError> {
-    let call = Relocation {
-        offset: 1,
-        symbol: Some(1),
-        kind: 2,
-        addend: -4,
-    };
-    let body = Body::Relocs {
-        rela: true,
-        target: 0,
-        entries: list(alloc, [call])?.into(),
-    };
-    Ok(Section {
-        entsize: 24,
-        ..section(b".rela.text", 0, 8, body)
-    })
-}
-
-/// `main`, and the name that it calls.
-fn caller_symbols(alloc: Global) -> Result<Vec<Symbol<'static>>, AllocError> {
-    list(
-        alloc,
-        [
-            function(b"main", Place::In(0)),
-            function(b"callee", Place::Undef),
-        ],
-    )
-}
-
-/// `main`, which calls `callee`.
-fn caller(alloc: Global) -> Result<Object<'static>, Fail> {
-    let text = section(b".text", 6, 1, Body::Bits(1, b"\xe8\0\0\0\0\xc3"));
-    let sections = list(alloc, [text, relocs(alloc)?])?;
-    object(alloc, Order::Little, sections, caller_symbols(alloc)?)
-}
-
-fn callee(alloc: Global) -> Result<Object<'static>, Fail> {
-    let sections = list(alloc, [section(b".text", 6, 1, Body::Bits(1, b"\xc3"))])?;
-    let symbols = list(alloc, [function(b"callee", Place::In(0))])?;
-    object(alloc, Order::Little, sections, symbols)
-}
-
-/// Both.
-pub(crate) fn files(alloc: Global) -> Result<[Object<'static>; 2], Fail> {
-    Ok([caller(alloc)?, callee(alloc)?])
-}
-
 /// How the executable of no files is written, and what was written.
 fn written_of_none(alloc: Global) -> (Result<Result<(), ExecFault>, LinkFault>, Vec<u8>) {
     let none: [Object<'static>; 0] = [];
@@ -164,6 +87,9 @@ fn the_executable_of_no_files(rt: HostRuntime) {
 
 // The executable of a call onto writers that take little or fail.
 
+/// How many bytes it has.
+const LEN: usize = 127;
+
 /// How the executable of a call is written to a writer that takes so many bytes a call, and whose call of number `failing` alone fails; and
 /// the writer then.
 fn written(
@@ -172,7 +98,7 @@ fn written(
     failing: usize,
     failure: Failure,
 ) -> Result<(Result<Result<(), ExecFault>, LinkFault>, OnceFailingWriter), Fail> {
-    let objects = files(alloc)?;
+    let objects = [caller_object(alloc)?, callee_object(alloc)?];
     let options = options(0x1000, 1, Some(b"main"));
     let mut writer = OnceFailingWriter::new(alloc, piece, failing, failure);
     let ended = write_linked(alloc, &objects, &options, &mut writer);
@@ -191,7 +117,7 @@ fn assert_ended(
     let seen = (writer.offers.len(), writer.flushes);
     assert_eq!(rt;
         (ended, Some(writer.bytes.as_slice()), seen),
-        (Ok(answer), call_file().get(..out), (calls, 0))
+        (Ok(answer), executable_of_a_call().get(..out), (calls, 0))
     );
 }
 

@@ -1,9 +1,10 @@
 //! Where the parts of an object are in its file.
 use elf_field::Order;
-use elf_object_type::{Body, Info, Object, ObjectParts, Section};
+use elf_object_type::{Body, Object};
 use elf_object_writer::{LayoutFault, lay_out};
 use std::alloc::Global;
 use std::test::Fail;
+use tests_files::{object, section};
 
 // An object of so many sections with these contents, all of one name, flags and alignment, without symbols.
 fn object_of<'a>(
@@ -15,27 +16,9 @@ fn object_of<'a>(
 ) -> Result<Object<'a>, Fail> {
     let mut sections = Vec::new(alloc);
     for _ in 0..count {
-        sections.push(Section {
-            name,
-            flags: 6,
-            addr: 0,
-            align,
-            entsize: 0,
-            link: None,
-            info: Info::Number(0),
-            body: Body::Bits(1, content),
-        })?;
+        sections.push(section(name, 6, align, Body::Bits(1, content)))?;
     }
-    let parts = ObjectParts {
-        order: Order::Little,
-        osabi: 0,
-        abi: 0,
-        machine: 62,
-        flags: 0,
-        sections,
-        symbols: Vec::new(alloc),
-    };
-    Ok(Object::new(alloc, parts)?)
+    Ok(object(alloc, Order::Little, sections, Vec::new(alloc))?)
 }
 
 /// Of the layout of such an object how many sections its file has, how long it is, and where its section header table is.
@@ -86,32 +69,16 @@ fn length(alloc: Global, last: &[u8]) -> Result<Result<u64, LayoutFault>, Fail> 
     let mut sections = Vec::new(alloc);
     let mut align = 1 << 29;
     for k in 0..18 {
-        sections.push(Section {
-            name: match k {
-                0 => b".text",
-                1 => b".rela.text",
-                _ => b"",
-            },
-            flags: 6,
-            addr: 0,
-            align,
-            entsize: 0,
-            link: None,
-            info: Info::Number(0),
-            body: Body::Bits(1, if k == 17 { last } else { b"\xc3" }),
-        })?;
+        let name: &[u8] = match k {
+            0 => b".text",
+            1 => b".rela.text",
+            _ => b"",
+        };
+        let content: &[u8] = if k == 17 { last } else { b"\xc3" };
+        sections.push(section(name, 6, align, Body::Bits(1, content)))?;
         align /= 2;
     }
-    let parts = ObjectParts {
-        order: Order::Little,
-        osabi: 0,
-        abi: 0,
-        machine: 62,
-        flags: 0,
-        sections,
-        symbols: Vec::new(alloc),
-    };
-    let object = Object::new(alloc, parts)?;
+    let object = object(alloc, Order::Little, sections, Vec::new(alloc))?;
     Ok(lay_out(alloc, &object).map(|layout| layout.length()))
 }
 

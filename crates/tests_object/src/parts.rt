@@ -1,29 +1,14 @@
 //! Rules 1 to 5 and 7 to 9 of objects: made from three sections and two symbols.
 use elf_field::Order;
-use elf_object_type::{
-    Body, Info, Object, ObjectFault, ObjectParts, Place, Relocation, Section, Symbol, rules,
-};
+use elf_object_type::{Body, ObjectFault, Place, Relocation, Section, Symbol, rules};
 use std::alloc::{AllocError, Global};
-
-/// These items, in a vector.
-pub(crate) fn list<T: Drop, const N: usize>(
-    alloc: Global,
-    items: [T; N],
-) -> Result<Vec<T>, AllocError> {
-    Ok(Vec::from_array(alloc, items)?)
-}
+use tests_files::{list, object};
 
 /// A section of this body, with entries of this size.
 pub(crate) fn section(flags: u64, entsize: u64, body: Body<'static>) -> Section<'static> {
     Section {
-        name: b"s",
-        flags,
-        addr: 0,
-        align: 4,
         entsize,
-        link: None,
-        info: Info::Number(0),
-        body,
+        ..tests_files::section(b"s", flags, 4, body)
     }
 }
 
@@ -78,16 +63,7 @@ pub(crate) fn fault_of(
     sections: Vec<Section<'static>>,
     symbols: Vec<Symbol<'static>>,
 ) -> Result<(), ObjectFault> {
-    let parts = ObjectParts {
-        order: Order::Little,
-        osabi: 0,
-        abi: 0,
-        machine: 62,
-        flags: 0,
-        sections,
-        symbols,
-    };
-    Object::new(alloc, parts)?;
+    object(alloc, Order::Little, sections, symbols)?;
     Ok(())
 }
 

@@ -5,54 +5,19 @@ use elf_object_file::write_object;
 use elf_object_type::{Body, Info, Object, ObjectParts, Place, Relocation, Section, Symbol};
 use elf_object_writer::ObjectWriteFault;
 use std::alloc::{AllocError, Global};
-use std::fmt::Write;
 use std::io::ErrorKind;
 use std::process::Abort;
 use std::test::Fail;
-use tests_files::{Counter, Field, OnceFailingWriter, one_section, set, set_header};
-
-/// An object of machine 62.
-pub(crate) fn object<'a>(
-    alloc: Global,
-    order: Order,
-    sections: Vec<Section<'a>>,
-    symbols: Vec<Symbol<'a>>,
-) -> Result<Object<'a>, Fail> {
-    let parts = ObjectParts {
-        order,
-        osabi: 0,
-        abi: 0,
-        machine: 62,
-        flags: 0,
-        sections,
-        symbols,
-    };
-    Ok(Object::new(alloc, parts)?)
-}
-
-/// A section without address and entries of its own.
-pub(crate) fn section<'a>(name: &'a [u8], flags: u64, align: u64, body: Body<'a>) -> Section<'a> {
-    Section {
-        name,
-        flags,
-        addr: 0,
-        align,
-        entsize: 0,
-        link: None,
-        info: Info::Number(0),
-        body,
-    }
-}
+use tests_files::{
+    Counter, DIGITS, Field, OnceFailingWriter, numbered, object, one_section, section, set,
+    set_header, symbol,
+};
 
 /// A global function of one byte.
-pub(crate) fn function<'a>(name: &'a [u8], place: Place) -> Symbol<'a> {
+fn function<'a>(name: &'a [u8], place: Place) -> Symbol<'a> {
     Symbol {
-        name,
-        info: 0x12,
-        other: 0,
-        place,
-        value: 0,
         size: 1,
+        ..symbol(name, 0x12, place, 0)
     }
 }
 
@@ -109,7 +74,7 @@ fn written(alloc: Global, object: &Object<'_>) -> Result<Vec<u8>, Fail> {
 
 pub(crate) fn text_object(alloc: Global, order: Order) -> Result<Object<'static>, Fail> {
     let text = section(b".text", 6, 16, Body::Bits(1, b"\xc3"));
-    object(alloc, order, vec![in alloc; text]?, Vec::new(alloc))
+    Ok(object(alloc, order, vec![in alloc; text]?, Vec::new(alloc))?)
 }
 
 // ---- all fields of the header, links, places of symbols, and relocations without addends
@@ -451,21 +416,9 @@ fn a_symbol_among_the_reserved_indexes(rt: HostRuntime) -> Result<(), Fail> {
 
 const COUNT: usize = 1_000_000;
 
-/// The letters of each name, the decimal digits of the symbol's position.
-const LETTERS: usize = 7;
-
-/// The names, one after the other.
-fn names(alloc: Global) -> Result<String, Fail> {
-    let mut names = String::new(alloc);
-    for position in 0..COUNT {
-        write!(names, "{position:07}")?;
-    }
-    Ok(names)
-}
-
 fn symbols<'a>(alloc: Global, names: &'a [u8]) -> Result<Vec<Symbol<'a>>, AllocError> {
     let mut symbols = Vec::with_capacity(alloc, COUNT)?;
-    for name in names.chunks(LETTERS) {
+    for name in names.chunks(DIGITS) {
         symbols.push(function(name, Place::Abs))?;
     }
     Ok(symbols)
@@ -482,7 +435,7 @@ fn file(alloc: Global, names: &[u8]) -> Result<Vec<u8>, Fail> {
 
 /// That of all names.
 fn file_of_all(alloc: Global) -> Result<Vec<u8>, Fail> {
-    let names = names(alloc)?;
+    let names = numbered(alloc, COUNT)?;
     file(alloc, names.as_bytes())
 }
 

@@ -5,28 +5,10 @@ use elf_tool_program::{
     Form, OpenFault, Opener, Options, Range, Refusal, RelocRule, ToolFault, Verdict, Width, link,
     map, run,
 };
-use std::alloc::Global;
+use std::alloc::{AllocError, Global};
 use std::io::ErrorKind;
 use std::process::Abort;
-use tests_files::{Failure, OnceFailingReader, PIECE, Sink, callee, caller};
-
-/// The executable of the two files at 0x1000: the header, one program header, and the bytes of `.text` after them.
-const EXECUTABLE: [u8; 127] = [
-    0x7f, 0x45, 0x4c, 0x46, 2, 1, 1, 0, 0, 0, 0, 0, 0, 0, 0, 0, // e_ident
-    2, 0, 62, 0, 1, 0, 0, 0, // e_type, e_machine, e_version
-    0, 0x10, 0, 0, 0, 0, 0, 0, // e_entry
-    64, 0, 0, 0, 0, 0, 0, 0, // e_phoff
-    0, 0, 0, 0, 0, 0, 0, 0, // e_shoff
-    0, 0, 0, 0, 64, 0, 56, 0, 1, 0, 0, 0, 0, 0, 0, 0, // e_flags, e_ehsize, e_phentsize, e_phnum
-    1, 0, 0, 0, 5, 0, 0, 0, // p_type, p_flags
-    120, 0, 0, 0, 0, 0, 0, 0, // p_offset
-    0, 0x10, 0, 0, 0, 0, 0, 0, // p_vaddr
-    0, 0x10, 0, 0, 0, 0, 0, 0, // p_paddr
-    7, 0, 0, 0, 0, 0, 0, 0, // p_filesz
-    7, 0, 0, 0, 0, 0, 0, 0, // p_memsz
-    1, 0, 0, 0, 0, 0, 0, 0, // p_align
-    0xe8, 1, 0, 0, 0, 0xc3, 0xc3,
-];
+use tests_files::{Failure, OnceFailingReader, PIECE, Sink, callee, caller, executable_of_a_call};
 
 /// What `map` says of the two files.
 const LINES: &[u8] =
@@ -108,12 +90,12 @@ enum Command {
     Link,
 }
 
-/// What the command writes of the two files.
-fn text_of(command: Command) -> &'static [u8] {
+/// What the command writes of the two files, of which this is the executable.
+fn text_of(command: Command, executable: &[u8]) -> &[u8] {
     match command {
         Command::Map => LINES,
         Command::MapByRules => RULED,
-        Command::Link => &EXECUTABLE,
+        Command::Link => executable,
     }
 }
 
@@ -134,7 +116,8 @@ fn assert_write_fails(
         Command::Link => link(alloc, files, &ENTERED, &CALL, &mut writer),
     };
     let written = writer.text().len() as u64;
-    let begins = text_of(command).starts_with(writer.text());
+    let executable = executable_of_a_call();
+    let begins = text_of(command, &executable).starts_with(writer.text());
     assert_eq!(rt;
         (answer, begins, writer.calls),
         (
@@ -168,7 +151,7 @@ fn the_executable_goes_out_without_a_flush(rt: HostRuntime) {
     let answer = link(rt.alloc(), files, &ENTERED, &CALL, &mut writer);
     assert_eq!(rt;
         (answer, writer.text(), writer.empty_calls, writer.flushes),
-        (Ok(Verdict::Done), EXECUTABLE.as_slice(), 0, 0)
+        (Ok(Verdict::Done), executable_of_a_call().as_slice(), 0, 0)
     );
 }
 
@@ -251,147 +234,85 @@ impl<'a> Opener for NamedFiles<'a> {
     }
 }
 
-/// The words, what the file of rules holds, the call of its reader that fails, and then: how many files were asked
-/// for, and the text on standard error.
-type Row = (
-    &'static [&'static str],
-    &'static [u8],
-    usize,
-    usize,
-    &'static str,
-);
+/// The words in one line, what the file of rules holds, the call of its reader that fails, and then: how many files were asked for, and the
+/// text on standard error.
+type Row = (&'static str, &'static [u8], usize, usize, &'static str);
 
 const RULES: &[u8] = b"2 pc 4 signed\n";
 
 const ROWS: [Row; 11] = [
     (
-        &[
-            "elfmap", "map", "--base", "0", "--page", "1", "--rules", "r", "a.o",
-        ],
+        "elfmap map --base 0 --page 1 --rules r a.o",
         RULES,
         0,
         1,
         "read failed at 0\n",
     ),
     (
-        &[
-            "elfmap", "map", "--base", "0", "--page", "1", "--rules", "r", "a.o",
-        ],
+        "elfmap map --base 0 --page 1 --rules r a.o",
         RULES,
         1,
         1,
         "read failed at 8\n",
     ),
     (
-        &[
-            "elfmap", "map", "--base", "0", "--page", "1", "--rules", "r", "a.o",
-        ],
+        "elfmap map --base 0 --page 1 --rules r a.o",
         b"2 pc 4 signed",
         9,
         1,
         "bad rule line 1\n",
     ),
     (
-        &[
-            "elfmap", "map", "--base", "0", "--page", "1", "--rules", "no", "a.o",
-        ],
+        "elfmap map --base 0 --page 1 --rules no a.o",
         b"",
         9,
         1,
         "cannot open no\n",
     ),
     (
-        &[
-            "elfmap", "map", "--base", "0", "--page", "1", "--rules", "r", "no-a",
-        ],
+        "elfmap map --base 0 --page 1 --rules r no-a",
         RULES,
         9,
         2,
         "cannot open no-a\n",
     ),
     (
-        &[
-            "elfmap", "map", "--base", "0", "--page", "1", "a.o", "no-b", "no-c",
-        ],
+        "elfmap map --base 0 --page 1 a.o no-b no-c",
         b"",
         9,
         2,
         "cannot open no-b\n",
     ),
     (
-        &[
-            "elfmap", "map", "--base", "0", "--page", "1", "a.o", "b.o", "c.o",
-        ],
+        "elfmap map --base 0 --page 1 a.o b.o c.o",
         b"",
         9,
         3,
         "read failed at 0\n",
     ),
     (
-        &[
-            "elfmap", "link", "--base", "0", "--page", "1", "--entry", "callee", "--rules", "r",
-            "whole", "short",
-        ],
+        "elfmap link --base 0 --page 1 --entry callee --rules r whole short",
         RULES,
         9,
         3,
         "file 1 refused 2 6\n",
     ),
     (
-        &[
-            "elfmap",
-            "link",
-            "--base",
-            "0",
-            "--page",
-            "1",
-            "--entry",
-            "callee",
-            "--rules",
-            "r",
-            "whole",
-            "whole-again",
-        ],
+        "elfmap link --base 0 --page 1 --entry callee --rules r whole whole-again",
         RULES,
         9,
         3,
         "refused 8 1 0 0\n",
     ),
     (
-        &[
-            "elfmap",
-            "link",
-            "--base",
-            "0",
-            "--page",
-            "3",
-            "--entry",
-            "callee",
-            "--rules",
-            "r",
-            "whole",
-            "whole-again",
-        ],
+        "elfmap link --base 0 --page 3 --entry callee --rules r whole whole-again",
         RULES,
         9,
         3,
         "refused 1 0 0 0\n",
     ),
     (
-        &[
-            "elfmap",
-            "link",
-            "--base",
-            "0",
-            "--page",
-            "one",
-            "--entry",
-            "callee",
-            "--rules",
-            "r",
-            "whole",
-            "whole-again",
-        ],
+        "elfmap link --base 0 --page one --entry callee --rules r whole whole-again",
         RULES,
         9,
         0,
@@ -399,8 +320,9 @@ const ROWS: [Row; 11] = [
     ),
 ];
 
-fn assert_ends(rt: &impl Abort, alloc: Global, object: &[u8], row: &Row) {
+fn assert_ends(rt: &impl Abort, alloc: Global, object: &[u8], row: &Row) -> Result<(), AllocError> {
     let (words, rules, fails_at, asked, told) = *row;
+    let words: Vec<&str> = words.split_whitespace().collect(alloc)?;
     let mut files = NamedFiles {
         rules,
         object,
@@ -409,21 +331,23 @@ fn assert_ends(rt: &impl Abort, alloc: Global, object: &[u8], row: &Row) {
     };
     let mut out = Sink::new(1000, None);
     let mut err = Sink::new(1000, None);
-    let status = run(alloc, words, &mut files, &mut out, &mut err);
+    let status = run(alloc, &words, &mut files, &mut out, &mut err);
     assert_eq!(rt;
         (status == 0, out.calls, files.asked, err.text()),
         (false, 0, asked, told.as_bytes())
     );
+    Ok(())
 }
 
 // The file of rules is opened, read and tested before a file to link is opened; all files are opened, in order, before one is read; and
 // what is refused is reported on standard error alone.
 #[test]
-fn files_are_opened_in_order(rt: HostRuntime) {
+fn files_are_opened_in_order(rt: HostRuntime) -> Result<(), AllocError> {
     let object = callee();
     for row in &ROWS {
-        assert_ends(&rt, rt.alloc(), &object, row);
+        assert_ends(&rt, rt.alloc(), &object, row)?;
     }
+    Ok(())
 }
 
 #[test]

@@ -106,7 +106,13 @@ pub(crate) struct Outcome {
     pub err: LimitedWriter,
 }
 
-fn run_on(
+/// A run by these words onto outputs that take all.
+fn run_on(alloc: Global, words: &[&str], files: &mut OneFile<'_>) -> Outcome {
+    run_onto(alloc, words, files, LimitedWriter::new(ROOM, None), ROOM)
+}
+
+/// A run onto this output, and onto a standard error that takes so many bytes.
+fn run_onto(
     alloc: Global,
     words: &[&str],
     files: &mut OneFile<'_>,
@@ -135,7 +141,7 @@ fn a_failed_write_to_standard_error_changes_nothing(rt: HostRuntime) {
             failure: None,
         };
         let words = ["elfmap", "check", name];
-        let ran = run_on(
+        let ran = run_onto(
             rt.alloc(),
             &words,
             &mut files,
@@ -161,13 +167,7 @@ fn refuses_other_words(rt: HostRuntime) {
             piece: 7,
             failure: None,
         };
-        let ran = run_on(
-            rt.alloc(),
-            words,
-            &mut files,
-            LimitedWriter::new(ROOM, None),
-            ROOM,
-        );
+        let ran = run_on(rt.alloc(), words, &mut files);
         let told = ran.err.text().ends_with(b"try '--help'.\n");
         assert_eq!(rt;
             (ran.status, ran.out.text(), told),
@@ -183,13 +183,7 @@ fn assert_read_fails(rt: &impl Abort, alloc: Global, kind: ErrorKind) {
         piece: 3,
         failure: Some(kind),
     };
-    let ran = run_on(
-        alloc,
-        &CHECK,
-        &mut files,
-        LimitedWriter::new(ROOM, None),
-        ROOM,
-    );
+    let ran = run_on(alloc, &CHECK, &mut files);
     assert_ran(rt, &ran, 3, "", "read failed at 10\n");
 }
 
@@ -208,7 +202,7 @@ fn assert_write_fails(rt: &impl Abort, alloc: Global, room: usize, failure: Opti
         piece: 1,
         failure: None,
     };
-    let ran = run_on(
+    let ran = run_onto(
         alloc,
         &CHECK,
         &mut files,
@@ -255,13 +249,7 @@ fn a_refused_growth_leaves_nothing_out(rt: HostRuntime) {
         piece: 64,
         failure: None,
     };
-    let ran = run_on(
-        rt.alloc(),
-        &CHECK,
-        &mut files,
-        LimitedWriter::new(ROOM, None),
-        ROOM,
-    );
+    let ran = run_on(rt.alloc(), &CHECK, &mut files);
     let (status, said, complained) = match ran.status {
         0 => (0, "ok 64 0 0\n", ""),
         _ => (3, "", "out of memory\n"),
