@@ -3,13 +3,12 @@
 in a temporary folder. `tools/test explain` runs the package's tests of elfmap-explain alone."""
 
 import ctypes, re, sys
-from argparse import Namespace
 from typing import Any
 
 from .library import BOTH, FOLDER, PACKERS, calls, packed, structs
 from .packages import JSONSCHEMA, JUNITPARSER
 from .suite import Tally, Test, environment
-from .tree import PACKAGE, TOP, Texts, read_text, said
+from .tree import PACKAGE, TOP, Options, Texts, read_text, said
 
 sys.path.insert(0, PACKAGE)
 from elfmap import _library  # noqa: E402
@@ -95,7 +94,7 @@ def unittests(tally: Tally, *modules: str) -> None:
 
 
 @Test("bindings", "the bindings for Rust and Python, and what they declare", commands=TOOLS, crates=BOTH)
-def bindings(tally: Tally, options: Namespace) -> None:
+def bindings(tally: Tally, options: Options) -> None:
     declarations(tally)
     unittests(tally)
     folders = {"CARGO_HOME": f"{tally.folder}/cargo", "CARGO_TARGET_DIR": f"{tally.folder}/target"}
@@ -106,5 +105,5 @@ def bindings(tally: Tally, options: Namespace) -> None:
 
 
 @Test("explain", "a file that breaks each rule, and what elfmap-explain says of it", commands=PACKERS, crates=BOTH)
-def explain(tally: Tally, options: Namespace) -> None:
+def explain(tally: Tally, options: Options) -> None:
     unittests(tally, "tests.test_explain")

@@ -1,10 +1,10 @@
 """`tools/dev prove` and `tools/dev check`: proves the libraries below a crate and builds it; and the loop while one writes."""
 
-import argparse, fcntl, functools, os, re, resource, shutil, sys, tempfile, time
+import fcntl, functools, os, re, resource, shutil, sys, tempfile, time
 from concurrent.futures import Future, ThreadPoolExecutor
 
 from .kit import RLIBS, FolderOf, built_below, is_built_by_prove, is_current, kit, link_words, said_by, sum_of, words
-from .tree import PROCESSORS, TOP, below, deps, is_program, libraries, read_text, said, static_libraries, texts_of, write
+from .tree import PROCESSORS, TOP, Options, below, deps, is_program, libraries, read_text, said, static_libraries, texts_of, write
 
 MOST_JOBS = 8
 # A library has a job for each processor where less than this part of all texts can be proved beside it.
@@ -110,11 +110,10 @@ def built(crate: str) -> str:
     return path
 
 
-def prove(options: argparse.Namespace) -> int:
+def prove(options: Options) -> None:
     if options.crate not in libraries():
         raise SystemExit(f"prove: {options.crate} is no crate of crates.txt")
     Build(options.crate).all()
-    return 0
 
 
 # ---- the inner loop
@@ -192,7 +191,7 @@ def tested(crate: str, root: str, folder_of: FolderOf, name: str) -> tuple[bool,
         return ran.returncode == 0, output + ran.stdout
 
 
-def check(options: argparse.Namespace) -> int:
+def check(options: Options) -> int:
     crate, begun = options.crate, time.monotonic()
     if crate not in libraries() or options.test and options.function:
         raise SystemExit("usage: tools/dev check CRATE [FUNCTION.. | --test NAME], a crate of crates.txt")

@@ -10,7 +10,6 @@ rewrite, map and link, with the three functions of memory under the names that i
 They are compiled by cc, and by clang with its checks of addresses and of undefined behavior, and the header by c++ too."""
 
 import os, re
-from argparse import Namespace
 from collections.abc import Iterable
 from dataclasses import replace
 
@@ -21,7 +20,7 @@ from .packages import SANITIZERS
 from .reference import parsed, shown
 from .suite import Tally, Test, number
 from .dump import c_lines
-from .tree import PROCESSORS, TOP, by_cc, libraries, read_bytes, read_text, said, side_by_side, texts_of, wanted, write
+from .tree import PROCESSORS, TOP, Options, by_cc, libraries, read_bytes, read_text, said, side_by_side, texts_of, wanted, write
 
 C = f"{TOP}/bindings/c"
 WARNINGS = ["-std=c99", "-pedantic", "-Wall", "-Wextra", "-Werror", f"-I{TOP}/include"]
@@ -163,7 +162,7 @@ TOOLS = f"cc c++ clang nm objcopy {SANITIZERS}"
 
 
 @Test("c-library", "the libraries for C, and the header, by cc and by clang with its checks", commands=TOOLS, crates=BOTH)
-def c_library(tally: Tally, options: Namespace) -> None:
+def c_library(tally: Tally, options: Options) -> None:
     room, verdicts = tally.folder, built(VERDICTS)
     compare_header(tally)
     compare_names(tally, verdicts, VERDICTS, set(), set())
@@ -196,7 +195,7 @@ ABOUT = "bytes of files changed; what the library for C says of each copy agrees
 
 
 @Test("laws", ABOUT, commands=PACKERS, crates=BOTH, alone=True, options=COPIES)
-def laws(tally: Tally, options: Namespace) -> None:
+def laws(tally: Tally, options: Options) -> None:
     wanted("cc", "-O2", *WARNINGS, f"{C}/laws.c", packed(), "-o", f"{tally.folder}/laws")
     # What cc makes of a few lines of C, and the files of the cases that are accepted.
     made = [by_cc(f"{tally.folder}/made-{k}", words, "answer_twice.c") for k, words in enumerate(MADE)]

@@ -2,7 +2,6 @@
 cases/*.txt, whose heads say how they are written; `tools/test make-cases` generates the files cases/made-*.txt."""
 
 import filecmp, glob, os, random, re, shlex, tempfile
-from argparse import Namespace
 from collections.abc import Callable, Iterable, Iterator
 from dataclasses import dataclass, field
 from typing import Any
@@ -11,7 +10,7 @@ from .building import output_of
 from .making import SPOKEN_OF, Chance, a_file, an_object, an_object_file, changed_field, fuzzed
 from .reference import Broken, File, answer, entries_of, laid, mapped, object_verdict, table_verdict, verdict
 from .suite import Option, Tally, Test, named, number
-from .tree import PROGRAM, TOP, Answer, T, answer_of, libraries, read_text, run, write
+from .tree import PROGRAM, T, TOP, Answer, Options, answer_of, libraries, read_text, run, write
 
 Files = dict[str, bytearray]
 
@@ -113,7 +112,7 @@ FROM: Option = ("--in", {"dest": "folder", "metavar": "FOLDER", "default": f"{TO
 
 
 @Test("cases", "the program answers the cases of cases/*.txt", crates="elfmap elfmap_check", options=(FROM, ONLY))
-def try_cases(tally: Tally, options: Namespace) -> None:
+def try_cases(tally: Tally, options: Options) -> None:
     # Beside the program that has all commands, the one that has `check` alone.
     small = [output_of(it) for it in ("elfmap_check",) if it in libraries()]
     for it in (it for it in every_case(options.folder) if options.only in str(it)):
@@ -313,7 +312,7 @@ INTO: Option = ("--in", {"dest": "folder", "metavar": "FOLDER", "help": "write t
 
 
 @Test("make-cases", "the generated cases are what the generator makes, byte for byte", options=(INTO, COUNTED, SEEDED))
-def make_cases(tally: Tally, options: Namespace) -> None:
+def make_cases(tally: Tally, options: Options) -> None:
     folder = options.folder or tally.folder
     os.makedirs(folder, exist_ok=True)
     for name, cases in GENERATED.items():

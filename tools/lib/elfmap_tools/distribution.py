@@ -2,12 +2,12 @@
 Python package as a wheel with the library in it, the Rust crate with the static library, and their SHA256SUMS. docs/MANUAL.md lists what
 each has. The same build makes the same bytes: every file has the time of the commit."""
 
-import argparse, base64, gzip, hashlib, os, re, shutil, tempfile, time, zipfile
+import base64, gzip, hashlib, os, re, shutil, tempfile, time, zipfile
 
 from . import completions, release
 from .library import SHARED
 from .release import PKG_CONFIG, commands, copied, epoch, put
-from .tree import PROGRAM, files_below, read_bytes, read_text, said, wanted, write
+from .tree import PROGRAM, Options, files_below, read_bytes, read_text, said, wanted, write
 
 TRIPLET = "x86_64-linux-gnu"
 LIBRARIES = f"usr/lib/{TRIPLET}"
@@ -193,6 +193,5 @@ def packages(folder: str) -> list[str]:
     return [*names, "SHA256SUMS"]
 
 
-def main(options: argparse.Namespace) -> int:
+def main(options: Options) -> None:
     print("".join(f"{options.folder}/{it}\n" for it in packages(options.folder)), end="")
-    return 0

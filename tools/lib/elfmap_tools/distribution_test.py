@@ -5,14 +5,13 @@ The root is made by debootstrap, once, and is kept in the cache; each run has a 
 the tests in it are skipped by their names."""
 
 import os, re, shutil, sys, tempfile, zlib
-from argparse import Namespace
 
 from . import distribution
 from .library import BOTH, PACKERS, calls
 from .packages import setup
 from .release import version_of
 from .suite import Tally, Test, environment
-from .tree import TOP, Texts, files_below, read_bytes, read_text, said
+from .tree import TOP, Options, Texts, files_below, read_bytes, read_text, said
 
 SUITE = "bookworm"
 INCLUDED = "python3,python3-venv,gcc,libc6-dev,pkg-config,man-db,fish,zsh,cargo"
@@ -121,7 +120,7 @@ TOOLS = f"{PACKERS} readelf nm git wasm-opt dpkg-deb unshare"
 
 
 @Test("packages", "what people install is the same twice, and works in a clean root", commands=TOOLS, crates=f"elfmap {BOTH}")
-def packages(tally: Tally, options: Namespace) -> None:
+def packages(tally: Tally, options: Options) -> None:
     version, room = version_of(), tally.folder
     for path, pattern in VERSIONS.items():
         found = re.findall(pattern, read_text(path), re.M)[:1]

@@ -2,7 +2,7 @@
 public item: signature, doc comment, and contract as it is in the source, where each word that is a definition of specs/ leads to that
 definition, at the end of the page with its comment and text. It fails where an item has no doc comment or is not in the page once."""
 
-import argparse, collections, functools, itertools, re, sys
+import collections, functools, itertools, re, sys
 from collections.abc import Callable
 from html import escape
 
@@ -10,7 +10,7 @@ from . import definitions, guarantees
 from .rules_tables import by_anchor
 from .sources import PUBLIC_CRATES, WORD, Definition, Item, Uses, definition, items_of, module_file, named_in, reach, source
 from .suite import Tally, Test
-from .tree import cells, matched, read_text, replaced
+from .tree import Options, cells, matched, read_text, replaced
 
 # Where a word leads to, and its title.
 Place = tuple[str, str] | None
@@ -265,7 +265,7 @@ def made() -> tuple[str, list[str]]:
     return text, [*dict.fromkeys(page.faults), *wrong, *(f"{anchor} is nowhere in the page" for anchor in sorted(leads - set(ids)))]
 
 
-def main(options: argparse.Namespace) -> int:
+def main(options: Options) -> int:
     text, faults = made()
     print(text)
     print("".join(f"doc: {it}\n" for it in faults), end="", file=sys.stderr)
@@ -273,5 +273,5 @@ def main(options: argparse.Namespace) -> int:
 
 
 @Test("doc", "each public item has a doc comment, and is in the page of `tools/dev doc` once")
-def doc(tally: Tally, options: argparse.Namespace) -> None:
+def doc(tally: Tally, options: Options) -> None:
     tally.count(1, made()[1][:1])

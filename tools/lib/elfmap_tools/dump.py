@@ -2,7 +2,7 @@
 the tests of bindings/rust and bindings/python compare. `tools/dev told FOLDER` writes these into FOLDER: a file as K.elf, and its lines as
 K.txt, K from 0; bytes as `=` and their hexadecimal digits, `-` where there are none."""
 
-import argparse, os
+import os
 from collections.abc import Iterator
 from typing import Any
 
@@ -13,7 +13,7 @@ from .reference import (
     SECTION_HEADER, SYMBOL, SYMTAB, SYMTAB_SHNDX, XINDEX, Broken, File, Layout, check, elf_hash, entries_before_null, is_section, name_of,
     notes, padded, parts, rewritten, rule_name, shown, signed, string, symbols, table_verdict, verdict,
 )  # fmt: skip
-from .tree import read_bytes, write
+from .tree import Options, read_bytes, write
 
 TABLES = (SYMTAB, DYNSYM, RELA, REL, DYNAMIC_SECTION, NOTE)
 
@@ -218,8 +218,7 @@ def lines_of(content: bytes) -> list[str]:
     return [*lines, f"show ={shown(content).encode().hex()}", f"rewrite {refusal.strip()}" if refusal else f"rewrite ={written.hex()}"]
 
 
-def main(options: argparse.Namespace) -> int:
+def main(options: Options) -> None:
     for k, content in enumerate(files()):
         write(f"{options.folder}/{k}.elf", content)
         write(f"{options.folder}/{k}.txt", "".join(f"{it}\n" for it in lines_of(content)))
-    return 0

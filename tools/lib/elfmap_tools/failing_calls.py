@@ -9,7 +9,6 @@ out of memory or what it answers with enough; a reading goes on where a growth w
 as ever, and made three times it grows as much as made not at all."""
 
 import re
-from argparse import Namespace
 from collections.abc import Iterable, Iterator
 from itertools import count
 
@@ -20,7 +19,7 @@ from .reference import (
     ALLOC, COMMON, HASH, PROGBITS, WRITE, edited, group, object_file, relocations, section, symbol, text, words as number_words,
 )  # fmt: skip
 from .suite import Tally, Test, environment
-from .tree import PROGRAM, RULES, Answer, answer_of, by_cc, read_text, run, wanted, write
+from .tree import PROGRAM, RULES, Answer, Options, answer_of, by_cc, read_text, run, wanted, write
 
 CALLER = "int callee(int); extern int shared; int common; int main(void) { return callee(1) + shared + common; }\n"
 CALLEE = "static int calls; int shared = 2; int callee(int x) { return calls += x; }\n"
@@ -186,7 +185,7 @@ def calls() -> Iterator[tuple[str, list[str], list[str]]]:
 
 
 @Test("failing-calls", "every call of the C library failing once", commands="cc", crates="elfmap tests_calls", family="fuzz")
-def failing_calls(tally: Tally, options: Namespace) -> None:
+def failing_calls(tally: Tally, options: Options) -> None:
     make_files(tally.folder)
     for program, words, files in calls():
         opened, words = [*(it for it in words if it == RULES), *files], [*words, *files]

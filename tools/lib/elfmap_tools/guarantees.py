@@ -1,13 +1,12 @@
 """`tools/test guarantees`: each name of docs/GUARANTEES.md exists, and each public call is in a row of it."""
 
 import functools, os, re
-from argparse import Namespace
 from collections.abc import Iterator
 from dataclasses import dataclass
 
 from .sources import PUBLIC_CRATES, WORD, Definition, Item, definition, imports, items_of, reach, signature_and_clauses, sources_of
 from .suite import TESTS, Tally, Test
-from .tree import TOP, cells, libraries, read_text
+from .tree import TOP, Options, cells, libraries, read_text
 
 PAGE = "docs/GUARANTEES.md"
 SPAN = re.compile(r"`([^`]+)`")
@@ -155,7 +154,7 @@ def by_call() -> dict[Key, list[str]]:
 
 
 @Test("guarantees", "each name of docs/GUARANTEES.md exists, and each public call is in a row")
-def guarantees(tally: Tally, options: Namespace) -> None:
+def guarantees(tally: Tally, options: Options) -> None:
     named = set[Key]()
     for row in rows():
         wrong = list(wrong_in(row))

@@ -3,10 +3,10 @@
 takes of it what it calls: without an engine neither the engines nor malloc. A release has the same as a shared library, libelfmap.so.0,
 which exports the calls of include/elfmap.h and nothing else."""
 
-import argparse, functools, glob, os, re, shutil, tempfile
+import functools, glob, os, re, shutil, tempfile
 
 from .building import built, output_of
-from .tree import TOP, read_text, wanted, write
+from .tree import TOP, Options, read_text, wanted, write
 
 VERDICTS, ENGINES = "elf_c", "elf_c_engines"
 # As words: the crates of the library, and the commands that pack it.
@@ -78,6 +78,5 @@ def packed() -> str:
     return pack(FOLDER)
 
 
-def main(options: argparse.Namespace) -> int:
+def main(options: Options) -> None:
     print(pack(os.path.abspath(options.folder)))
-    return 0

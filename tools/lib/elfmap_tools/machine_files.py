@@ -2,7 +2,6 @@
 paths have the least sums. `--all` tries each."""
 
 import hashlib, mmap, os, re, shutil, tempfile
-from argparse import Namespace
 from collections import Counter
 from collections.abc import Iterable, Iterator
 from itertools import chain, product
@@ -11,12 +10,12 @@ from typing import Any
 from .building import output_of
 from .reference import GROUP, NOBITS, REL, RELA, File, kept, string
 from .suite import Tally, Test, flag, number
-from .tree import PROGRAM, TOP, ending, files_below, read_bytes, run, side_by_side, write
+from .tree import PROGRAM, TOP, Options, ending, files_below, read_bytes, run, side_by_side, write
 
 ELF_64 = b"\x7fELF\x02"
 
 
-def some(paths: Iterable[str], options: Namespace) -> list[str]:
+def some(paths: Iterable[str], options: Options) -> list[str]:
     """So many of these paths, those of the least sums."""
     ordered = sorted(paths, key=lambda it: hashlib.sha256(it.encode(errors="surrogateescape")).digest())
     return ordered if options.all else ordered[: options.count]
@@ -67,7 +66,7 @@ FILES, OBJECTS = ((number("count", it, "so many of them"), flag("all", "all of t
 
 
 @Test("real-files", "ELF files of this machine through `check`, `show` and back", crates="elfmap example_edit", alone=True, options=FILES)
-def real_files(tally: Tally, options: Namespace) -> None:
+def real_files(tally: Tally, options: Options) -> None:
     count_ends(tally, side_by_side(try_file, some(files(), options)), "accepted|refused")
 
 
@@ -205,7 +204,7 @@ ABOUT = "objects of this machine and its compilers through `rewrite`, beside rea
 
 
 @Test("real-objects", ABOUT, commands=TOOLS, crates="elfmap", alone=True, options=OBJECTS)
-def real_objects(tally: Tally, options: Namespace) -> None:
+def real_objects(tally: Tally, options: Options) -> None:
     below = [it for it in files_below("/usr/lib") if it.endswith((".o", ".a"))]
     found = {f"{path}({at})": (path, at, size) for it in below for path, at, size in objects_of(it)}
     objects = [place for path in compiled(tally.folder) for place in objects_of(path)] + [found[it] for it in some(found, options)]

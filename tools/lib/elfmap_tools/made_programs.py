@@ -6,13 +6,12 @@ is written is the executable of the reference implementation, byte for byte, and
 programs. What went wrong is put into the current folder, as made-program-SEED-K."""
 
 import os, platform, random
-from argparse import Namespace
 from dataclasses import dataclass
 
 from .making import Chance
 from .reference import answer
 from .suite import Tally, Test, count_tries, number
-from .tree import PROGRAM, RULES, answer_of, ending, read_bytes, run, wanted, write
+from .tree import PROGRAM, RULES, Options, answer_of, ending, read_bytes, run, wanted, write
 
 ASSEMBLER = "x86_64-linux-gnu-as"
 RUNS = platform.machine() == "x86_64"
@@ -171,7 +170,7 @@ ABOUT = "programs of chance objects, linked and run"
 
 
 @Test("made-programs", ABOUT, commands=ASSEMBLER, crates="elfmap", alone=True, family="linked", options=OPTIONS)
-def made_programs(tally: Tally, options: Namespace) -> None:
+def made_programs(tally: Tally, options: Options) -> None:
     count_tries(tally, options, "made-program", wrong_in)
     if not RUNS:
         tally.note("the programs do not run on this machine")

@@ -2,10 +2,10 @@
 command has a part of its own, whose text up to the first example comes below COMMANDS, and what follows below EXAMPLES. A row of a table
 becomes a paragraph with its first cell as the tag."""
 
-import argparse, functools, re
+import functools, re
 from collections.abc import Iterable
 
-from .tree import cells, read_text, replaced
+from .tree import Options, cells, read_text, replaced
 
 # Where the text is that the page is made of.
 MANUAL = "docs/MANUAL.md"
@@ -152,6 +152,5 @@ def page(version: str) -> str:
     return "\n".join([*lines, *examples, ".SH SEE ALSO", SEE_ALSO, ""])
 
 
-def main(options: argparse.Namespace) -> int:
+def main(options: Options) -> None:
     print(page(options.version or read_text("VERSION").strip()), end="")
-    return 0

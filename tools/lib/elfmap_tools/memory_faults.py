@@ -13,13 +13,12 @@ call of a writer failed or took nothing, the arm `_` on `write`; and where a cal
 Then bodies are planted that make either fault thoughtlessly: in each library one, and in the first of them all. Each has to be refused."""
 
 import collections, functools, glob, re
-from argparse import Namespace
 from collections.abc import Iterator
 from dataclasses import dataclass
 
 from .sources import LITERAL, indent_of
 from .suite import Tally, Test
-from .tree import TOP, read_text
+from .tree import TOP, Options, read_text
 
 WANT = re.compile(r"\b(OutOfMemory|AllocError)\b")
 # Calls of the standard library that fail only where memory is refused, and those whose first argument is a length.
@@ -224,7 +223,7 @@ def planted(text: str, function: Function, way: str, value: str) -> str:
 
 
 @Test("memory-faults", "out of memory and failed writes are made only where an allocation or a write failed")
-def memory_faults(tally: Tally, options: Namespace) -> None:
+def memory_faults(tally: Tally, options: Options) -> None:
     found = {path: read_text(path) for path in sorted(glob.glob("crates/elf*/src/**/*.rt", root_dir=TOP, recursive=True))}
     forms, wrong = faults_in(found)
     tally.count(sum(forms.values()) + len(wrong), wrong)

@@ -9,7 +9,6 @@ of the rules is an error of status 2, a file that is not there one of status 3; 
 what `link` wrote. The same seed makes the same files. What went wrong is put into the current folder, as fuzzed-SEED-K."""
 
 import os, random, re, shutil, subprocess
-from argparse import Namespace
 from collections.abc import Iterable
 from functools import partial
 from itertools import zip_longest
@@ -17,7 +16,7 @@ from itertools import zip_longest
 from .making import Chance, a_file, fuzzed
 from .reference import RELA, answer
 from .suite import Tally, Test, count_tries, number
-from .tree import PROGRAM, RULES, TOP, Answer, answer_of, ending, read_bytes, run as run_command, write
+from .tree import PROGRAM, RULES, TOP, Answer, Options, answer_of, ending, read_bytes, run as run_command, write
 
 run = partial(run_command, timeout=10)
 LONGEST = 1 << 19
@@ -141,7 +140,7 @@ ABOUT, COMPILERS = "files and links with fields changed, beside the reference im
 
 
 @Test("mutants", ABOUT, commands=COMPILERS, crates="elfmap", alone=True, family="fuzz", options=OPTIONS)
-def mutants(tally: Tally, options: Namespace) -> None:
+def mutants(tally: Tally, options: Options) -> None:
     for it in SOURCES:
         shutil.copy(f"{TOP}/cases/sources/{it}", tally.folder)
     system = [it for it in SYSTEM if os.path.exists(it) and os.path.getsize(it) <= LONGEST]

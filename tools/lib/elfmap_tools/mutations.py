@@ -11,14 +11,13 @@ has just left them. A library of the program that has none of them, and no edit 
 its contracts refuse a wrong body."""
 
 import os, re, shutil, tempfile
-from argparse import Namespace
 from collections import Counter
 from collections.abc import Iterable
 from concurrent.futures import ThreadPoolExecutor, as_completed
 
 from .kit import FolderOf, built_below, gate_folder, kit, said_by, words
 from .suite import Option, Tally, Test, flag, named
-from .tree import PROCESSORS, TOP, below, libraries, read_text, write
+from .tree import PROCESSORS, TOP, Options, below, libraries, read_text, write
 
 
 class Edit:
@@ -186,7 +185,7 @@ ONLY = named("only", "plant the bug of this name alone")
 
 
 @Test("mutations", ABOUT, alone=True, options=(*FLAGS, ONLY, CRATES))
-def mutations(tally: Tally, options: Namespace) -> None:
+def mutations(tally: Tally, options: Options) -> None:
     crates = options.crates or sorted(libraries())
     unknown = [it for it in crates if it not in libraries()]
     if unknown:

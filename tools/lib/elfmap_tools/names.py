@@ -1,19 +1,18 @@
 """Checks of the texts of crates/ that need nothing built: `tools/test names`, `must-not-compile` and `launcher`."""
 
 import collections, glob, os, re, shutil
-from argparse import Namespace
 
 from .doc_examples import words as words_over_sources
 from .kit import kit, said_by
 from .sources import Definition, definitions
 from .suite import Tally, Test
-from .tree import TOP, read_text, run, write
+from .tree import TOP, Options, read_text, run, write
 
 # ---- names: one name of a definition means one thing in the whole repository
 
 
 @Test("names", "each name of a definition is in one crate")
-def names(tally: Tally, options: Namespace) -> None:
+def names(tally: Tally, options: Options) -> None:
     places = collections.defaultdict[str, list[Definition]](list)
     for path in sorted(glob.glob("crates/*/specs/**/*.antt", root_dir=TOP, recursive=True)):
         for name, it in definitions(path)[0].items():
@@ -57,7 +56,7 @@ CASES = (
 
 
 @Test("must-not-compile", "what borrows from a file's bytes and outlives them is refused by the borrow checker")
-def must_not_compile(tally: Tally, options: Namespace) -> None:
+def must_not_compile(tally: Tally, options: Options) -> None:
     """The check has to have an error of the borrow checker in each file of a crate."""
     crates = sorted(set(re.findall(r"use (elf_\w+)::", " ".join([CASE, *(uses for _, _, uses, _ in CASES)]))))
     source = tally.new_folder("src")
@@ -104,7 +103,7 @@ CALLS = (
 
 
 @Test("launcher", "what ./elfmap builds and runs for which words")
-def launcher(tally: Tally, options: Namespace) -> None:
+def launcher(tally: Tally, options: Options) -> None:
     tree = tally.folder
     for it in ("tools", "crates/elf_field/src"):
         os.makedirs(f"{tree}/{it}")

@@ -4,7 +4,7 @@ It is one file, which needs no network: the library for C as a WebAssembly modul
 The module is made of the same proved crates as the library for C: the kit's compiler makes it for a memory of 64-bit addresses, which not
 every browser has, and wasm-opt (of binaryen) lowers it to one of 32-bit addresses."""
 
-import argparse, base64, contextlib, ctypes, json, os, shutil, sys, tempfile
+import base64, contextlib, ctypes, json, os, shutil, sys, tempfile
 from typing import Any
 
 from . import library
@@ -12,7 +12,7 @@ from .browser import Browser
 from .kit import built_below, is_current, kit, words
 from .library import VERDICTS as CRATE
 from .rules_tables import file_rules
-from .tree import PACKAGE, TOP, read_bytes, read_text, wanted, write
+from .tree import PACKAGE, TOP, Options, read_bytes, read_text, wanted, write
 
 sys.path.insert(0, PACKAGE)
 from elfmap import _names as names  # noqa: E402
@@ -90,12 +90,11 @@ def page() -> str:
     return made
 
 
-def main(options: argparse.Namespace) -> int:
+def main(options: Options) -> None:
     print(page(), end="")
-    return 0
 
 
-def picture(options: argparse.Namespace) -> int:
+def picture(options: Options) -> None:
     """`tools/release page-picture FILE PICTURE.png`: what the page looks like in chromium with a file on it."""
     with tempfile.TemporaryDirectory(prefix="page-picture-") as room, contextlib.closing(Browser()) as browser:
         browser.open(write(f"{room}/elfmap.html", page()))
@@ -103,4 +102,3 @@ def picture(options: argparse.Namespace) -> int:
         if not browser.wait("document.body.dataset.ready"):
             raise SystemExit(f"page-picture: {options.file} is not shown: {browser.text('#said')}")
         write(options.picture, browser.screen(1000, 760))
-    return 0

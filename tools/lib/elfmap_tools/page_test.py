@@ -5,15 +5,15 @@
 - In chromium, by its debugger: what a person sees of sound and refused files, with a mouse, by keys alone, and by a reader of the screen."""
 
 import contextlib, json, os, random
-from argparse import Namespace
 from collections.abc import Iterator
 
 from .browser import Browser
 from .cases import case_files, cases_of
 from .library import VERDICTS as CRATE
+from .packages import SELENIUM
 from .page import layout, module, page
 from .suite import Tally, Test, number
-from .tree import PROGRAM, TOP, read_bytes, said, write
+from .tree import PROGRAM, TOP, Options, read_bytes, said, write
 
 MACHINE_FILES = ["/bin/true", "/bin/ls", "/usr/lib/gcc/x86_64-linux-gnu/12/crtbegin.o"]
 MACHINE_FILES += [f"/usr/lib/x86_64-linux-gnu/{it}" for it in ("crt1.o", "Scrt1.o", "crti.o", "libdl.so.2", "libutil.so.1")]
@@ -139,19 +139,19 @@ class InChromium:
         """To the map, along it, into a part and out again, without a mouse."""
         press = self.browser.press
         self.value("document.querySelector('#chosen').focus()")
-        press("Tab")
+        press("TAB")
         self.check(self.value("document.activeElement.parentElement.id") == "map", "the tabulator does not lead to the map")
-        press("ArrowRight")
+        press("ARROW_RIGHT")
         label, words = self.value("document.activeElement.ariaLabel"), self.text("#map-words")
         self.check(words == label, f"the arrow leads to {label}, and the words are {words}")
-        press("Enter")
+        press("ENTER")
         self.waits("document.querySelector('#map [aria-current=true]')", "the part is not chosen")
         scale, before = "document.querySelector('#map-scale').textContent", self.text("#map-scale")
         self.click("#zoom-in")
         self.waits(f"{scale} !== '{before}'", "there is no zoom")
         self.value("document.querySelector('#map button').focus()")
-        press("Escape")
-        press("Escape")
+        press("ESCAPE")
+        press("ESCAPE")
         self.click("#zoom-whole")
         self.waits(f"{scale} === '{before}'", "there is no way back")
 
@@ -250,14 +250,15 @@ def in_chromium(tally: Tally, room: str) -> None:
         it.refused_files(file)
         for part in (it.shared_byte, it.broken_tables, it.folder, it.million):
             part()
-        tally.check(not browser.messages, f"the console says {browser.messages[:3]}")
+        messages = browser.messages()
+        tally.check(not messages, f"the console says {messages[:3]}")
 
 
-ABOUT, TOOLS = "the page for a browser, in node beside `elfmap show`, and in chromium", "node wasm-opt chromium cc"
+ABOUT, TOOLS = "the page for a browser, in node beside `elfmap show`, and in chromium", f"node wasm-opt chromium chromedriver {SELENIUM} cc"
 COUNT = number("count", 3000, "so many changed files")
 
 
 @Test("page", ABOUT, commands=TOOLS, crates=f"elfmap {CRATE}", alone=True, options=(COUNT,))
-def try_page(tally: Tally, options: Namespace) -> None:
+def try_page(tally: Tally, options: Options) -> None:
     in_node(tally, tally.folder, options.count)
     in_chromium(tally, tally.folder)

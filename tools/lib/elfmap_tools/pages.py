@@ -9,10 +9,9 @@ has at most README_LINES lines, and its two commands in the first screen. A proo
 its idea."""
 
 import glob, re, statistics
-from argparse import Namespace
 
 from .suite import TESTS, Tally, Test, families
-from .tree import TOP, read_text
+from .tree import TOP, Options, read_text
 
 MEDIAN, LONG, WORDS = 18, 30, 30_000
 README_LINES, SCREEN, PROOF_LINES = 160, 30, 30
@@ -61,7 +60,7 @@ def without_idea() -> list[str]:
 
 
 @Test("pages", "the sentences of the pages are short")
-def pages(tally: Tally, options: Namespace) -> None:
+def pages(tally: Tally, options: Options) -> None:
     first = read_text("README.md").splitlines()
     tally.check(len(first) <= README_LINES, f"README.md has {len(first)} lines, more than {README_LINES}")
     shown = [it for it in COMMANDS if any(line.startswith(it) for line in first[:SCREEN])]

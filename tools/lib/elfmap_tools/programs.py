@@ -5,10 +5,10 @@ from collections.abc import Callable
 
 from . import building, definitions, distribution, doc, dump, library, man, minutes, page, peers, release as releasing, rules_tables
 from .suite import Option, add_command
-from .tree import PACKAGE, TOP, progress
+from .tree import PACKAGE, TOP, Options, progress
 
-# Its name, what it does, the function, and its words.
-Command = tuple[str, str, Callable[[argparse.Namespace], int], list[Option]]
+# Its name, what it does, the function, whose answer is the status, and its words.
+Command = tuple[str, str, Callable[[Options], int | None], list[Option]]
 
 
 def run(name: str, about: str, commands: list[Command], words: list[str]) -> int:
@@ -19,14 +19,14 @@ def run(name: str, about: str, commands: list[Command], words: list[str]) -> int
         add_command(added, command, what, arguments).set_defaults(main=main)
     options = parser.parse_args(words)
     with progress(f"{name} {options.command}"):
-        return int(options.main(options))
+        return int(options.main(options) or 0)
 
 
 def word(name: str, about: str, **more: object) -> Option:
     return name, {"help": about, **more} if name.startswith("-") else {"metavar": name.upper(), "help": about, **more}
 
 
-def package_command(options: argparse.Namespace) -> int:
+def package_command(options: Options) -> int:
     """Runs a command of bindings/python, over the program and the library of the repository."""
     words = [sys.executable, "-B", "-m", f"elfmap.{options.command}", *options.words]
     return subprocess.run(words, env={"ELFMAP": f"{TOP}/elfmap", **os.environ, "PYTHONPATH": PACKAGE}).returncode

@@ -4,12 +4,12 @@ and without the Rattle kit. docs/MANUAL.md lists what it has; elfmap.html is in 
 A page's link to a file that the archive lacks becomes its words. VERSION is the first line of the file VERSION, unless another one is
 given. The same program, library, version, texts and commit make the same archive."""
 
-import argparse, functools, glob, os, re, shutil, sys, tempfile
+import functools, glob, os, re, shutil, sys, tempfile
 
 from . import doc, library, man, page
 from .building import output_of
 from .kit import is_current
-from .tree import PROGRAM, TOP, files_below, read_text, run, said, wanted, write
+from .tree import PROGRAM, TOP, Options, files_below, read_text, run, said, wanted, write
 
 RUNNER = """#!/bin/sh
 # elfmap WORDS..: the program elfmap, with settings of the C library's memory.
@@ -195,6 +195,5 @@ def pack(folder: str, given: str | None = None) -> str:
         return archived(f"{work}/{name}", f"{folder}/{name}.tar.gz")
 
 
-def main(options: argparse.Namespace) -> int:
+def main(options: Options) -> None:
     print(pack(options.folder, options.version))
-    return 0

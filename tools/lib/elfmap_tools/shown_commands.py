@@ -10,14 +10,13 @@ other lengths, what is not built, and what needs a file that such a command make
 `$ `, and the tools that a page names and what it links to have to be there."""
 
 import os, re, shutil, subprocess, sys
-from argparse import Namespace
 from collections.abc import Iterator
 
 from .library import BOTH
 from .pages import CODE, all_pages
 from .release import pack
 from .suite import Tally, Test, environment
-from .tree import PROGRAM, TOP, read_text, said, wanted, write
+from .tree import PROGRAM, TOP, Options, read_text, said, wanted, write
 
 # The folders that a release has not.
 FOLDERS = ["bench", "cases", "crates", "reference", "tools"]
@@ -215,7 +214,7 @@ TOOLS = " ".join([*PACKAGES, "cc ar pkg-config wasm-opt"])
 
 
 @Test("shown-commands", "the commands that the pages show print what is below them", commands=TOOLS, crates=f"elfmap {BOTH}")
-def shown_commands(tally: Tally, options: Namespace) -> None:
+def shown_commands(tally: Tally, options: Options) -> None:
     pages = [f"{TOP}/{it}" for it in all_pages()]
     every = [command for path in pages for block in blocks(read_text(path)) for command, _ in commands(block)]
     for command in SKIPPED:

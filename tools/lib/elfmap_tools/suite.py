@@ -8,7 +8,7 @@ from typing import Any
 
 from . import packages
 from .building import built
-from .tree import PROCESSORS, TOP, Texts, libraries, progress, said, side_by_side
+from .tree import PROCESSORS, TOP, Options, Texts, libraries, progress, said, side_by_side
 
 COUNTS = re.compile(r"^(\d+) passed, (\d+) failed\n\Z", re.M)
 
@@ -61,7 +61,7 @@ class Tally:
         return f"{self.passed} passed, {self.failed} failed"
 
 
-Function = Callable[[Tally, argparse.Namespace], None]
+Function = Callable[[Tally, Options], None]
 # An option of a test: its words for argparse.
 Option = tuple[str, dict[str, object]]
 TESTS: list["Test"] = []
@@ -109,7 +109,7 @@ def commands_of(tests: Iterable[Test]) -> list[str]:
     return list(dict.fromkeys(command for it in tests for command in it.commands.split()))
 
 
-def run_one(test: Test, options: argparse.Namespace) -> int:
+def run_one(test: Test, options: Options) -> int:
     """Runs a test here: prints what failed, and last how many passed. A test whose commands are missing has failed."""
     with tempfile.TemporaryDirectory(prefix=f"elfmap-{test.name}.") as folder, progress(f"tools/test {test.name}"):
         tally, lacking = Tally(test.name, folder), packages.missing(test.commands.split())
@@ -237,7 +237,7 @@ def tried_in_folder(name: str, wrong_in: Callable[[int, int, str], str], seed: i
         return f"{name}-{seed}-{k}: {wrong}" if wrong else ""
 
 
-def count_tries(tally: Tally, options: argparse.Namespace, name: str, wrong_in: Callable[[int, int, str], str]) -> None:
+def count_tries(tally: Tally, options: Options, name: str, wrong_in: Callable[[int, int, str], str]) -> None:
     """Counts so many tries of a seed, side by side."""
     tries = functools.partial(tried_in_folder, name, wrong_in, options.seed)
     tally.count(options.count, filter(None, side_by_side(tries, range(options.count), True)))

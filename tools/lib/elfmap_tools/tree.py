@@ -1,6 +1,6 @@
 """The folders of the repository, its crates, and what every tool does: read and write files, run commands, show that it still runs."""
 
-import contextlib, functools, os, re, subprocess, sys, threading, time
+import argparse, contextlib, functools, os, re, subprocess, sys, threading, time
 from collections.abc import Callable, Iterable, Iterator, Mapping
 from concurrent.futures import ProcessPoolExecutor, ThreadPoolExecutor
 from typing import Any, TypeVar
@@ -14,6 +14,8 @@ PACKAGE = f"{TOP}/bindings/python"
 Answer = tuple[int, bytes, bytes]
 Ended = subprocess.CompletedProcess[bytes]
 Texts = subprocess.CompletedProcess[str]
+# The words that a command or a test was given.
+Options = argparse.Namespace
 T = TypeVar("T")
 R = TypeVar("R")
 
