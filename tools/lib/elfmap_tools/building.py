@@ -3,7 +3,7 @@
 import fcntl, functools, os, re, resource, shutil, sys, tempfile, time
 from concurrent.futures import Future, ThreadPoolExecutor
 
-from .kit import RLIBS, FolderOf, built_below, is_built_by_prove, is_current, kit, link_words, said_by, sum_of, words
+from .kit import RLIBS, FolderOf, built_below, checked, is_built_by_prove, is_current, kit, link_words, sum_of, words
 from .tree import PROCESSORS, TOP, Options, below, deps, is_program, libraries, read_text, said, static_libraries, texts_of, write
 
 MOST_JOBS = 8
@@ -64,7 +64,7 @@ class Build:
         made = f"{RLIBS}/{crate}.sum"
         if os.path.exists(made):
             os.remove(made)
-        command = [f"{kit()}/bin/rattle", "build", *words(crate, "src/lib.rt", lambda _: RLIBS), "--statements"]
+        command = [f"{kit()}/bin/rattle", "build", *words(crate, lambda _: RLIBS), "--statements"]
         run([*command, "--jobs", str(self.jobs_of(crate)), "-o", f"{RLIBS}/{crate}.rlib"], crate)
         write(made, sum_of(crate))
 
@@ -75,10 +75,10 @@ class Build:
         command, toolchain = [f"{kit()}/bin/rattle", "build"], ["--toolchain", f"{kit()}/toolchain"]
         if is_program(crate):
             jobs = ["--jobs", str(min(MOST_JOBS, PROCESSORS))]
-            run([*command, *words(crate, "src/main.rt", folder_of), *toolchain, *jobs, "-o", f"{out}/{crate}.o"], crate)
+            run([*command, *words(crate, folder_of), *toolchain, *jobs, "-o", f"{out}/{crate}.o"], crate)
             run(link_words(f"{out}/{crate}", f"{out}/{crate}.o"), crate)
         elif crate in static_libraries():
-            run([*command, *words(crate, "src/lib.rt", folder_of), *toolchain, "-o", f"{out}/lib{crate}.a"], crate)
+            run([*command, *words(crate, folder_of), *toolchain, "-o", f"{out}/lib{crate}.a"], crate)
 
     def all(self) -> None:
         os.makedirs(RLIBS, exist_ok=True)
@@ -136,26 +136,12 @@ def open_lines(output: str) -> list[str]:
     return [it if len(it) <= WIDTH else f"{it[:WIDTH]} .." for it in lines]
 
 
-def end_of(output: str) -> str:
-    """How a check ended, in words."""
-    counts = COUNTS.search(output)
-    if counts:
-        return f"{counts[2]} of {counts[1]} functions proved"
+def end_of(output: str) -> tuple[bool, str]:
+    """Whether all is proved, and how a check ended, in words."""
+    if counts := COUNTS.search(output):
+        return counts[1] == counts[2], f"{counts[2]} of {counts[1]} functions proved"
     whole = re.search(r"^logic=proved .*?functions=(\d+)", output, re.M)
-    return f"proved, {whole[1]} functions" if whole else "NOT PROVED"
-
-
-def is_proved(output: str) -> bool:
-    counts = COUNTS.search(output)
-    return counts[1] == counts[2] if counts else bool(re.search(r"^logic=proved", output, re.M))
-
-
-def checked(crate: str, root: str, folder_of: FolderOf, functions: list[str]) -> str:
-    """What the check says of a crate, or of these functions of it and those that they call."""
-    folder = f"{TOP}/crates/{crate}"
-    os.makedirs(f"{folder}/out/loop", exist_ok=True)
-    only = [word for it in functions for word in ("--only", it)]
-    return said_by([f"{kit()}/bin/rattle", "check", *words(crate, root, folder_of), "--incremental", "out/loop", *only], folder)
+    return bool(whole), f"proved, {whole[1]} functions" if whole else "NOT PROVED"
 
 
 def without_other_tests(folder: str, name: str) -> list[str]:
@@ -172,21 +158,19 @@ def without_other_tests(folder: str, name: str) -> list[str]:
     return kept
 
 
-def tested(crate: str, root: str, folder_of: FolderOf, name: str) -> tuple[bool, str]:
+def tested(crate: str, folder_of: FolderOf, kept: str, name: str) -> tuple[bool, str]:
     """Proves and builds the tests of this name alone, in a copy of the crate, and runs them."""
-    kept = f"{TOP}/crates/{crate}/out/loop"
-    os.makedirs(kept, exist_ok=True)
     with tempfile.TemporaryDirectory(prefix="one-test-") as room:
         for part in ("src", "specs", "proofs"):
             if os.path.isdir(f"{TOP}/crates/{crate}/{part}"):
                 shutil.copytree(f"{TOP}/crates/{crate}/{part}", f"{room}/{part}")
         if not without_other_tests(room, name):
             raise SystemExit(f"check: {crate} has no test whose name holds {name}")
-        command = [f"{kit()}/bin/rattle", "build", *words(crate, root, folder_of), "--test", "--incremental", kept]
-        output = said_by([*command, "--toolchain", f"{kit()}/toolchain", "-o", "tests.o"], room)
+        command = [f"{kit()}/bin/rattle", "build", *words(crate, folder_of), "--test", "--incremental", kept]
+        output = said(*command, "--toolchain", f"{kit()}/toolchain", "-o", "tests.o", folder=room).stdout
         if not os.path.isfile(f"{room}/tests.o"):
             return False, output
-        output += said_by(link_words("tests", "tests.o"), room)
+        output += said(*link_words("tests", "tests.o"), folder=room).stdout
         ran = said(f"{kit()}/bin/rattle-test", "--seconds", "60", "tests", folder=room)
         return ran.returncode == 0, output + ran.stdout
 
@@ -199,14 +183,15 @@ def check(options: Options) -> int:
     if lacking:
         print(f"check: these libraries below {crate} are not built, or were changed since: {' '.join(lacking)}", file=sys.stderr)
         raise SystemExit(f"check: build them with `tools/dev prove {crate}`")
-    root = "src/main.rt" if is_program(crate) else "src/lib.rt"
+    folder, kept = f"{TOP}/crates/{crate}", f"{TOP}/crates/{crate}/out/loop"
+    os.makedirs(kept, exist_ok=True)
     if options.test:
-        is_well, output = tested(crate, root, folder_of, options.test)
+        is_well, output = tested(crate, folder_of, kept, options.test)
     else:
-        output = checked(crate, root, folder_of, options.function)
-        is_well = is_proved(output)
-    write(f"{TOP}/crates/{crate}/out/check.log", output)
+        output = checked(crate, options.function, folder, folder_of, kept)
+        is_well = end_of(output)[0]
+    write(f"{folder}/out/check.log", output)
     print("".join(f"{line}\n" for line in open_lines(output)), end="")
     used = resource.getrusage(resource.RUSAGE_CHILDREN)
-    print(f"check: {crate}: {end_of(output)}; {time.monotonic() - begun:.0f} s, {used.ru_utime + used.ru_stime:.0f} of a processor")
+    print(f"check: {crate}: {end_of(output)[1]}; {time.monotonic() - begun:.0f} s, {used.ru_utime + used.ru_stime:.0f} of a processor")
     return 0 if is_well else 1

@@ -13,9 +13,9 @@ from collections.abc import Iterator
 from dataclasses import dataclass
 
 from . import sources
-from .kit import kit, said_by
+from .kit import kit
 from .suite import Tally, Test
-from .tree import TOP, Options, below, is_program, libraries, read_text, write
+from .tree import TOP, Options, below, is_program, libraries, read_text, said, write
 
 GIVEN = {
     "rt": "&(impl Abort + Print)", "alloc": "Global", "hasher": "BuildHasherDefault<FoldHasher>", "reader": "impl Read + Drop",
@@ -107,7 +107,7 @@ def faults_of(examples: list[Example], room: str) -> tuple[dict[Example, list[st
     os.makedirs(f"{room}/src")
     for name, text in files.items():
         write(f"{room}/src/{name}.rt", text)
-    output = said_by([f"{kit()}/bin/rattle", *words([it.crate for it in examples])], room)
+    output = said(f"{kit()}/bin/rattle", *words([it.crate for it in examples]), folder=room).stdout
     faults: dict[Example, list[str]] = {}
     for name, line in re.findall(r"^src/(\w+)(\.rt:\d+:\d+: error.*)", output, re.M):
         if name in modules:

@@ -3,26 +3,22 @@
 import functools, hashlib, os
 from collections.abc import Callable, Iterable
 
-from .tree import TOP, below, deps, is_newer, libraries, read_bytes, said, static_libraries, texts_of
+from .tree import TOP, below, deps, is_newer, is_program, libraries, read_bytes, said, static_libraries, texts_of
 
 # Where `tools/dev prove` puts the libraries that it proved, each beside a sum of what it was made from.
 RLIBS = f"{TOP}/crates/elfmap/out/rlibs"
 FolderOf = Callable[[str], str]
 
 
-def said_by(command: Iterable[str], folder: str) -> str:
-    return said(*command, folder=folder).stdout
-
-
 @functools.cache
 def kit() -> str:
     """The folder of the kit, which is that of the page that `rt doc` names."""
-    return os.path.dirname(said_by(["rt", "doc"], TOP).strip())
+    return os.path.dirname(said("rt", "doc").stdout.strip())
 
 
 @functools.cache
 def version() -> str:
-    return said_by(["rt", "version"], TOP)
+    return said("rt", "version").stdout
 
 
 @functools.cache
@@ -49,8 +45,7 @@ def gate_folder(crate: str) -> str:
 
 def is_built_by_gate(crate: str) -> bool:
     """Whether `rt ci` built the library after its texts were last written."""
-    made = f"{gate_folder(crate)}/{crate}.rlib"
-    return os.path.isdir(made) and all(os.path.getmtime(it) <= os.path.getmtime(made) for it in texts_of(crate))
+    return is_newer(f"{gate_folder(crate)}/{crate}.rlib", texts_of(crate))
 
 
 def built_below(crates: Iterable[str]) -> tuple[FolderOf, list[str]]:
@@ -63,11 +58,10 @@ def built_below(crates: Iterable[str]) -> tuple[FolderOf, list[str]]:
     return lambda name: RLIBS, lacking
 
 
-def words(crate: str, root: str, folder_of: FolderOf) -> list[str]:
-    """The words with which `rattle check` and `rattle build` read a crate from its root file. `folder_of` returns the folder of the rlib
-    of a crate below it."""
+def words(crate: str, folder_of: FolderOf) -> list[str]:
+    """The words with which `rattle check` and `rattle build` read a crate. `folder_of` returns the folder of the rlib of a crate below it."""
     rlibs = {name: folder_of(name) for name in below(crate)}
-    found = ["--crate-name", crate, root]
+    found = ["--crate-name", crate, "src/main.rt" if is_program(crate) else "src/lib.rt"]
     for name in ["std", *libraries()[crate]]:
         found += ["--extern", f"{name}={rlibs.get(name, f'{kit()}/rlibs')}/{name}.rlib"]
     for folder in dict.fromkeys([f"{kit()}/rlibs", *rlibs.values()]):
@@ -76,6 +70,13 @@ def words(crate: str, root: str, folder_of: FolderOf) -> list[str]:
     if crate in static_libraries():
         found += ["--crate-type", "staticlib"]
     return [*found, "--logic-built", f"{kit()}/logic_built", "--links", f"{crate}="]
+
+
+def checked(crate: str, functions: Iterable[str], folder: str, folder_of: FolderOf, kept: str) -> str:
+    """What the checker says of a crate as its text in a folder is, or of these functions of it and those that they call. What it has found
+    out so far is in the folder `kept`."""
+    only = [word for it in functions for word in ("--only", it.removeprefix(f"{crate}::"))]
+    return said(f"{kit()}/bin/rattle", "check", *words(crate, folder_of), "--incremental", kept, *only, folder=folder).stdout
 
 
 def link_words(output: str, source: str) -> list[str]:
@@ -88,4 +89,4 @@ def link_words(output: str, source: str) -> list[str]:
 
 def is_current(crate: str, path: str) -> bool:
     """Whether what was built of a crate is at least as new as its texts and those of all crates below it."""
-    return is_newer(path, [*below(crate), crate])
+    return is_newer(path, (it for own in [*below(crate), crate] for it in texts_of(own)))

@@ -6,7 +6,7 @@ which exports the calls of include/elfmap.h and nothing else."""
 import functools, glob, os, re, shutil, tempfile
 
 from .building import built, output_of
-from .tree import TOP, Options, read_text, wanted, write
+from .tree import TOP, Options, is_newer, read_text, wanted, write
 
 VERDICTS, ENGINES = "elf_c", "elf_c_engines"
 # As words: the crates of the library, and the commands that pack it.
@@ -73,9 +73,7 @@ def shared(archive: str, folder: str) -> str:
 def packed() -> str:
     """The archive in the folder of the library, packed anew where a part of it is newer."""
     parts = [*map(built, (VERDICTS, ENGINES)), f"{TOP}/bindings/c/memory.c"]
-    if os.path.isfile(LIBRARY) and all(os.path.getmtime(it) <= os.path.getmtime(LIBRARY) for it in parts):
-        return LIBRARY
-    return pack(FOLDER)
+    return LIBRARY if is_newer(LIBRARY, parts) else pack(FOLDER)
 
 
 def main(options: Options) -> None:

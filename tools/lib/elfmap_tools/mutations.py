@@ -15,7 +15,7 @@ from collections import Counter
 from collections.abc import Iterable
 from concurrent.futures import ThreadPoolExecutor, as_completed
 
-from .kit import FolderOf, built_below, gate_folder, kit, said_by, words
+from .kit import FolderOf, built_below, checked, gate_folder
 from .suite import Option, Tally, Test, flag, named
 from .tree import PROCESSORS, TOP, Options, below, libraries, read_text, write
 
@@ -77,13 +77,6 @@ def must_fail_of(crate: str) -> list[Edit]:
 # ---- what the check says of planted bugs
 
 
-def check(crate: str, functions: Iterable[str], folder: str, folder_of: FolderOf) -> str:
-    """What the checker says of these functions of the crate as its text in the folder is, and of those that they call."""
-    only = [word for it in functions for word in ("--only", it.removeprefix(f"{crate}::"))]
-    root = "src/lib.rt" if os.path.isfile(f"{folder}/src/lib.rt") else "src/main.rt"
-    return said_by([f"{kit()}/bin/rattle", "check", *words(crate, root, folder_of), "--incremental", "kept", *only], folder)
-
-
 def came_to_its_end(said: str) -> bool:
     """Whether the checker could read the text and came to its end."""
     return bool(re.search(r"^only=", said, re.M))
@@ -142,7 +135,7 @@ def planted(picked: list[Edit], folder: str, folder_of: FolderOf) -> dict[Edit, 
     # What another bug made of the text may be why one can't be planted: it waits for its turn.
     if not alone:
         whys = {bug: why for bug, why in whys.items() if not why}
-    said = "" if any(whys.values()) else check(picked[0].crate, [bug.function for bug in whys], folder, folder_of)
+    said = "" if any(whys.values()) else checked(picked[0].crate, [bug.function for bug in whys], folder, folder_of, "kept")
     # A text that the check can't read says nothing of the other bugs in it: each is planted alone.
     if not alone and not came_to_its_end(said):
         return {}

@@ -3,10 +3,10 @@
 import collections, glob, os, re, shutil
 
 from .doc_examples import words as words_over_sources
-from .kit import kit, said_by
+from .kit import kit
 from .sources import Definition, definitions
 from .suite import Tally, Test
-from .tree import TOP, Options, read_text, run, write
+from .tree import TOP, Options, read_text, run, said, write
 
 # ---- names: one name of a definition means one thing in the whole repository
 
@@ -63,7 +63,7 @@ def must_not_compile(tally: Tally, options: Options) -> None:
     write(f"{source}/lib.rt", CRATE_HEAD + "".join(f"pub mod {name};\n" for name, *_ in CASES))
     for name, kind, uses, body in CASES:
         write(f"{source}/{name}.rt", CASE.format(kind=kind, uses=uses, body=body))
-    output = said_by([f"{kit()}/bin/rattle", *words_over_sources(crates)], tally.folder)
+    output = said(f"{kit()}/bin/rattle", *words_over_sources(crates), folder=tally.folder).stdout
     for name, *_ in CASES:
         tally.check(re.search(rf"{name}\.rt:.*borrow-e0(505|515|597)", output), f"the borrow checker did not refuse {name}")
     if tally.failed:

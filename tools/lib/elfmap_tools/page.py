@@ -36,7 +36,7 @@ def module() -> str:
         raise SystemExit("page: there is no wasm-opt, of the package binaryen")
     os.makedirs(OUT, exist_ok=True)
     target, folder = ["--target", TARGET, "--toolchain", f"{kit()}/toolchain"], f"{TOP}/crates/{CRATE}"
-    wanted(f"{kit()}/bin/rattle", "build", *words(CRATE, "src/lib.rt", folder_of), *target, "-o", f"{OUT}/wide.a", folder=folder)
+    wanted(f"{kit()}/bin/rattle", "build", *words(CRATE, folder_of), *target, "-o", f"{OUT}/wide.a", folder=folder)
     wanted(f"{kit()}/bin/rattle-link", *target, "-o", f"{OUT}/wide.wasm", f"{OUT}/wide.a", folder=folder)
     wanted("wasm-opt", *LOWERED, f"{OUT}/wide.wasm", "-o", MODULE)
     return MODULE

@@ -174,6 +174,6 @@ def texts_of(crate: str) -> list[str]:
     return sorted(path for part in ("src", "specs", "proofs") for path in files_below(f"{TOP}/crates/{crate}/{part}"))
 
 
-def is_newer(path: str, crates: Iterable[str]) -> bool:
-    """Whether a built file is there, and at least as new as every text of these crates."""
-    return os.path.isfile(path) and all(os.path.getmtime(it) <= os.path.getmtime(path) for crate in crates for it in texts_of(crate))
+def is_newer(path: str, texts: Iterable[str]) -> bool:
+    """Whether what was built is there, and at least as new as each of these files."""
+    return os.path.exists(path) and all(os.path.getmtime(it) <= os.path.getmtime(path) for it in texts)
