@@ -10,7 +10,7 @@ from .cases import case_files
 
 from .reference import (
     DYNAMIC, DYNAMIC_SECTION, DYNSYM, ENTRY_SIZE, HASH, HEADER, LOAD, NOBITS, NOTE, NULL, PROGRAM_HEADER, REL, RELA, RELOCATION,
-    SECTION_HEADER, SYMBOL, SYMTAB, SYMTAB_SHNDX, XINDEX, Broken, File, Layout, check, elf_hash, entries_before_null, is_section, name_of,
+    SECTION_HEADER, SYMBOL, SYMTAB, SYMTAB_SHNDX, XINDEX, Broken, File, check, elf_hash, entries_before_null, is_section, name_of,
     notes, padded, parts, rewritten, rule_name, shown, signed, string, symbols, table_verdict, verdict,
 )  # fmt: skip
 from .tree import Options, read_bytes, write
@@ -67,7 +67,7 @@ def notes_in(f: Any, i: int) -> Iterator[tuple[int, int, str, str]]:
             yield f.number(at + 8, 4), begin + padded(size), f.bytes[named : named + name][:-1].hex(), f.bytes[begin : begin + size].hex()
 
 
-def fields(record: Any, layout: Layout) -> str:
+def fields(record: Any, layout: Any) -> str:
     return " ".join(str(getattr(record, it)) for it in layout)
 
 
@@ -179,7 +179,7 @@ def files() -> list[bytes]:
     return list(dict.fromkeys([*case_files(), *map(read_bytes, filter(os.path.isfile, MACHINE_FILES))]))
 
 
-def record_line(word: str, record: Any, layout: Layout, *parts: bytes | None) -> str:
+def record_line(word: str, record: Any, layout: Any, *parts: bytes | None) -> str:
     return " ".join([word, fields(record, layout), *("-" if it is None else f"={it.hex()}" for it in parts)])
 
 
