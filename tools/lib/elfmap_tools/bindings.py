@@ -56,11 +56,6 @@ def python_type(kind: str, is_slice: bool = False) -> Any:
     return number * int(size[1:-1]) if size else number
 
 
-def python_parameters(kinds: list[str]) -> list[Any]:
-    """The types of the parameters of a call."""
-    return [python_type(kind, after == "size_t") for kind, after in zip(kinds, [*kinds[1:], None])]
-
-
 def declarations(tally: Tally) -> None:
     """What a binding declares, something at least, is declared so by the header, which may have more."""
     c_structs = {tag: [(name, f"{kind}[{count}]" if count else kind) for kind, name, count in own] for tag, own in structs().items()}
@@ -70,7 +65,8 @@ def declarations(tally: Tally) -> None:
     tally.check(same, "bindings/rust/src/raw.rs declares other than include/elfmap.h")
     own = {tag: getattr(_library, it)._fields_ for it, tag in STRUCTS.items() if hasattr(_library, it)}
     python_structs = {tag: [(name, python_type(kind)) for name, kind in c_structs[tag]] for tag in own}
-    python_calls = {name: python_parameters(c_calls[name]) for name in _library.CALLS}
+    given = {name: zip(c_calls[name], [*c_calls[name][1:], ""]) for name in _library.CALLS}
+    python_calls = {name: [python_type(kind, after == "size_t") for kind, after in kinds] for name, kinds in given.items()}
     same = own and python_calls and own == python_structs and _library.CALLS == python_calls
     tally.check(same, "bindings/python/elfmap/_library.py declares other than include/elfmap.h")
 

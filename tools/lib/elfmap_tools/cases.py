@@ -10,7 +10,7 @@ from .building import output_of
 from .making import SPOKEN_OF, Chance, a_file, an_object, an_object_file, changed_field, fuzzed
 from .reference import Broken, File, answer, entries_of, laid, mapped, object_verdict, table_verdict, verdict
 from .suite import Option, Tally, Test, named, number
-from .tree import PROGRAM, T, TOP, Answer, Options, answer_of, libraries, read_text, run, write
+from .tree import PROGRAM, T, TOP, Answer, Options, answer_of, read_text, run, write
 
 Files = dict[str, bytearray]
 
@@ -101,9 +101,8 @@ FROM: Option = ("--in", {"dest": "folder", "metavar": "FOLDER", "default": f"{TO
 @Test("cases", "the program answers the cases of cases/*.txt", crates="elfmap elfmap_check", options=(FROM, ONLY))
 def try_cases(tally: Tally, options: Options) -> None:
     # Beside the program that has all commands, the one that has `check` alone.
-    small = [output_of(it) for it in ("elfmap_check",) if it in libraries()]
     for it in (it for it in every_case(options.folder) if options.only in str(it)):
-        for program in [PROGRAM, *(small if it.words[:1] == ["check"] and "--seek" not in it.words else [])]:
+        for program in [PROGRAM] + [output_of("elfmap_check")] * (it.words[:1] == ["check"] and "--seek" not in it.words):
             status, out, err = it.found(program)
             # The text of an error is compared where the case has one.
             tally.same(str(it), (status, out, err if it.err or it.status < 2 else b""), (it.status, it.out, it.err))

@@ -47,32 +47,27 @@ FILES = """README.md CONTRIBUTING.md CHANGELOG.md SECURITY.md docs/* rules/*.rul
 LINK = re.compile(r"(?<!!)\[((?:`[^`]*`|[^\]`])*)\]\((?!https?:|#)([^)#\s]+)[^)]*\)")
 
 
-def stop(why: str) -> SystemExit:
-    return SystemExit(f"release: {why}")
-
-
 def check_built(crate: str) -> None:
     """Stops where what is built of a crate is missing, or older than the texts of the crate or of one that it needs."""
-    path = output_of(crate)
+    path, how = output_of(crate), f"build it with tools/dev prove {crate}, which needs the Rattle kit's command rt"
     if not is_current(crate, path):
-        how = f"build it with tools/dev prove {crate}, which needs the Rattle kit's command rt"
-        raise stop(f"{path} is missing, or older than a text in crates/: {how}")
+        raise SystemExit(f"release: {path} is missing, or older than a text in crates/: {how}")
 
 
 def check_needs() -> None:
     """The program itself says what it needs at run time: each entry NEEDED (tag 1) of its dynamic array."""
     if run(PROGRAM, "check", PROGRAM).returncode:
-        raise stop("the program does not accept itself")
+        raise SystemExit("release: the program does not accept itself")
     lines = (it.split() for it in said(PROGRAM, "show", PROGRAM).stdout.splitlines())
     others = {it[4] for it in lines if it[0] == "dynamic" and it[2] == "1"} - {"libc.so.6", "ld-linux-x86-64.so.2"}
     if others:
-        raise stop(f"the program needs {sorted(others)}, which is no part of the C library")
+        raise SystemExit(f"release: the program needs {sorted(others)}, which is no part of the C library")
 
 
 def version_of(given: str | None = None) -> str:
     version = given or read_text("VERSION").splitlines()[0]
     if not re.fullmatch(r"[0-9A-Za-z._+-]+", version):
-        raise stop(f"the version '{version}' is no word of letters, digits, '.', '_', '+' and '-'")
+        raise SystemExit(f"release: the version '{version}' is no word of letters, digits, '.', '_', '+' and '-'")
     return version
 
 
@@ -125,7 +120,7 @@ def runner(version: str, program: str) -> str:
     """The script that runs the program, which is at this place beside the script's folder."""
     settings = re.search(r"^# Large pages.*?^export GLIBC_TUNABLES[^\n]*\n", read_text("elfmap"), re.M | re.S)
     if not settings:
-        raise stop("the script ./elfmap has no settings of memory")
+        raise SystemExit("release: the script ./elfmap has no settings of memory")
     return RUNNER.format(version=version, settings=settings[0], program=program)
 
 
@@ -133,7 +128,7 @@ def runner(version: str, program: str) -> str:
 def library_page() -> str:
     text, faults = doc.made()
     if faults:
-        raise stop(f"the page of the library is not whole: {faults[0]}")
+        raise SystemExit(f"release: the page of the library is not whole: {faults[0]}")
     return f"{text}\n"
 
 

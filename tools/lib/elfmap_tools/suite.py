@@ -8,7 +8,7 @@ from typing import Any
 
 from . import packages
 from .building import built
-from .tree import PROCESSORS, TOP, Options, Texts, libraries, progress, said, side_by_side
+from .tree import PROCESSORS, TOP, Options, Texts, progress, said, side_by_side
 
 COUNTS = re.compile(r"^(\d+) passed, (\d+) failed\n\Z", re.M)
 
@@ -74,7 +74,6 @@ class Test:
 
     name: str
     about: str
-    function: Function | None = None
     commands: str = ""
     crates: str = ""
     alone: bool = False
@@ -85,12 +84,6 @@ class Test:
         self.function = function
         TESTS.append(self)
         return function
-
-    def __post_init__(self) -> None:
-        if self.function:
-            TESTS.append(self)
-        # Those crates that the repository has.
-        self.needs = [it for it in self.crates.split() if it in libraries()]
 
 
 def number(name: str, default: int, about: str) -> Option:
@@ -116,9 +109,8 @@ def run_one(test: Test, options: Options) -> int:
         try:
             if lacking:
                 raise SystemExit(packages.words_of(lacking))
-            for crate in test.needs:
+            for crate in test.crates.split():
                 built(crate)
-            assert test.function
             test.function(tally, options)
         except (Exception, SystemExit) as error:
             trace = "" if isinstance(error, SystemExit) else traceback.format_exc()
@@ -176,7 +168,7 @@ class Runner:
 def run_several(tests: list[Test], jobs: int) -> int:
     """Installs what is missing, builds what is older than its texts, and runs these tests."""
     packages.setup(commands_of(tests))
-    for crate in dict.fromkeys(crate for it in tests for crate in it.needs):
+    for crate in dict.fromkeys(crate for it in tests for crate in it.crates.split()):
         try:
             built(crate)
         except SystemExit as error:
