@@ -5,7 +5,7 @@ in a temporary folder. `tools/test explain` runs the package's tests of elfmap-e
 import ctypes, re, sys
 from typing import Any
 
-from .library import BOTH, FOLDER, PACKERS, calls, packed, structs
+from .library import BOTH, FOLDER, PACKERS, c_type, calls, packed, structs
 from .packages import JSONSCHEMA, JUNITPARSER
 from .suite import Tally, Test, environment
 from .tree import PACKAGE, TOP, Options, Texts, read_text, said
@@ -16,7 +16,7 @@ from elfmap import _library  # noqa: E402
 TOOLS = f"{PACKERS} cargo git pre-commit {JSONSCHEMA} {JUNITPARSER}"
 Structs = dict[str, list[tuple[str, str]]]
 Calls = dict[str, list[str]]
-# The structs of C as Rust and Python name them, and Rust's numbers as C has them.
+# The structs of C as Rust and Python name them.
 STRUCTS = {
     "Fault": "elfmap_fault", "Extent": "elfmap_extent", "Numbers": "elfmap_file", "Header": "elfmap_header",
     "SectionHeader": "elfmap_section", "Section": "elfmap_section", "ProgramHeader": "elfmap_segment", "Segment": "elfmap_segment",
@@ -24,26 +24,15 @@ STRUCTS = {
     "Dynamic": "elfmap_dynamic", "NoteEntry": "elfmap_note", "Note": "elfmap_note", "Piece": "elfmap_part", "Part": "elfmap_part",
     "Outcome": "elfmap_outcome", "LinkOptions": "elfmap_options",
 }  # fmt: skip
-NUMBERS = {"u8": "uint8_t", "u16": "uint16_t", "u32": "uint32_t", "u64": "uint64_t", "i64": "int64_t", "usize": "size_t"}
-
-
-def rust_type(kind: str) -> str:
-    """A type of Rust as C has it."""
-    array = re.fullmatch(r"\[(\w+); (\d+)\]", kind)
-    if array:
-        return f"{NUMBERS[array[1]]}[{array[2]}]"
-    ((pointer, name),) = re.findall(r"^(\*const |\*mut |&mut |&|)(\w+)$", kind)
-    own = NUMBERS.get(name) or f"struct {STRUCTS[name]}"
-    return f"{'' if 'mut' in pointer else 'const '}{own} *" if pointer else own
 
 
 def in_rust() -> tuple[Structs, Calls]:
     text = read_text("bindings/rust/src/raw.rs")
     found = re.findall(r"^#\[repr\(C\)\]\npub\S* struct (\w+) \{(.*?)^\}", text, re.M | re.S)
     fields = {STRUCTS[name]: re.findall(r"^    pub (\w+): (.+),$", body, re.M) for name, body in found}
-    structs = {tag: [(field, rust_type(kind)) for field, kind in own] for tag, own in fields.items()}
+    structs = {tag: [(field, c_type(kind, STRUCTS)) for field, kind in own] for tag, own in fields.items()}
     calls = re.findall(r"^    fn (\w+)\((.*?)\) -> (?:bool|u32);", text, re.M | re.S)
-    return structs, {name: [rust_type(it) for it in re.findall(r"\w+: ([^,]+)", given)] for name, given in calls}
+    return structs, {name: [c_type(it, STRUCTS) for it in re.findall(r"\w+: ([^,]+)", given)] for name, given in calls}
 
 
 def python_type(kind: str, is_slice: bool = False) -> Any:
