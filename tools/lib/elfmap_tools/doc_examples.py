@@ -13,7 +13,7 @@ from collections.abc import Iterator
 from dataclasses import dataclass
 
 from . import sources
-from .kit import kit
+from .building import kit
 from .suite import Tally, Test
 from .tree import TOP, Options, below, is_program, libraries, read_text, said, write
 

@@ -15,7 +15,7 @@ from collections import Counter
 from collections.abc import Iterable
 from concurrent.futures import ThreadPoolExecutor, as_completed
 
-from .kit import FolderOf, built_below, checked, gate_folder
+from .building import FolderOf, built_below, checked, gate_folder
 from .suite import Option, Tally, Test, flag, named
 from .tree import PROCESSORS, TOP, Options, below, libraries, read_text, write
 

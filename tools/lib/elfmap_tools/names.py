@@ -1,12 +1,13 @@
-"""Checks of the texts of crates/ that need nothing built: `tools/test names`, `must-not-compile` and `launcher`."""
+"""Checks of texts that need nothing built: `tools/test names`, `must-not-compile` and `launcher`, and of the tools themselves and of the
+Python package: `types` and `format`."""
 
 import collections, glob, os, re, shutil
 
 from .doc_examples import words as words_over_sources
-from .kit import kit
+from .building import kit
 from .sources import Definition, definitions
-from .suite import Tally, Test
-from .tree import TOP, Options, read_text, run, said, write
+from .suite import Tally, Test, flag
+from .tree import PACKAGE, TOP, Options, read_text, run, said, write
 
 # ---- names: one name of a definition means one thing in the whole repository
 
@@ -127,3 +128,28 @@ def launcher(tally: Tally, options: Options) -> None:
     # It looks at the times of these folders alone.
     inner = [it for it in glob.glob(f"{TOP}/crates/elf*/src/*") if os.path.isdir(it)]
     tally.check(not inner, f"./elfmap does not see changes in {inner}")
+
+
+# ---- the tools themselves and the Python package
+
+PROGRAMS = [f"{TOP}/tools/{it}" for it in ("dev", "test", "release")]
+SETTINGS = f"{TOP}/tools/pyproject.toml"
+
+
+@Test("types", "mypy --strict over tools/ and the Python package", commands="mypy")
+def types(tally: Tally, options: Options) -> None:
+    words = ["mypy", "--config-file", SETTINGS, "--cache-dir", f"{TOP}/crates/elfmap/out/mypy"]
+    ran = said(*words, f"{TOP}/tools/lib/elfmap_tools", *PROGRAMS, folder=f"{TOP}/tools")
+    tally.check(ran.returncode == 0, ran.stdout)
+    # The package runs by Python 3.9 too.
+    ran = said("mypy", "--strict", "--python-version", "3.9", "--cache-dir", f"{TOP}/crates/elfmap/out/mypy", "elfmap", folder=PACKAGE)
+    tally.check(ran.returncode == 0, ran.stdout)
+
+
+@Test("format", "black over tools/ and the Python package", commands="black", options=(flag("write", "format it"),))
+def format(tally: Tally, options: Options) -> None:
+    folders = (f"{TOP}/tools/lib/elfmap_tools", f"{PACKAGE}/elfmap", f"{PACKAGE}/tests")
+    # The tables of rules are generated.
+    files = [it for folder in folders for it in glob.glob(f"{folder}/*.py") if not it.endswith("/_rules.py")]
+    ran = said("black", "--config", SETTINGS, *([] if options.write else ["--check"]), "--quiet", *files, *PROGRAMS)
+    tally.check(ran.returncode == 0, "the Python is not formatted: `tools/test format --write` does it")

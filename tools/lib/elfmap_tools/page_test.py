@@ -7,12 +7,11 @@
 import contextlib, json, os, random
 from collections.abc import Iterator
 
-from .browser import Browser
 from .cases import case_files, cases_of
 from .library import VERDICTS as CRATE
 from .making import fuzzed
 from .packages import SELENIUM
-from .page import layout, module, page
+from .page import Browser, layout, module, page
 from .reference import verdict
 from .suite import Tally, Test, number
 from .tree import PROGRAM, TOP, Options, read_bytes, said, write

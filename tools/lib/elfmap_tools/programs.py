@@ -1,10 +1,10 @@
-"""The subcommands of `tools/dev` and `tools/release`."""
+"""The subcommands of `tools/dev` and `tools/release`, and the tests of `tools/test`."""
 
-import argparse, os, subprocess, sys
+import argparse, importlib, os, subprocess, sys
 from collections.abc import Callable
 
 from . import building, definitions, distribution, doc, dump, library, man, minutes, page, peers, release as releasing, rules_tables
-from .suite import Option, add_command
+from .suite import TESTS, Option, add_command, main as run_tests
 from .tree import PACKAGE, TOP, Options, progress
 
 # Its name, what it does, the function, whose answer is the status, and its words.
@@ -69,3 +69,13 @@ def dev(words: list[str]) -> int:
 
 def release(words: list[str]) -> int:
     return run("tools/release", "What a release has, and what is generated.", RELEASE, words)
+
+
+# The modules that have tests, in the order in which these are begun.
+MODULES = """failing_calls c_library bindings instructions memory_faults linked names definitions guarantees doc doc_examples rules_tables cases
+    release_test distribution_test shown_commands mutations changed_files hostile_files mutants made_programs page_test machine_files""".split()
+
+
+def test(words: list[str]) -> int:
+    places = [importlib.import_module(f"{__package__}.{it}").__name__ for it in MODULES]
+    return run_tests(sorted(TESTS, key=lambda it: places.index(it.function.__module__)), words)

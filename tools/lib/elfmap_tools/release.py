@@ -7,8 +7,7 @@ given. The same program, library, version, texts and commit make the same archiv
 import functools, glob, os, re, shutil, sys, tempfile
 
 from . import doc, library, man, page
-from .building import output_of
-from .kit import is_current
+from .building import is_current, output_of
 from .tree import PROGRAM, TOP, Options, files_below, read_text, run, said, wanted, write
 
 RUNNER = """#!/bin/sh
