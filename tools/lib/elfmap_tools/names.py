@@ -27,46 +27,17 @@ def names(tally: Tally, options: Options) -> None:
 
 # ---- must-not-compile: what borrows from a file's bytes must not outlive them
 
-CRATE_HEAD = "//! What must not outlive the bytes of its file: none of this compiles.\n#![tactic(auto)]\n\n"
-CASE = """//! It borrows from bytes that are gone when it is out.
-use elf_image_type::parse;
-{uses}
-use std::alloc::Global;
-
-pub fn gone<'a>(alloc: Global) -> Option<{kind}> {{
-    let mut bytes = [0u8; 64];
-    bytes[0] = 0x7f;
-    match parse(alloc, &bytes) {{
-        Ok(image) if image.section_count() > 0 => {body},
-        _ => None,
-    }}
-}}
-"""
-# A file of the crate: what goes out, its type, what it uses, and how it is had of an image of bytes that are the function's own.
-CASES = (
-    ("content", "&'a [u8]", "", "Some(image.content(0))"),
-    ("name", "&'a [u8]", "", "Some(image.name(0))"),
-    ("image", "elf_image_type::Image<'a>", "", "Some(image)"),
-    ("symbols", "Symbols<'a>", "use elf_table_symbols::Symbols;", "Symbols::new(&image, 0).ok()"),
-    ("strings", "Strings<'a>", "use elf_table_symbols::Strings;", "Strings::new(&image, 0).ok()"),
-    ("notes", "Notes<'a>", "use elf_table_lists::Notes;", "Notes::new(&image, 0).ok()"),
-    ("dynamic", "Dynamic<'a>", "use elf_table_lists::Dynamic;", "Dynamic::new(&image, 0).ok()"),
-    ("group", "Group<'a>", "use elf_table_lists::Group;", "Group::new(alloc, &image, 0).ok()"),
-    ("object", "Object<'a>", "use elf_object_reader::object_of; use elf_object_type::Object;", "object_of(alloc, &image).ok()"),
-)
-
 
 @Test("must-not-compile", "what borrows from a file's bytes and outlives them is refused by the borrow checker")
 def must_not_compile(tally: Tally, options: Options) -> None:
-    """The check has to have an error of the borrow checker in each file of a crate."""
-    crates = sorted(set(re.findall(r"use (elf_\w+)::", " ".join([CASE, *(uses for _, _, uses, _ in CASES)]))))
-    source = tally.new_folder("src")
-    write(f"{source}/lib.rt", CRATE_HEAD + "".join(f"pub mod {name};\n" for name, *_ in CASES))
-    for name, kind, uses, body in CASES:
-        write(f"{source}/{name}.rt", CASE.format(kind=kind, uses=uses, body=body))
-    output = said(f"{kit()}/bin/rattle", *words_over_sources(crates), folder=tally.folder).stdout
-    for name, *_ in CASES:
-        tally.check(re.search(rf"{name}\.rt:.*borrow-e0(505|515|597)", output), f"the borrow checker did not refuse {name}")
+    """The check has to have an error of the borrow checker in each function of cases/sources/outlives.rt."""
+    text = read_text("cases/sources/outlives.rt")
+    write(f"{tally.new_folder('src')}/lib.rt", text)
+    output = said(f"{kit()}/bin/rattle", *words_over_sources(re.findall(r"^use (elf_\w+)::", text, re.M)), folder=tally.folder).stdout
+    refused = [int(it) for it in re.findall(r"^src/lib\.rt:(\d+):.*borrow-e0(?:505|515|597)", output, re.M)]
+    for it in re.finditer(r"^pub fn (\w+)(?:.*\n)*?^}", text, re.M):
+        first, last = (text.count("\n", 0, place) + 1 for place in it.span())
+        tally.check(any(first <= line <= last for line in refused), f"the borrow checker did not refuse {it[1]}")
     if tally.failed:
         tally.note(output[-2000:])
 
