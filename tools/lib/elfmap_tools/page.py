@@ -106,19 +106,6 @@ def picture(options: Options) -> None:
 
 # ---- a headless Chromium, steered by Selenium, for the page's picture and its test
 
-# Counts the points of each colour of a picture.
-COLOURS = """(async () => {
-    const picture = await createImageBitmap(new Blob([Uint8Array.from(atob("%s"), (it) => it.charCodeAt())]));
-    const canvas = new OffscreenCanvas(picture.width, picture.height).getContext("2d");
-    canvas.drawImage(picture, 0, 0);
-    const found = {}, channels = canvas.getImageData(0, 0, picture.width, picture.height).data;
-    for (let at = 0; at < channels.length; at += 4) {
-        const colour = (channels[at] << 16 | channels[at + 1] << 8 | channels[at + 2]).toString(16).padStart(6, "0");
-        found[colour] = (found[colour] ?? 0) + 1;
-    }
-    return found;
-})()"""
-
 
 class Browser:
     """One page in a Chromium of its own."""
@@ -197,4 +184,4 @@ class Browser:
 
     def colours(self, picture: bytes) -> dict[str, int]:
         """How many points of each colour, as digits, a picture has."""
-        return cast(dict[str, int], self.value(COLOURS % base64.b64encode(picture).decode()))
+        return cast(dict[str, int], self.value(f"{read_text('page/colours.js')}\ncolours('{base64.b64encode(picture).decode()}')"))
