@@ -223,12 +223,6 @@ TEST = re.compile(r"^(?: *///.*\n)*( *)#\[test\]\n(?:.*\n)*?\1(?:pub )?fn (\w+)(
 COUNTS = re.compile(r"^only=(\d+) proved=(\d+)$", re.M)
 
 
-def open_lines(output: str) -> list[str]:
-    """The lines on what is not proved, and why, their beginnings; and of tests how each ended."""
-    lines = [it for it in output.splitlines() if not QUIET.match(it) and not it.startswith("  = ")]
-    return [it if len(it) <= WIDTH else f"{it[:WIDTH]} .." for it in lines]
-
-
 def end_of(output: str) -> tuple[bool, str]:
     """Whether all is proved, and how a check ended, in words."""
     if counts := COUNTS.search(output):
@@ -284,7 +278,9 @@ def check(options: Options) -> int:
         output = checked(crate, options.function, folder, folder_of, kept)
         is_well = end_of(output)[0]
     write(f"{folder}/out/check.log", output)
-    print("".join(f"{line}\n" for line in open_lines(output)), end="")
+    # The lines on what is not proved, and why, their beginnings; and of tests how each ended.
+    for line in (it for it in output.splitlines() if not QUIET.match(it) and not it.startswith("  = ")):
+        print(line if len(line) <= WIDTH else f"{line[:WIDTH]} ..")
     used = resource.getrusage(resource.RUSAGE_CHILDREN)
     print(f"check: {crate}: {end_of(output)[1]}; {time.monotonic() - begun:.0f} s, {used.ru_utime + used.ru_stime:.0f} of a processor")
     return 0 if is_well else 1

@@ -10,7 +10,7 @@ from . import definitions, guarantees
 from .rules_tables import by_anchor
 from .sources import PUBLIC_CRATES, WORD, Definition, Item, Uses, definition, items_of, module_file, named_in, reach, source
 from .suite import Tally, Test
-from .tree import Options, cells, matched, read_text, replaced
+from .tree import Options, cells, filled, matched, read_text, replaced
 
 # Where a word leads to, and its title.
 Place = tuple[str, str] | None
@@ -64,20 +64,11 @@ class Page:
 
     def whole(self) -> str:
         sections = [PublicCrate(self, public_crate).section() for public_crate in PUBLIC_CRATES]
-        return f"""<!DOCTYPE html>
-<html lang="en">
-<head><meta charset="utf-8"><meta name="viewport" content="width=device-width, initial-scale=1">
-<title>elfmap</title><style>{read_text("page/doc.css")}</style></head>
-<body>
-<h1>elfmap</h1>
-{PublicCrate(self, "").told(source(module_file("elf", ()))[0])}
-<input id="filter" placeholder="a name" aria-label="show what has this name" hidden>
-{self.contents()}
-{chr(10).join(sections)}
-{self.glossary()}
-<script>{read_text("page/doc.js")}</script>
-</body>
-</html>"""
+        body, front = "\n".join([self.contents(), *sections, self.glossary()]), PublicCrate(self, "").told(
+            source(module_file("elf", ()))[0]
+        )
+        own = {"STYLE": read_text("page/doc.css"), "SCRIPT": read_text("page/doc.js")}
+        return filled("page/doc.html", FRONT=front, BODY=body, **own).rstrip("\n")
 
     def contents(self) -> str:
         lines = []

@@ -162,15 +162,6 @@ def try_all(left: list[Edit], folder_of: FolderOf) -> list[tuple[Edit, str]]:
     return ends
 
 
-def plant_all(tally: Tally, bugs: list[list[Edit]], folder_of: FolderOf) -> None:
-    """Tries the bugs of these crates, some crates at a time."""
-    with ThreadPoolExecutor(min(4, PROCESSORS)) as pool:
-        for tried in as_completed([pool.submit(try_all, those, folder_of) for those in bugs]):
-            ends = sorted(tried.result(), key=lambda end: end[0].name)
-            tally.count(len(ends), (f"{bug.crate}: {bug.name}: {end}" for bug, end in ends if end != "refused"))
-            tally.note(f"{ends[0][0].crate}: {sum(end == 'refused' for _, end in ends)} of {len(ends)} refused")
-
-
 ABOUT = "the check refuses each bug of mutations.txt with 'gate: yes'; of CRATE.., or with --all of every crate, each bug"
 CRATES: Option = ("crates", {"nargs": "*", "metavar": "CRATE", "help": "the crates whose bugs are planted, all of them"})
 FLAGS = flag("all", "plant all bugs"), flag("fit", "plant none: only say whether each edit fits the text that it changes")
@@ -196,7 +187,12 @@ def mutations(tally: Tally, options: Options) -> None:
         folder_of, lacking = built_below([it[0].crate for it in bugs]) if everything else (gate_folder, [])
         if lacking:
             return tally.fail(f"not built: {' '.join(lacking)}; `tools/dev prove CRATE` builds the libraries below a crate")
-        plant_all(tally, bugs, folder_of)
+        # Some crates at a time.
+        with ThreadPoolExecutor(min(4, PROCESSORS)) as pool:
+            for tried in as_completed([pool.submit(try_all, those, folder_of) for those in bugs]):
+                ends = sorted(tried.result(), key=lambda end: end[0].name)
+                tally.count(len(ends), (f"{bug.crate}: {bug.name}: {end}" for bug, end in ends if end != "refused"))
+                tally.note(f"{ends[0][0].crate}: {sum(end == 'refused' for _, end in ends)} of {len(ends)} refused")
     if not options.crates and not options.only:
         for crate in below("elfmap"):
             is_tried = must_fail_of(crate) or any(it.is_for_gate for it in bugs_of(crate))

@@ -12,7 +12,7 @@ from .building import built_below, is_current, kit, words
 from .library import VERDICTS as CRATE
 from .packages import MODULES
 from .rules_tables import file_rules
-from .tree import PACKAGE, TOP, Options, read_bytes, read_text, wanted, write
+from .tree import PACKAGE, TOP, Options, filled, read_bytes, read_text, wanted, write
 
 sys.path.insert(0, PACKAGE)
 from elfmap import _names as names  # noqa: E402
@@ -84,10 +84,7 @@ def page() -> str:
     script = common + constants(RULES=rules(), MODULE=code) + read_text("page/draw.js")
     if "</script" in worker + script:
         raise SystemExit("page: a script ends its own element")
-    made = read_text("page/page.html")
-    for name, text in (("@STYLE@", read_text("page/style.css")), ("@WORKER@", worker), ("@SCRIPT@", script)):
-        made = made.replace(name, text, 1)
-    return made
+    return filled("page/page.html", STYLE=read_text("page/style.css"), WORKER=worker, SCRIPT=script)
 
 
 def main(options: Options) -> None:

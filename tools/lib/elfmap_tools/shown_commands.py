@@ -67,19 +67,15 @@ def all_pages() -> list[str]:
     return [it for pattern in PATTERNS for it in sorted(glob.glob(pattern, root_dir=TOP))]
 
 
-def without_idea() -> list[str]:
-    """The long proof files that do not open with a comment."""
-    proofs = sorted(glob.glob("crates/*/proofs/**/*.antt", root_dir=TOP, recursive=True))
-    return [it for it in proofs if read_text(it).count("\n") > PROOF_LINES and not read_text(it).startswith("-- ")]
-
-
 @Test("pages", "the sentences of the pages are short")
 def pages(tally: Tally, options: Options) -> None:
     first = read_text("README.md").splitlines()
     tally.check(len(first) <= README_LINES, f"README.md has {len(first)} lines, more than {README_LINES}")
     shown = [it for it in COMMANDS if any(line.startswith(it) for line in first[:SCREEN])]
     tally.check(len(shown) == len(COMMANDS), f"README.md has {shown} of {COMMANDS} in its first {SCREEN} lines")
-    tally.same("proof files that do not open with their idea", without_idea(), [])
+    proofs = sorted(glob.glob("crates/*/proofs/**/*.antt", root_dir=TOP, recursive=True))
+    without_idea = [it for it in proofs if read_text(it).count("\n") > PROOF_LINES and not read_text(it).startswith("-- ")]
+    tally.same("proof files that do not open with their idea", without_idea, [])
     tests, total = {"setup", *families(TESTS), *(it.name for it in TESTS)}, 0
     for path in all_pages():
         text = read_text(path)
@@ -182,12 +178,6 @@ def words_of(command: str) -> list[str]:
     return re.findall(r"[^\s|&;<>()]+", command)
 
 
-def tools_of(command: str) -> list[str]:
-    """The programs that a command starts, by their first words, in substitutions too."""
-    starts = re.findall(r"(?:^|[|;&(]\s*)([^\s|&;<>()]+)", command)
-    return [it for it in starts if it in PACKAGES]
-
-
 def made_by(command: str) -> set[str]:
     """The files that a command makes, as its words tell them: objects of C, outputs, and copies."""
     objects = {it[:-2] + ".o" for it in words_of(command) if it.endswith(".c")}
@@ -222,7 +212,9 @@ class Page:
     def why_skipped(self, command: str) -> str:
         if command in SKIPPED:
             return SKIPPED[command]
-        for why in filter(None, map(self.foreign, tools_of(command))):
+        # The programs that it starts, by their first words, in substitutions too.
+        starts = re.findall(r"(?:^|[|;&(]\s*)([^\s|&;<>()]+)", command)
+        for why in filter(None, map(self.foreign, (it for it in starts if it in PACKAGES))):
             return why
         for path in (os.path.normpath(it) for it in words_of(command)):
             length = MACHINE_FILES.get(path)
@@ -286,13 +278,6 @@ class Page:
         self.tally.check(not links, f"{self.name} has links that lead nowhere: {links}")
 
 
-def furnish(folder: str, archive: str) -> None:
-    wanted("tar", "xf", archive, "--strip-components=1", folder=folder)
-    for it in FOLDERS:
-        os.symlink(f"{TOP}/{it}", f"{folder}/{it}")
-    shutil.copy(archive, folder)
-
-
 TOOLS = " ".join([*PACKAGES, "cc ar pkg-config wasm-opt"])
 
 
@@ -305,5 +290,8 @@ def shown_commands(tally: Tally, options: Options) -> None:
     archive = pack(tally.folder, "VERSION")
     for number, path in enumerate(pages):
         folder = tally.new_folder(str(number))
-        furnish(folder, archive)
+        wanted("tar", "xf", archive, "--strip-components=1", folder=folder)
+        for it in FOLDERS:
+            os.symlink(f"{TOP}/{it}", f"{folder}/{it}")
+        shutil.copy(archive, folder)
         Page(tally, path, folder).try_all()

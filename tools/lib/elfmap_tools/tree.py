@@ -38,6 +38,14 @@ def write(path: str, content: bytes | str) -> str:
     return path
 
 
+def filled(path: str, **parts: str) -> str:
+    """The text of a file, with these parts for its marks, as @NAME@."""
+    text = read_text(path)
+    for name, part in parts.items():
+        text = text.replace(f"@{name}@", part, 1)
+    return text
+
+
 def replaced(pattern: re.Pattern[str], text: str, own: Callable[[re.Match[str]], str], other: Callable[[str], str]) -> str:
     """A text in which each match, and what is between them, is replaced."""
     parts, at = list[str](), 0
@@ -113,11 +121,9 @@ def progress(name: str) -> Iterator[None]:
     ended, begun = threading.Event(), time.monotonic()
 
     def count() -> None:
-        wait = 10.0
-        while not ended.wait(wait):
-            wait = 1.0
-            print(f"\r{name}: {time.monotonic() - begun:.0f} s ", end="", file=sys.stderr, flush=True)
-        if wait < 10:
+        if not ended.wait(10):
+            while not ended.wait(1):
+                print(f"\r{name}: {time.monotonic() - begun:.0f} s ", end="", file=sys.stderr, flush=True)
             print("\r\033[K", end="", file=sys.stderr, flush=True)
 
     thread = threading.Thread(target=count, daemon=True)
