@@ -6,10 +6,9 @@ the tests in it are skipped by their names."""
 
 import os, re, shutil, sys, tempfile, zlib
 
-from . import distribution
 from .library import BOTH, PACKERS, calls
 from .packages import setup
-from .release import version_of
+from .release import LIBRARIES, version_of
 from .suite import Tally, Test, environment
 from .tree import TOP, Options, Texts, files_below, read_bytes, read_text, said
 
@@ -94,7 +93,7 @@ def packages(tally: Tally, options: Options) -> None:
     tally.check(is_whole, f"SHA256SUMS, beside {names}: {summed.stdout}")
     tally.check(all(re.search(rf"[-_]{re.escape(version)}[-_.]", it) for it in names), f"not all have the version {version}: {names}")
     said("dpkg-deb", "-x", f"{first}/libelfmap0_{version}_amd64.deb", f"{room}/own")
-    lines = said("nm", "-D", "--defined-only", f"{room}/own/{distribution.LIBRARIES}/libelfmap.so.0").stdout.splitlines()
+    lines = said("nm", "-D", "--defined-only", f"{room}/own/{LIBRARIES}/libelfmap.so.0").stdout.splitlines()
     exported = sorted(name.partition("@")[0] for _, kind, name in map(str.split, lines) if kind != "A")
     tally.same("what the shared library exports", exported, sorted(calls()))
     in_clean_root(tally, first)

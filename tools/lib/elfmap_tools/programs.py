@@ -3,7 +3,7 @@
 import argparse, importlib, os, subprocess, sys
 from collections.abc import Callable
 
-from . import building, definitions, distribution, doc, dump, library, man, minutes, page, peers, release as releasing, rules_tables
+from . import building, definitions, doc, dump, library, man, minutes, page, peers, release as releasing, rules_tables
 from .suite import TESTS, Option, add_command, main as run_tests
 from .tree import PACKAGE, TOP, Options, progress
 
@@ -52,7 +52,7 @@ THERE = word("folder", "where to (crates/elf_c/out)", nargs="?", default=library
 PICTURE = [word("file", "an ELF file"), word("picture", "the picture, as PNG")]
 RELEASE: list[Command] = [
     ("pack", "pack what is built into one archive", releasing.main, [HERE, VERSION]),
-    ("packages", "make all packages of what is built: of Debian, Python and Rust, and the archive", distribution.main, [HERE]),
+    ("packages", "make all packages of what is built: of Debian, Python and Rust, and the archive", releasing.make_packages, [HERE]),
     ("library", "pack the library for C", library.main, [THERE]),
     ("man", "print the manual page", man.main, [VERSION]),
     ("page", "print the page for a browser", page.main, []),
