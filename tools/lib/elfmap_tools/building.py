@@ -130,11 +130,6 @@ class Build:
             self.chains_below[it] = size_of(it) + max((self.chains_below[dep] for dep in deps(it)), default=0)
         self.rlibs: dict[str, Future[None]] = {}
 
-    def share_beside(self, crate: str) -> float:
-        """Which part of the libraries, by their texts, neither needs this one nor is needed by it."""
-        beside = [it for it in self.crates if it != crate and it not in below(crate) and crate not in below(it)]
-        return sum(map(size_of, beside)) / sum(map(size_of, self.crates))
-
     def chain_above(self, crate: str) -> int:
         """The texts of the longest chain of libraries that begins with this one."""
         return size_of(crate) + max((self.chain_above(it) for it in self.crates if crate in deps(it)), default=0)
@@ -143,7 +138,8 @@ class Build:
         """A library beside which little can be proved has a job for each processor, one on a long chain half as many, any other one has
         one: each job costs processor time too."""
         most = min(MOST_JOBS, PROCESSORS)
-        if self.share_beside(crate) < LITTLE_BESIDE:
+        beside = [it for it in self.crates if it != crate and it not in below(crate) and crate not in below(it)]
+        if sum(map(size_of, beside)) < LITTLE_BESIDE * sum(map(size_of, self.crates)):
             return most
         is_long = self.chains_below[crate] + self.chain_above(crate) - size_of(crate) >= LONG_CHAIN * max(self.chains_below.values())
         return max(1, most // 2) if is_long else 1

@@ -11,8 +11,9 @@ from .cases import case_files
 from .reference import (
     DYNAMIC, DYNAMIC_SECTION, DYNSYM, ENTRY_SIZE, HASH, HEADER, LOAD, NOBITS, NOTE, NULL, PROGRAM_HEADER, REL, RELA, RELOCATION,
     SECTION_HEADER, SYMBOL, SYMTAB, SYMTAB_SHNDX, XINDEX, Broken, File, check, elf_hash, entries_before_null, is_section, name_of,
-    notes, padded, parts, rewritten, rule_name, shown, signed, string, symbols, table_verdict, verdict,
+    notes, padded, parts, rewritten, shown, signed, string, symbols, table_verdict, verdict,
 )  # fmt: skip
+from .rules_tables import by_anchor
 from .tree import Options, read_bytes, write
 
 TABLES = (SYMTAB, DYNSYM, RELA, REL, DYNAMIC_SECTION, NOTE)
@@ -201,7 +202,7 @@ def lines_of(content: bytes) -> list[str]:
     """The lines on a file: its refusal, or what it counts, each of its records, parts and entries, and its object."""
     broken = verdict(content)
     if broken:
-        return [f"refused {broken[0]} {broken[1]} {rule_name(broken[0]).upper()}"]
+        return [f"refused {broken[0]} {broken[1]} {by_anchor()[f'image-{broken[0]}'].name}"]
     f = File(content)
     lines = [check(content), record_line("header", f.header, HEADER, content[:16])]
     for i, it in f.sections():

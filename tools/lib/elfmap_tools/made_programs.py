@@ -143,17 +143,14 @@ class Program:
         self.status = (self.status + number) % 2**32
 
 
-def assembled(path: str, lines: Lines) -> bytes:
-    """The object that the assembler makes of these lines, as a file too."""
-    wanted(ASSEMBLER, write(f"{path}.s", "\n".join([*lines, ""])), "-o", f"{path}.o")
-    return read_bytes(f"{path}.o")
-
-
 def wrong_in(seed: int, k: int, folder: str) -> str:
     """What is wrong with program K."""
     chance = random.Random(f"{seed} {k}")
     made, (base, page) = Program(chance), chance.choice(PLACES)
-    files = {f"{k}.o": assembled(f"{folder}/{k}", lines) for k, lines in enumerate(made.files)}
+    files = {f"{k}.o": b"" for k in range(len(made.files))}
+    for name, lines in zip(files, made.files):
+        wanted(ASSEMBLER, write(f"{folder}/{name}.s", "\n".join([*lines, ""])), "-o", f"{folder}/{name}")
+        files[name] = read_bytes(f"{folder}/{name}")
     words = ["link", "--base", base, "--page", page, "--entry", "main", "--rules", RULES, *files]
     ended = run(PROGRAM, *words, folder=folder)
     if ended.returncode or answer_of(ended) != answer(words, {**files, RULES: read_bytes(RULES)}):

@@ -61,11 +61,6 @@ def is_example(block: str) -> bool:
     return block.startswith("    $ ")
 
 
-def rows(block: str) -> list[list[str]]:
-    """The cells of each row of a table but its head."""
-    return [[it.replace("\\|", "|") for it in cells(line)] for line in block.split("\n")[2:]]
-
-
 # ---- The macros
 
 
@@ -115,7 +110,8 @@ def folded(line: str) -> list[str]:
 
 def macros(block: str) -> list[str]:
     if block.startswith("|"):
-        return [it for tag, *texts in rows(block) for it in (".TP", guarded(marked(tag)), guarded(marked(", ".join(texts))))]
+        rows = ([it.replace("\\|", "|") for it in cells(line)] for line in block.split("\n")[2:])
+        return [it for tag, *texts in rows for it in (".TP", guarded(marked(tag)), guarded(marked(", ".join(texts))))]
     if not block.startswith("    "):
         return [".PP", *(guarded(it) for it in marked(block).split("\n"))]
     lines = [it for line in block.split("\n") for it in folded(line.removeprefix("    "))]

@@ -65,11 +65,6 @@ def layout() -> Structs:
     return found
 
 
-def rules() -> dict[int, list[str]]:
-    """Of each rule of files its name, why a file is refused, and what to do, as docs/RULES.md has them."""
-    return {it.number: [it.name, it.sentence.replace("`", ""), it.advice.replace("`", "")] for it in file_rules()}
-
-
 def constants(**values: object) -> str:
     return "".join(f"const {name} = {json.dumps(it, separators=(',', ':'))};\n" for name, it in values.items())
 
@@ -81,7 +76,9 @@ def page() -> str:
     of_numbers = {"MACHINES": names.MACHINES, "SECTION_TYPES": names.SECTION_TYPES, "RELOCATION_TYPES": relocations}
     common = constants(LAYOUT=layout(), **of_numbers) + read_text("page/words.js")
     worker = common + "".join(read_text(f"page/{it}.js") for it in ("reader", "tables", "worker"))
-    script = common + constants(RULES=rules(), MODULE=code) + read_text("page/draw.js")
+    # Of each rule of files its name, why a file is refused, and what to do.
+    rules = {it.number: [it.name, it.sentence.replace("`", ""), it.advice.replace("`", "")] for it in file_rules()}
+    script = common + constants(RULES=rules, MODULE=code) + read_text("page/draw.js")
     if "</script" in worker + script:
         raise SystemExit("page: a script ends its own element")
     return filled("page/page.html", STYLE=read_text("page/style.css"), WORKER=worker, SCRIPT=script)

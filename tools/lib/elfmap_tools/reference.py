@@ -37,11 +37,6 @@ shown: Callable[[bytes], str] = show.show
 rewritten: Callable[[bytes], tuple[str, bytes] | None] = objects.rewrite
 
 
-def rule_name(rule: int) -> Any:
-    """The name of an image rule, in small letters."""
-    return image.RULES[rule - 1][1].__name__
-
-
 def mapped(contents: Sequence[bytes], base: str, page: str, rules: bytes | None = None) -> str:
     """The lines of `elfmap map`, by a file of rules if one is given."""
     return str(link.map_lines(contents, int(base, 0), int(page, 0), None if rules is None else link.rules_of(rules)))

@@ -128,14 +128,6 @@ def runner(version: str, program: str) -> str:
     return RUNNER.format(version=version, settings=settings[0], program=program)
 
 
-@functools.cache
-def library_page() -> str:
-    text, faults = doc.made()
-    if faults:
-        raise SystemExit(f"release: the page of the library is not whole: {faults[0]}")
-    return f"{text}\n"
-
-
 def without_dead_links(folder: str) -> None:
     """Makes the links of the pages that lead to no file of the folder words."""
     for page in (it for it in files_below(folder) if it.endswith(".md")):
@@ -152,13 +144,16 @@ def put_release(folder: str, version: str) -> None:
     for crate in ("elfmap", library.VERDICTS, library.ENGINES):
         check_built(crate)
     check_needs()
+    library_page, faults = doc.made()
+    if faults:
+        raise SystemExit(f"release: the page of the library is not whole: {faults[0]}")
     copied(PROGRAM, f"{folder}/elfmap")
     for it in (path for pattern in FILES for path in glob.glob(pattern, root_dir=TOP)):
         copied(f"{TOP}/{it}", f"{folder}/{it}")
     texts = {
         "VERSION": f"{version}\n",
         "bin/elfmap": runner(version, "elfmap"),
-        "doc/elfmap-doc.html": library_page(),
+        "doc/elfmap-doc.html": f"{library_page}\n",
         "lib/pkgconfig/elfmap.pc": PKG_CONFIG.format(prefix="${pcfiledir}/../..", libdir="lib", version=version),
         "share/man/man1/elfmap.1": man.page(version),
     }
