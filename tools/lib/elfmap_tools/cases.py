@@ -9,7 +9,7 @@ from typing import Any
 from .building import output_of
 from .making import SPOKEN_OF, Chance, a_file, an_object, an_object_file, changed_field, fuzzed
 from .reference import Broken, File, answer, entries_of, laid, mapped, object_verdict, table_verdict, verdict
-from .suite import Option, Tally, Test, named, number
+from .suite import Tally, Test, number, word
 from .tree import PROGRAM, T, TOP, Answer, Options, answer_of, read_text, run, write
 
 Files = dict[str, bytearray]
@@ -94,8 +94,8 @@ def case_files() -> dict[bytes, str]:
     return found
 
 
-ONLY = named("only", "run the cases alone whose words or files have this name in them")
-FROM: Option = ("--in", {"dest": "folder", "metavar": "FOLDER", "default": f"{TOP}/cases", "help": "another folder of cases"})
+ONLY = word("--only", "run the cases alone whose words or files have this name in them", metavar="NAME", default="")
+FROM = word("--in", "another folder of cases", dest="folder", metavar="FOLDER", default=f"{TOP}/cases")
 
 
 @Test("cases", "the program answers the cases of cases/*.txt", crates="elfmap elfmap_check", options=(FROM, ONLY))
@@ -286,8 +286,8 @@ def executable_cases(text: Text) -> None:
 GENERATED = {"made-images.txt": image_cases, "made-objects.txt": object_cases}
 GENERATED |= {"made-links.txt": link_cases, "made-executables.txt": executable_cases}
 COUNTED = number("count", COUNT, "cases of each kind")
-SEEDED: Option = ("--seed", {"default": SEED, "help": "the same seed makes the same cases"})
-INTO: Option = ("--in", {"dest": "folder", "metavar": "FOLDER", "help": "write them there"})
+SEEDED = word("--seed", "the same seed makes the same cases", default=SEED)
+INTO = word("--in", "write them there", dest="folder", metavar="FOLDER")
 
 
 @Test("make-cases", "the generated cases are what the generator makes, byte for byte", options=(INTO, COUNTED, SEEDED))

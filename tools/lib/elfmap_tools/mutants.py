@@ -75,10 +75,8 @@ RULE = re.compile(rb"[0-9]+ (abs|pc|none) [1248] (signed|unsigned|wrap)")
 def bad_line(rules: bytes) -> int:
     """The number of the first line that is no rule, 0 if there is none."""
     *lines, rest = rules.split(b"\n")
-    for number, line in enumerate(lines, 1):
-        if number > 256 or not RULE.fullmatch(line) or int(line.split(b" ")[0]) >= 1 << 32:
-            return number
-    return len(lines) + 1 if rest else 0
+    bad = (number > 256 or not RULE.fullmatch(it) or int(it.split(b" ")[0]) >= 1 << 32 for number, it in enumerate(lines, 1))
+    return next((number for number, is_bad in enumerate(bad, 1) if is_bad), len(lines) + 1 if rest else 0)
 
 
 def right_answer(words: list[str], files: dict[str, bytes]) -> Answer | None:

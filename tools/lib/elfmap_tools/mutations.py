@@ -16,7 +16,7 @@ from collections.abc import Iterable
 from concurrent.futures import ThreadPoolExecutor, as_completed
 
 from .building import FolderOf, built_below, checked, gate_folder
-from .suite import Option, Tally, Test, flag, named
+from .suite import Tally, Test, flag, word
 from .tree import PROCESSORS, TOP, Options, below, libraries, read_text, write
 
 
@@ -163,9 +163,9 @@ def try_all(left: list[Edit], folder_of: FolderOf) -> list[tuple[Edit, str]]:
 
 
 ABOUT = "the check refuses each bug of mutations.txt with 'gate: yes'; of CRATE.., or with --all of every crate, each bug"
-CRATES: Option = ("crates", {"nargs": "*", "metavar": "CRATE", "help": "the crates whose bugs are planted, all of them"})
+CRATES = word("crates", "the crates whose bugs are planted, all of them", nargs="*", metavar="CRATE")
 FLAGS = flag("all", "plant all bugs"), flag("fit", "plant none: only say whether each edit fits the text that it changes")
-ONLY = named("only", "plant the bug of this name alone")
+ONLY = word("--only", "plant the bug of this name alone", metavar="NAME", default="")
 
 
 @Test("mutations", ABOUT, alone=True, options=(*FLAGS, ONLY, CRATES))

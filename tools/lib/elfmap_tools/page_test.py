@@ -223,7 +223,14 @@ class InChromium(Browser):
             self.opens("symbols", "Symbols 1 to 100 of 1,000,")
 
 
-def in_chromium(tally: Tally, room: str) -> None:
+ABOUT, TOOLS = "the page for a browser, in node beside `elfmap show`, and in chromium", f"node wasm-opt chromium chromedriver {SELENIUM} cc"
+COUNT = number("count", 3000, "so many changed files")
+
+
+@Test("page", ABOUT, commands=TOOLS, crates=f"elfmap {CRATE}", alone=True, options=(COUNT,))
+def try_page(tally: Tally, options: Options) -> None:
+    room = tally.folder
+    in_node(tally, room, options.count)
     html, file = write(f"{room}/elfmap.html", page()), f"{room}/object.o"
     said("cc", "-c", "-O1", write(f"{room}/object.c", SOURCE), "-o", file)
     with contextlib.closing(InChromium(tally, room)) as it:
@@ -238,13 +245,3 @@ def in_chromium(tally: Tally, room: str) -> None:
             part()
         messages = it.messages()
         tally.check(not messages, f"the console says {messages[:3]}")
-
-
-ABOUT, TOOLS = "the page for a browser, in node beside `elfmap show`, and in chromium", f"node wasm-opt chromium chromedriver {SELENIUM} cc"
-COUNT = number("count", 3000, "so many changed files")
-
-
-@Test("page", ABOUT, commands=TOOLS, crates=f"elfmap {CRATE}", alone=True, options=(COUNT,))
-def try_page(tally: Tally, options: Options) -> None:
-    in_node(tally, tally.folder, options.count)
-    in_chromium(tally, tally.folder)

@@ -4,7 +4,7 @@ import argparse, importlib, os, subprocess, sys
 from collections.abc import Callable
 
 from . import building, definitions, doc, dump, library, man, minutes, page, peers, release as releasing, rules_tables
-from .suite import TESTS, Option, add_command, main as run_tests
+from .suite import TESTS, Option, add_command, main as run_tests, word
 from .tree import PACKAGE, TOP, Options, progress
 
 # Its name, what it does, the function, whose answer is the status, and its words.
@@ -20,10 +20,6 @@ def run(name: str, about: str, commands: list[Command], words: list[str]) -> int
     options = parser.parse_args(words)
     with progress(f"{name} {options.command}"):
         return int(options.main(options) or 0)
-
-
-def word(name: str, about: str, **more: object) -> Option:
-    return name, {"help": about, **more} if name.startswith("-") else {"metavar": name.upper(), "help": about, **more}
 
 
 def package_command(options: Options) -> int:

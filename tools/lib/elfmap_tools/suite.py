@@ -86,16 +86,16 @@ class Test:
         return function
 
 
+def word(name: str, about: str, **more: object) -> Option:
+    return name, {"help": about, **({} if name.startswith("-") else {"metavar": name.upper()}), **more}
+
+
 def number(name: str, default: int, about: str) -> Option:
-    return f"--{name}", {"type": int, "default": default, "metavar": "N", "help": f"{about} ({default})"}
-
-
-def named(option: str, about: str) -> Option:
-    return f"--{option}", {"metavar": "NAME", "default": "", "help": about}
+    return word(f"--{name}", f"{about} ({default})", type=int, default=default, metavar="N")
 
 
 def flag(name: str, about: str) -> Option:
-    return f"--{name}", {"action": "store_true", "help": about}
+    return word(f"--{name}", about, action="store_true")
 
 
 def commands_of(tests: Iterable[Test]) -> list[str]:
@@ -176,13 +176,9 @@ def run_several(tests: list[Test], jobs: int) -> int:
     return Runner().all(tests, jobs)
 
 
-def families(tests: Iterable[Test]) -> dict[str, list[Test]]:
+def families(tests: list[Test]) -> dict[str, list[Test]]:
     """The tests of each family, by its name."""
-    found: dict[str, list[Test]] = {}
-    for it in tests:
-        if it.family:
-            found.setdefault(it.family, []).append(it)
-    return found
+    return {family: [it for it in tests if it.family == family] for family in dict.fromkeys(it.family for it in tests) if family}
 
 
 def add_command(commands: Any, name: str, about: str, options: Iterable[Option]) -> argparse.ArgumentParser:
