@@ -9,7 +9,7 @@ import os, re, shutil, sys, tempfile, zlib
 from .library import BOTH, PACKERS, calls
 from .packages import setup
 from .release import LIBRARIES, version_of
-from .suite import Tally, Test, environment
+from .suite import Tally, Test, environment, steps_of
 from .tree import TOP, Options, Texts, files_below, read_bytes, read_text, said
 
 SUITE = "bookworm"
@@ -18,8 +18,6 @@ CACHE = os.environ.get("XDG_CACHE_HOME") or os.path.expanduser("~/.cache")
 # Of other packages it is another root.
 ROOT = f"{CACHE}/elfmap-tools/{SUITE}-{zlib.crc32(INCLUDED.encode()):08x}"
 PLAIN = {"PATH": "/usr/sbin:/usr/bin:/sbin:/bin", "LC_ALL": "C.UTF-8", "HOME": "/root", "DEBIAN_FRONTEND": "noninteractive"}
-# What is tried in the root, in this order: a title, a script, and a pattern of the lines that it prints.
-STEP = re.compile(r"^== (.*)\n((?:.*\n)*?)= ?(.*)$", re.M)
 
 
 def make_root() -> str:
@@ -56,15 +54,13 @@ def inside(root: str, script: str) -> Texts:
 
 
 def in_clean_root(tally: Tally, folder: str) -> None:
-    why, root, steps = make_root(), f"{tally.folder}/root", STEP.findall(read_text("cases/packages.steps").replace("@V@", version_of()))
+    why, root, steps = make_root(), f"{tally.folder}/root", steps_of("packages.steps", V=version_of())
     why = why or (f"{ROOT} is not copied" if said("cp", "-a", ROOT, root).returncode else "")
     why = why or ("this machine lets nobody mount" if inside(root, "true").returncode else "")
     if why:
         return tally.note(f"skipped: without a clean root ({why}): {', '.join(title for title, *_ in steps)}")
     shutil.copytree(folder, f"{root}/packages")
-    for title, script, pattern in steps:
-        ran = inside(root, script)
-        tally.check(re.fullmatch(pattern, ran.stdout), f"{title}: in the clean root `{script}` says:\n{ran.stdout}")
+    tally.try_steps(steps, lambda script: inside(root, script).stdout)
 
 
 def contents(folder: str) -> dict[str, bytes]:

@@ -6,7 +6,7 @@ import collections, glob, os, re, shutil
 from .doc_examples import words as words_over_sources
 from .building import kit
 from .sources import Definition, definitions
-from .suite import Tally, Test, flag
+from .suite import Tally, Test, flag, steps_of
 from .tree import PACKAGE, TOP, Options, read_text, run, said, write
 
 # ---- names: one name of a definition means one thing in the whole repository
@@ -44,58 +44,13 @@ def must_not_compile(tally: Tally, options: Options) -> None:
 
 # ---- launcher: what ./elfmap builds and runs for which words
 
-# A stand-in for tools/dev whose programs print their name and their words.
-DEV = """#!/bin/sh
-top=${0%/tools/dev}
-echo "$2" >> "$top/built"
-if [ -e "$top/changes" ]; then "$top/replace"; fi
-if [ -e "$top/fails" ]; then exit 1; fi
-printf '#!/bin/sh\\necho "%s" "$@"\\n' "$2" > "$top/crates/$2/out/$2"
-chmod +x "$top/crates/$2/out/$2"
-"""
-# As git and most editors write a file. A file's time counts in steps of some milliseconds.
-REPLACE = """#!/bin/sh
-cd "${0%/*}/crates/elf_field/src" && sleep 0.1 && cp lib.rt lib.rt.new && mv lib.rt.new lib.rt
-"""
-# Of each call its status, what is built, what is printed, and its words; a word in capitals is done before it.
-CALLS = (
-    (0, "-", "elfmap 7.8", "--version"),
-    (0, "elfmap_check", "elfmap_check check a.o", "check a.o"),
-    (0, "-", "elfmap_check check -- -a.o", "check -- -a.o"),
-    (0, "elfmap", "elfmap check", "check"),
-    (0, "-", "elfmap check a.o", "check a.o"),
-    (0, "-", "elfmap show a.o", "show a.o"),
-    # What is changed while a program is built is in no program: the next call builds again.
-    (0, "elfmap_check", "elfmap_check check a.o", "CHANGES check a.o"),
-    (0, "elfmap_check", "elfmap_check check a.o", "STEADY check a.o"),
-    (0, "-", "elfmap_check check a.o", "check a.o"),
-    (0, "elfmap", "elfmap", ""),
-    (3, "elfmap", "", "FAILS show a.o"),
-)
-
 
 @Test("launcher", "what ./elfmap builds and runs for which words")
 def launcher(tally: Tally, options: Options) -> None:
-    tree = tally.folder
-    for it in ("tools", "crates/elf_field/src"):
-        os.makedirs(f"{tree}/{it}")
-    shutil.copy(f"{TOP}/elfmap", tree)
-    texts = {"crates/elf_field/src/lib.rt": "\n", "VERSION": "7.8\n", "tools/dev": DEV, "replace": REPLACE}
-    for path, text in texts.items():
-        os.chmod(write(f"{tree}/{path}", text), 0o755)
-    os.symlink(f"{tree}/elfmap", f"{tree}/link")
-    for status, built, output, words in CALLS:
-        given = words.split()
-        before = given.pop(0) if given and given[0].isupper() else ""
-        if before == "STEADY":
-            os.remove(f"{tree}/changes")
-        elif before:
-            write(f"{tree}/{before.lower()}", "")
-            run(f"{tree}/replace")
-        write(f"{tree}/built", "")
-        ended = run(f"{tree}/link", *given, folder="/")
-        found = (ended.returncode, read_text(f"{tree}/built").strip() or "-", ended.stdout.decode().strip())
-        tally.same(f"elfmap {words}", found, (status, built, output))
+    os.makedirs(f"{tally.folder}/crates/elf_field/src")
+    write(f"{tally.folder}/crates/elf_field/src/lib.rt", "\n")
+    shutil.copy(f"{TOP}/elfmap", tally.folder)
+    tally.try_steps(steps_of("launcher.steps"), lambda script: said("sh", "-c", script, folder=tally.folder).stdout)
     # It looks at the times of these folders alone.
     inner = [it for it in glob.glob(f"{TOP}/crates/elf*/src/*") if os.path.isdir(it)]
     tally.check(not inner, f"./elfmap does not see changes in {inner}")

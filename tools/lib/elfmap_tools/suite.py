@@ -8,9 +8,16 @@ from typing import Any
 
 from . import packages
 from .building import built
-from .tree import PROCESSORS, TOP, Options, Texts, progress, said, side_by_side
+from .tree import PROCESSORS, TOP, Options, Texts, filled, progress, said, side_by_side
 
+# Of a step its title, its script, and a pattern of what this prints.
+Step = tuple[str, str, str]
 COUNTS = re.compile(r"^(\d+) passed, (\d+) failed\n\Z", re.M)
+
+
+def steps_of(name: str, **marks: str) -> list[Step]:
+    """The steps of a file of cases/, with texts for its marks, as @NAME@."""
+    return re.findall(r"^== (.*)\n((?:.*\n)*?)= ?(.*)$", filled(f"cases/{name}", **marks), re.M)
 
 
 class Tally:
@@ -48,6 +55,12 @@ class Tally:
             yield
         except SystemExit as error:
             self.fail(f"{what}: {error}")
+
+    def try_steps(self, steps: list[Step], run: Callable[[str], str]) -> None:
+        """Checks of each step that what its script prints fits the pattern."""
+        for title, script, pattern in steps:
+            found = run(script)
+            self.check(re.fullmatch(pattern, found), f"{title}: `{script}` says:\n{found}")
 
     def new_folder(self, name: str) -> str:
         """A folder of this name in the test's own."""

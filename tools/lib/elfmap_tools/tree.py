@@ -42,7 +42,7 @@ def filled(path: str, **parts: str) -> str:
     """The text of a file, with these parts for its marks, as @NAME@."""
     text = read_text(path)
     for name, part in parts.items():
-        text = text.replace(f"@{name}@", part, 1)
+        text = text.replace(f"@{name}@", part)
     return text
 
 
