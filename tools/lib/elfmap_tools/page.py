@@ -10,7 +10,7 @@ from typing import Any, cast
 from . import library
 from .building import built_below, is_current, kit, words
 from .library import VERDICTS as CRATE
-from .packages import MODULES
+from .packages import PYTHON_MODULES
 from .rules_tables import file_rules
 from .tree import PACKAGE, TOP, Options, filled, read_bytes, read_text, wanted, write
 
@@ -106,7 +106,7 @@ class Browser:
 
     def __init__(self) -> None:
         # Another python3 than Debian's finds it there too.
-        sys.path.append(MODULES)
+        sys.path.append(PYTHON_MODULES)
         from selenium import webdriver
 
         options = webdriver.ChromeOptions()

@@ -2,7 +2,7 @@
 
 - In node: what the page's reader and its check of tables say of files of this machine, of cases/ and of changed copies of them is what
   `elfmap show` prints, line by line, but for the lines of groups.
-- In chromium, by its debugger: what a person sees of sound and refused files, with a mouse, by keys alone, and by a reader of the screen."""
+- In chromium, by Selenium: what a person sees of sound and refused files, with a mouse, by keys alone, and by a reader of the screen."""
 
 import contextlib, json, os, random
 from collections.abc import Iterator
