@@ -51,13 +51,6 @@ FILES = """README.md CONTRIBUTING.md CHANGELOG.md SECURITY.md docs/* rules/*.rul
 LINK = re.compile(r"(?<!!)\[((?:`[^`]*`|[^\]`])*)\]\((?!https?:|#)([^)#\s]+)[^)]*\)")
 
 
-def check_built(crate: str) -> None:
-    """Stops where what is built of a crate is missing, or older than the texts of the crate or of one that it needs."""
-    path, how = output_of(crate), f"build it with tools/dev prove {crate}, which needs the Rattle kit's command rt"
-    if not is_current(crate, path):
-        raise SystemExit(f"release: {path} is missing, or older than a text in crates/: {how}")
-
-
 def check_needs() -> None:
     """The program itself says what it needs at run time: each entry NEEDED (tag 1) of its dynamic array."""
     if run(PROGRAM, "check", PROGRAM).returncode:
@@ -142,7 +135,9 @@ def without_dead_links(folder: str) -> None:
 def put_release(folder: str, version: str) -> None:
     """Puts what a release has into a folder."""
     for crate in ("elfmap", library.VERDICTS, library.ENGINES):
-        check_built(crate)
+        if not is_current(crate, output_of(crate)):
+            how = f"build it with tools/dev prove {crate}, which needs the Rattle kit's command rt"
+            raise SystemExit(f"release: {output_of(crate)} is missing, or older than a text in crates/: {how}")
     check_needs()
     library_page, faults = doc.made()
     if faults:
