@@ -114,8 +114,14 @@ class Browser:
         for it in ("--headless=new", "--no-sandbox", "--disable-gpu"):
             options.add_argument(it)
         options.set_capability("goog:loggingPrefs", {"browser": "ALL"})
-        self.selenium, self.driver = webdriver, webdriver.Chrome(options=options)
-        self.close = self.driver.quit
+        # What it leaves behind is there; its processes may write to it until they have ended.
+        self.left = tempfile.TemporaryDirectory(prefix="browser-", ignore_cleanup_errors=True)
+        service = webdriver.chrome.service.Service("chromedriver", env={**os.environ, "TMPDIR": self.left.name})
+        self.selenium, self.driver = webdriver, webdriver.Chrome(service=service, options=options)
+
+    def close(self) -> None:
+        self.driver.quit()
+        self.left.cleanup()
 
     def call(self, method: str, **words: Any) -> Any:
         """A call of the browser's debugger."""
