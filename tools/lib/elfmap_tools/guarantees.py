@@ -135,14 +135,6 @@ def wrong_in(row: Row) -> Iterator[str]:
         yield "nothing keeps it"
 
 
-def wrong_bodies() -> Iterator[tuple[str, bool]]:
-    """Each wrong body of the page, and whether it is where the page says."""
-    for place in re.findall(r"^\| .* \| `([^`]*(?:\.edit|\.txt: \w+))` \|$", read_text(PAGE), re.M):
-        path, _, name = place.partition(": ")
-        there = os.path.isfile(f"{TOP}/crates/{path}")
-        yield place, there and (not name or f"\n[{name}]\n" in "\n" + read_text(f"crates/{path}"))
-
-
 @functools.cache
 def by_call() -> dict[Key, list[str]]:
     """The guarantees of each function."""
@@ -162,5 +154,7 @@ def guarantees(tally: Tally, options: Options) -> None:
         named |= {key_of(it) for path in [*row.calls, *row.others] for it in functions(path)}
     for path, item in public_calls():
         tally.check(key_of(item) in named, f"{path} is in no row")
-    for place, holds in wrong_bodies():
-        tally.check(holds, f"there is no wrong body {place}")
+    for place in re.findall(r"^\| .* \| `([^`]*(?:\.edit|\.txt: \w+))` \|$", read_text(PAGE), re.M):
+        path, _, name = place.partition(": ")
+        is_there = os.path.isfile(f"{TOP}/crates/{path}") and (not name or f"\n[{name}]\n" in "\n" + read_text(f"crates/{path}"))
+        tally.check(is_there, f"there is no wrong body {place}")
