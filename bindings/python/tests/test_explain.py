@@ -24,7 +24,7 @@ from tests.made import BROKEN_SYMBOLS, ENVIRONMENT, GNU, GOOD, LONG, SHARING, Fo
 from tests.made import Made, archive_member, relocations, setUpModule, symbols, text, thin  # noqa: F401
 
 sys.path.insert(0, str(build.REPOSITORY / "tools" / "lib"))
-from elfmap_tools.cases import cases_of, put_needs  # noqa: E402
+from elfmap_tools.cases import cases_of  # noqa: E402
 
 CASES = build.REPOSITORY / "cases/explain.txt"
 PROGRAM = [sys.executable, "-m", "elfmap.explain"]
@@ -58,23 +58,22 @@ def explained(line, names):
 class RuleTest(Case):
     def test_each_rule(self):
         seen = set(NOT_IN_CASES)
-        cases = cases_of(str(CASES))
-        for case in cases.cases:
+        for case in cases_of(str(CASES)):
             kind, number, words = case.note.split(" ", 2)
             seen.add((kind, int(number)))
             with self.subTest(kind=kind, rule=number):
-                self.one_rule(case, cases.files, kind, int(number), words.split("|"))
+                self.one_rule(case, kind, int(number), words.split("|"))
         self.assertEqual(seen, {(self.kind(it), it) for it in _rules.RULES} | {("link", it) for it in _rules.LINK_RULES})
 
     def kind(self, rule):
         return "image" if rule < 40 else "table" if rule < 70 else "object"
 
-    def one_rule(self, case, files, kind, number, wanted):
+    def one_rule(self, case, kind, number, wanted):
         pattern = rf"refused {number}( \d+){{3}}" if kind == "link" else rf"refused (\d+ )?{number} \d+"
         lines = (case.out + case.err).decode().splitlines()
         line = next(it for it in lines if re.fullmatch(pattern, it))
         with tempfile.TemporaryDirectory(dir=".") as room:
-            put_needs(room, case.needs, files)
+            case.put_needs(room)
             names = [f"{room}/{it.partition('=')[0]}" for it in case.needs if not it.startswith("list.rules")]
             found = explained(line, names).replace(f"{room}/", "")
         name = (_rules.LINK_RULES if kind == "link" else _rules.RULES)[number][0]

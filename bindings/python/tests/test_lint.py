@@ -195,12 +195,12 @@ class DepthTest(Case):
 
     def test_each_rule_of_tables(self):
         """The files of cases/explain.txt that break one: what `elfmap show` prints is found, each fault once."""
-        cases, seen = cases_of(str(build.REPOSITORY / "cases/explain.txt")), set()
-        for case in cases.cases:
+        seen = set()
+        for case in cases_of(str(build.REPOSITORY / "cases/explain.txt")):
             kind, number, _ = case.note.split(" ", 2)
             if kind != "table":
                 continue
-            content = bytes(cases.files[case.needs[0].partition("=")[2]])
+            content = bytes(case.files[case.needs[0].partition("=")[2]])
             shown = re.findall(rb"^refused \d+ (\d+) (\d+)$", case.out, re.M)
             self.put(bad__o=content)
             lines = [json.loads(it) for it in self.told("--tables", "--format", "jsonl", "bad.o")[:-1]]

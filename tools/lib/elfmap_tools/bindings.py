@@ -3,13 +3,12 @@
 in a temporary folder. `tools/test explain` runs the package's tests of elfmap-explain alone."""
 
 import ctypes, re, sys
-from argparse import Namespace
 from typing import Any
 
-from .library import BOTH, FOLDER, PACKERS, calls, packed, structs
+from .library import BOTH, FOLDER, PACKERS, c_type, calls, packed, structs
 from .packages import JSONSCHEMA, JUNITPARSER
 from .suite import Tally, Test, environment
-from .tree import PACKAGE, TOP, Texts, read_text, said
+from .tree import PACKAGE, TOP, Options, Texts, read_text, said
 
 sys.path.insert(0, PACKAGE)
 from elfmap import _library  # noqa: E402
@@ -17,7 +16,7 @@ from elfmap import _library  # noqa: E402
 TOOLS = f"{PACKERS} cargo git pre-commit {JSONSCHEMA} {JUNITPARSER}"
 Structs = dict[str, list[tuple[str, str]]]
 Calls = dict[str, list[str]]
-# The structs of C as Rust and Python name them, and Rust's numbers as C has them.
+# The structs of C as Rust and Python name them.
 STRUCTS = {
     "Fault": "elfmap_fault", "Extent": "elfmap_extent", "Numbers": "elfmap_file", "Header": "elfmap_header",
     "SectionHeader": "elfmap_section", "Section": "elfmap_section", "ProgramHeader": "elfmap_segment", "Segment": "elfmap_segment",
@@ -25,26 +24,15 @@ STRUCTS = {
     "Dynamic": "elfmap_dynamic", "NoteEntry": "elfmap_note", "Note": "elfmap_note", "Piece": "elfmap_part", "Part": "elfmap_part",
     "Outcome": "elfmap_outcome", "LinkOptions": "elfmap_options",
 }  # fmt: skip
-NUMBERS = {"u8": "uint8_t", "u16": "uint16_t", "u32": "uint32_t", "u64": "uint64_t", "i64": "int64_t", "usize": "size_t"}
-
-
-def rust_type(kind: str) -> str:
-    """A type of Rust as C has it."""
-    array = re.fullmatch(r"\[(\w+); (\d+)\]", kind)
-    if array:
-        return f"{NUMBERS[array[1]]}[{array[2]}]"
-    ((pointer, name),) = re.findall(r"^(\*const |\*mut |&mut |&|)(\w+)$", kind)
-    own = NUMBERS.get(name) or f"struct {STRUCTS[name]}"
-    return f"{'' if 'mut' in pointer else 'const '}{own} *" if pointer else own
 
 
 def in_rust() -> tuple[Structs, Calls]:
     text = read_text("bindings/rust/src/raw.rs")
     found = re.findall(r"^#\[repr\(C\)\]\npub\S* struct (\w+) \{(.*?)^\}", text, re.M | re.S)
     fields = {STRUCTS[name]: re.findall(r"^    pub (\w+): (.+),$", body, re.M) for name, body in found}
-    structs = {tag: [(field, rust_type(kind)) for field, kind in own] for tag, own in fields.items()}
+    structs = {tag: [(field, c_type(kind, STRUCTS)) for field, kind in own] for tag, own in fields.items()}
     calls = re.findall(r"^    fn (\w+)\((.*?)\) -> (?:bool|u32);", text, re.M | re.S)
-    return structs, {name: [rust_type(it) for it in re.findall(r"\w+: ([^,]+)", given)] for name, given in calls}
+    return structs, {name: [c_type(it, STRUCTS) for it in re.findall(r"\w+: ([^,]+)", given)] for name, given in calls}
 
 
 def python_type(kind: str, is_slice: bool = False) -> Any:
@@ -57,11 +45,6 @@ def python_type(kind: str, is_slice: bool = False) -> Any:
     return number * int(size[1:-1]) if size else number
 
 
-def python_parameters(kinds: list[str]) -> list[Any]:
-    """The types of the parameters of a call."""
-    return [python_type(kind, after == "size_t") for kind, after in zip(kinds, [*kinds[1:], None])]
-
-
 def declarations(tally: Tally) -> None:
     """What a binding declares, something at least, is declared so by the header, which may have more."""
     c_structs = {tag: [(name, f"{kind}[{count}]" if count else kind) for kind, name, count in own] for tag, own in structs().items()}
@@ -71,7 +54,8 @@ def declarations(tally: Tally) -> None:
     tally.check(same, "bindings/rust/src/raw.rs declares other than include/elfmap.h")
     own = {tag: getattr(_library, it)._fields_ for it, tag in STRUCTS.items() if hasattr(_library, it)}
     python_structs = {tag: [(name, python_type(kind)) for name, kind in c_structs[tag]] for tag in own}
-    python_calls = {name: python_parameters(c_calls[name]) for name in _library.CALLS}
+    given = {name: zip(c_calls[name], [*c_calls[name][1:], ""]) for name in _library.CALLS}
+    python_calls = {name: [python_type(kind, after == "size_t") for kind, after in kinds] for name, kinds in given.items()}
     same = own and python_calls and own == python_structs and _library.CALLS == python_calls
     tally.check(same, "bindings/python/elfmap/_library.py declares other than include/elfmap.h")
 
@@ -95,7 +79,7 @@ def unittests(tally: Tally, *modules: str) -> None:
 
 
 @Test("bindings", "the bindings for Rust and Python, and what they declare", commands=TOOLS, crates=BOTH)
-def bindings(tally: Tally, options: Namespace) -> None:
+def bindings(tally: Tally, options: Options) -> None:
     declarations(tally)
     unittests(tally)
     folders = {"CARGO_HOME": f"{tally.folder}/cargo", "CARGO_TARGET_DIR": f"{tally.folder}/target"}
@@ -106,5 +90,5 @@ def bindings(tally: Tally, options: Namespace) -> None:
 
 
 @Test("explain", "a file that breaks each rule, and what elfmap-explain says of it", commands=PACKERS, crates=BOTH)
-def explain(tally: Tally, options: Namespace) -> None:
+def explain(tally: Tally, options: Options) -> None:
     unittests(tally, "tests.test_explain")

@@ -1,10 +1,103 @@
-"""`tools/dev prove` and `tools/dev check`: proves the libraries below a crate and builds it; and the loop while one writes."""
+"""How the kit's checker reads a crate of this repository over built libraries; `tools/dev prove`, which proves the libraries below a crate
+and builds it; and `tools/dev check`, the loop while one writes."""
 
-import argparse, fcntl, functools, os, re, resource, shutil, sys, tempfile, time
+import fcntl, functools, hashlib, os, re, resource, shutil, sys, tempfile, time
+from collections.abc import Callable, Iterable
 from concurrent.futures import Future, ThreadPoolExecutor
 
-from .kit import RLIBS, FolderOf, built_below, is_built_by_prove, is_current, kit, link_words, said_by, sum_of, words
-from .tree import PROCESSORS, TOP, below, deps, is_program, libraries, read_text, said, static_libraries, texts_of, write
+from .tree import (
+    PROCESSORS, TOP, Options, below, deps, is_newer, is_program, libraries, read_bytes, read_text, said, static_libraries, texts_of,
+    write,
+)  # fmt: skip
+
+# Where `tools/dev prove` puts the libraries that it proved, each beside a sum of what it was made from.
+RLIBS = f"{TOP}/crates/elfmap/out/rlibs"
+FolderOf = Callable[[str], str]
+
+
+@functools.cache
+def kit() -> str:
+    """The folder of the kit, which is that of the page that `rt doc` names."""
+    return os.path.dirname(said("rt", "doc").stdout.strip())
+
+
+@functools.cache
+def version() -> str:
+    return said("rt", "version").stdout
+
+
+@functools.cache
+def sum_of(crate: str) -> str:
+    """A sum of all that a library is built from: the kit, its texts, and those of the libraries below it."""
+    found = hashlib.sha256(f"{version()} {libraries()[crate]}".encode())
+    for path in texts_of(crate):
+        found.update(f"{path[len(TOP):]} {os.path.getsize(path)} ".encode() + read_bytes(path))
+    for dep in deps(crate):
+        found.update(sum_of(dep).encode())
+    return found.hexdigest()
+
+
+def is_built_by_prove(crate: str) -> bool:
+    """Whether `tools/dev prove` built the library of these texts."""
+    made = f"{RLIBS}/{crate}.sum"
+    return os.path.isfile(made) and read_bytes(made).decode() == sum_of(crate)
+
+
+def gate_folder(crate: str) -> str:
+    """Where `rt ci` puts the library of a crate."""
+    return f"{TOP}/crates/{crate}/out/rlib"
+
+
+def is_built_by_gate(crate: str) -> bool:
+    """Whether `rt ci` built the library after its texts were last written."""
+    return is_newer(f"{gate_folder(crate)}/{crate}.rlib", texts_of(crate))
+
+
+def built_below(crates: Iterable[str]) -> tuple[FolderOf, list[str]]:
+    """The folder of each library below these crates, all built by `tools/dev prove` or all by `rt ci`: a mixture does not fit together.
+    Where neither has them all, also those that `tools/dev prove` lacks."""
+    names = list(dict.fromkeys(it for crate in crates for it in below(crate)))
+    lacking = [it for it in names if not is_built_by_prove(it)]
+    if lacking and all(map(is_built_by_gate, names)):
+        return gate_folder, []
+    return lambda name: RLIBS, lacking
+
+
+def words(crate: str, folder_of: FolderOf) -> list[str]:
+    """The words with which `rattle check` and `rattle build` read a crate. `folder_of` returns the folder of the rlib of a crate below it."""
+    rlibs = {name: folder_of(name) for name in below(crate)}
+    found = ["--crate-name", crate, "src/main.rt" if is_program(crate) else "src/lib.rt"]
+    for name in ["std", *libraries()[crate]]:
+        found += ["--extern", f"{name}={rlibs.get(name, f'{kit()}/rlibs')}/{name}.rlib"]
+    for folder in dict.fromkeys([f"{kit()}/rlibs", *rlibs.values()]):
+        found += ["-L", f"dependency={folder}"]
+    found += ["--antt-project", f"{kit()}/rattle/logic/antt-project.json"]
+    if crate in static_libraries():
+        found += ["--crate-type", "staticlib"]
+    return [*found, "--logic-built", f"{kit()}/logic_built", "--links", f"{crate}="]
+
+
+def checked(crate: str, functions: Iterable[str], folder: str, folder_of: FolderOf, kept: str) -> str:
+    """What the checker says of a crate as its text in a folder is, or of these functions of it and those that they call. What it has found
+    out so far is in the folder `kept`."""
+    only = [word for it in functions for word in ("--only", it.removeprefix(f"{crate}::"))]
+    return said(f"{kit()}/bin/rattle", "check", *words(crate, folder_of), "--incremental", kept, *only, folder=folder).stdout
+
+
+def link_words(output: str, source: str) -> list[str]:
+    """The command that makes a program of what `rattle build` wrote."""
+    return [
+        *(f"{kit()}/bin/rattle-link", "--target", "x86_64-unknown-linux-gnu", "--toolchain", f"{kit()}/toolchain", "-o", output, source),
+        *(f"{kit()}/c/libos_c.a", f"{kit()}/c/liblibc_c.a"),
+    ]
+
+
+def is_current(crate: str, path: str) -> bool:
+    """Whether what was built of a crate is at least as new as its texts and those of all crates below it."""
+    return is_newer(path, (it for own in [*below(crate), crate] for it in texts_of(own)))
+
+
+# ---- tools/dev prove
 
 MOST_JOBS = 8
 # A library has a job for each processor where less than this part of all texts can be proved beside it.
@@ -37,11 +130,6 @@ class Build:
             self.chains_below[it] = size_of(it) + max((self.chains_below[dep] for dep in deps(it)), default=0)
         self.rlibs: dict[str, Future[None]] = {}
 
-    def share_beside(self, crate: str) -> float:
-        """Which part of the libraries, by their texts, neither needs this one nor is needed by it."""
-        beside = [it for it in self.crates if it != crate and it not in below(crate) and crate not in below(it)]
-        return sum(map(size_of, beside)) / sum(map(size_of, self.crates))
-
     def chain_above(self, crate: str) -> int:
         """The texts of the longest chain of libraries that begins with this one."""
         return size_of(crate) + max((self.chain_above(it) for it in self.crates if crate in deps(it)), default=0)
@@ -50,7 +138,8 @@ class Build:
         """A library beside which little can be proved has a job for each processor, one on a long chain half as many, any other one has
         one: each job costs processor time too."""
         most = min(MOST_JOBS, PROCESSORS)
-        if self.share_beside(crate) < LITTLE_BESIDE:
+        beside = [it for it in self.crates if it != crate and it not in below(crate) and crate not in below(it)]
+        if sum(map(size_of, beside)) < LITTLE_BESIDE * sum(map(size_of, self.crates)):
             return most
         is_long = self.chains_below[crate] + self.chain_above(crate) - size_of(crate) >= LONG_CHAIN * max(self.chains_below.values())
         return max(1, most // 2) if is_long else 1
@@ -64,7 +153,7 @@ class Build:
         made = f"{RLIBS}/{crate}.sum"
         if os.path.exists(made):
             os.remove(made)
-        command = [f"{kit()}/bin/rattle", "build", *words(crate, "src/lib.rt", lambda _: RLIBS), "--statements"]
+        command = [f"{kit()}/bin/rattle", "build", *words(crate, lambda _: RLIBS), "--statements"]
         run([*command, "--jobs", str(self.jobs_of(crate)), "-o", f"{RLIBS}/{crate}.rlib"], crate)
         write(made, sum_of(crate))
 
@@ -75,10 +164,10 @@ class Build:
         command, toolchain = [f"{kit()}/bin/rattle", "build"], ["--toolchain", f"{kit()}/toolchain"]
         if is_program(crate):
             jobs = ["--jobs", str(min(MOST_JOBS, PROCESSORS))]
-            run([*command, *words(crate, "src/main.rt", folder_of), *toolchain, *jobs, "-o", f"{out}/{crate}.o"], crate)
+            run([*command, *words(crate, folder_of), *toolchain, *jobs, "-o", f"{out}/{crate}.o"], crate)
             run(link_words(f"{out}/{crate}", f"{out}/{crate}.o"), crate)
         elif crate in static_libraries():
-            run([*command, *words(crate, "src/lib.rt", folder_of), *toolchain, "-o", f"{out}/lib{crate}.a"], crate)
+            run([*command, *words(crate, folder_of), *toolchain, "-o", f"{out}/lib{crate}.a"], crate)
 
     def all(self) -> None:
         os.makedirs(RLIBS, exist_ok=True)
@@ -110,11 +199,10 @@ def built(crate: str) -> str:
     return path
 
 
-def prove(options: argparse.Namespace) -> int:
+def prove(options: Options) -> None:
     if options.crate not in libraries():
         raise SystemExit(f"prove: {options.crate} is no crate of crates.txt")
     Build(options.crate).all()
-    return 0
 
 
 # ---- the inner loop
@@ -131,32 +219,12 @@ TEST = re.compile(r"^(?: *///.*\n)*( *)#\[test\]\n(?:.*\n)*?\1(?:pub )?fn (\w+)(
 COUNTS = re.compile(r"^only=(\d+) proved=(\d+)$", re.M)
 
 
-def open_lines(output: str) -> list[str]:
-    """The lines on what is not proved, and why, their beginnings; and of tests how each ended."""
-    lines = [it for it in output.splitlines() if not QUIET.match(it) and not it.startswith("  = ")]
-    return [it if len(it) <= WIDTH else f"{it[:WIDTH]} .." for it in lines]
-
-
-def end_of(output: str) -> str:
-    """How a check ended, in words."""
-    counts = COUNTS.search(output)
-    if counts:
-        return f"{counts[2]} of {counts[1]} functions proved"
+def end_of(output: str) -> tuple[bool, str]:
+    """Whether all is proved, and how a check ended, in words."""
+    if counts := COUNTS.search(output):
+        return counts[1] == counts[2], f"{counts[2]} of {counts[1]} functions proved"
     whole = re.search(r"^logic=proved .*?functions=(\d+)", output, re.M)
-    return f"proved, {whole[1]} functions" if whole else "NOT PROVED"
-
-
-def is_proved(output: str) -> bool:
-    counts = COUNTS.search(output)
-    return counts[1] == counts[2] if counts else bool(re.search(r"^logic=proved", output, re.M))
-
-
-def checked(crate: str, root: str, folder_of: FolderOf, functions: list[str]) -> str:
-    """What the check says of a crate, or of these functions of it and those that they call."""
-    folder = f"{TOP}/crates/{crate}"
-    os.makedirs(f"{folder}/out/loop", exist_ok=True)
-    only = [word for it in functions for word in ("--only", it)]
-    return said_by([f"{kit()}/bin/rattle", "check", *words(crate, root, folder_of), "--incremental", "out/loop", *only], folder)
+    return bool(whole), f"proved, {whole[1]} functions" if whole else "NOT PROVED"
 
 
 def without_other_tests(folder: str, name: str) -> list[str]:
@@ -173,26 +241,24 @@ def without_other_tests(folder: str, name: str) -> list[str]:
     return kept
 
 
-def tested(crate: str, root: str, folder_of: FolderOf, name: str) -> tuple[bool, str]:
+def tested(crate: str, folder_of: FolderOf, kept: str, name: str) -> tuple[bool, str]:
     """Proves and builds the tests of this name alone, in a copy of the crate, and runs them."""
-    kept = f"{TOP}/crates/{crate}/out/loop"
-    os.makedirs(kept, exist_ok=True)
     with tempfile.TemporaryDirectory(prefix="one-test-") as room:
         for part in ("src", "specs", "proofs"):
             if os.path.isdir(f"{TOP}/crates/{crate}/{part}"):
                 shutil.copytree(f"{TOP}/crates/{crate}/{part}", f"{room}/{part}")
         if not without_other_tests(room, name):
             raise SystemExit(f"check: {crate} has no test whose name holds {name}")
-        command = [f"{kit()}/bin/rattle", "build", *words(crate, root, folder_of), "--test", "--incremental", kept]
-        output = said_by([*command, "--toolchain", f"{kit()}/toolchain", "-o", "tests.o"], room)
+        command = [f"{kit()}/bin/rattle", "build", *words(crate, folder_of), "--test", "--incremental", kept]
+        output = said(*command, "--toolchain", f"{kit()}/toolchain", "-o", "tests.o", folder=room).stdout
         if not os.path.isfile(f"{room}/tests.o"):
             return False, output
-        output += said_by(link_words("tests", "tests.o"), room)
+        output += said(*link_words("tests", "tests.o"), folder=room).stdout
         ran = said(f"{kit()}/bin/rattle-test", "--seconds", "60", "tests", folder=room)
         return ran.returncode == 0, output + ran.stdout
 
 
-def check(options: argparse.Namespace) -> int:
+def check(options: Options) -> int:
     crate, begun = options.crate, time.monotonic()
     if crate not in libraries() or options.test and options.function:
         raise SystemExit("usage: tools/dev check CRATE [FUNCTION.. | --test NAME], a crate of crates.txt")
@@ -200,14 +266,17 @@ def check(options: argparse.Namespace) -> int:
     if lacking:
         print(f"check: these libraries below {crate} are not built, or were changed since: {' '.join(lacking)}", file=sys.stderr)
         raise SystemExit(f"check: build them with `tools/dev prove {crate}`")
-    root = "src/main.rt" if is_program(crate) else "src/lib.rt"
+    folder, kept = f"{TOP}/crates/{crate}", f"{TOP}/crates/{crate}/out/loop"
+    os.makedirs(kept, exist_ok=True)
     if options.test:
-        is_well, output = tested(crate, root, folder_of, options.test)
+        is_well, output = tested(crate, folder_of, kept, options.test)
     else:
-        output = checked(crate, root, folder_of, options.function)
-        is_well = is_proved(output)
-    write(f"{TOP}/crates/{crate}/out/check.log", output)
-    print("".join(f"{line}\n" for line in open_lines(output)), end="")
+        output = checked(crate, options.function, folder, folder_of, kept)
+        is_well = end_of(output)[0]
+    write(f"{folder}/out/check.log", output)
+    # The lines on what is not proved, and why, their beginnings; and of tests how each ended.
+    for line in (it for it in output.splitlines() if not QUIET.match(it) and not it.startswith("  = ")):
+        print(line if len(line) <= WIDTH else f"{line[:WIDTH]} ..")
     used = resource.getrusage(resource.RUSAGE_CHILDREN)
-    print(f"check: {crate}: {end_of(output)}; {time.monotonic() - begun:.0f} s, {used.ru_utime + used.ru_stime:.0f} of a processor")
+    print(f"check: {crate}: {end_of(output)[1]}; {time.monotonic() - begun:.0f} s, {used.ru_utime + used.ru_stime:.0f} of a processor")
     return 0 if is_well else 1

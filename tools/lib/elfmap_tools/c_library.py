@@ -10,18 +10,17 @@ rewrite, map and link, with the three functions of memory under the names that i
 They are compiled by cc, and by clang with its checks of addresses and of undefined behavior, and the header by c++ too."""
 
 import os, re
-from argparse import Namespace
 from collections.abc import Iterable
 from dataclasses import replace
 
 from .building import built
 from .cases import Case, case_files, every_case
-from .library import BOTH, ENGINES, FUNCTIONS, PACKERS, RENAMED, VERDICTS, calls, packed, structs
+from .library import BOTH, ENGINES, FUNCTIONS, NUMBERS, PACKERS, RENAMED, VERDICTS, c_type, calls, packed, structs
 from .packages import SANITIZERS
 from .reference import parsed, shown
 from .suite import Tally, Test, number
 from .dump import c_lines
-from .tree import PROCESSORS, TOP, by_cc, libraries, read_bytes, read_text, said, side_by_side, texts_of, wanted, write
+from .tree import PROCESSORS, TOP, Options, by_cc, libraries, read_bytes, read_text, said, side_by_side, texts_of, wanted, write
 
 C = f"{TOP}/bindings/c"
 WARNINGS = ["-std=c99", "-pedantic", "-Wall", "-Wextra", "-Werror", f"-I{TOP}/include"]
@@ -29,29 +28,25 @@ COMPILERS = {"cc": ["-O2"], "clang": ["-O1", "-g", "-fsanitize=address,undefined
 MACHINE_FILES = ["/bin/true", "/bin/ls", "/lib/x86_64-linux-gnu/libc.so.6", "/usr/lib/x86_64-linux-gnu/crt1.o"]
 # The result of the calls of each library.
 RESULTS = {VERDICTS: "bool", ENGINES: "uint32_t"}
-# Rattle's types as C has them.
-NUMBER = {"u8": "uint8_t", "u16": "uint16_t", "u32": "uint32_t", "u64": "uint64_t", "i64": "int64_t", "bool": "bool"}
 # The struct of the header that a program fills in itself.
-OF_PROGRAM = "struct elfmap_block"
-STRUCT = re.compile(r"`(struct elfmap_\w+)`[^\n]*\n#\[repr\(C\)\]\n#\[derive[^\n]*\npub struct (\w+) \{\n(.*?)^\}", re.M | re.S)
+OF_PROGRAM = "elfmap_block"
+STRUCT = re.compile(r"`struct (elfmap_\w+)`[^\n]*\n#\[repr\(C\)\]\n#\[derive[^\n]*\npub struct (\w+) \{\n(.*?)^\}", re.M | re.S)
 EXPORT = re.compile(r'#\[unsafe\(no_mangle\)\]\npub extern "C" fn (\w+)\((.*?)\) -> (\w+)', re.S)
-FIELD, SIZES = re.compile(r"^    pub (\w+): \[?(\w+)(?:; (\w+)\])?,", re.M), {"": "", "EI_NIDENT": "[16]"}
+FIELD = re.compile(r"^    pub (\w+): (.*),", re.M)
 
 # ---- the header beside the texts of the library
 
 
 def text_of(crates: Iterable[str]) -> str:
-    """The code of these crates."""
-    return "\n".join(read_text(it) for crate in crates for it in texts_of(crate) if it.endswith(".rt"))
+    """The code of these crates, with numbers for constants in types."""
+    return "\n".join(read_text(it).replace("EI_NIDENT", "16") for crate in crates for it in texts_of(crate) if it.endswith(".rt"))
 
 
 def parameters(text: str, tags: dict[str, str]) -> list[str]:
     """The types of the parameters of an export, as C has them: a slice is a pointer and a length; an allocator passes nothing in C."""
     found = []
-    for reference, is_slice, kind in re.findall(r"\w+: (&mut |&|)(\[?)(?!Global)(\w+)\]?", text):
-        own = tags.get(kind) or NUMBER[kind]
-        found.append(f"{'const ' if reference == '&' else ''}{own} *" if reference else own)
-        found += ["size_t"] if is_slice else []
+    for kind in re.findall(r"\w+: ((?:&mut |&|)\[?(?!Global)\w+\]?)", text):
+        found += [c_type(kind, tags), *["size_t"] * ("[" in kind)]
     return found
 
 
@@ -59,15 +54,14 @@ def compare_header(tally: Tally) -> None:
     """The header and the texts of the library say the same: so the fields of a struct are at the same offsets."""
     found = STRUCT.findall(text_of(it for it in libraries() if it == VERDICTS or it.startswith(f"{VERDICTS}_")))
     tags = {name: tag for tag, name, _ in found}
-    types = NUMBER | tags
-    shared = {tag: [(name, types[kind] + SIZES[size]) for name, kind, size in FIELD.findall(body)] for tag, _, body in found}
-    declared = {f"struct {tag}": [(name, kind + f"[{count}]" * bool(count)) for kind, name, count in own] for tag, own in structs().items()}
+    shared = {tag: [(name, c_type(kind, tags)) for name, kind in FIELD.findall(body)] for tag, _, body in found}
+    declared = {tag: [(name, kind + f"[{count}]" * bool(count)) for kind, name, count in own] for tag, own in structs().items()}
     del declared[OF_PROGRAM]
     tally.same("the structs of the header", declared, shared)
     for crate, result in RESULTS.items():
         exported = EXPORT.findall(text_of([crate]))
         tally.same(f"the calls of {crate}", calls(result), {name: parameters(given, tags) for name, given, _ in exported})
-        tally.same(f"the results of {crate}", {NUMBER[own] for _, _, own in exported}, {result})
+        tally.same(f"the results of {crate}", {NUMBERS[own] for _, _, own in exported}, {result})
 
 
 def compare_names(tally: Tally, library: str, crate: str, needs: set[str], may_need: set[str]) -> None:
@@ -163,7 +157,7 @@ TOOLS = f"cc c++ clang nm objcopy {SANITIZERS}"
 
 
 @Test("c-library", "the libraries for C, and the header, by cc and by clang with its checks", commands=TOOLS, crates=BOTH)
-def c_library(tally: Tally, options: Namespace) -> None:
+def c_library(tally: Tally, options: Options) -> None:
     room, verdicts = tally.folder, built(VERDICTS)
     compare_header(tally)
     compare_names(tally, verdicts, VERDICTS, set(), set())
@@ -196,7 +190,7 @@ ABOUT = "bytes of files changed; what the library for C says of each copy agrees
 
 
 @Test("laws", ABOUT, commands=PACKERS, crates=BOTH, alone=True, options=COPIES)
-def laws(tally: Tally, options: Namespace) -> None:
+def laws(tally: Tally, options: Options) -> None:
     wanted("cc", "-O2", *WARNINGS, f"{C}/laws.c", packed(), "-o", f"{tally.folder}/laws")
     # What cc makes of a few lines of C, and the files of the cases that are accepted.
     made = [by_cc(f"{tally.folder}/made-{k}", words, "answer_twice.c") for k, words in enumerate(MADE)]

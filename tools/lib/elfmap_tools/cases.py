@@ -2,7 +2,6 @@
 cases/*.txt, whose heads say how they are written; `tools/test make-cases` generates the files cases/made-*.txt."""
 
 import filecmp, glob, os, random, re, shlex, tempfile
-from argparse import Namespace
 from collections.abc import Callable, Iterable, Iterator
 from dataclasses import dataclass, field
 from typing import Any
@@ -10,8 +9,8 @@ from typing import Any
 from .building import output_of
 from .making import SPOKEN_OF, Chance, a_file, an_object, an_object_file, changed_field, fuzzed
 from .reference import Broken, File, answer, entries_of, laid, mapped, object_verdict, table_verdict, verdict
-from .suite import Option, Tally, Test, named, number
-from .tree import PROGRAM, TOP, Answer, T, answer_of, libraries, read_text, run, write
+from .suite import Tally, Test, number, word
+from .tree import PROGRAM, T, TOP, Answer, Options, answer_of, read_text, run, write
 
 Files = dict[str, bytearray]
 
@@ -33,91 +32,77 @@ class Case:
     def __str__(self) -> str:
         return f"{self.source}: elfmap {' '.join(self.words)} with {' '.join(self.needs)}"
 
+    def put_needs(self, folder: str) -> None:
+        """Writes the files that it needs."""
+        for place, _, name in (it.partition("=") for it in self.needs):
+            if name:
+                write(f"{folder}/{place}", self.files[name])
+            else:
+                os.mkdir(f"{folder}/{place}")
+
     def found(self, *program: str, **more: Any) -> Answer:
         """What a program answers, in a folder with the files that the case needs."""
         with tempfile.TemporaryDirectory(prefix="case-") as room:
-            put_needs(room, self.needs, self.files)
+            self.put_needs(room)
             return answer_of(run(*program, *self.words, folder=room, timeout=60, **more))
 
 
-@dataclass
-class Cases:
-    """The cases of a file, its files by their names, and its name."""
-
-    source: str
-    files: Files = field(default_factory=dict)
-    cases: list[Case] = field(default_factory=list)
-
-
-def cases_of(path: str) -> Cases:
-    found, name = Cases(os.path.basename(path)), ""
+def cases_of(path: str) -> list[Case]:
+    """The cases of a file, each with all files of it."""
+    found, files, name = list[Case](), dict[str, bytearray](), ""
     for line in read_text(path).splitlines():
         kind, _, rest = line.partition(" ")
         if kind == "file":
             name, *words = rest.split()
             how = dict(zip(words[::2], words[1::2]))
-            content = found.files[how["like"]] if "like" in how else b""
+            content = files[how["like"]] if "like" in how else b""
             size = int(how.get("size", len(content)))
-            found.files[name] = bytearray(content[:size].ljust(size, b"\0"))
+            files[name] = bytearray(content[:size].ljust(size, b"\0"))
         elif line.startswith("  "):
             at, data = rest.split()
-            found.files[name][int(at, 16) : int(at, 16) + len(data) // 2] = bytes.fromhex(data)
+            files[name][int(at, 16) : int(at, 16) + len(data) // 2] = bytes.fromhex(data)
         elif kind == "run":
             words_of, _, needs = rest.partition("   with ")
             # A byte of a word that is no text is written \\xNN.
             bare = [re.sub(rb"\\x(..)", lambda it: bytes.fromhex(it[1].decode()), it.encode()) for it in shlex.split(words_of)]
             words = [os.fsdecode(it) for it in bare]
-            found.cases.append(Case(words, needs.split(), source=found.source, files=found.files))
+            found.append(Case(words, needs.split(), source=os.path.basename(path), files=files))
         elif kind == "status":
-            found.cases[-1].status = int(rest)
+            found[-1].status = int(rest)
         elif kind == ">":
-            found.cases[-1].out += rest.encode() + b"\n"
+            found[-1].out += rest.encode() + b"\n"
         elif kind == "!":
-            found.cases[-1].err += rest.encode() + b"\n"
+            found[-1].err += rest.encode() + b"\n"
         elif kind == "?":
-            found.cases[-1].note = rest
+            found[-1].note = rest
         elif kind == "=":
-            found.cases[-1].out = bytes(found.files[rest])
+            found[-1].out = bytes(files[rest])
     return found
 
 
-def all_cases(folder: str = f"{TOP}/cases") -> Iterator[Cases]:
-    """The cases of each file of a folder."""
-    return map(cases_of, sorted(glob.glob(f"{folder}/*.txt")))
-
-
 def every_case(folder: str = f"{TOP}/cases") -> Iterator[Case]:
-    return (it for cases in all_cases(folder) for it in cases.cases)
+    """The cases of the files of a folder."""
+    return (it for path in sorted(glob.glob(f"{folder}/*.txt")) for it in cases_of(path))
 
 
 def case_files() -> dict[bytes, str]:
     """The files of all cases, each once, with a name."""
     found: dict[bytes, str] = {}
-    for cases in all_cases():
-        for name, content in cases.files.items():
-            found.setdefault(bytes(content), f"{cases.source}-{name}")
+    for source, files in {it.source: it.files for it in every_case()}.items():
+        for name, content in files.items():
+            found.setdefault(bytes(content), f"{source}-{name}")
     return found
 
 
-def put_needs(folder: str, needs: list[str], files: dict[str, bytearray]) -> None:
-    """Writes the files that a case needs."""
-    for place, _, name in (it.partition("=") for it in needs):
-        if name:
-            write(f"{folder}/{place}", bytes(files[name]))
-        else:
-            os.mkdir(f"{folder}/{place}")
-
-
-ONLY = named("only", "run the cases alone whose words or files have this name in them")
-FROM: Option = ("--in", {"dest": "folder", "metavar": "FOLDER", "default": f"{TOP}/cases", "help": "another folder of cases"})
+ONLY = word("--only", "run the cases alone whose words or files have this name in them", metavar="NAME", default="")
+FROM = word("--in", "another folder of cases", dest="folder", metavar="FOLDER", default=f"{TOP}/cases")
 
 
 @Test("cases", "the program answers the cases of cases/*.txt", crates="elfmap elfmap_check", options=(FROM, ONLY))
-def try_cases(tally: Tally, options: Namespace) -> None:
+def try_cases(tally: Tally, options: Options) -> None:
     # Beside the program that has all commands, the one that has `check` alone.
-    small = [output_of(it) for it in ("elfmap_check",) if it in libraries()]
     for it in (it for it in every_case(options.folder) if options.only in str(it)):
-        for program in [PROGRAM, *(small if it.words[:1] == ["check"] and "--seek" not in it.words else [])]:
+        for program in [PROGRAM] + [output_of("elfmap_check")] * (it.words[:1] == ["check"] and "--seek" not in it.words):
             status, out, err = it.found(program)
             # The text of an error is compared where the case has one.
             tally.same(str(it), (status, out, err if it.err or it.status < 2 else b""), (it.status, it.out, it.err))
@@ -186,21 +171,14 @@ def changed(chance: Chance, text: Text, sound: bytes) -> bytes:
     return content
 
 
-def rules_of(*faults: Broken | None) -> set[int]:
-    return {broken[0] for broken in faults if broken}
-
-
-def broken_by_object(content: bytes) -> set[int]:
-    return rules_of(object_verdict(content))
-
-
-def broken_by_tables(content: bytes) -> set[int]:
+def of_tables(content: bytes) -> list[Broken | None]:
+    """The verdict of the table in each section of a file that is accepted."""
     f = File(content)
-    return rules_of(*(table_verdict(f, i) for i, _ in f.sections())) if verdict(content) is None else set()
+    return [table_verdict(f, i) for i, _ in f.sections()] if verdict(content) is None else []
 
 
 def wrong_in_one_thing(
-    text: Text, rules: Iterable[int], made: Callable[[Chance, str], bytes], broken_by: Callable[[bytes], set[int]]
+    text: Text, rules: list[int], made: Callable[[Chance, str], bytes], verdicts: Callable[[bytes], list[Broken | None]]
 ) -> Iterator[tuple[bytes, bytes]]:
     """For each rule and byte order a sound file, and what one change made of it, by which it breaks the rule."""
     for order in ("little", "big"):
@@ -209,7 +187,7 @@ def wrong_in_one_thing(
             sound = made(chance, order)
             for rule in list(left):
                 tried = (changed_field(chance, sound, rule) for _ in range(12))
-                found = next((it for it in tried if it is not None and rule in broken_by(it)), None)
+                found = next((it for it in tried if it is not None and rule in (broken[0] for broken in verdicts(it) if broken)), None)
                 if found is not None:
                     left.remove(rule)
                     text.file(sound)
@@ -235,10 +213,10 @@ def series(text: Text, kind: str, made: Callable[[Chance], T]) -> Iterator[tuple
 
 
 def image_cases(text: Text) -> None:
-    for _, wrong in wrong_in_one_thing(text, [rule for rule in SPOKEN_OF if rule < 40], a_file, lambda it: rules_of(verdict(it))):
+    for _, wrong in wrong_in_one_thing(text, [rule for rule in SPOKEN_OF if rule < 40], a_file, lambda it: [verdict(it)]):
         for command in ("check", "check --seek", "show"):
             text.case(f"{command} f", {"f": wrong})
-    for content, _ in once(wrong_in_one_thing(text, [rule for rule in SPOKEN_OF if 40 < rule < 70], a_file, broken_by_tables)):
+    for content, _ in once(wrong_in_one_thing(text, [rule for rule in SPOKEN_OF if 40 < rule < 70], a_file, of_tables)):
         text.case("show f", {"f": content})
     for k, chance, sound in series(text, "image", a_file):
         command = ("check", "check --seek", "show", "show")[k % 4]
@@ -250,10 +228,10 @@ OF_SEGMENTS, NOT_OF_OBJECTS = [19, 21, *range(25, 30)], range(59, 70)
 
 
 def object_cases(text: Text) -> None:
-    for sound, wrong in wrong_in_one_thing(text, OF_SEGMENTS, a_file, broken_by_object):
+    for sound, wrong in wrong_in_one_thing(text, OF_SEGMENTS, a_file, lambda it: [object_verdict(it)]):
         text.case("rewrite f", {"f": wrong}, sound)
     rules = [rule for rule in SPOKEN_OF if rule not in OF_SEGMENTS and rule not in NOT_OF_OBJECTS]
-    for content, like in once(wrong_in_one_thing(text, rules, an_object_file, broken_by_object)):
+    for content, like in once(wrong_in_one_thing(text, rules, an_object_file, lambda it: [object_verdict(it)])):
         text.case("rewrite f", {"f": content}, like)
     for _, chance, sound in series(text, "object", an_object_file):
         text.case("rewrite f", {"f": changed(chance, text, sound)}, sound)
@@ -308,12 +286,12 @@ def executable_cases(text: Text) -> None:
 GENERATED = {"made-images.txt": image_cases, "made-objects.txt": object_cases}
 GENERATED |= {"made-links.txt": link_cases, "made-executables.txt": executable_cases}
 COUNTED = number("count", COUNT, "cases of each kind")
-SEEDED: Option = ("--seed", {"default": SEED, "help": "the same seed makes the same cases"})
-INTO: Option = ("--in", {"dest": "folder", "metavar": "FOLDER", "help": "write them there"})
+SEEDED = word("--seed", "the same seed makes the same cases", default=SEED)
+INTO = word("--in", "write them there", dest="folder", metavar="FOLDER")
 
 
 @Test("make-cases", "the generated cases are what the generator makes, byte for byte", options=(INTO, COUNTED, SEEDED))
-def make_cases(tally: Tally, options: Namespace) -> None:
+def make_cases(tally: Tally, options: Options) -> None:
     folder = options.folder or tally.folder
     os.makedirs(folder, exist_ok=True)
     for name, cases in GENERATED.items():

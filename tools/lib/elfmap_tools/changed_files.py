@@ -4,7 +4,6 @@ implementation says; a file that is accepted is written back unchanged; it is an
 says; and `rewrite` of it is the reference's. (What `elfmap` says of such files by the rules is in cases/image_rules.txt.)"""
 
 import subprocess
-from argparse import Namespace
 from collections.abc import Iterator
 from typing import IO, Any
 
@@ -12,7 +11,7 @@ from .building import output_of
 from .failing_calls import files_by_hand
 from .reference import check, object_file, rewritten, text, verdict
 from .suite import Tally, Test, flag
-from .tree import PROCESSORS, side_by_side, write
+from .tree import PROCESSORS, Options, side_by_side, write
 
 
 def variants(file: bytes) -> Iterator[bytes]:
@@ -62,7 +61,7 @@ ABOUT, ALL = "each one-byte change of an object, beside the reference implementa
 
 
 @Test("changed-files", ABOUT, crates="tests_calls", alone=True, family="fuzz", options=(ALL,))
-def changed_files(tally: Tally, options: Namespace) -> None:
+def changed_files(tally: Tally, options: Options) -> None:
     files = [files_by_hand()["call_0"]]
     files += [object_file([text(align=16)], order=order) for order in ("little", "big") if options.all]
     parts = [(it, write(f"{tally.folder}/{k}", it), share) for k, it in enumerate(files) for share in range(PROCESSORS)]

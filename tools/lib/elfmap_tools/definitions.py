@@ -2,11 +2,11 @@
 lists the words: a line "| `WORD`" in it becomes the word's row. A word that has no comment of its own keeps the sentence in its row.
 `tools/test definitions` fails where a word is in no file of specs/ or has no sentence, and where the page is not up to date."""
 
-import argparse, functools, glob, os, re
+import functools, glob, os, re
 
 from .sources import Definition, definitions
 from .suite import Tally, Test
-from .tree import TOP, read_text, write
+from .tree import TOP, Options, read_text, write
 
 PAGE = "docs/DEFINITIONS.md"
 # A row: its word, and its sentence if it has one.
@@ -40,13 +40,12 @@ def row(own: re.Match[str]) -> str:
     return f"| `{own[1]}` | {said} | {section_of(found)} | [`{found.path.split('/')[1]}` {name}](../{found.path}) |"
 
 
-def main(options: argparse.Namespace) -> int:
+def main(options: Options) -> None:
     write(f"{TOP}/{PAGE}", ROW.sub(row, read_text(PAGE)))
-    return 0
 
 
 @Test("definitions", "docs/DEFINITIONS.md is what the comments of specs/ say")
-def test(tally: Tally, options: argparse.Namespace) -> None:
+def test(tally: Tally, options: Options) -> None:
     page = read_text(PAGE)
     for word, sentence in ROW.findall(page):
         found = known().get(word)

@@ -2,7 +2,7 @@
 public item: signature, doc comment, and contract as it is in the source, where each word that is a definition of specs/ leads to that
 definition, at the end of the page with its comment and text. It fails where an item has no doc comment or is not in the page once."""
 
-import argparse, collections, functools, itertools, re, sys
+import collections, functools, itertools, re, sys
 from collections.abc import Callable
 from html import escape
 
@@ -10,7 +10,7 @@ from . import definitions, guarantees
 from .rules_tables import by_anchor
 from .sources import PUBLIC_CRATES, WORD, Definition, Item, Uses, definition, items_of, module_file, named_in, reach, source
 from .suite import Tally, Test
-from .tree import cells, matched, read_text, replaced
+from .tree import Options, cells, filled, matched, read_text, replaced
 
 # Where a word leads to, and its title.
 Place = tuple[str, str] | None
@@ -64,20 +64,11 @@ class Page:
 
     def whole(self) -> str:
         sections = [PublicCrate(self, public_crate).section() for public_crate in PUBLIC_CRATES]
-        return f"""<!DOCTYPE html>
-<html lang="en">
-<head><meta charset="utf-8"><meta name="viewport" content="width=device-width, initial-scale=1">
-<title>elfmap</title><style>{read_text("page/doc.css")}</style></head>
-<body>
-<h1>elfmap</h1>
-{PublicCrate(self, "").told(source(module_file("elf", ()))[0])}
-<input id="filter" placeholder="a name" aria-label="show what has this name" hidden>
-{self.contents()}
-{chr(10).join(sections)}
-{self.glossary()}
-<script>{read_text("page/doc.js")}</script>
-</body>
-</html>"""
+        body, front = "\n".join([self.contents(), *sections, self.glossary()]), PublicCrate(self, "").told(
+            source(module_file("elf", ()))[0]
+        )
+        own = {"STYLE": read_text("page/doc.css"), "SCRIPT": read_text("page/doc.js")}
+        return filled("page/doc.html", FRONT=front, BODY=body, **own).rstrip("\n")
 
     def contents(self) -> str:
         lines = []
@@ -265,7 +256,7 @@ def made() -> tuple[str, list[str]]:
     return text, [*dict.fromkeys(page.faults), *wrong, *(f"{anchor} is nowhere in the page" for anchor in sorted(leads - set(ids)))]
 
 
-def main(options: argparse.Namespace) -> int:
+def main(options: Options) -> int:
     text, faults = made()
     print(text)
     print("".join(f"doc: {it}\n" for it in faults), end="", file=sys.stderr)
@@ -273,5 +264,5 @@ def main(options: argparse.Namespace) -> int:
 
 
 @Test("doc", "each public item has a doc comment, and is in the page of `tools/dev doc` once")
-def doc(tally: Tally, options: argparse.Namespace) -> None:
+def doc(tally: Tally, options: Options) -> None:
     tally.count(1, made()[1][:1])

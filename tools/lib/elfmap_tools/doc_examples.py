@@ -8,15 +8,14 @@ read as they are, so none has to be built. The function `REFUSED` beside the exa
 are checked, and ends the compiler before the work of proofs, which takes ten times as long."""
 
 import functools, os, re, tempfile
-from argparse import Namespace
 from collections import Counter
 from collections.abc import Iterator
 from dataclasses import dataclass
 
 from . import sources
-from .kit import kit, said_by
+from .building import kit
 from .suite import Tally, Test
-from .tree import TOP, below, is_program, libraries, read_text, write
+from .tree import TOP, Options, below, is_program, libraries, read_text, said, write
 
 GIVEN = {
     "rt": "&(impl Abort + Print)", "alloc": "Global", "hasher": "BuildHasherDefault<FoldHasher>", "reader": "impl Read + Drop",
@@ -108,7 +107,7 @@ def faults_of(examples: list[Example], room: str) -> tuple[dict[Example, list[st
     os.makedirs(f"{room}/src")
     for name, text in files.items():
         write(f"{room}/src/{name}.rt", text)
-    output = said_by([f"{kit()}/bin/rattle", *words([it.crate for it in examples])], room)
+    output = said(f"{kit()}/bin/rattle", *words([it.crate for it in examples]), folder=room).stdout
     faults: dict[Example, list[str]] = {}
     for name, line in re.findall(r"^src/(\w+)(\.rt:\d+:\d+: error.*)", output, re.M):
         if name in modules:
@@ -133,7 +132,7 @@ def all_faults(examples: list[Example]) -> tuple[dict[Example, list[str]], str]:
 
 
 @Test("doc-examples", "each example in a doc comment compiles")
-def doc_examples(tally: Tally, options: Namespace) -> None:
+def doc_examples(tally: Tally, options: Options) -> None:
     crates = [it for it in libraries() if not is_program(it)]
     examples = [it for crate in crates for path in sources.sources_of(crate) for it in examples_in(crate, path)]
     faults, broken = all_faults(examples)

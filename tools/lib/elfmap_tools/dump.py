@@ -2,7 +2,7 @@
 the tests of bindings/rust and bindings/python compare. `tools/dev told FOLDER` writes these into FOLDER: a file as K.elf, and its lines as
 K.txt, K from 0; bytes as `=` and their hexadecimal digits, `-` where there are none."""
 
-import argparse, os
+import os
 from collections.abc import Iterator
 from typing import Any
 
@@ -10,10 +10,11 @@ from .cases import case_files
 
 from .reference import (
     DYNAMIC, DYNAMIC_SECTION, DYNSYM, ENTRY_SIZE, HASH, HEADER, LOAD, NOBITS, NOTE, NULL, PROGRAM_HEADER, REL, RELA, RELOCATION,
-    SECTION_HEADER, SYMBOL, SYMTAB, SYMTAB_SHNDX, XINDEX, Broken, File, Layout, check, elf_hash, entries_before_null, is_section, name_of,
-    notes, padded, parts, rewritten, rule_name, shown, signed, string, symbols, table_verdict, verdict,
+    SECTION_HEADER, SYMBOL, SYMTAB, SYMTAB_SHNDX, XINDEX, Broken, File, check, elf_hash, entries_before_null, is_section, name_of,
+    notes, padded, parts, rewritten, shown, signed, string, symbols, table_verdict, verdict,
 )  # fmt: skip
-from .tree import read_bytes, write
+from .rules_tables import by_anchor
+from .tree import Options, read_bytes, write
 
 TABLES = (SYMTAB, DYNSYM, RELA, REL, DYNAMIC_SECTION, NOTE)
 
@@ -67,7 +68,7 @@ def notes_in(f: Any, i: int) -> Iterator[tuple[int, int, str, str]]:
             yield f.number(at + 8, 4), begin + padded(size), f.bytes[named : named + name][:-1].hex(), f.bytes[begin : begin + size].hex()
 
 
-def fields(record: Any, layout: Layout) -> str:
+def fields(record: Any, layout: Any) -> str:
     return " ".join(str(getattr(record, it)) for it in layout)
 
 
@@ -179,7 +180,7 @@ def files() -> list[bytes]:
     return list(dict.fromkeys([*case_files(), *map(read_bytes, filter(os.path.isfile, MACHINE_FILES))]))
 
 
-def record_line(word: str, record: Any, layout: Layout, *parts: bytes | None) -> str:
+def record_line(word: str, record: Any, layout: Any, *parts: bytes | None) -> str:
     return " ".join([word, fields(record, layout), *("-" if it is None else f"={it.hex()}" for it in parts)])
 
 
@@ -201,7 +202,7 @@ def lines_of(content: bytes) -> list[str]:
     """The lines on a file: its refusal, or what it counts, each of its records, parts and entries, and its object."""
     broken = verdict(content)
     if broken:
-        return [f"refused {broken[0]} {broken[1]} {rule_name(broken[0]).upper()}"]
+        return [f"refused {broken[0]} {broken[1]} {by_anchor()[f'image-{broken[0]}'].name}"]
     f = File(content)
     lines = [check(content), record_line("header", f.header, HEADER, content[:16])]
     for i, it in f.sections():
@@ -218,8 +219,7 @@ def lines_of(content: bytes) -> list[str]:
     return [*lines, f"show ={shown(content).encode().hex()}", f"rewrite {refusal.strip()}" if refusal else f"rewrite ={written.hex()}"]
 
 
-def main(options: argparse.Namespace) -> int:
+def main(options: Options) -> None:
     for k, content in enumerate(files()):
         write(f"{options.folder}/{k}.elf", content)
         write(f"{options.folder}/{k}.txt", "".join(f"{it}\n" for it in lines_of(content)))
-    return 0

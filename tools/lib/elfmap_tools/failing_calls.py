@@ -9,8 +9,7 @@ out of memory or what it answers with enough; a reading goes on where a growth w
 as ever, and made three times it grows as much as made not at all."""
 
 import re
-from argparse import Namespace
-from collections.abc import Iterable, Iterator
+from collections.abc import Iterator
 from itertools import count
 
 from .building import output_of
@@ -20,7 +19,7 @@ from .reference import (
     ALLOC, COMMON, HASH, PROGBITS, WRITE, edited, group, object_file, relocations, section, symbol, text, words as number_words,
 )  # fmt: skip
 from .suite import Tally, Test, environment
-from .tree import PROGRAM, RULES, Answer, answer_of, by_cc, read_text, run, wanted, write
+from .tree import PROGRAM, RULES, Answer, Options, answer_of, by_cc, read_text, run, wanted, write
 
 CALLER = "int callee(int); extern int shared; int common; int main(void) { return callee(1) + shared + common; }\n"
 CALLEE = "static int calls; int shared = 2; int callee(int x) { return calls += x; }\n"
@@ -101,13 +100,6 @@ def is_right(kind: str, how: str, command: str, ample: Answer, found: Answer, of
     return begun and (status, err) == (3, f"read failed at {offset}\n".encode())
 
 
-def quiet(tally: Tally, names: Iterable[str]) -> None:
-    """The calls that take no memory, on these files: made three times they grow as much as made not at all."""
-    counts = [ended(tally.folder, ["quiet", times, *names], "count 1 nothing", CALLS) for times in ("0", "3")]
-    same = counts[0] == counts[1] and counts[0][0][0] == 0 and counts[0][1][2:]
-    tally.check(same, f"quiet {' '.join(names)}: {counts}")
-
-
 def tried(tally: Tally, words: list[str], kind: str, how: str, program: str = PROGRAM) -> None:
     """Each call of a kind failing, one after the other, or all calls at once."""
     ample, _ = ended(tally.folder, words, program=program)
@@ -163,8 +155,11 @@ def growths(tally: Tally) -> None:
         # A file of 4 MB takes its time.
         for how in ("fail",) if names == ("many_sections",) else ("fail", "rest"):
             grown(tally, ["growths", "rules", *names], how)
-    for those in [*BY_HAND, ("caller.o", "callee.o"), ("full.o",), ("/bin/true",)]:
-        quiet(tally, those)
+    # The calls that take no memory: made three times they grow as much as made not at all.
+    for names in [*BY_HAND, ("caller.o", "callee.o"), ("full.o",), ("/bin/true",)]:
+        counts = [ended(tally.folder, ["quiet", times, *names], "count 1 nothing", CALLS) for times in ("0", "3")]
+        same = counts[0] == counts[1] and counts[0][0][0] == 0 and counts[0][1][2:]
+        tally.check(same, f"quiet {' '.join(names)}: {counts}")
 
 
 def calls_by_hand() -> Iterator[list[str]]:
@@ -186,7 +181,7 @@ def calls() -> Iterator[tuple[str, list[str], list[str]]]:
 
 
 @Test("failing-calls", "every call of the C library failing once", commands="cc", crates="elfmap tests_calls", family="fuzz")
-def failing_calls(tally: Tally, options: Namespace) -> None:
+def failing_calls(tally: Tally, options: Options) -> None:
     make_files(tally.folder)
     for program, words, files in calls():
         opened, words = [*(it for it in words if it == RULES), *files], [*words, *files]

@@ -1,13 +1,12 @@
 """`tools/test guarantees`: each name of docs/GUARANTEES.md exists, and each public call is in a row of it."""
 
 import functools, os, re
-from argparse import Namespace
 from collections.abc import Iterator
 from dataclasses import dataclass
 
 from .sources import PUBLIC_CRATES, WORD, Definition, Item, definition, imports, items_of, reach, signature_and_clauses, sources_of
 from .suite import TESTS, Tally, Test
-from .tree import TOP, cells, libraries, read_text
+from .tree import TOP, Options, cells, libraries, read_text
 
 PAGE = "docs/GUARANTEES.md"
 SPAN = re.compile(r"`([^`]+)`")
@@ -136,14 +135,6 @@ def wrong_in(row: Row) -> Iterator[str]:
         yield "nothing keeps it"
 
 
-def wrong_bodies() -> Iterator[tuple[str, bool]]:
-    """Each wrong body of the page, and whether it is where the page says."""
-    for place in re.findall(r"^\| .* \| `([^`]*(?:\.edit|\.txt: \w+))` \|$", read_text(PAGE), re.M):
-        path, _, name = place.partition(": ")
-        there = os.path.isfile(f"{TOP}/crates/{path}")
-        yield place, there and (not name or f"\n[{name}]\n" in "\n" + read_text(f"crates/{path}"))
-
-
 @functools.cache
 def by_call() -> dict[Key, list[str]]:
     """The guarantees of each function."""
@@ -155,7 +146,7 @@ def by_call() -> dict[Key, list[str]]:
 
 
 @Test("guarantees", "each name of docs/GUARANTEES.md exists, and each public call is in a row")
-def guarantees(tally: Tally, options: Namespace) -> None:
+def guarantees(tally: Tally, options: Options) -> None:
     named = set[Key]()
     for row in rows():
         wrong = list(wrong_in(row))
@@ -163,5 +154,7 @@ def guarantees(tally: Tally, options: Namespace) -> None:
         named |= {key_of(it) for path in [*row.calls, *row.others] for it in functions(path)}
     for path, item in public_calls():
         tally.check(key_of(item) in named, f"{path} is in no row")
-    for place, holds in wrong_bodies():
-        tally.check(holds, f"there is no wrong body {place}")
+    for place in re.findall(r"^\| .* \| `([^`]*(?:\.edit|\.txt: \w+))` \|$", read_text(PAGE), re.M):
+        path, _, name = place.partition(": ")
+        is_there = os.path.isfile(f"{TOP}/crates/{path}") and (not name or f"\n[{name}]\n" in "\n" + read_text(f"crates/{path}"))
+        tally.check(is_there, f"there is no wrong body {place}")

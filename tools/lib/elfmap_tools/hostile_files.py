@@ -5,7 +5,6 @@ have. Each call has a small stack. The large files have up to 4 MB, but for spar
 header. `failing.c` counts what is asked for. The answers of large objects are the reference implementation's."""
 
 import os, random, sys
-from argparse import Namespace
 from collections.abc import Callable, Iterator
 from dataclasses import dataclass
 from itertools import chain, product
@@ -19,7 +18,7 @@ from .reference import (
     relocations, section, symbol, text, with_index_table, words,
 )  # fmt: skip
 from .suite import Tally, Test, environment
-from .tree import PROGRAM, TOP, Answer, read_text, run
+from .tree import PROGRAM, TOP, Answer, Options, read_text, run
 
 sys.path.insert(0, f"{TOP}/bench")
 import made  # noqa: E402
@@ -187,7 +186,7 @@ ABOUT = "tables made to do harm, and large files: answers, time, memory, and a s
 
 # It looks at the time of the processor, which other work on it lengthens.
 @Test("hostile-files", ABOUT, commands="cc prlimit", crates="elfmap", alone=True, family="fuzz")
-def hostile_files(tally: Tally, options: Namespace) -> None:
+def hostile_files(tally: Tally, options: Options) -> None:
     library = failing_library(tally.folder)
     of_cases = (it for it in every_case() if it.needs)
     for number, it in enumerate(chain(of_cases, many_rows(), large_rows())):

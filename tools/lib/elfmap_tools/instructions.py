@@ -10,12 +10,11 @@ folder, with relative names, the same environment, and the same routines of the 
 library or of valgrind the counts are slightly different."""
 
 import fcntl, os, re, shutil, subprocess, sys
-from argparse import Namespace
 from collections.abc import Callable
 from typing import Any
 
 from .suite import Tally, Test, flag
-from .tree import PROGRAM, TOP, read_bytes, read_text, said, write
+from .tree import PROGRAM, TOP, Options, read_bytes, read_text, said, write
 
 sys.path.insert(0, f"{TOP}/bench")
 import made  # noqa: E402
@@ -101,7 +100,7 @@ STORE = flag("store", "store the new numbers")
 
 
 @Test("instructions", "the instructions of each command, beside the stored numbers", commands="valgrind", crates="elfmap", options=(STORE,))
-def instructions(tally: Tally, options: Namespace) -> None:
+def instructions(tally: Tally, options: Options) -> None:
     shutil.copy(PROGRAM, f"{tally.folder}/program")
     counts: dict[str, Count] = {}
     for make, length, commands in ROWS:

@@ -3,10 +3,10 @@
 takes of it what it calls: without an engine neither the engines nor malloc. A release has the same as a shared library, libelfmap.so.0,
 which exports the calls of include/elfmap.h and nothing else."""
 
-import argparse, functools, glob, os, re, shutil, tempfile
+import functools, glob, os, re, shutil, tempfile
 
 from .building import built, output_of
-from .tree import TOP, read_text, wanted, write
+from .tree import TOP, Options, is_newer, matched, read_text, wanted, write
 
 VERDICTS, ENGINES = "elf_c", "elf_c_engines"
 # As words: the crates of the library, and the commands that pack it.
@@ -15,6 +15,9 @@ FOLDER = f"{TOP}/crates/{VERDICTS}/out"
 LIBRARY = f"{FOLDER}/libelfmap.a"
 SHARED = "libelfmap.so.0"
 FUNCTIONS = ("alloc", "dealloc", "realloc")
+# Rust's and Rattle's numbers as C has them.
+NUMBERS = {f"{kind[0]}{width}": f"{kind}{width}_t" for kind in ("int", "uint") for width in (8, 16, 32, 64)}
+NUMBERS |= {"usize": "size_t", "bool": "bool"}
 RENAMED = [word for it in FUNCTIONS for word in ("--redefine-sym", f"rattle_{it}=elfmap_{it}")]
 
 
@@ -50,6 +53,15 @@ def structs() -> dict[str, list[tuple[str, str, str]]]:
     return {tag: re.findall(r"((?:struct )?\w+)(?: \*| )(\w+)(?:\[(\d+)\])?;", body) for tag, body in bodies}
 
 
+def c_type(kind: str, tags: dict[str, str]) -> str:
+    """A type of Rust or Rattle as C has it, with the tags of structs by their names; a slice is a pointer, beside which C has a length."""
+    pointer, name, count = matched(r"(\*const |\*mut |&mut |&|)\[?(\w+)(?:; (\w+))?\]?$", kind).groups()
+    own = NUMBERS.get(name) or f"struct {tags[name]}"
+    if pointer:
+        return f"{'' if 'mut' in pointer else 'const '}{own} *"
+    return f"{own}[{count}]" if count else own
+
+
 def calls(result: str = r"bool|uint32_t|void|struct \w+") -> dict[str, list[str]]:
     """The functions that the header declares, those with a result, and the types of their parameters."""
     found = re.findall(rf"^(?:{result}) \**(elfmap_\w+)\((.*?)\);", header(), re.M | re.S)
@@ -73,11 +85,8 @@ def shared(archive: str, folder: str) -> str:
 def packed() -> str:
     """The archive in the folder of the library, packed anew where a part of it is newer."""
     parts = [*map(built, (VERDICTS, ENGINES)), f"{TOP}/bindings/c/memory.c"]
-    if os.path.isfile(LIBRARY) and all(os.path.getmtime(it) <= os.path.getmtime(LIBRARY) for it in parts):
-        return LIBRARY
-    return pack(FOLDER)
+    return LIBRARY if is_newer(LIBRARY, parts) else pack(FOLDER)
 
 
-def main(options: argparse.Namespace) -> int:
+def main(options: Options) -> None:
     print(pack(os.path.abspath(options.folder)))
-    return 0

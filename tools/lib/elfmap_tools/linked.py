@@ -14,7 +14,6 @@
 - made-programs, in made_programs.py."""
 
 import glob, os, re
-from argparse import Namespace
 from collections import Counter
 from collections.abc import Iterator
 from functools import partial
@@ -23,7 +22,7 @@ from typing import Any, NamedTuple
 from .packages import BY_LLVM, KLIBC, MACHINES, RUN_BY_QEMU
 from .reference import ALLOC, NOBITS, SYMTAB, UNDEF, File, answer, kept, string, symbols
 from .suite import Tally, Test
-from .tree import PROGRAM, RULES, TOP, Answer, answer_of, ending, read_bytes, read_text, run, wanted, write
+from .tree import PROGRAM, RULES, TOP, Answer, Options, answer_of, ending, read_bytes, read_text, run, wanted, write
 
 SOURCES = f"{TOP}/cases/sources"
 # The assembler and the linker of a machine; of all others those of this one.
@@ -190,7 +189,7 @@ class Both:
 
 
 @Test("linked-like-ld", "the link map beside ld's link", commands="gcc ld objcopy", crates="elfmap", family="linked")
-def linked_like_ld(tally: Tally, options: Namespace) -> None:
+def linked_like_ld(tally: Tally, options: Options) -> None:
     totals = Counter[str]()
     for title, words, base, page, fits in LD_CASES:
         with tally.trying(title):
@@ -252,7 +251,7 @@ def difference(shop: Workshop, objects: list[str], entry: str, base: str, page: 
 
 
 @Test("linked-runs", "programs run the same by ld and by elfmap", commands=RUNNERS, crates="elfmap", family="linked")
-def linked_runs(tally: Tally, options: Namespace) -> None:
+def linked_runs(tally: Tally, options: Options) -> None:
     for way, (compiler, flags, sources, _, entry) in ((way, it) for it in RUNS for way in it[3]):
         title = f"{' '.join(sources)} by {compiler} {way}"
         with tally.trying(title):
@@ -271,7 +270,7 @@ ELSEWHERE = " ".join(["gcc", *(f"{target}-as {target}-ld qemu-{qemu}" for qemu, 
 
 
 @Test("linked-elsewhere", "programs of other machines run the same", commands=ELSEWHERE, crates="elfmap", family="linked")
-def linked_elsewhere(tally: Tally, options: Namespace) -> None:
+def linked_elsewhere(tally: Tally, options: Options) -> None:
     for machine, target in RUN_BY_QEMU.items():
         with tally.trying(machine):
             shop = Workshop(tally.new_folder(machine))
@@ -322,7 +321,7 @@ def kinds_differ(shop: Workshop, machine: str, lines: list[list[str]], names: di
 
 
 @Test("linked-kinds", "each kind of rules/ beside the ld of its machine", commands=OF_KINDS, crates="elfmap", family="linked")
-def linked_kinds(tally: Tally, options: Namespace) -> None:
+def linked_kinds(tally: Tally, options: Options) -> None:
     for machine in sorted(os.path.basename(it)[:-6] for it in glob.glob(f"{TOP}/rules/*.rules")):
         lines = [it.split() for it in read_text(f"rules/{machine}.rules").splitlines()]
         numbers, names = named_kinds(machine)

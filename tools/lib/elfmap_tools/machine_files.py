@@ -1,8 +1,7 @@
 """`tools/test real-files` and `tools/test real-objects`: files of this machine. A part of them is tried, the same each time: those whose
-paths have the least sums. `--all` tries each."""
+paths have the least sums."""
 
-import hashlib, mmap, os, re, shutil, tempfile
-from argparse import Namespace
+import contextlib, hashlib, os, re, shutil, sys, tempfile
 from collections import Counter
 from collections.abc import Iterable, Iterator
 from itertools import chain, product
@@ -10,25 +9,19 @@ from typing import Any
 
 from .building import output_of
 from .reference import GROUP, NOBITS, REL, RELA, File, kept, string
-from .suite import Tally, Test, flag, number
-from .tree import PROGRAM, TOP, ending, files_below, read_bytes, run, side_by_side, write
+from .suite import Tally, Test, number
+from .tree import PACKAGE, PROGRAM, TOP, Options, ending, files_below, read_bytes, run, side_by_side, write
+
+sys.path.insert(0, PACKAGE)
+from elfmap._archives import members  # noqa: E402
+from elfmap._sources import Unreadable, opened  # noqa: E402
 
 ELF_64 = b"\x7fELF\x02"
 
 
-def some(paths: Iterable[str], options: Namespace) -> list[str]:
+def some(paths: Iterable[str], options: Options) -> list[str]:
     """So many of these paths, those of the least sums."""
-    ordered = sorted(paths, key=lambda it: hashlib.sha256(it.encode(errors="surrogateescape")).digest())
-    return ordered if options.all else ordered[: options.count]
-
-
-def front_of(path: str) -> bytes:
-    """The first bytes of a file, none where it can't be read."""
-    try:
-        with open(path, "rb") as it:
-            return it.read(18)
-    except OSError:
-        return b""
+    return sorted(paths, key=lambda it: hashlib.sha256(it.encode(errors="surrogateescape")).digest())[: options.count]
 
 
 def count_ends(tally: Tally, ends: list[str], good: str) -> None:
@@ -44,9 +37,9 @@ def files() -> Iterable[str]:
     """Each file once, by its device and number, that begins as an ELF file of class 64 does."""
     found: dict[tuple[int, int], str] = {}
     for path in chain(files_below("/usr/bin"), files_below("/usr/lib")):
-        about = os.stat(path)
-        if front_of(path).startswith(ELF_64):
-            found.setdefault((about.st_dev, about.st_ino), path)
+        with contextlib.suppress(OSError), open(path, "rb") as it:
+            if it.read(5) == ELF_64:
+                found.setdefault((os.stat(path).st_dev, os.stat(path).st_ino), path)
     return found.values()
 
 
@@ -63,39 +56,29 @@ def try_file(path: str) -> str:
     return "accepted" if back.returncode == 0 and back.stdout == read_bytes(path) else f"{path}: example_edit does not give it back"
 
 
-FILES, OBJECTS = ((number("count", it, "so many of them"), flag("all", "all of this machine")) for it in (2000, 4000))
+FILES, OBJECTS = ((number("count", it, "so many of them"),) for it in (2000, 4000))
 
 
 @Test("real-files", "ELF files of this machine through `check`, `show` and back", crates="elfmap example_edit", alone=True, options=FILES)
-def real_files(tally: Tally, options: Namespace) -> None:
+def real_files(tally: Tally, options: Options) -> None:
     count_ends(tally, side_by_side(try_file, some(files(), options)), "accepted|refused")
 
 
 # ---- objects
 
-
+# A file, and where the object begins in it and how long it is.
 Place = tuple[str, int, int]
 
 
-def members(path: str) -> Iterator[Place]:
-    """The members of an archive, as `ar` makes it, that are ELF files of class 64, each as its place in the file; none of another file."""
-    with open(path, "rb") as file, mmap.mmap(file.fileno(), 0, access=mmap.ACCESS_READ) as data:
-        at = 8
-        while data[:8] == b"!<arch>\n" and at + 60 <= len(data):
-            size = int(data[at + 48 : at + 58])
-            if data[at + 60 : at + 65] == ELF_64:
-                yield path, at + 60, size
-            at += 60 + size + size % 2
-
-
 def objects_of(path: str) -> list[Place]:
-    """The objects in a file: it, or the members of an archive."""
-    if not path.endswith(".a"):
-        front = front_of(path)
-        return [(path, 0, os.path.getsize(path))] if front[:5] == ELF_64 and front[16:18] in (b"\1\0", b"\0\1") else []
+    """The objects in a file: it, or the members of an archive; none where it can't be read."""
     try:
-        return list(members(path))
-    except (OSError, ValueError):
+        with opened(os.fsencode(path)) as source:
+            if path.endswith(".a"):
+                return [(path, it.start, it.size) for it in members(source, b"") if source[it.start : it.start + 5] == ELF_64]
+            is_object = source[:5] == ELF_64 and source[16:18] in (b"\1\0", b"\0\1")
+            return [(path, 0, len(source))] if is_object else []
+    except Unreadable:
         return []
 
 
@@ -205,7 +188,7 @@ ABOUT = "objects of this machine and its compilers through `rewrite`, beside rea
 
 
 @Test("real-objects", ABOUT, commands=TOOLS, crates="elfmap", alone=True, options=OBJECTS)
-def real_objects(tally: Tally, options: Namespace) -> None:
+def real_objects(tally: Tally, options: Options) -> None:
     below = [it for it in files_below("/usr/lib") if it.endswith((".o", ".a"))]
     found = {f"{path}({at})": (path, at, size) for it in below for path, at, size in objects_of(it)}
     objects = [place for path in compiled(tally.folder) for place in objects_of(path)] + [found[it] for it in some(found, options)]

@@ -6,13 +6,12 @@ is written is the executable of the reference implementation, byte for byte, and
 programs. What went wrong is put into the current folder, as made-program-SEED-K."""
 
 import os, platform, random
-from argparse import Namespace
 from dataclasses import dataclass
 
 from .making import Chance
 from .reference import answer
 from .suite import Tally, Test, count_tries, number
-from .tree import PROGRAM, RULES, answer_of, ending, read_bytes, run, wanted, write
+from .tree import PROGRAM, RULES, Options, answer_of, ending, read_bytes, run, wanted, write
 
 ASSEMBLER = "x86_64-linux-gnu-as"
 RUNS = platform.machine() == "x86_64"
@@ -144,17 +143,14 @@ class Program:
         self.status = (self.status + number) % 2**32
 
 
-def assembled(path: str, lines: Lines) -> bytes:
-    """The object that the assembler makes of these lines, as a file too."""
-    wanted(ASSEMBLER, write(f"{path}.s", "\n".join([*lines, ""])), "-o", f"{path}.o")
-    return read_bytes(f"{path}.o")
-
-
 def wrong_in(seed: int, k: int, folder: str) -> str:
     """What is wrong with program K."""
     chance = random.Random(f"{seed} {k}")
     made, (base, page) = Program(chance), chance.choice(PLACES)
-    files = {f"{k}.o": assembled(f"{folder}/{k}", lines) for k, lines in enumerate(made.files)}
+    files = {f"{k}.o": b"" for k in range(len(made.files))}
+    for name, lines in zip(files, made.files):
+        wanted(ASSEMBLER, write(f"{folder}/{name}.s", "\n".join([*lines, ""])), "-o", f"{folder}/{name}")
+        files[name] = read_bytes(f"{folder}/{name}")
     words = ["link", "--base", base, "--page", page, "--entry", "main", "--rules", RULES, *files]
     ended = run(PROGRAM, *words, folder=folder)
     if ended.returncode or answer_of(ended) != answer(words, {**files, RULES: read_bytes(RULES)}):
@@ -171,7 +167,7 @@ ABOUT = "programs of chance objects, linked and run"
 
 
 @Test("made-programs", ABOUT, commands=ASSEMBLER, crates="elfmap", alone=True, family="linked", options=OPTIONS)
-def made_programs(tally: Tally, options: Namespace) -> None:
+def made_programs(tally: Tally, options: Options) -> None:
     count_tries(tally, options, "made-program", wrong_in)
     if not RUNS:
         tally.note("the programs do not run on this machine")

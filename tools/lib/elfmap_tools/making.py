@@ -31,7 +31,9 @@ def plain_section(chance: Chance) -> Any:
     addr = max(1, align) * chance.choice((0, 0, 1, 5))
     entsize, info = chance.choice((0, 0, 1, 8)), chance.choice((0, 0, 7))
     body = size if is_without else bytes(chance.randrange(256) for _ in range(size))
-    return section(name, NOBITS if is_without else PROGBITS, body, flags, align, entsize, None, info, addr)
+    made = section(name, NOBITS if is_without else PROGBITS, body, flags, align, entsize, None, info)
+    made.addr = addr
+    return made
 
 
 def a_symbol(chance: Chance, binding: int, sections: list[int]) -> Any:

@@ -10,16 +10,16 @@ A growth may not ask for a number of bytes that is in the text and above a MiB. 
 `Write` of another fault, an `Io` that has `written`. It may be made in a `From` and in a method `after`, which have a failed write; where a
 call of a writer failed or took nothing, the arm `_` on `write`; and where a call that writes failed, the arm `Err(..)` on it.
 
-Then bodies are planted that make either fault thoughtlessly: in each library one, and in the first of them all. Each has to be refused."""
+Then the bodies of cases/memory_faults.bodies are planted, which make either fault thoughtlessly: in each library one, and in the first of
+them all. Each has to be refused."""
 
-import collections, functools, glob, re
-from argparse import Namespace
+import collections, functools, glob, re, textwrap
 from collections.abc import Iterator
 from dataclasses import dataclass
 
 from .sources import LITERAL, indent_of
 from .suite import Tally, Test
-from .tree import TOP, read_text
+from .tree import TOP, Options, read_text
 
 WANT = re.compile(r"\b(OutOfMemory|AllocError)\b")
 # Calls of the standard library that fail only where memory is refused, and those whose first argument is a length.
@@ -184,47 +184,16 @@ def faults_in(found: dict[str, str]) -> tuple[collections.Counter[str], list[str
     return forms, wrong
 
 
-# ---- what has to be refused
-
-# What is put at the head of a function's body, and in a line of its own behind the function; VALUE is the fault, FAULT its type.
-WAYS = {
-    "a limit": "if 1 + 1 >= 1000 { return Err(VALUE); }",
-    "a sum that may be too large": "let Some(_) = 1usize.checked_add(2) else { return Err(VALUE); };",
-    "a sum made a fault": "1usize.checked_add(2).ok_or(VALUE)?;",
-    "a fault made another": '"1".parse::<u8>().map_err(|_| VALUE)?;',
-    "an arm for a number": "match 1 + 1 { 33 => return Err(VALUE), _ => {} }",
-    "an arm for any fault": 'match "1".parse::<u8>() { Ok(_) => {} Err(_) => return Err(VALUE), }',
-    "an arm for another fault as well": "match given() { Ok(_) => {} Err(OutOfMemory | Rule) => return Err(VALUE), }",
-    "an answer that is none": 'let Ok(_) = "1".parse::<u8>() else { return Err(VALUE); };',
-    "a helper that always fails": "give_up()?;\nfn give_up() -> Result<(), FAULT> { Err(VALUE) }",
-    "room for too much": "let _room: Vec<u8> = Vec::with_capacity(alloc, usize::MAX)?;",
-    "room for a number of the text": "let _room: Vec<u8> = Vec::with_capacity(alloc, 1_000_000_000_000)?;",
-    "the value by another name": "let want = VALUE; if 1 + 1 >= 1000 { return Err(want); }",
-}
-# Those that are tried with a failed write too.
-WRITE_WAYS = ["a limit", "an arm for any fault", "a sum that may be too large", "a helper that always fails"]
-
-
-def laid_out(code: str, depth: int) -> str:
-    """Code in the lines of `rt fmt`."""
-    lines = list[str]()
-    for line in re.sub(r"(?<=\{) | (?=\})|(?<=[;}]) |(?<=,) (?=_ =>)", "\n", code).split("\n"):
-        depth -= line.startswith("}")
-        lines.append("    " * depth + line)
-        depth += line.endswith("{")
-    return "\n".join(lines)
-
-
 def planted(text: str, function: Function, way: str, value: str) -> str:
     """The text of a file with a body that gives up at the head of a function: its body begins a line."""
-    head, _, behind = WAYS[way].replace("VALUE", value).replace("FAULT", function.fault).partition("\n")
+    head, _, behind = way.replace("VALUE", value).replace("FAULT", function.fault).strip("\n").partition("\n\n")
     lines = text.split("\n")
-    lines.insert(function.begin + 1, laid_out(head, indent_of(lines[function.begin]) // 4 + 1))
-    return "\n".join([*lines, laid_out(behind, 0)])
+    lines.insert(function.begin + 1, textwrap.indent(head, " " * (indent_of(lines[function.begin]) + 4)))
+    return "\n".join([*lines, behind])
 
 
 @Test("memory-faults", "out of memory and failed writes are made only where an allocation or a write failed")
-def memory_faults(tally: Tally, options: Namespace) -> None:
+def memory_faults(tally: Tally, options: Options) -> None:
     found = {path: read_text(path) for path in sorted(glob.glob("crates/elf*/src/**/*.rt", root_dir=TOP, recursive=True))}
     forms, wrong = faults_in(found)
     tally.count(sum(forms.values()) + len(wrong), wrong)
@@ -238,11 +207,13 @@ def memory_faults(tally: Tally, options: Namespace) -> None:
             places.setdefault(crate, (it, it.fault if it.faults == "out" else f"{it.fault}::OutOfMemory"))
         if it.fault in WRITTEN:
             writers.setdefault(crate, (it, WRITTEN[it.fault]))
-    for names, plants in ((list(WAYS), places), (WRITE_WAYS, writers)):
+    _, *bodies = re.split(r"^== (.*)\n", read_text("cases/memory_faults.bodies"), flags=re.M)
+    ways = dict(zip(bodies[::2], bodies[1::2]))
+    for names, plants in ((list(ways), places), ([it for it in ways if it.endswith("*")], writers)):
         for k, (crate, (function, value)) in enumerate(sorted(plants.items())):
             path = function.path
             # Each library one way, the first of them all.
             for way in names if k == 0 else [names[k % len(names)]]:
-                _, wrong = faults_in({**found, path: planted(found[path], function, way, value)})
+                _, wrong = faults_in({**found, path: planted(found[path], function, ways[way], value)})
                 is_refused = any(it.startswith(f"{path}:") for it in wrong)
                 tally.check(is_refused, f"{crate}, {function.name}: {way}: not refused")

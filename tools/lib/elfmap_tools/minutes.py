@@ -5,7 +5,9 @@ It looks every two seconds at the processes below PID, until it is told to end (
 crate has the minutes of the checker's runs on it: its proof, its tests, the edits of its must-fail/, and its planted bugs. What a process
 did after the last look at it is lost, two seconds at most."""
 
-import argparse, collections, os, signal, time
+import collections, os, signal, time
+
+from .tree import Options
 
 TICKS = 60 * os.sysconf("SC_CLK_TCK")
 COLUMNS = ("all", "proof", "tests", "edits", "mutations")
@@ -93,7 +95,7 @@ class Minutes:
             print(f"{f'  {crate}':30}" + "".join(f"{it:>11}" for it in cells))
 
 
-def main(options: argparse.Namespace) -> int:
+def main(options: Options) -> None:
     ended: list[bool] = []
     signal.signal(signal.SIGTERM, lambda *_: ended.append(True))
     minutes = Minutes(options.pid)
@@ -101,4 +103,3 @@ def main(options: argparse.Namespace) -> int:
         minutes.look()
         time.sleep(2)
     minutes.print()
-    return 0

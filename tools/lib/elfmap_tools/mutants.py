@@ -9,7 +9,6 @@ of the rules is an error of status 2, a file that is not there one of status 3; 
 what `link` wrote. The same seed makes the same files. What went wrong is put into the current folder, as fuzzed-SEED-K."""
 
 import os, random, re, shutil, subprocess
-from argparse import Namespace
 from collections.abc import Iterable
 from functools import partial
 from itertools import zip_longest
@@ -17,7 +16,7 @@ from itertools import zip_longest
 from .making import Chance, a_file, fuzzed
 from .reference import RELA, answer
 from .suite import Tally, Test, count_tries, number
-from .tree import PROGRAM, RULES, TOP, Answer, answer_of, ending, read_bytes, run as run_command, write
+from .tree import PROGRAM, RULES, TOP, Answer, Options, answer_of, ending, read_bytes, run as run_command, write
 
 run = partial(run_command, timeout=10)
 LONGEST = 1 << 19
@@ -76,10 +75,8 @@ RULE = re.compile(rb"[0-9]+ (abs|pc|none) [1248] (signed|unsigned|wrap)")
 def bad_line(rules: bytes) -> int:
     """The number of the first line that is no rule, 0 if there is none."""
     *lines, rest = rules.split(b"\n")
-    for number, line in enumerate(lines, 1):
-        if number > 256 or not RULE.fullmatch(line) or int(line.split(b" ")[0]) >= 1 << 32:
-            return number
-    return len(lines) + 1 if rest else 0
+    bad = (number > 256 or not RULE.fullmatch(it) or int(it.split(b" ")[0]) >= 1 << 32 for number, it in enumerate(lines, 1))
+    return next((number for number, is_bad in enumerate(bad, 1) if is_bad), len(lines) + 1 if rest else 0)
 
 
 def right_answer(words: list[str], files: dict[str, bytes]) -> Answer | None:
@@ -141,7 +138,7 @@ ABOUT, COMPILERS = "files and links with fields changed, beside the reference im
 
 
 @Test("mutants", ABOUT, commands=COMPILERS, crates="elfmap", alone=True, family="fuzz", options=OPTIONS)
-def mutants(tally: Tally, options: Namespace) -> None:
+def mutants(tally: Tally, options: Options) -> None:
     for it in SOURCES:
         shutil.copy(f"{TOP}/cases/sources/{it}", tally.folder)
     system = [it for it in SYSTEM if os.path.exists(it) and os.path.getsize(it) <= LONGEST]

@@ -11,14 +11,13 @@ has just left them. A library of the program that has none of them, and no edit 
 its contracts refuse a wrong body."""
 
 import os, re, shutil, tempfile
-from argparse import Namespace
 from collections import Counter
 from collections.abc import Iterable
 from concurrent.futures import ThreadPoolExecutor, as_completed
 
-from .kit import FolderOf, built_below, gate_folder, kit, said_by, words
-from .suite import Option, Tally, Test, flag, named
-from .tree import PROCESSORS, TOP, below, libraries, read_text, write
+from .building import FolderOf, built_below, checked, gate_folder
+from .suite import Tally, Test, flag, word
+from .tree import PROCESSORS, TOP, Options, below, libraries, read_text, write
 
 
 class Edit:
@@ -76,13 +75,6 @@ def must_fail_of(crate: str) -> list[Edit]:
 
 
 # ---- what the check says of planted bugs
-
-
-def check(crate: str, functions: Iterable[str], folder: str, folder_of: FolderOf) -> str:
-    """What the checker says of these functions of the crate as its text in the folder is, and of those that they call."""
-    only = [word for it in functions for word in ("--only", it.removeprefix(f"{crate}::"))]
-    root = "src/lib.rt" if os.path.isfile(f"{folder}/src/lib.rt") else "src/main.rt"
-    return said_by([f"{kit()}/bin/rattle", "check", *words(crate, root, folder_of), "--incremental", "kept", *only], folder)
 
 
 def came_to_its_end(said: str) -> bool:
@@ -143,7 +135,7 @@ def planted(picked: list[Edit], folder: str, folder_of: FolderOf) -> dict[Edit, 
     # What another bug made of the text may be why one can't be planted: it waits for its turn.
     if not alone:
         whys = {bug: why for bug, why in whys.items() if not why}
-    said = "" if any(whys.values()) else check(picked[0].crate, [bug.function for bug in whys], folder, folder_of)
+    said = "" if any(whys.values()) else checked(picked[0].crate, [bug.function for bug in whys], folder, folder_of, "kept")
     # A text that the check can't read says nothing of the other bugs in it: each is planted alone.
     if not alone and not came_to_its_end(said):
         return {}
@@ -170,23 +162,14 @@ def try_all(left: list[Edit], folder_of: FolderOf) -> list[tuple[Edit, str]]:
     return ends
 
 
-def plant_all(tally: Tally, bugs: list[list[Edit]], folder_of: FolderOf) -> None:
-    """Tries the bugs of these crates, some crates at a time."""
-    with ThreadPoolExecutor(min(4, PROCESSORS)) as pool:
-        for tried in as_completed([pool.submit(try_all, those, folder_of) for those in bugs]):
-            ends = sorted(tried.result(), key=lambda end: end[0].name)
-            tally.count(len(ends), (f"{bug.crate}: {bug.name}: {end}" for bug, end in ends if end != "refused"))
-            tally.note(f"{ends[0][0].crate}: {sum(end == 'refused' for _, end in ends)} of {len(ends)} refused")
-
-
 ABOUT = "the check refuses each bug of mutations.txt with 'gate: yes'; of CRATE.., or with --all of every crate, each bug"
-CRATES: Option = ("crates", {"nargs": "*", "metavar": "CRATE", "help": "the crates whose bugs are planted, all of them"})
+CRATES = word("crates", "the crates whose bugs are planted, all of them", nargs="*", metavar="CRATE")
 FLAGS = flag("all", "plant all bugs"), flag("fit", "plant none: only say whether each edit fits the text that it changes")
-ONLY = named("only", "plant the bug of this name alone")
+ONLY = word("--only", "plant the bug of this name alone", metavar="NAME", default="")
 
 
 @Test("mutations", ABOUT, alone=True, options=(*FLAGS, ONLY, CRATES))
-def mutations(tally: Tally, options: Namespace) -> None:
+def mutations(tally: Tally, options: Options) -> None:
     crates = options.crates or sorted(libraries())
     unknown = [it for it in crates if it not in libraries()]
     if unknown:
@@ -204,7 +187,12 @@ def mutations(tally: Tally, options: Namespace) -> None:
         folder_of, lacking = built_below([it[0].crate for it in bugs]) if everything else (gate_folder, [])
         if lacking:
             return tally.fail(f"not built: {' '.join(lacking)}; `tools/dev prove CRATE` builds the libraries below a crate")
-        plant_all(tally, bugs, folder_of)
+        # Some crates at a time.
+        with ThreadPoolExecutor(min(4, PROCESSORS)) as pool:
+            for tried in as_completed([pool.submit(try_all, those, folder_of) for those in bugs]):
+                ends = sorted(tried.result(), key=lambda end: end[0].name)
+                tally.count(len(ends), (f"{bug.crate}: {bug.name}: {end}" for bug, end in ends if end != "refused"))
+                tally.note(f"{ends[0][0].crate}: {sum(end == 'refused' for _, end in ends)} of {len(ends)} refused")
     if not options.crates and not options.only:
         for crate in below("elfmap"):
             is_tried = must_fail_of(crate) or any(it.is_for_gate for it in bugs_of(crate))

@@ -1,19 +1,19 @@
-"""Checks of the texts of crates/ that need nothing built: `tools/test names`, `must-not-compile` and `launcher`."""
+"""Checks of texts that need nothing built: `tools/test names`, `must-not-compile` and `launcher`, and of the tools themselves and of the
+Python package: `types` and `format`."""
 
 import collections, glob, os, re, shutil
-from argparse import Namespace
 
 from .doc_examples import words as words_over_sources
-from .kit import kit, said_by
+from .building import kit
 from .sources import Definition, definitions
-from .suite import Tally, Test
-from .tree import TOP, read_text, run, write
+from .suite import Tally, Test, flag, steps_of
+from .tree import PACKAGE, TOP, Options, read_text, run, said, write
 
 # ---- names: one name of a definition means one thing in the whole repository
 
 
 @Test("names", "each name of a definition is in one crate")
-def names(tally: Tally, options: Namespace) -> None:
+def names(tally: Tally, options: Options) -> None:
     places = collections.defaultdict[str, list[Definition]](list)
     for path in sorted(glob.glob("crates/*/specs/**/*.antt", root_dir=TOP, recursive=True)):
         for name, it in definitions(path)[0].items():
@@ -27,104 +27,55 @@ def names(tally: Tally, options: Namespace) -> None:
 
 # ---- must-not-compile: what borrows from a file's bytes must not outlive them
 
-CRATE_HEAD = "//! What must not outlive the bytes of its file: none of this compiles.\n#![tactic(auto)]\n\n"
-CASE = """//! It borrows from bytes that are gone when it is out.
-use elf_image_type::parse;
-{uses}
-use std::alloc::Global;
-
-pub fn gone<'a>(alloc: Global) -> Option<{kind}> {{
-    let mut bytes = [0u8; 64];
-    bytes[0] = 0x7f;
-    match parse(alloc, &bytes) {{
-        Ok(image) if image.section_count() > 0 => {body},
-        _ => None,
-    }}
-}}
-"""
-# A file of the crate: what goes out, its type, what it uses, and how it is had of an image of bytes that are the function's own.
-CASES = (
-    ("content", "&'a [u8]", "", "Some(image.content(0))"),
-    ("name", "&'a [u8]", "", "Some(image.name(0))"),
-    ("image", "elf_image_type::Image<'a>", "", "Some(image)"),
-    ("symbols", "Symbols<'a>", "use elf_table_symbols::Symbols;", "Symbols::new(&image, 0).ok()"),
-    ("strings", "Strings<'a>", "use elf_table_symbols::Strings;", "Strings::new(&image, 0).ok()"),
-    ("notes", "Notes<'a>", "use elf_table_lists::Notes;", "Notes::new(&image, 0).ok()"),
-    ("dynamic", "Dynamic<'a>", "use elf_table_lists::Dynamic;", "Dynamic::new(&image, 0).ok()"),
-    ("group", "Group<'a>", "use elf_table_lists::Group;", "Group::new(alloc, &image, 0).ok()"),
-    ("object", "Object<'a>", "use elf_object_reader::object_of; use elf_object_type::Object;", "object_of(alloc, &image).ok()"),
-)
-
 
 @Test("must-not-compile", "what borrows from a file's bytes and outlives them is refused by the borrow checker")
-def must_not_compile(tally: Tally, options: Namespace) -> None:
-    """The check has to have an error of the borrow checker in each file of a crate."""
-    crates = sorted(set(re.findall(r"use (elf_\w+)::", " ".join([CASE, *(uses for _, _, uses, _ in CASES)]))))
-    source = tally.new_folder("src")
-    write(f"{source}/lib.rt", CRATE_HEAD + "".join(f"pub mod {name};\n" for name, *_ in CASES))
-    for name, kind, uses, body in CASES:
-        write(f"{source}/{name}.rt", CASE.format(kind=kind, uses=uses, body=body))
-    output = said_by([f"{kit()}/bin/rattle", *words_over_sources(crates)], tally.folder)
-    for name, *_ in CASES:
-        tally.check(re.search(rf"{name}\.rt:.*borrow-e0(505|515|597)", output), f"the borrow checker did not refuse {name}")
+def must_not_compile(tally: Tally, options: Options) -> None:
+    """The check has to have an error of the borrow checker in each function of cases/sources/outlives.rt."""
+    text = read_text("cases/sources/outlives.rt")
+    write(f"{tally.new_folder('src')}/lib.rt", text)
+    output = said(f"{kit()}/bin/rattle", *words_over_sources(re.findall(r"^use (elf_\w+)::", text, re.M)), folder=tally.folder).stdout
+    refused = [int(it) for it in re.findall(r"^src/lib\.rt:(\d+):.*borrow-e0(?:505|515|597)", output, re.M)]
+    for it in re.finditer(r"^pub fn (\w+)(?:.*\n)*?^}", text, re.M):
+        first, last = (text.count("\n", 0, place) + 1 for place in it.span())
+        tally.check(any(first <= line <= last for line in refused), f"the borrow checker did not refuse {it[1]}")
     if tally.failed:
         tally.note(output[-2000:])
 
 
 # ---- launcher: what ./elfmap builds and runs for which words
 
-# A stand-in for tools/dev whose programs print their name and their words.
-DEV = """#!/bin/sh
-top=${0%/tools/dev}
-echo "$2" >> "$top/built"
-if [ -e "$top/changes" ]; then "$top/replace"; fi
-if [ -e "$top/fails" ]; then exit 1; fi
-printf '#!/bin/sh\\necho "%s" "$@"\\n' "$2" > "$top/crates/$2/out/$2"
-chmod +x "$top/crates/$2/out/$2"
-"""
-# As git and most editors write a file. A file's time counts in steps of some milliseconds.
-REPLACE = """#!/bin/sh
-cd "${0%/*}/crates/elf_field/src" && sleep 0.1 && cp lib.rt lib.rt.new && mv lib.rt.new lib.rt
-"""
-# Of each call its status, what is built, what is printed, and its words; a word in capitals is done before it.
-CALLS = (
-    (0, "-", "elfmap 7.8", "--version"),
-    (0, "elfmap_check", "elfmap_check check a.o", "check a.o"),
-    (0, "-", "elfmap_check check -- -a.o", "check -- -a.o"),
-    (0, "elfmap", "elfmap check", "check"),
-    (0, "-", "elfmap check a.o", "check a.o"),
-    (0, "-", "elfmap show a.o", "show a.o"),
-    # What is changed while a program is built is in no program: the next call builds again.
-    (0, "elfmap_check", "elfmap_check check a.o", "CHANGES check a.o"),
-    (0, "elfmap_check", "elfmap_check check a.o", "STEADY check a.o"),
-    (0, "-", "elfmap_check check a.o", "check a.o"),
-    (0, "elfmap", "elfmap", ""),
-    (3, "elfmap", "", "FAILS show a.o"),
-)
-
 
 @Test("launcher", "what ./elfmap builds and runs for which words")
-def launcher(tally: Tally, options: Namespace) -> None:
-    tree = tally.folder
-    for it in ("tools", "crates/elf_field/src"):
-        os.makedirs(f"{tree}/{it}")
-    shutil.copy(f"{TOP}/elfmap", tree)
-    texts = {"crates/elf_field/src/lib.rt": "\n", "VERSION": "7.8\n", "tools/dev": DEV, "replace": REPLACE}
-    for path, text in texts.items():
-        os.chmod(write(f"{tree}/{path}", text), 0o755)
-    os.symlink(f"{tree}/elfmap", f"{tree}/link")
-    for status, built, output, words in CALLS:
-        given = words.split()
-        before = given.pop(0) if given and given[0].isupper() else ""
-        if before == "STEADY":
-            os.remove(f"{tree}/changes")
-        elif before:
-            write(f"{tree}/{before.lower()}", "")
-            run(f"{tree}/replace")
-        write(f"{tree}/built", "")
-        ended = run(f"{tree}/link", *given, folder="/")
-        found = (ended.returncode, read_text(f"{tree}/built").strip() or "-", ended.stdout.decode().strip())
-        tally.same(f"elfmap {words}", found, (status, built, output))
+def launcher(tally: Tally, options: Options) -> None:
+    os.makedirs(f"{tally.folder}/crates/elf_field/src")
+    write(f"{tally.folder}/crates/elf_field/src/lib.rt", "\n")
+    shutil.copy(f"{TOP}/elfmap", tally.folder)
+    tally.try_steps(steps_of("launcher.steps"), lambda script: said("sh", "-c", script, folder=tally.folder).stdout)
     # It looks at the times of these folders alone.
     inner = [it for it in glob.glob(f"{TOP}/crates/elf*/src/*") if os.path.isdir(it)]
     tally.check(not inner, f"./elfmap does not see changes in {inner}")
+
+
+# ---- the tools themselves and the Python package
+
+PROGRAMS = [f"{TOP}/tools/{it}" for it in ("dev", "test", "release")]
+SETTINGS = f"{TOP}/tools/pyproject.toml"
+
+
+@Test("types", "mypy --strict over tools/ and the Python package", commands="mypy")
+def types(tally: Tally, options: Options) -> None:
+    words = ["mypy", "--config-file", SETTINGS, "--cache-dir", f"{TOP}/crates/elfmap/out/mypy"]
+    ran = said(*words, f"{TOP}/tools/lib/elfmap_tools", *PROGRAMS, folder=f"{TOP}/tools")
+    tally.check(ran.returncode == 0, ran.stdout)
+    # The package runs by Python 3.9 too.
+    ran = said("mypy", "--strict", "--python-version", "3.9", "--cache-dir", f"{TOP}/crates/elfmap/out/mypy", "elfmap", folder=PACKAGE)
+    tally.check(ran.returncode == 0, ran.stdout)
+
+
+@Test("format", "black over tools/ and the Python package", commands="black", options=(flag("write", "format it"),))
+def format(tally: Tally, options: Options) -> None:
+    folders = (f"{TOP}/tools/lib/elfmap_tools", f"{PACKAGE}/elfmap", f"{PACKAGE}/tests")
+    # The tables of rules are generated.
+    files = [it for folder in folders for it in glob.glob(f"{folder}/*.py") if not it.endswith("/_rules.py")]
+    ran = said("black", "--config", SETTINGS, *([] if options.write else ["--check"]), "--quiet", *files, *PROGRAMS)
+    tally.check(ran.returncode == 0, "the Python is not formatted: `tools/test format --write` does it")

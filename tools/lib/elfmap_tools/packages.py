@@ -7,18 +7,19 @@ from .tree import run
 
 KLIBC = "/usr/lib/klibc/lib/libc.a"
 # What Debian's python3 imports.
-JSONSCHEMA, JUNITPARSER = (f"/usr/lib/python3/dist-packages/{it}/__init__.py" for it in ("jsonschema", "junitparser"))
+PYTHON_MODULES = "/usr/lib/python3/dist-packages"
+JSONSCHEMA, JUNITPARSER, SELENIUM = (f"{PYTHON_MODULES}/{it}/__init__.py" for it in ("jsonschema", "junitparser", "selenium"))
 # Debian's clang brings its checks of addresses and of undefined behavior only as a recommended package.
 SANITIZERS = "/usr/lib/llvm-*/lib/clang/*/lib/linux/libclang_rt.asan-x86_64.a"
 # The commands of each package, by their first words, or a file that has to be there.
 COMMANDS = {
     "binutils": "ar as ld nm objcopy readelf", "binaryen": "wasm-opt", "black": "black", "cargo-web": "cargo",
     "binutils-x86-64-linux-gnu": "x86_64-linux-gnu-as",
-    "chromium": "chromium", "clang": "clang", "debootstrap": "debootstrap", "dpkg": "dpkg-deb", "elfutils": "eu-elflint",
+    "chromium": "chromium", "chromium-driver": "chromedriver", "clang": "clang", "debootstrap": "debootstrap", "dpkg": "dpkg-deb", "elfutils": "eu-elflint",
     "g++": "c++ g++", "gcc": "cc gcc", "git": "git", "groff": "groff", "libclang-rt-14-dev": SANITIZERS, "libklibc-dev": KLIBC,
-    "lld": "ld.lld", "lld-19": "ld.lld-19", "llvm": "llvm-objcopy", "llvm-19": "llvm-mc-19",
+    "lld": "ld.lld", "lld-19": "ld.lld-19", "llvm": "llvm-objcopy llvm-readobj", "llvm-19": "llvm-mc-19",
     "man-db": "man", "mypy": "mypy", "nodejs": "node", "pkg-config": "pkg-config",
-    "pre-commit": "pre-commit", "python3-jsonschema": JSONSCHEMA, "python3-junitparser": JUNITPARSER,
+    "pre-commit": "pre-commit", "python3-jsonschema": JSONSCHEMA, "python3-junitparser": JUNITPARSER, "python3-selenium": SELENIUM,
     "rustc-web": "rustc", "util-linux": "prlimit unshare", "valgrind": "valgrind",
 }  # fmt: skip
 PACKAGES = {command: package for package, commands in COMMANDS.items() for command in commands.split()}

@@ -2,36 +2,25 @@
 
 - In node: what the page's reader and its check of tables say of files of this machine, of cases/ and of changed copies of them is what
   `elfmap show` prints, line by line, but for the lines of groups.
-- In chromium, by its debugger: what a person sees of sound and refused files, with a mouse, by keys alone, and by a reader of the screen."""
+- In chromium, by Selenium: what a person sees of sound and refused files, with a mouse, by keys alone, and by a reader of the screen."""
 
 import contextlib, json, os, random
-from argparse import Namespace
 from collections.abc import Iterator
 
-from .browser import Browser
 from .cases import case_files, cases_of
 from .library import VERDICTS as CRATE
-from .page import layout, module, page
+from .making import fuzzed
+from .packages import SELENIUM
+from .page import Browser, layout, module, page
+from .reference import verdict
 from .suite import Tally, Test, number
-from .tree import PROGRAM, TOP, read_bytes, said, write
+from .tree import PROGRAM, TOP, Options, read_bytes, said, write
 
 MACHINE_FILES = ["/bin/true", "/bin/ls", "/usr/lib/gcc/x86_64-linux-gnu/12/crtbegin.o"]
 MACHINE_FILES += [f"/usr/lib/x86_64-linux-gnu/{it}" for it in ("crt1.o", "Scrt1.o", "crti.o", "libdl.so.2", "libutil.so.1")]
 LONGEST = 1 << 17
 
 # ---- in node
-
-
-def changed(content: bytes, choose: random.Random) -> bytes:
-    """A copy with a few bytes changed, most of them in its header and tables; or cut."""
-    made = bytearray(content)
-    if choose.random() < 0.1:
-        return bytes(made[: choose.randrange(len(made))])
-    table = int.from_bytes(made[40:48], "big" if made[5] == 2 else "little")
-    for _ in range(choose.choice((1, 1, 2, 4))):
-        from_, to = choose.choice(((0, 64), (table, len(made)), (0, len(made)))) if 0 < table < len(made) else (0, len(made))
-        made[choose.randrange(from_, min(to, len(made)))] = choose.choice((0, 1, 2, 7, 255, choose.randrange(256)))
-    return bytes(made)
 
 
 def in_node(tally: Tally, room: str, count: int) -> None:
@@ -41,8 +30,8 @@ def in_node(tally: Tally, room: str, count: int) -> None:
     for path in filter(os.path.isfile, MACHINE_FILES):
         contents.setdefault(read_bytes(path), path.replace("/", "-"))
     files = [write(f"{room}/files/{name}", content) for content, name in contents.items()]
-    choose, short = random.Random(48), [it for it in map(read_bytes, files) if 64 <= len(it) <= LONGEST]
-    files += [write(f"{room}/files/changed-{k}", changed(choose.choice(short), choose)) for k in range(count)]
+    chance, sound = random.Random(48), [it for it in map(read_bytes, files) if len(it) <= LONGEST and verdict(it) is None]
+    files += [write(f"{room}/files/changed-{k}", fuzzed(chance.choice(sound), chance)) for k in range(count)]
     told: dict[str, list[str]] = {}
     for k in range(0, len(files), 500):
         ran = said("node", f"{TOP}/page/lines.js", module(), f"{room}/layout.json", *files[k : k + 500])
@@ -73,17 +62,16 @@ SOURCE = 'int limit = 3; int work(int); const char *name(void) { return "answer"
 
 def explained(kind: str) -> Iterator[tuple[str, bytes, str]]:
     """The cases of explain.txt of this kind of rule: the number of its rule, its file, and what the program prints."""
-    case = cases_of(f"{TOP}/cases/explain.txt")
-    for it in (it for it in case.cases if it.note.startswith(kind)):
-        yield it.note.split(" ", 2)[1], bytes(case.files[it.needs[0].partition("=")[2]]), it.out.decode()
+    for it in (it for it in cases_of(f"{TOP}/cases/explain.txt") if it.note.startswith(kind)):
+        yield it.note.split(" ", 2)[1], bytes(it.files[it.needs[0].partition("=")[2]]), it.out.decode()
 
 
-class InChromium:
-    """The page in a browser."""
+class InChromium(Browser):
+    """The page in a browser, and what is tried there."""
 
-    def __init__(self, tally: Tally, browser: Browser, room: str) -> None:
+    def __init__(self, tally: Tally, room: str) -> None:
+        super().__init__()
         self.check, self.note, self.room = tally.check, tally.note, room
-        self.browser, self.text, self.value, self.click, self.wait = browser, browser.text, browser.value, browser.click, browser.wait
 
     def waits(self, expression: str, why: str) -> None:
         self.check(self.wait(expression), why)
@@ -97,7 +85,7 @@ class InChromium:
     def show(self, path: str, is_dropped: bool = False) -> None:
         """Opens a file in the page, and waits until it is shown."""
         before = self.value("document.body.dataset.ready ?? '0'")
-        self.browser.drop(path) if is_dropped else self.browser.choose("#chosen", path)
+        self.drop(path) if is_dropped else self.choose("#chosen", path)
         self.waits(f"(document.body.dataset.ready ?? '0') !== '{before}'", f"{path} is not shown")
 
     def sound_file(self, path: str) -> None:
@@ -137,27 +125,26 @@ class InChromium:
 
     def by_keys(self) -> None:
         """To the map, along it, into a part and out again, without a mouse."""
-        press = self.browser.press
         self.value("document.querySelector('#chosen').focus()")
-        press("Tab")
+        self.press("TAB")
         self.check(self.value("document.activeElement.parentElement.id") == "map", "the tabulator does not lead to the map")
-        press("ArrowRight")
+        self.press("ARROW_RIGHT")
         label, words = self.value("document.activeElement.ariaLabel"), self.text("#map-words")
         self.check(words == label, f"the arrow leads to {label}, and the words are {words}")
-        press("Enter")
+        self.press("ENTER")
         self.waits("document.querySelector('#map [aria-current=true]')", "the part is not chosen")
         scale, before = "document.querySelector('#map-scale').textContent", self.text("#map-scale")
         self.click("#zoom-in")
         self.waits(f"{scale} !== '{before}'", "there is no zoom")
         self.value("document.querySelector('#map button').focus()")
-        press("Escape")
-        press("Escape")
+        self.press("ESCAPE")
+        self.press("ESCAPE")
         self.click("#zoom-whole")
         self.waits(f"{scale} === '{before}'", "there is no way back")
 
     def for_readers(self) -> None:
         """What a reader of the screen is told."""
-        tree = self.browser.tree()
+        tree = self.tree()
         missing = {(role, name) for role, names in READ.items() for name in names} - {*tree}
         self.check(not missing, f"the tree has no {missing}")
         nameless = [it for it in tree if it[0] in PRESSED and not it[1]]
@@ -166,14 +153,14 @@ class InChromium:
     def on_screens(self) -> None:
         """The colours of the map are seen, light and dark; and a screen of 360 points is wide enough."""
         for dark in (False, True):
-            seen = self.browser.colours(self.browser.screen(1200, 1000, dark))
+            seen = self.colours(self.screen(1200, 1000, dark))
             for colour in ("6b7689", "c0504d", "4f81bd"):
                 self.check(seen.get(colour, 0) > 100, f"the colour {colour} is not seen, dark: {dark}")
             ground = max(seen, key=seen.__getitem__)
             self.check((sum(bytes.fromhex(ground)) < 200) == dark, f"the ground is {ground}, dark: {dark}")
-        self.browser.screen(360, 800)
+        self.screen(360, 800)
         self.check(self.value("document.documentElement.scrollWidth") <= 360, "a screen of 360 points is too small")
-        self.browser.screen(1200, 1000)
+        self.screen(1200, 1000)
 
     def refused_files(self, path: str) -> None:
         content = read_bytes(path)
@@ -221,7 +208,7 @@ class InChromium:
 
     def folder(self) -> None:
         os.mkdir(f"{self.room}/folder")
-        self.browser.drop(f"{self.room}/folder")
+        self.drop(f"{self.room}/folder")
         self.waits("/folder/.test(document.querySelector('#said').textContent)", f"of a folder is said: {self.text('#said')}")
 
     def million(self) -> None:
@@ -236,28 +223,25 @@ class InChromium:
             self.opens("symbols", "Symbols 1 to 100 of 1,000,")
 
 
-def in_chromium(tally: Tally, room: str) -> None:
-    html, file = write(f"{room}/elfmap.html", page()), f"{room}/object.o"
-    said("cc", "-c", "-O1", write(f"{room}/object.c", SOURCE), "-o", file)
-    with contextlib.closing(Browser()) as browser:
-        browser.open(html)
-        it = InChromium(tally, browser, room)
-        it.sound_file(file)
-        for part in (it.links, it.filtered, it.by_keys, it.for_readers, it.on_screens):
-            part()
-        it.sound_file("/bin/true")
-        tally.check(not browser.value("document.querySelector('#memory-section').hidden"), "an executable has no bar by address")
-        it.refused_files(file)
-        for part in (it.shared_byte, it.broken_tables, it.folder, it.million):
-            part()
-        tally.check(not browser.messages, f"the console says {browser.messages[:3]}")
-
-
-ABOUT, TOOLS = "the page for a browser, in node beside `elfmap show`, and in chromium", "node wasm-opt chromium cc"
+ABOUT, TOOLS = "the page for a browser, in node beside `elfmap show`, and in chromium", f"node wasm-opt chromium chromedriver {SELENIUM} cc"
 COUNT = number("count", 3000, "so many changed files")
 
 
 @Test("page", ABOUT, commands=TOOLS, crates=f"elfmap {CRATE}", alone=True, options=(COUNT,))
-def try_page(tally: Tally, options: Namespace) -> None:
-    in_node(tally, tally.folder, options.count)
-    in_chromium(tally, tally.folder)
+def try_page(tally: Tally, options: Options) -> None:
+    room = tally.folder
+    in_node(tally, room, options.count)
+    html, file = write(f"{room}/elfmap.html", page()), f"{room}/object.o"
+    said("cc", "-c", "-O1", write(f"{room}/object.c", SOURCE), "-o", file)
+    with contextlib.closing(InChromium(tally, room)) as it:
+        it.open(html)
+        it.sound_file(file)
+        for part in (it.links, it.filtered, it.by_keys, it.for_readers, it.on_screens):
+            part()
+        it.sound_file("/bin/true")
+        tally.check(not it.value("document.querySelector('#memory-section').hidden"), "an executable has no bar by address")
+        it.refused_files(file)
+        for part in (it.shared_byte, it.broken_tables, it.folder, it.million):
+            part()
+        messages = it.messages()
+        tally.check(not messages, f"the console says {messages[:3]}")

@@ -6,13 +6,13 @@ byte changed, which the other tools take without a word as they were; where no s
 rules 1 and 40 there are none. The reference implementation says which rule a file breaks. Nothing else is judged here: a tool is called,
 and its status and what it writes become a word. Tools that are not installed have no column."""
 
-import argparse, os, random, re, shutil, subprocess, tempfile
+import os, random, re, shutil, subprocess, tempfile
 
 from .cases import every_case
 from .machine_files import content_of, objects_of
 from .reference import SYMTAB, File, object_verdict, shown, symbols, verdict
 from .rules_tables import by_anchor
-from .tree import by_cc, read_bytes, run, side_by_side, write
+from .tree import Options, by_cc, read_bytes, run, side_by_side, write
 
 FILES_A_RULE = 2
 # So many bytes are changed, one at a time.
@@ -113,7 +113,7 @@ def row(title: str, contents: list[bytes], tools: list[str]) -> str:
     return f"| {title} | {len(contents)} | {' | '.join(cells)} |"
 
 
-def peers(options: argparse.Namespace) -> int:
+def peers(options: Options) -> None:
     tools = [it for it, words in TOOLS.items() if shutil.which(words.split()[0])]
     with tempfile.TemporaryDirectory(prefix="peers-") as room:
         made = {name: read_bytes(by_cc(f"{room}/made", words, "answer_peers.c")) for name, words in MADE.items()}
@@ -130,7 +130,6 @@ def peers(options: argparse.Namespace) -> int:
         title = f"{rule} `{by_anchor()[f'{kind}-{rule}'].name}`" + ("" if rule in changed else " *")
         print(row(title, contents, tools))
     print(f"\n{sum(map(len, found.values()))} files.")
-    return 0
 
 
 # ---- shared tails
@@ -154,7 +153,7 @@ def rewritten(program: str, content: bytes) -> bytes | None:
     return None if ran.returncode else ran.stdout
 
 
-def shared_tails(options: argparse.Namespace) -> int:
+def shared_tails(options: Options) -> None:
     """Of each file, an object or an archive, a row of the table in docs/PERFORMANCE.md: how many of its objects `rewrite` takes, the bytes
     of the two string tables of all that it writes, and those of tables that hold each distinct name once."""
     print("| objects of | objects | each name once | tails shared | |")
@@ -164,4 +163,3 @@ def shared_tails(options: argparse.Namespace) -> int:
         written = [it for it in found if it is not None]
         shared, once = (sum(it) for it in zip(*map(lengths, written)))
         print(f"| `{os.path.basename(path)}` | {len(written):,} | {once:,} | {shared:,} | {100 * (shared / once - 1):+.1f} % |")
-    return 0

@@ -1,14 +1,14 @@
-"""The subcommands of `tools/dev` and `tools/release`."""
+"""The subcommands of `tools/dev` and `tools/release`, and the tests of `tools/test`."""
 
-import argparse, os, subprocess, sys
+import argparse, importlib, os, subprocess, sys
 from collections.abc import Callable
 
-from . import building, definitions, distribution, doc, dump, library, man, minutes, page, peers, release as releasing, rules_tables
-from .suite import Option, add_command
-from .tree import PACKAGE, TOP, progress
+from . import building, definitions, doc, dump, library, man, minutes, page, peers, release as releasing, rules_tables
+from .suite import TESTS, Option, add_command, main as run_tests, word
+from .tree import PACKAGE, TOP, Options, progress
 
-# Its name, what it does, the function, and its words.
-Command = tuple[str, str, Callable[[argparse.Namespace], int], list[Option]]
+# Its name, what it does, the function, whose answer is the status, and its words.
+Command = tuple[str, str, Callable[[Options], int | None], list[Option]]
 
 
 def run(name: str, about: str, commands: list[Command], words: list[str]) -> int:
@@ -19,14 +19,10 @@ def run(name: str, about: str, commands: list[Command], words: list[str]) -> int
         add_command(added, command, what, arguments).set_defaults(main=main)
     options = parser.parse_args(words)
     with progress(f"{name} {options.command}"):
-        return int(options.main(options))
+        return int(options.main(options) or 0)
 
 
-def word(name: str, about: str, **more: object) -> Option:
-    return name, {"help": about, **more} if name.startswith("-") else {"metavar": name.upper(), "help": about, **more}
-
-
-def package_command(options: argparse.Namespace) -> int:
+def package_command(options: Options) -> int:
     """Runs a command of bindings/python, over the program and the library of the repository."""
     words = [sys.executable, "-B", "-m", f"elfmap.{options.command}", *options.words]
     return subprocess.run(words, env={"ELFMAP": f"{TOP}/elfmap", **os.environ, "PYTHONPATH": PACKAGE}).returncode
@@ -52,7 +48,7 @@ THERE = word("folder", "where to (crates/elf_c/out)", nargs="?", default=library
 PICTURE = [word("file", "an ELF file"), word("picture", "the picture, as PNG")]
 RELEASE: list[Command] = [
     ("pack", "pack what is built into one archive", releasing.main, [HERE, VERSION]),
-    ("packages", "make all packages of what is built: of Debian, Python and Rust, and the archive", distribution.main, [HERE]),
+    ("packages", "make all packages of what is built: of Debian, Python and Rust, and the archive", releasing.make_packages, [HERE]),
     ("library", "pack the library for C", library.main, [THERE]),
     ("man", "print the manual page", man.main, [VERSION]),
     ("page", "print the page for a browser", page.main, []),
@@ -69,3 +65,13 @@ def dev(words: list[str]) -> int:
 
 def release(words: list[str]) -> int:
     return run("tools/release", "What a release has, and what is generated.", RELEASE, words)
+
+
+# The modules that have tests, in the order in which these are begun.
+MODULES = """failing_calls c_library bindings instructions memory_faults linked names definitions guarantees doc doc_examples rules_tables cases
+    release_test distribution_test shown_commands mutations changed_files hostile_files mutants made_programs page_test machine_files""".split()
+
+
+def test(words: list[str]) -> int:
+    places = [importlib.import_module(f"{__package__}.{it}").__name__ for it in MODULES]
+    return run_tests(sorted(TESTS, key=lambda it: places.index(it.function.__module__)), words)

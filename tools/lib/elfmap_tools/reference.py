@@ -9,32 +9,15 @@ from .tree import TOP, Answer
 
 sys.dont_write_bytecode = True
 sys.path.insert(0, f"{TOP}/reference")
-import executable, image, link, objects, records, show, tables  # noqa: E402
+import executable, image, link, objects, show, tables  # noqa: E402
+from objects import Value, kept, record  # noqa: E402
+from records import DYNAMIC, HEADER, PROGRAM_HEADER, RELOCATION, SECTION_HEADER, SYMBOL, File  # noqa: E402
+from show import name_of, parts, signed  # noqa: E402
+from tables import ENTRY_SIZE, elf_hash, entries_before_null, is_section, notes, padded, symbols  # noqa: E402
 
 Broken = tuple[int, int]
-File: Any = records.File
-Value: Any = objects.Value
 laid: Callable[[Any], bytes] = objects.laid
-record: Callable[..., bytes] = objects.record
-elf_hash: Callable[[bytes], int] = tables.elf_hash
-ENTRY_SIZE: dict[int, int] = tables.ENTRY_SIZE
-symbols: Callable[[Any, int], list[Any]] = tables.symbols
-notes: Callable[[Any, int], list[tuple[int, int, int, int]]] = tables.notes
-padded: Callable[[int], int] = tables.padded
-is_section: Callable[[Any, int], bool] = tables.is_section
-entries_before_null: Callable[[Any, int], Any] = tables.entries_before_null
-kept: Callable[[Any], list[int]] = objects.kept
 string: Callable[[bytes, int], bytes] = objects.string
-parts: Callable[[Any], Any] = show.parts
-signed: Callable[[int, int], int] = show.signed
-name_of: Callable[[Any, Any], bytes] = show.name_of
-Layout = dict[str, tuple[int, int]]
-HEADER: Layout = records.HEADER
-SECTION_HEADER: Layout = records.SECTION_HEADER
-PROGRAM_HEADER: Layout = records.PROGRAM_HEADER
-SYMBOL: Layout = records.SYMBOL
-RELOCATION: Layout = records.RELOCATION
-DYNAMIC: Layout = records.DYNAMIC
 NULL, PROGBITS, SYMTAB, STRTAB, RELA, HASH, DYNAMIC_SECTION, NOTE, NOBITS, REL = range(10)
 DYNSYM, GROUP, SYMTAB_SHNDX, LOAD = 11, 17, 18, 1
 WRITE, ALLOC, EXEC, INFO_LINK, IN_GROUP = 1, 2, 4, 0x40, 0x200
@@ -52,11 +35,6 @@ check: Callable[[bytes], str] = image.check
 shown: Callable[[bytes], str] = show.show
 # What `elfmap rewrite` prints on standard error, and what it writes; None where the reference leaves it open.
 rewritten: Callable[[bytes], tuple[str, bytes] | None] = objects.rewrite
-
-
-def rule_name(rule: int) -> Any:
-    """The name of an image rule, in small letters."""
-    return image.RULES[rule - 1][1].__name__
 
 
 def mapped(contents: Sequence[bytes], base: str, page: str, rules: bytes | None = None) -> str:
@@ -107,18 +85,10 @@ def words(order: str, *numbers: int) -> bytes:
 
 
 def section(
-    name: bytes,
-    type: int,
-    body: Any = b"",
-    flags: int = 0,
-    align: int = 1,
-    entsize: int = 0,
-    link: int | None = None,
-    info: int = 0,
-    addr: int = 0,
+    name: bytes, type: int, body: Any = b"", flags: int = 0, align: int = 1, entsize: int = 0, link: int | None = None, info: int = 0
 ) -> Any:
     """A section. The body is bytes, the size of one without, the entries of relocations, or the flags and members of a group."""
-    return Value(name=name, type=type, flags=flags, addr=addr, align=align, entsize=entsize, link=link, info=info, body=body)
+    return Value(name=name, type=type, flags=flags, addr=0, align=align, entsize=entsize, link=link, info=info, body=body)
 
 
 def symbol(name: bytes, section: int | None, info: int = 0x10, value: int = 0, size: int = 0, reserved: int = UNDEF, other: int = 0) -> Any:
@@ -158,23 +128,17 @@ def text(content: bytes = b"\xc3", flags: int = ALLOC | EXEC, name: bytes = b".t
 Edit = tuple[Any, ...]
 
 
-def place_of(file: bytes, *where: Any) -> tuple[int, int]:
-    """Where a field is, and how many bytes it has: one of the header by its name, of a section or program header by its name and index,
-    or a triple of a section (0 for the file), an offset in its content, and a width."""
-    if isinstance(where[0], tuple):
-        index, at, width = where[0]
-        return (File(file).section(index).sh_offset if index else 0) + at, width
-    name, *rest = where
-    if not rest:
-        return HEADER[name]
-    record = File(file).section(rest[0]) if name.startswith("sh_") else File(file).segment(rest[0])
-    return record.at(name), record.layout[name][1]
-
-
 def edited(file: bytes, *edits: Edit) -> bytes:
-    """A file with fields set: of each edit the place, as above, and the number. All places are those of the file before any edit."""
-    new = bytearray(file)
-    for *where, number in edits:
-        at, width = place_of(file, *where)
-        new[at : at + width] = number.to_bytes(width, File(file).order)
+    """A file with fields set: of each edit the place and the number. A place is a field of the header by its name, one of a section or
+    program header by its name and index, or a triple of a section (0 for the file), an offset in its content, and a width. All places are
+    those of the file before any edit."""
+    f, new = File(file), bytearray(file)
+    for name, *rest, number in edits:
+        if isinstance(name, tuple):
+            section, at, width = name
+            at += f.section(section).sh_offset if section else 0
+        else:
+            record = f.header if not rest else f.section(*rest) if name.startswith("sh_") else f.segment(*rest)
+            at, width = record.at(name), record.layout[name][1]
+        new[at : at + width] = number.to_bytes(width, f.order)
     return bytes(new)

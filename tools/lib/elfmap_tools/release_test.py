@@ -2,13 +2,12 @@
 nothing on the PATH but /usr/bin and /bin. MOST_SECONDS of a processor have to be enough to pack it."""
 
 import glob, os, re, shutil, subprocess, sys
-from argparse import Namespace
 from collections.abc import Mapping
 
 from .library import BOTH, PACKERS
 from .release import commands, pack, version_of
 from .suite import Tally, Test
-from .tree import TOP, Texts, files_below, read_bytes, read_text, write
+from .tree import TOP, Options, Texts, files_below, read_bytes, read_text, write
 
 VERSION = "0-test"
 NAME = f"elfmap-{VERSION}-x86_64-linux"
@@ -204,7 +203,7 @@ TOOLS = f"{PACKERS} nm git pkg-config cargo groff man wasm-opt"
 
 
 @Test("release", "what a release has, and that all of it works", commands=TOOLS, crates=f"elfmap {BOTH}")
-def release(tally: Tally, options: Namespace) -> None:
+def release(tally: Tally, options: Options) -> None:
     it = Release(tally, tally.folder)
     for part in (it.links, it.program, it.runner, it.usage, it.names, it.c, it.rust, it.python, it.commands, it.manual):
         part()

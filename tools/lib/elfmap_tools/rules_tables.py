@@ -2,12 +2,12 @@
 `src/rule_names.rt`; and with their sentences for the bindings: bindings/rust/src/rules.rs and bindings/python/elfmap/_rules.py.
 `tools/test rules-tables` fails where one of them differs."""
 
-import argparse, functools, glob, re, textwrap
+import functools, glob, re, textwrap
 from collections.abc import Iterable, Iterator
 from typing import NamedTuple
 
 from .suite import Tally, Test
-from .tree import TOP, cells, read_text, write
+from .tree import TOP, Options, cells, read_text, write
 
 MADE = "Made by `tools/release tables` from docs/RULES.md."
 
@@ -125,14 +125,13 @@ def tables() -> dict[str, str]:
     return {"bindings/rust/src/rules.rs": rust(), "bindings/python/elfmap/_rules.py": python(), **found}
 
 
-def main(options: argparse.Namespace) -> int:
+def main(options: Options) -> None:
     for path, text in tables().items():
         write(f"{TOP}/{path}", text)
-    return 0
 
 
 @Test("rules-tables", "the tables of rules in the crates and the bindings are those of docs/RULES.md")
-def rules_tables(tally: Tally, options: argparse.Namespace) -> None:
+def rules_tables(tally: Tally, options: Options) -> None:
     for path, text in tables().items():
         # The first line says by what the file is made.
         is_same = read_text(path).partition("\n")[2] == text.partition("\n")[2]

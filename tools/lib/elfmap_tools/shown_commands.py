@@ -1,4 +1,4 @@
-"""`tools/test shown-commands`: runs the commands that the pages show (of pages.py), and compares what they print with what is below them.
+"""`tools/test shown-commands`: runs the commands that the pages show, and compares what they print with what is below them.
 
 A command is a line of a code block that begins with `$ `, or with `>>> ` for Python; below it are the lines that it prints, on standard
 output and standard error. There a line `..` means lines left out, and ` ..` at the end of a line the rest of it. A page's commands run in
@@ -7,17 +7,95 @@ folders that the repository alone has. Commands within prose are not looked at.
 
 Skipped are the commands of SKIPPED, by their text, those of tools of other versions than README.md names, those on files of the machine of
 other lengths, what is not built, and what needs a file that such a command makes. A code line that begins as a command does has to have its
-`$ `, and the tools that a page names and what it links to have to be there."""
+`$ `, and the tools that a page names and what it links to have to be there.
 
-import os, re, shutil, subprocess, sys
-from argparse import Namespace
+`tools/test pages`: how long the sentences of the pages are. Tables, code, headings and the targets of links are no prose.
+
+A page whose sentences have a median of more than MEDIAN words fails, and so do all pages together above WORDS words. Of each page the test
+prints its words, its median, and its sentences of more than LONG_SENTENCE words. What is generated from the crates or is all tables has no
+median (TABLES), but its prose counts.
+
+A fenced block whose first line names a file quotes it: the file has to have these lines. Each `tools/test NAME` has to be a test. README.md
+has at most README_LINES lines, and its two commands in the first screen. A proof file of more than PROOF_LINES lines opens with a comment,
+its idea."""
+
+import glob, os, re, shutil, statistics, subprocess, sys
 from collections.abc import Iterator
 
 from .library import BOTH
-from .pages import CODE, all_pages
 from .release import pack
-from .suite import Tally, Test, environment
-from .tree import PROGRAM, TOP, read_text, said, wanted, write
+from .suite import TESTS, Tally, Test, environment, families
+from .tree import PROGRAM, TOP, Options, read_text, said, wanted, write
+
+MEDIAN, LONG_SENTENCE, WORDS = 18, 30, 30_000
+README_LINES, SCREEN, PROOF_LINES = 160, 30, 30
+COMMANDS = "    $ ./elfmap check ", "    $ rt ci"
+PATTERNS = ("README.md", "CONTRIBUTING.md", "CHANGELOG.md", "SECURITY.md", "docs/*.md", "bindings/*/README.md")
+TABLES = {"docs/DEFINITIONS.md", "docs/GUARANTEES.md"}
+QUOTES = re.compile(r"^```\w+ (\S+)\n(.*?)^```", re.M | re.S)
+# A block of code, fenced or indented. That comes after an empty line or more code; other indented lines continue an item.
+CODE = re.compile(r"^(?P<fence> *)```.*\n(?P<fenced>(?:.*\n)*?) *```|(?:\A|(?<=\n))\n(?P<indented>(?:    .*\n|\n(?=    ))+)", re.M)
+# Where a paragraph ends: an empty line, or the next item of a list.
+PARAGRAPHS = re.compile(r"\n\s*\n|\n(?= *(?:[-*]|\d+\.) )")
+# Where a sentence ends: at its mark, if what follows begins one.
+SENTENCES = re.compile(r"(?<=[.!?])[\"')*]*\s+(?=[\"'(*`\[]*[A-Z`\[])")
+
+
+def prose(text: str) -> str:
+    """The text of a page without fenced and indented code, tables, headings, images and the targets of links."""
+    text = CODE.sub("\n", text)
+    text = re.sub(r"^(?:#|\||<|!\[).*$", "", text, flags=re.M)
+    return re.sub(r"\[([^\]]*)\]\([^)]*\)", r"\1", text)
+
+
+def sentences(text: str) -> list[str]:
+    """The sentences of a page, each in one line."""
+    found = []
+    for paragraph in PARAGRAPHS.split(prose(text)):
+        line = re.sub(r"^(?:[-*]|\d+\.) ", "", " ".join(paragraph.split()))
+        found += [it for it in SENTENCES.split(line) if it]
+    return found
+
+
+def length(sentence: str) -> int:
+    """How many words a sentence has. Code is one word: it is read as a name."""
+    return len(re.sub(r"`[^`]*`", "code", sentence).split())
+
+
+def all_pages() -> list[str]:
+    """The paths of the pages in the repository, README.md and the like first."""
+    return [it for pattern in PATTERNS for it in sorted(glob.glob(pattern, root_dir=TOP))]
+
+
+@Test("pages", "the sentences of the pages are short")
+def pages(tally: Tally, options: Options) -> None:
+    first = read_text("README.md").splitlines()
+    tally.check(len(first) <= README_LINES, f"README.md has {len(first)} lines, more than {README_LINES}")
+    shown = [it for it in COMMANDS if any(line.startswith(it) for line in first[:SCREEN])]
+    tally.check(len(shown) == len(COMMANDS), f"README.md has {shown} of {COMMANDS} in its first {SCREEN} lines")
+    proofs = sorted(glob.glob("crates/*/proofs/**/*.antt", root_dir=TOP, recursive=True))
+    without_idea = [it for it in proofs if read_text(it).count("\n") > PROOF_LINES and not read_text(it).startswith("-- ")]
+    tally.same("proof files that do not open with their idea", without_idea, [])
+    tests, total = {"setup", *families(TESTS), *(it.name for it in TESTS)}, 0
+    for path in all_pages():
+        text = read_text(path)
+        lengths = [(length(it), it) for it in sentences(text)]
+        words, median = sum(it for it, _ in lengths), statistics.median([it for it, _ in lengths] or [0])
+        long = [it for it in lengths if it[0] > LONG_SENTENCE]
+        tally.note(f"{path}: {words} words, median {median:g}, {len(long)} sentences of more than {LONG_SENTENCE} words")
+        for count, it in long:
+            tally.note(f"{path}: {count} words: {it}")
+        unknown = [it for it in re.findall(r"\btools/test ([a-z][\w-]*)", text) if it not in tests]
+        tally.check(not unknown, f"{path} names tests that are not there: {unknown}")
+        for file, lines in QUOTES.findall(text):
+            tally.check(lines in read_text(file), f"{path} quotes what is not in {file}:\n{lines}")
+        tally.check(path in TABLES or median <= MEDIAN, f"{path}: the median sentence has {median:g} words, more than {MEDIAN}")
+        total += words
+    tally.note(f"all pages: {total} words of at most {WORDS}")
+    tally.check(total <= WORDS, f"the pages have {total} words, more than {WORDS}")
+
+
+# ---- the commands
 
 # The folders that a release has not.
 FOLDERS = ["bench", "cases", "crates", "reference", "tools"]
@@ -100,12 +178,6 @@ def words_of(command: str) -> list[str]:
     return re.findall(r"[^\s|&;<>()]+", command)
 
 
-def tools_of(command: str) -> list[str]:
-    """The programs that a command starts, by their first words, in substitutions too."""
-    starts = re.findall(r"(?:^|[|;&(]\s*)([^\s|&;<>()]+)", command)
-    return [it for it in starts if it in PACKAGES]
-
-
 def made_by(command: str) -> set[str]:
     """The files that a command makes, as its words tell them: objects of C, outputs, and copies."""
     objects = {it[:-2] + ".o" for it in words_of(command) if it.endswith(".c")}
@@ -140,7 +212,9 @@ class Page:
     def why_skipped(self, command: str) -> str:
         if command in SKIPPED:
             return SKIPPED[command]
-        for why in filter(None, map(self.foreign, tools_of(command))):
+        # The programs that it starts, by their first words, in substitutions too.
+        starts = re.findall(r"(?:^|[|;&(]\s*)([^\s|&;<>()]+)", command)
+        for why in filter(None, map(self.foreign, (it for it in starts if it in PACKAGES))):
             return why
         for path in (os.path.normpath(it) for it in words_of(command)):
             length = MACHINE_FILES.get(path)
@@ -204,18 +278,11 @@ class Page:
         self.tally.check(not links, f"{self.name} has links that lead nowhere: {links}")
 
 
-def furnish(folder: str, archive: str) -> None:
-    wanted("tar", "xf", archive, "--strip-components=1", folder=folder)
-    for it in FOLDERS:
-        os.symlink(f"{TOP}/{it}", f"{folder}/{it}")
-    shutil.copy(archive, folder)
-
-
 TOOLS = " ".join([*PACKAGES, "cc ar pkg-config wasm-opt"])
 
 
 @Test("shown-commands", "the commands that the pages show print what is below them", commands=TOOLS, crates=f"elfmap {BOTH}")
-def shown_commands(tally: Tally, options: Namespace) -> None:
+def shown_commands(tally: Tally, options: Options) -> None:
     pages = [f"{TOP}/{it}" for it in all_pages()]
     every = [command for path in pages for block in blocks(read_text(path)) for command, _ in commands(block)]
     for command in SKIPPED:
@@ -223,5 +290,8 @@ def shown_commands(tally: Tally, options: Namespace) -> None:
     archive = pack(tally.folder, "VERSION")
     for number, path in enumerate(pages):
         folder = tally.new_folder(str(number))
-        furnish(folder, archive)
+        wanted("tar", "xf", archive, "--strip-components=1", folder=folder)
+        for it in FOLDERS:
+            os.symlink(f"{TOP}/{it}", f"{folder}/{it}")
+        shutil.copy(archive, folder)
         Page(tally, path, folder).try_all()

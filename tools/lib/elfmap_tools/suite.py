@@ -8,9 +8,16 @@ from typing import Any
 
 from . import packages
 from .building import built
-from .tree import PROCESSORS, TOP, Texts, libraries, progress, said, side_by_side
+from .tree import PROCESSORS, TOP, Options, Texts, filled, progress, said, side_by_side
 
+# Of a step its title, its script, and a pattern of what this prints.
+Step = tuple[str, str, str]
 COUNTS = re.compile(r"^(\d+) passed, (\d+) failed\n\Z", re.M)
+
+
+def steps_of(name: str, **marks: str) -> list[Step]:
+    """The steps of a file of cases/, with texts for its marks, as @NAME@."""
+    return re.findall(r"^== (.*)\n((?:.*\n)*?)= ?(.*)$", filled(f"cases/{name}", **marks), re.M)
 
 
 class Tally:
@@ -49,6 +56,12 @@ class Tally:
         except SystemExit as error:
             self.fail(f"{what}: {error}")
 
+    def try_steps(self, steps: list[Step], run: Callable[[str], str]) -> None:
+        """Checks of each step that what its script prints fits the pattern."""
+        for title, script, pattern in steps:
+            found = run(script)
+            self.check(re.fullmatch(pattern, found), f"{title}: `{script}` says:\n{found}")
+
     def new_folder(self, name: str) -> str:
         """A folder of this name in the test's own."""
         os.mkdir(f"{self.folder}/{name}")
@@ -61,7 +74,7 @@ class Tally:
         return f"{self.passed} passed, {self.failed} failed"
 
 
-Function = Callable[[Tally, argparse.Namespace], None]
+Function = Callable[[Tally, Options], None]
 # An option of a test: its words for argparse.
 Option = tuple[str, dict[str, object]]
 TESTS: list["Test"] = []
@@ -74,7 +87,6 @@ class Test:
 
     name: str
     about: str
-    function: Function | None = None
     commands: str = ""
     crates: str = ""
     alone: bool = False
@@ -86,39 +98,32 @@ class Test:
         TESTS.append(self)
         return function
 
-    def __post_init__(self) -> None:
-        if self.function:
-            TESTS.append(self)
-        # Those crates that the repository has.
-        self.needs = [it for it in self.crates.split() if it in libraries()]
+
+def word(name: str, about: str, **more: object) -> Option:
+    return name, {"help": about, **({} if name.startswith("-") else {"metavar": name.upper()}), **more}
 
 
 def number(name: str, default: int, about: str) -> Option:
-    return f"--{name}", {"type": int, "default": default, "metavar": "N", "help": f"{about} ({default})"}
-
-
-def named(option: str, about: str) -> Option:
-    return f"--{option}", {"metavar": "NAME", "default": "", "help": about}
+    return word(f"--{name}", f"{about} ({default})", type=int, default=default, metavar="N")
 
 
 def flag(name: str, about: str) -> Option:
-    return f"--{name}", {"action": "store_true", "help": about}
+    return word(f"--{name}", about, action="store_true")
 
 
 def commands_of(tests: Iterable[Test]) -> list[str]:
     return list(dict.fromkeys(command for it in tests for command in it.commands.split()))
 
 
-def run_one(test: Test, options: argparse.Namespace) -> int:
+def run_one(test: Test, options: Options) -> int:
     """Runs a test here: prints what failed, and last how many passed. A test whose commands are missing has failed."""
     with tempfile.TemporaryDirectory(prefix=f"elfmap-{test.name}.") as folder, progress(f"tools/test {test.name}"):
         tally, lacking = Tally(test.name, folder), packages.missing(test.commands.split())
         try:
             if lacking:
                 raise SystemExit(packages.words_of(lacking))
-            for crate in test.needs:
+            for crate in test.crates.split():
                 built(crate)
-            assert test.function
             test.function(tally, options)
         except (Exception, SystemExit) as error:
             trace = "" if isinstance(error, SystemExit) else traceback.format_exc()
@@ -176,7 +181,7 @@ class Runner:
 def run_several(tests: list[Test], jobs: int) -> int:
     """Installs what is missing, builds what is older than its texts, and runs these tests."""
     packages.setup(commands_of(tests))
-    for crate in dict.fromkeys(crate for it in tests for crate in it.needs):
+    for crate in dict.fromkeys(crate for it in tests for crate in it.crates.split()):
         try:
             built(crate)
         except SystemExit as error:
@@ -184,13 +189,9 @@ def run_several(tests: list[Test], jobs: int) -> int:
     return Runner().all(tests, jobs)
 
 
-def families(tests: Iterable[Test]) -> dict[str, list[Test]]:
+def families(tests: list[Test]) -> dict[str, list[Test]]:
     """The tests of each family, by its name."""
-    found: dict[str, list[Test]] = {}
-    for it in tests:
-        if it.family:
-            found.setdefault(it.family, []).append(it)
-    return found
+    return {family: [it for it in tests if it.family == family] for family in dict.fromkeys(it.family for it in tests) if family}
 
 
 def add_command(commands: Any, name: str, about: str, options: Iterable[Option]) -> argparse.ArgumentParser:
@@ -237,7 +238,7 @@ def tried_in_folder(name: str, wrong_in: Callable[[int, int, str], str], seed: i
         return f"{name}-{seed}-{k}: {wrong}" if wrong else ""
 
 
-def count_tries(tally: Tally, options: argparse.Namespace, name: str, wrong_in: Callable[[int, int, str], str]) -> None:
+def count_tries(tally: Tally, options: Options, name: str, wrong_in: Callable[[int, int, str], str]) -> None:
     """Counts so many tries of a seed, side by side."""
     tries = functools.partial(tried_in_folder, name, wrong_in, options.seed)
     tally.count(options.count, filter(None, side_by_side(tries, range(options.count), True)))

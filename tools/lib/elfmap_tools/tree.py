@@ -1,6 +1,6 @@
 """The folders of the repository, its crates, and what every tool does: read and write files, run commands, show that it still runs."""
 
-import contextlib, functools, os, re, subprocess, sys, threading, time
+import argparse, contextlib, functools, os, re, subprocess, sys, threading, time
 from collections.abc import Callable, Iterable, Iterator, Mapping
 from concurrent.futures import ProcessPoolExecutor, ThreadPoolExecutor
 from typing import Any, TypeVar
@@ -14,6 +14,8 @@ PACKAGE = f"{TOP}/bindings/python"
 Answer = tuple[int, bytes, bytes]
 Ended = subprocess.CompletedProcess[bytes]
 Texts = subprocess.CompletedProcess[str]
+# The words that a command or a test was given.
+Options = argparse.Namespace
 T = TypeVar("T")
 R = TypeVar("R")
 
@@ -34,6 +36,14 @@ def write(path: str, content: bytes | str) -> str:
     with open(path, "wb") as file:
         file.write(content.encode() if isinstance(content, str) else content)
     return path
+
+
+def filled(path: str, **parts: str) -> str:
+    """The text of a file, with these parts for its marks, as @NAME@."""
+    text = read_text(path)
+    for name, part in parts.items():
+        text = text.replace(f"@{name}@", part)
+    return text
 
 
 def replaced(pattern: re.Pattern[str], text: str, own: Callable[[re.Match[str]], str], other: Callable[[str], str]) -> str:
@@ -111,11 +121,9 @@ def progress(name: str) -> Iterator[None]:
     ended, begun = threading.Event(), time.monotonic()
 
     def count() -> None:
-        wait = 10.0
-        while not ended.wait(wait):
-            wait = 1.0
-            print(f"\r{name}: {time.monotonic() - begun:.0f} s ", end="", file=sys.stderr, flush=True)
-        if wait < 10:
+        if not ended.wait(10):
+            while not ended.wait(1):
+                print(f"\r{name}: {time.monotonic() - begun:.0f} s ", end="", file=sys.stderr, flush=True)
             print("\r\033[K", end="", file=sys.stderr, flush=True)
 
     thread = threading.Thread(target=count, daemon=True)
@@ -172,6 +180,6 @@ def texts_of(crate: str) -> list[str]:
     return sorted(path for part in ("src", "specs", "proofs") for path in files_below(f"{TOP}/crates/{crate}/{part}"))
 
 
-def is_newer(path: str, crates: Iterable[str]) -> bool:
-    """Whether a built file is there, and at least as new as every text of these crates."""
-    return os.path.isfile(path) and all(os.path.getmtime(it) <= os.path.getmtime(path) for crate in crates for it in texts_of(crate))
+def is_newer(path: str, texts: Iterable[str]) -> bool:
+    """Whether what was built is there, and at least as new as each of these files."""
+    return os.path.exists(path) and all(os.path.getmtime(it) <= os.path.getmtime(path) for it in texts)
