@@ -15,7 +15,7 @@ use Rattle.elf_link_files.specs.Rows.{Before, IsFirstAt}
 use Rattle.elf_link_files.specs.declared.site.Site.{Site}
 use Rattle.elf_link_map.specs.LinkMap.{LinkMapValue}
 use Rattle.elf_link_relocate.specs.Fields.{IsApplied, entry_at, HasField, no_rule, AreApplied, entries_of, Share, AtField, IsFieldOutOfRange, SharesEarlier, fields_overlap}
-use Rattle.elf_link_relocate.specs.Passes.{entry_site, AreFields, AreFieldsBefore, field_at, no_field, BreaksFieldTest, HasNone, IsFirst, AreFoundBefore, IsJudgedField, first_of, AllWithin, HasNoOverlap, IsFirstOverlappingField, SharesBefore, IsSeen, IsSeenNext, none_seen, IsLast, StandsBehind, AreAscending, IsFirstSite}
+use Rattle.elf_link_relocate.specs.Passes.{entry_site, AreFields, AreFieldsBefore, field_at, no_field, BreaksFieldTest, HasNone, IsFirst, AreFoundBefore, IsJudgedField, first_of, AllWithin, HasNoOverlap, IsFirstOverlappingField, SharesBefore, IsSeenOf, IsSeenNext, none_seen, IsLast, StandsBehind, AreAscending, IsFirstSite}
 use Rattle.elf_link_relocate.specs.declared.field.Field.{Field}
 use Rattle.elf_link_relocate.specs.declared.field.FieldTest.TheVariants.{FieldOutOfRange, Unplaced, ValueOutOfRange}
 use Rattle.elf_link_relocate.specs.declared.field.Found.{Found}
@@ -393,7 +393,7 @@ ascending_more ds new before are is_last behind k lt =
 
 -- What is seen of the fields: of none, and of one more.
 
-pub seen_none : (fs : List ObjectValue) (m : LinkMapValue) → IsSeen fs m [] none_seen
+pub seen_none : (fs : List ObjectValue) (m : LinkMapValue) → IsSeenOf fs m [] none_seen
 seen_none fs m = record {
   unplaced = λ k lt. absurd (omega arith);
   out_of_range = λ k lt. absurd (omega arith);
@@ -403,7 +403,7 @@ seen_none fs m = record {
 }
 
 pub seen_more : (fs : List ObjectValue) (m : LinkMapValue) (rules : List RelocRule) (p : Site) (ds : List Field) (seen : Seen) (j : Judged) (next : Seen) →
-    IsJudgedField fs m rules p j → IsSeen fs m ds seen → IsSeenNext seen j next → IsSeen fs m (ds ++ j.field ∷ []) next
+    IsJudgedField fs m rules p j → IsSeenOf fs m ds seen → IsSeenNext seen j next → IsSeenOf fs m (ds ++ j.field ∷ []) next
 seen_more fs m rules p ds seen j next is old step = record {
   unplaced = first_now (BreaksFieldTest fs m Unplaced) ds j.field seen.unplaced next.unplaced j.unplaced step.unplaced old.unplaced is.unplaced;
   out_of_range = first_now (BreaksFieldTest fs m FieldOutOfRange) ds j.field seen.out_of_range next.out_of_range j.out_of_range step.out_of_range

@@ -168,7 +168,7 @@ AreAscending ds = (k : ℕ) → k + 1 < length ds → StandsBehind (field_at ds 
 abbrev pub none_seen : Seen
 none_seen = record { unplaced = None; out_of_range = None; refused = None; last = None; ascending = true }
 
-pub record IsSeen (fs : List ObjectValue) (m : LinkMapValue) (ds : List Field) (seen : Seen) : Type 0 where
+pub record IsSeenOf (fs : List ObjectValue) (m : LinkMapValue) (ds : List Field) (seen : Seen) : Type 0 where
   pub unplaced : IsFirstBroken fs m ds Unplaced seen.unplaced
   pub out_of_range : IsFirstBroken fs m ds FieldOutOfRange seen.out_of_range
   pub refused : IsFirstBroken fs m ds ValueOutOfRange seen.refused
@@ -311,19 +311,19 @@ IsPatchedOrBroken fs j old new = IsFieldPatched fs j.field old new ⊎ (((j.unpl
 -- What a pass over the entries finds, and the bytes that it relocates.
 
 -- of the fields of a list: if rules 13 to 15 are kept, the copies hold their numbers
-pub record IsFound (fs : List ObjectValue) (m : LinkMapValue) (listing : Bool) (ds : List Field) (found : Found) : Type 0 where
+pub record IsFoundOf (fs : List ObjectValue) (m : LinkMapValue) (listing : Bool) (ds : List Field) (found : Found) : Type 0 where
   pub read : AreFieldsRead fs m ds
-  pub seen : IsSeen fs m ds found.seen
+  pub seen : IsSeenOf fs m ds found.seen
   pub list : listing ≡ true → found.list.items ≡ ds
   pub copies : HaveCopies fs (copies_view found.copies.items)
   pub relocated : AreKept fs m ds → AreRelocated fs m ds (length ds) (copies_view found.copies.items)
 
 -- of the fields before a site; and of all
 abbrev pub AreFoundBefore : List ObjectValue → LinkMapValue → List RelocRule → Bool → Site → Found → Type 0
-AreFoundBefore fs m rules listing stop found = (ds : List Field) × AreFieldsBefore fs rules stop ds × IsFound fs m listing ds found
+AreFoundBefore fs m rules listing stop found = (ds : List Field) × AreFieldsBefore fs rules stop ds × IsFoundOf fs m listing ds found
 
 abbrev pub AreAllFound : List ObjectValue → LinkMapValue → List RelocRule → Bool → Found → Type 0
-AreAllFound fs m rules listing found = (ds : List Field) × AreFields fs rules ds × IsFound fs m listing ds found
+AreAllFound fs m rules listing found = (ds : List Field) × AreFields fs rules ds × IsFoundOf fs m listing ds found
 
 -- the copies hold the numbers of all fields, which keep rules 13 to 15
 abbrev pub AreRelocatedCopies : List ObjectValue → LinkMapValue → List RelocRule → List (List (Option (List ℕ))) → Type 0

@@ -123,8 +123,8 @@ WritesBehind out before after bytes result = MatchResult result
     (λ fault. (out ≤ fault.written) × (fault.written < out + length bytes) × Appends before after (take (fault.written - out) bytes))
 
 -- the content of the section at a position of the layout, behind the zeros that it needs after so many bytes
-abbrev pub part_bytes : PlacedValue → ℕ → ℕ → PlainSection → List ℕ
-part_bytes p position out d = replicate (slice_index p.layout.places position - out) 0 ++ (get_or (plain_sections p.object) position d).content
+abbrev pub next_bytes : PlacedValue → ℕ → ℕ → PlainSection → List ℕ
+next_bytes p position out d = replicate (slice_index p.layout.places position - out) 0 ++ (get_or (plain_sections p.object) position d).content
 
 -- the bytes of the section header table
 unfoldable pub header_table : ObjectValue → List ℕ → List ℕ

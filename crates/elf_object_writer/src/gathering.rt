@@ -2,7 +2,7 @@
 ghost use Rattle.std.specs.Io.KnownBytes.{Appends, append_known};
 ghost use Rattle.std.specs.Prelude.{◌≡◌, ◌<◌, ◌≤◌, ◌-◌, ◌++◌, [], Err, IfErr, IfOk, IfSome, None, Ok, OnOk, Some, length, slice_index};
 ghost use Rattle.elf_object_writer.specs.Laid.{PlainSection, plain_sections};
-ghost use Rattle.elf_object_writer.specs.PlacedObject.{WritesBehind, part_bytes};
+ghost use Rattle.elf_object_writer.specs.PlacedObject.{WritesBehind, next_bytes};
 
 use crate::placed_object::{LaidSection, PlacedObject};
 use elf_image_stream::WriteFault;
@@ -77,7 +77,7 @@ impl NextPart<'_, '_, '_> {
     /// nothing is added.
     fn gather(&self, waiting: &mut Vec<u8>) -> Option<u64>
         ensures gathered { let part = self.now in IfSome result (λ end. (d : PlainSection) →
-            WritesBehind part.out (Some waiting.old.items) (Some waiting.new.items) (part_bytes part.placed.now part.position part.out d) (Ok end)) }
+            WritesBehind part.out (Some waiting.old.items) (Some waiting.new.items) (next_bytes part.placed.now part.position part.out d) (Ok end)) }
         ensures kept { result ≡ None → waiting.new.items ≡ waiting.old.items }
     {
         let waited = waiting.len();
@@ -103,11 +103,11 @@ impl NextPart<'_, '_, '_> {
         requires { length waiting.old.items ≤ self.now.out }
         ensures ok { let part = self.now in IfOk result (λ end. (d : PlainSection) →
             WritesBehind part.out (append_known (W.contents writer.old) waiting.old.items) (append_known (W.contents writer.new) waiting.new.items)
-            (part_bytes part.placed.now part.position part.out d) (Ok end)) }
+            (next_bytes part.placed.now part.position part.out d) (Ok end)) }
         ensures few { IfOk result (λ end. length waiting.new.items ≤ end) }
         ensures err { let part = self.now in IfErr result (λ fault. (d : PlainSection) →
             WritesBehind (part.out - length waiting.old.items) (W.contents writer.old) (W.contents writer.new)
-            (waiting.old.items ++ part_bytes part.placed.now part.position part.out d) (Err fault)) }
+            (waiting.old.items ++ next_bytes part.placed.now part.position part.out d) (Err fault)) }
     {
         if let Some(end) = self.gather(waiting) {
             return Ok(end);

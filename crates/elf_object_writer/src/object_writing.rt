@@ -3,7 +3,7 @@ ghost use Rattle.std.specs.Prelude.{◌≡◌, ◌<◌, ◌≤◌, ℕ, ◌+◌,
 ghost use Rattle.elf_field.specs.Headers.{ehdr_bytes};
 ghost use Rattle.elf_image_stream.specs.Output.{Writes};
 ghost use Rattle.elf_object_writer.specs.Laid.{file_header, layout_bytes, PlainSection, plain_sections};
-ghost use Rattle.elf_object_writer.specs.PlacedObject.{WritesBehind, header_table, part_bytes, plain_section, IsLayoutWritten};
+ghost use Rattle.elf_object_writer.specs.PlacedObject.{WritesBehind, header_table, next_bytes, plain_section, IsLayoutWritten};
 ghost use Rattle.elf_image_rules.specs.Rules.{MAX_LEN};
 
 use crate::gathering::{NextPart, none_waiting, write_waiting};
@@ -70,7 +70,7 @@ impl NextPart<'_, '_, '_> {
     /// Writes it at its place, where all bytes before it are written. The answer is where it ends.
     pub(crate) fn write<W: Write>(&self, writer: &mut W) -> Result<u64, WriteFault>
         ensures { let part = self.now in (d : PlainSection) → WritesBehind part.out (W.contents writer.old) (W.contents writer.new)
-            (part_bytes part.placed.now part.position part.out d) result }
+            (next_bytes part.placed.now part.position part.out d) result }
     {
         let placed = self.placed;
         placed.prove_placed();
