@@ -30,8 +30,8 @@ def names(tally: Tally, options: Options) -> None:
 
 @Test("must-not-compile", "what borrows from a file's bytes and outlives them is refused by the borrow checker")
 def must_not_compile(tally: Tally, options: Options) -> None:
-    """The check has to have an error of the borrow checker in each function of cases/sources/outlives.rt."""
-    text = read_text("cases/sources/outlives.rt")
+    """The check has to have an error of the borrow checker in each function of cases/sources/outlives.rt.txt."""
+    text = read_text("cases/sources/outlives.rt.txt")
     write(f"{tally.new_folder('src')}/lib.rt", text)
     output = said(f"{kit()}/bin/rattle", *words_over_sources(re.findall(r"^use (elf_\w+)::", text, re.M)), folder=tally.folder).stdout
     refused = [int(it) for it in re.findall(r"^src/lib\.rt:(\d+):.*borrow-e0(?:505|515|597)", output, re.M)]
