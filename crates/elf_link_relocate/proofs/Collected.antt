@@ -3,7 +3,7 @@
 -- 12. After the last file the list has all fields.
 use Rattle.std.proofs.Common.{◌≡◌, ℕ, ◌+◌, ◌<◌, inl, inr, subst, arith, List, sym, ◌∙◌, ap, ◌⊎◌, refl, [], ◌∷◌, ◌++◌, length, length-append, Bool, ◌↔◌, true, false, ◌≤◌}
 use Rattle.std.proofs.lemmas.Bool.{cases_lt}
-use Rattle.std.specs.Prelude.{Some, slice_get, MatchOption, Option, None, IfSome}
+use Rattle.std.specs.Prelude.{Some, slice_get, Option, None, IfSome}
 use Rattle.std.proofs.lemmas.List.{get_or_push}
 use Rattle.std.proofs.Math.ListN.{get_or-append}
 use Rattle.elf_extent.specs.Extent.{Never}
@@ -15,7 +15,7 @@ use Rattle.elf_link_files.specs.Rows.{Before, IsFirstAt}
 use Rattle.elf_link_files.specs.declared.site.Site.{Site}
 use Rattle.elf_link_map.specs.LinkMap.{LinkMapValue}
 use Rattle.elf_link_relocate.specs.Fields.{IsApplied, entry_at, HasField, no_rule, AreApplied, entries_of, Share, AtField, IsFieldOutOfRange, SharesEarlier, fields_overlap}
-use Rattle.elf_link_relocate.specs.Passes.{entry_site, AreFields, AreFieldsBefore, field_at, no_field, BreaksFieldTest, HasNone, IsFirst, AreFoundBefore, IsJudgedField, first_of, AllWithin, HasNoOverlap, IsFirstOverlappingField, SharesBefore, IsSeenOf, IsSeenNext, none_seen, IsLast, StandsBehind, AreAscending, IsFirstSite}
+use Rattle.elf_link_relocate.specs.Passes.{entry_site, AreFields, AreFieldsBefore, field_at, no_field, BreaksFieldTest, HasNone, IsFirst, IsFirstOf, AreFoundBefore, IsJudgedField, first_of, AllWithin, HasNoOverlap, IsFirstOverlappingField, SharesBefore, IsSeenOf, IsSeenNext, none_seen, IsLast, StandsBehind, AreAscending, IsFirstSite}
 use Rattle.elf_link_relocate.specs.declared.field.Field.{Field}
 use Rattle.elf_link_relocate.specs.declared.field.FieldTest.TheVariants.{FieldOutOfRange, Unplaced, ValueOutOfRange}
 use Rattle.elf_link_relocate.specs.declared.field.Found.{Found}
@@ -327,9 +327,6 @@ module _ (fs : List ObjectValue) (rules : List RelocRule) (f s : ℕ) (ds : List
 -- The first field that breaks a rule, kept up as fields are added. It changes only if nothing was found before and the new field breaks
 -- the rule, so at the end it is the first of the list.
 
-abbrev IsFirstOf : (Site → RelocRule → Type 0) → List Field → Option Site → Type 0
-IsFirstOf P ds first = MatchOption first (HasNone P ds) (λ p. (k : ℕ) × IsFirst P ds k × ((field_at ds k).site ≡ p))
-
 first_more : (P : Site → RelocRule → Type 0) (ds : List Field) (new : Field) (before : Option Site) (broken : Bool) →
     IsFirstOf P ds before → (broken ≡ true) ↔ P new.site new.rule → IsFirstOf P (ds ++ new ∷ []) (first_of before broken new.site)
 first_more P ds new (Some p) broken (k, (lt, holds, first), at) is =
@@ -391,6 +388,25 @@ ascending_more ds new before are is_last behind k lt =
           subst (λ (d : Field). StandsBehind (field_at ds k) d) (sym (last ds new (k + 1) end)) (follows ds new before k is_last behind end))
     ])
 
+-- and where they ascend, so do all but the last, which is after the one before it
+ascending_before : (ds : List Field) (new : Field) → AreAscending (ds ++ new ∷ []) → AreAscending ds
+ascending_before ds new are k lt =
+    let long = longer ds new in
+    let k_in : k < length ds = omega arith in
+    subst (λ (d : Field). StandsBehind d (field_at ds (k + 1))) (kept ds new k k_in)
+    (subst (λ (d : Field). StandsBehind (field_at (ds ++ new ∷ []) k) d) (kept ds new (k + 1) lt) (are k (omega arith)))
+
+ascending_last : (ds : List Field) (new : Field) (before : Option Field) → IsLast ds before → AreAscending (ds ++ new ∷ []) →
+    IfSome before (λ d. StandsBehind d new)
+ascending_last ds new None none are = tt
+ascending_last ds new (Some d) (k, count, at) are =
+    let long = longer ds new in
+    let k_in : k < length ds = omega arith in
+    let behind = are k (omega arith) in
+    subst (λ (e : Field). StandsBehind e new) at
+    (subst (λ (e : Field). StandsBehind e new) (kept ds new k k_in)
+    (subst (λ (e : Field). StandsBehind (field_at (ds ++ new ∷ []) k) e) (last ds new (k + 1) count) behind))
+
 -- What is seen of the fields: of none, and of one more.
 
 pub seen_none : (fs : List ObjectValue) (m : LinkMapValue) → IsSeenOf fs m [] none_seen
@@ -399,7 +415,7 @@ seen_none fs m = record {
   out_of_range = λ k lt. absurd (omega arith);
   refused = λ k lt. absurd (omega arith);
   last = refl;
-  ascending = λ _ k lt. absurd (omega arith);
+  ascending = ((λ _ k lt. absurd (omega arith)), (λ _. refl));
 }
 
 pub seen_more : (fs : List ObjectValue) (m : LinkMapValue) (rules : List RelocRule) (p : Site) (ds : List Field) (seen : Seen) (j : Judged) (next : Seen) →
@@ -410,7 +426,10 @@ seen_more fs m rules p ds seen j next is old step = record {
       old.out_of_range is.out_of_range;
   refused = first_now (BreaksFieldTest fs m ValueOutOfRange) ds j.field seen.refused next.refused j.refused step.refused old.refused is.refused;
   last = last_more ds j.field next.last step.last;
-  ascending = λ yes. (let (before, behind) = step.ascending yes in ascending_more ds j.field seen.last (old.ascending before) old.last behind);
+  ascending = (
+    (λ yes. (let (before, behind) = step.ascending.0 yes in ascending_more ds j.field seen.last (old.ascending.0 before) old.last behind)),
+    (λ are. step.ascending.1 (old.ascending.1 (ascending_before ds j.field are), ascending_last ds j.field seen.last old.last are)),
+  );
 }
 
 -- another site with the same fields before it

@@ -16,7 +16,7 @@ use Rattle.elf_link_relocate.proofs.Collected.{kept, last, longer, pushed, field
 use Rattle.elf_link_relocate.proofs.Marked.{ascending_apart, grid_with, item_here, item_other}
 use Rattle.elf_link_relocate.specs.Fields.{IsEntrySite, entries_of, entry_at, target_at, target_of, HasField, HasOffset, IsWithin, field_start, addend_of, field_address, number_at, value_at, Share, IsUnplaced, IsFieldOutOfRange, IsValueOutOfRange, SharesEarlier}
 use Rattle.elf_link_relocate.specs.Linked.{IsSectionOf, HasLiveBits, IsGrid, item, with, number_byte}
-use Rattle.elf_link_relocate.specs.Passes.{field_at, AreKept, IsRead, IsCovered, IsFieldIn, AreAllCopies, AreRelocated, IsCopy, IsRelocated, HaveCopies, IsFieldPatched, IsPatchedOrBroken, AreFoundBefore, AreAllFound, AreFoundInOrder, IsJudgedField, IsSeenNext, copies_view, entry_site, none_seen}
+use Rattle.elf_link_relocate.specs.Passes.{AreListed, IsListed, field_at, AreKept, IsRead, IsCovered, IsFieldIn, AreAllCopies, AreRelocated, IsCopy, IsRelocated, HaveCopies, IsFieldPatched, IsPatchedOrBroken, AreFoundBefore, AreAllFound, AreFoundInOrder, IsJudgedField, IsSeenNext, copies_view, entry_site, none_seen}
 use Rattle.elf_link_relocate.specs.Views.{IsFileSymbol}
 use Rattle.elf_link_relocate.specs.declared.field.Field.{Field}
 use Rattle.elf_link_relocate.specs.declared.field.Found.{Found}
@@ -370,6 +370,14 @@ module _ (fs : List ObjectValue) (m : LinkMapValue) (ds : List Field) (new : Fie
 
 -- What is found before the first field, and with one more.
 
+none_listed : (listing : Bool) (list : List Field) → list ≡ [] → AreListed listing [] list
+none_listed true list none = none
+none_listed false list none = none
+
+listed_more : (listing : Bool) (ds old new : List Field) (d : Field) → AreListed listing ds old → IsListed listing old d new → AreListed listing (ds ++ d ∷ []) new
+listed_more true ds old new d is more = more ∙ ap (λ (l : List Field). l ++ d ∷ []) is
+listed_more false ds old new d is more = more ∙ is
+
 pub found_none : (fs : List ObjectValue) (m : LinkMapValue) (rules : List RelocRule) (listing : Bool) (found : Found) → found.list.items ≡ [] →
     found.seen ≡ none_seen → AreAllCopies fs (length fs) (copies_view found.copies.items) → AreFoundBefore fs m rules listing (entry_site 0 0 0) found
 found_none fs m rules listing found none seen are = (
@@ -378,7 +386,7 @@ found_none fs m rules listing found none seen are = (
   record {
     read = λ k lt. absurd (omega arith);
     seen = rw seen (seen_none fs m);
-    list = λ _. none;
+    list = none_listed listing found.list.items none;
     copies = copies_none fs m (copies_view found.copies.items) are;
     relocated = λ _. relocated_none fs m [] (copies_view found.copies.items) are;
   },
@@ -386,7 +394,7 @@ found_none fs m rules listing found none seen are = (
 
 pub found_more : (fs : List ObjectValue) (m : LinkMapValue) (rules : List RelocRule) (listing : Bool) (p : Site) (found : Found) (j : Judged) (next : Found) →
     IsJudgedField fs m rules p j → AreFoundBefore fs m rules listing p found → IsSeenNext found.seen j next.seen →
-    (listing ≡ true → next.list.items ≡ found.list.items ++ j.field ∷ []) →
+    IsListed listing found.list.items j.field next.list.items →
     IsPatchedOrBroken fs j (copies_view found.copies.items) (copies_view next.copies.items) →
     AreFoundBefore fs m rules listing (entry_site p.file p.index (p.entry + 1)) next
 found_more fs m rules listing p found j next is (ds, before, old) seen listed (inl put) = (
@@ -395,7 +403,7 @@ found_more fs m rules listing p found j next is (ds, before, old) seen listed (i
   record {
     read = pushed (IsRead fs m) ds j.field old.read is.read;
     seen = seen_more fs m rules p ds found.seen j next.seen is old.seen seen;
-    list = λ yes. listed yes ∙ ap (λ (l : List Field). l ++ j.field ∷ []) (old.list yes);
+    list = listed_more listing ds found.list.items next.list.items j.field old.list listed;
     copies = copies_patched fs j.field (copies_view found.copies.items) (copies_view next.copies.items) old.copies put;
     relocated = λ are. relocated_now fs m ds j.field (copies_view found.copies.items) (copies_view next.copies.items) are is.read put
         (old.relocated (kept_before fs m ds j.field are));
@@ -407,7 +415,7 @@ found_more fs m rules listing p found j next is (ds, before, old) seen listed (i
   record {
     read = pushed (IsRead fs m) ds j.field old.read is.read;
     seen = seen_more fs m rules p ds found.seen j next.seen is old.seen seen;
-    list = λ yes. listed yes ∙ ap (λ (l : List Field). l ++ j.field ∷ []) (old.list yes);
+    list = listed_more listing ds found.list.items next.list.items j.field old.list listed;
     copies = rw same old.copies;
     relocated = λ are. (
         let n = length ds in
@@ -426,12 +434,12 @@ found_more fs m rules listing p found j next is (ds, before, old) seen listed (i
 pub found_in_order : (fs : List ObjectValue) (m : LinkMapValue) (rules : List RelocRule) (listing : Bool) (found : Found) →
     AreAllFound fs m rules listing found → (found.seen.ascending ≡ false → listing ≡ true) → AreFoundInOrder fs m rules found
 found_in_order fs m rules listing found (ds, are, is) listed = record {
-  placed = first_site fs rules ds are (IsUnplaced fs m) found.seen.unplaced is.seen.unplaced;
-  within = first_site fs rules ds are (IsFieldOutOfRange fs) found.seen.out_of_range is.seen.out_of_range;
-  admitted = first_site fs rules ds are (IsValueOutOfRange fs m) found.seen.refused is.seen.refused;
-  apart = λ yes. none_at_field fs rules ds are (SharesEarlier fs rules) (no_overlap fs rules ds are (ascending_apart fs m ds is.read (is.seen.ascending yes)));
-  fields = λ no. rw (is.list (listed no)) are;
-  read = λ no. rw (is.list (listed no)) is.read;
+  first_unplaced = first_site fs rules ds are (IsUnplaced fs m) found.seen.unplaced is.seen.unplaced;
+  first_out_of_range = first_site fs rules ds are (IsFieldOutOfRange fs) found.seen.out_of_range is.seen.out_of_range;
+  first_refused = first_site fs rules ds are (IsValueOutOfRange fs m) found.seen.refused is.seen.refused;
+  apart = λ yes. none_at_field fs rules ds are (SharesEarlier fs rules) (no_overlap fs rules ds are (ascending_apart fs m ds is.read (is.seen.ascending.0 yes)));
+  fields = λ no. rw (subst (λ (b : Bool). AreListed b ds found.list.items) (listed no) is.list) are;
+  read = λ no. rw (subst (λ (b : Bool). AreListed b ds found.list.items) (listed no) is.list) is.read;
   copies = λ placed within apart. (
       let kept_all : AreKept fs m ds = record {
         placed = none_in_list fs rules ds are (IsUnplaced fs m) placed;

@@ -1,5 +1,5 @@
 -- What the passes over the entries and the fields of a link look at, collect and return.
-use Rattle.std.specs.Prelude.{List, ◌≡◌, ℕ, ◌<◌, pos, get_or, length, Some, ℤ, ◌↔◌, Bool, true, false, MatchOption, Option, None, [], map, replicate, ◌+◌, ◌≤◌, ◌⊎◌, slice_index, option_map, IfSome}
+use Rattle.std.specs.Prelude.{List, ◌≡◌, ℕ, ◌<◌, pos, get_or, length, Some, ℤ, ◌↔◌, Bool, true, false, MatchOption, Option, None, [], map, replicate, ◌+◌, ◌≤◌, ◌⊎◌, slice_index, option_map, IfSome, ◌++◌, ◌∷◌}
 use Rattle.std.specs.Global.{Vec}
 use Rattle.elf_extent.specs.Extent.{Never}
 use Rattle.elf_field.specs.declared.number.Order.{Order}
@@ -145,10 +145,12 @@ first_of (Some first) holds p = Some first
 first_of None true p = Some p
 first_of None false p = None
 
--- the site of the first field of the list that breaks a rule, or none
+-- the site of the first field of the list that something holds of, or none; here, that breaks a rule
+abbrev pub IsFirstOf : (Site → RelocRule → Type 0) → List Field → Option Site → Type 0
+IsFirstOf P ds first = MatchOption first (HasNone P ds) (λ p. (k : ℕ) × IsFirst P ds k × ((field_at ds k).site ≡ p))
+
 abbrev pub IsFirstBroken : List ObjectValue → LinkMapValue → List Field → FieldTest → Option Site → Type 0
-IsFirstBroken fs m ds test first = MatchOption first (HasNone (BreaksFieldTest fs m test) ds)
-    (λ p. (k : ℕ) × IsFirst (BreaksFieldTest fs m test) ds k × ((field_at ds k).site ≡ p))
+IsFirstBroken fs m ds test = IsFirstOf (BreaksFieldTest fs m test) ds
 
 -- the last field of the list, or none
 abbrev pub IsLast : List Field → Option Field → Type 0
@@ -164,23 +166,25 @@ StandsBehind d e =
 abbrev pub AreAscending : List Field → Type 0
 AreAscending ds = (k : ℕ) → k + 1 < length ds → StandsBehind (field_at ds k) (field_at ds (k + 1))
 
--- of no field; of some fields; and of these and one more
+-- of no field
 abbrev pub none_seen : Seen
 none_seen = record { unplaced = None; out_of_range = None; refused = None; last = None; ascending = true }
 
+-- of the fields of a list
 pub record IsSeenOf (fs : List ObjectValue) (m : LinkMapValue) (ds : List Field) (seen : Seen) : Type 0 where
   pub unplaced : IsFirstBroken fs m ds Unplaced seen.unplaced
   pub out_of_range : IsFirstBroken fs m ds FieldOutOfRange seen.out_of_range
   pub refused : IsFirstBroken fs m ds ValueOutOfRange seen.refused
   pub last : IsLast ds seen.last
-  pub ascending : seen.ascending ≡ true → AreAscending ds
+  pub ascending : (seen.ascending ≡ true) ↔ AreAscending ds
 
+-- of one field more
 pub record IsSeenNext (old : Seen) (j : Judged) (new : Seen) : Type 0 where
   pub unplaced : new.unplaced ≡ first_of old.unplaced j.unplaced j.field.site
   pub out_of_range : new.out_of_range ≡ first_of old.out_of_range j.out_of_range j.field.site
   pub refused : new.refused ≡ first_of old.refused j.refused j.field.site
   pub last : new.last ≡ Some j.field
-  pub ascending : new.ascending ≡ true → (old.ascending ≡ true) × IfSome old.last (λ d. StandsBehind d j.field)
+  pub ascending : (new.ascending ≡ true) ↔ ((old.ascending ≡ true) × IfSome old.last (λ d. StandsBehind d j.field))
 
 -- Marks on the bytes that fields have, a mark for each byte of each section.
 
@@ -239,6 +243,7 @@ pub record AreKept (fs : List ObjectValue) (m : LinkMapValue) (ds : List Field) 
   pub within : AllWithin fs ds
   pub apart : HasNoOverlap fs ds
 
+-- they are all fields of the link
 pub record AreJudged (fs : List ObjectValue) (m : LinkMapValue) (rules : List RelocRule) (ds : List Field) : Type 0 where
   pub fields : AreFields fs rules ds
   pub kept : AreKept fs m ds
@@ -310,11 +315,20 @@ IsPatchedOrBroken fs j old new = IsFieldPatched fs j.field old new ⊎ (((j.unpl
 
 -- What a pass over the entries finds, and the bytes that it relocates.
 
+-- the list has the fields if it is asked for, and else none; and so with one more
+abbrev pub AreListed : Bool → List Field → List Field → Type 0
+AreListed true ds list = list ≡ ds
+AreListed false ds list = list ≡ []
+
+abbrev pub IsListed : Bool → List Field → Field → List Field → Type 0
+IsListed true old d new = new ≡ old ++ d ∷ []
+IsListed false old d new = new ≡ old
+
 -- of the fields of a list: if rules 13 to 15 are kept, the copies hold their numbers
 pub record IsFoundOf (fs : List ObjectValue) (m : LinkMapValue) (listing : Bool) (ds : List Field) (found : Found) : Type 0 where
   pub read : AreFieldsRead fs m ds
   pub seen : IsSeenOf fs m ds found.seen
-  pub list : listing ≡ true → found.list.items ≡ ds
+  pub list : AreListed listing ds found.list.items
   pub copies : HaveCopies fs (copies_view found.copies.items)
   pub relocated : AreKept fs m ds → AreRelocated fs m ds (length ds) (copies_view found.copies.items)
 
@@ -333,11 +347,11 @@ AreRelocatedCopies fs m rules rows = (ds : List Field) × AreJudged fs m rules d
 abbrev pub IsFirstSite : Row Site → Option Site → Type 0
 IsFirstSite row first = MatchOption first (Never row) (IsFirstAt row)
 
--- the first site of each rule of one field; the list of all fields, if they do not ascend; and the copies
+-- the first site of each rule of one field; no overlap if the fields ascend, and else the list of them; and the copies
 pub record AreFoundInOrder (fs : List ObjectValue) (m : LinkMapValue) (rules : List RelocRule) (found : Found) : Type 0 where
-  pub placed : IsFirstSite (unplaced fs m rules) found.seen.unplaced
-  pub within : IsFirstSite (field_out_of_range fs rules) found.seen.out_of_range
-  pub admitted : IsFirstSite (value_out_of_range fs m rules) found.seen.refused
+  pub first_unplaced : IsFirstSite (unplaced fs m rules) found.seen.unplaced
+  pub first_out_of_range : IsFirstSite (field_out_of_range fs rules) found.seen.out_of_range
+  pub first_refused : IsFirstSite (value_out_of_range fs m rules) found.seen.refused
   pub apart : found.seen.ascending ≡ true → Never (fields_overlap fs rules)
   pub fields : found.seen.ascending ≡ false → AreFields fs rules found.list.items
   pub read : found.seen.ascending ≡ false → AreFieldsRead fs m found.list.items

@@ -1,10 +1,10 @@
 //! A pass over all entries of a link, in order.
-ghost use Rattle.std.specs.Prelude.{◌≡◌, ◌↔◌, IsTrue, true, ◌+◌, ◌^◌, ◌<◌, ◌++◌, ◌∷◌, [], IfErr, IfOk, OnOk, length};
+ghost use Rattle.std.specs.Prelude.{◌≡◌, ◌↔◌, IsTrue, ◌+◌, ◌^◌, ◌<◌, IfErr, IfOk, OnOk, length};
 ghost use Rattle.elf_link_files.specs.Files.{Live, Discarded};
 ghost use Rattle.elf_link_relocate.specs.Fields.{content_in, content_of as content_of_body};
 ghost use Rattle.elf_link_relocate.specs.Linked.{IsSectionOf};
 ghost use Rattle.elf_object_type.specs.ObjectView.{body_value};
-ghost use Rattle.elf_link_relocate.specs.Passes.{AreAllFound, AreFoundBefore, entry_site, first_of as first_site, IsRuleFault, IsSeenNext, none_seen, NoneUnruled};
+ghost use Rattle.elf_link_relocate.specs.Passes.{AreAllFound, AreFoundBefore, entry_site, first_of as first_site, IsListed, IsRuleFault, IsSeenNext, none_seen, NoneUnruled};
 ghost use Rattle.elf_link_relocate.specs.Views.{IsAppliedEntry};
 
 use crate::copies::{all_copies, patch_field};
@@ -108,7 +108,7 @@ impl Seen {
 
 /// Adds a field to the list, if it is asked for.
 fn list_field(list: &mut Vec<Field>, listing: bool, field: Field) -> Result<(), AllocError>
-    ensures { OnOk result (listing ≡ true → list.new.items ≡ list.old.items ++ field ∷ []) }
+    ensures { OnOk result (IsListed listing list.old.items field list.new.items) }
 {
     if listing {
         list.push(field)?;
@@ -226,7 +226,7 @@ fn push_file(
 
 /// What one pass over all entries finds, with the list of the fields if it is asked for. Returns rule 12, at the first applied entry whose
 /// kind has no relocation rule.
-pub(crate) fn all_fields(
+pub(crate) fn pass_over_entries(
     alloc: Global,
     values: &Values<'_, '_, '_>,
     listing: bool,

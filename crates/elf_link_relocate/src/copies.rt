@@ -1,9 +1,8 @@
 //! Copies of the live sections with bits.
 ghost use Rattle.std.specs.Prelude.{◌≡◌, ◌<◌, IfOk, length, map as map_list, ◌+◌, [], get_or};
 ghost use Rattle.elf_link_files.specs.Files.{object_at};
-ghost use Rattle.elf_link_relocate.specs.Passes.{copies_view, copy_view};
 ghost use Rattle.elf_link_relocate.specs.Linked.{IsSectionOf};
-ghost use Rattle.elf_link_relocate.specs.Passes.{AreAllCopies, AreCopies, HasRoom, HaveCopies, IsCopy, IsJudgedField, IsPatchedIn, IsPatchedOrBroken};
+ghost use Rattle.elf_link_relocate.specs.Passes.{AreAllCopies, AreCopies, HasRoom, HaveCopies, IsCopy, IsJudgedField, IsPatchedIn, IsPatchedOrBroken, copies_view, copy_view};
 ghost use Rattle.elf_link_field.specs.Field.{size_of};
 
 use crate::collecting::is_live;

@@ -91,7 +91,7 @@ impl<'f, 'v, 'l, 'a> FieldList<'f, 'v, 'l, 'a> {
     }
 }
 
-// Whether two fields share a byte.
+// The order of fields.
 
 /// Whether a field is after another one: in a later file or section, or after its end.
 pub(crate) fn is_behind(before: Field, field: Field) -> bool

@@ -7,7 +7,7 @@ ghost use Rattle.elf_link_relocate.specs.Fields.{IsRelocationFault, applied_entr
 ghost use Rattle.elf_link_map.specs.Naming.{AreBindingNumbers};
 ghost use Rattle.elf_link_relocate.specs.Linked.{IsLinked, IsMapButOptions, IsMapOfSome, IsReadyLink};
 
-use crate::collecting::all_fields;
+use crate::collecting::pass_over_entries;
 use crate::copies::Copies;
 use crate::field::{Field, FieldList, FieldTest, Found};
 use crate::linked::Linked;
@@ -61,12 +61,12 @@ fn found_in_order(alloc: Global, values: &Values<'_, '_, '_>) -> Result<Found, L
     ensures ruled { OnOk result (NoneUnruled values.now.objects values.now.rules) }
     ensures err { IfErr result (IsRuleFault values.now.objects values.now.rules) }
 {
-    let found = all_fields(alloc, values, false)?;
+    let found = pass_over_entries(alloc, values, false)?;
     if found.seen.ascending {
         return Ok(found);
     }
     drop(found);
-    all_fields(alloc, values, true)
+    pass_over_entries(alloc, values, true)
 }
 
 /// The copies of the live sections with bits, each field with its number. Returns the first of rules 12 to 16 that is broken.
@@ -122,8 +122,9 @@ pub fn relocate_numbered<'m, 'a>(
 ///
 /// [`LinkFault::Rule`] is the first of rules 12 to 16 ([`rules`](crate::rules)) that is broken, at its first entry by file, section and
 /// position. [`LinkFault::OutOfMemory`] comes only if an allocation fails: a number for each symbol, a copy of each live section
-/// with bits; and where the fields don't ascend, the list of them and a mark for each byte. Takes log n comparisons at most for each
-/// symbol, and a look through the rules for each entry; all else is linear in the bytes, entries and symbols.
+/// with bits; and if the fields don't ascend, a list of them, and a mark for each byte of all sections. Takes log n comparisons at most for
+/// each symbol, and a look through the rules for each entry, or two if the fields don't ascend; all else is linear in the bytes, entries
+/// and symbols.
 pub fn relocate<'m, 'a>(
     alloc: Global,
     map: &'m LinkMap<'a>,

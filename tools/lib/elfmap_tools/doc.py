@@ -64,9 +64,8 @@ class Page:
 
     def whole(self) -> str:
         sections = [PublicCrate(self, public_crate).section() for public_crate in PUBLIC_CRATES]
-        body, front = "\n".join([self.contents(), *sections, self.glossary()]), PublicCrate(self, "").told(
-            source(module_file("elf", ()))[0]
-        )
+        body = "\n".join([self.contents(), *sections, self.glossary()])
+        front = PublicCrate(self, "").told(source(module_file("elf", ()))[0])
         own = {"STYLE": read_text("page/doc.css"), "SCRIPT": read_text("page/doc.js")}
         return filled("page/doc.html", FRONT=front, BODY=body, **own).rstrip("\n")
 

@@ -71,7 +71,7 @@ Place = tuple[str, int, int]
 
 
 def objects_of(path: str) -> list[Place]:
-    """The objects in a file: it, or the members of an archive; none where it can't be read."""
+    """The objects in a file: it, or the members of an archive, as the Python package reads it; none where it can't be read."""
     try:
         with opened(os.fsencode(path)) as source:
             if path.endswith(".a"):

@@ -26,6 +26,8 @@ UNDEF, ABS, COMMON, XINDEX = 0, 0xFFF1, 0xFFF2, 0xFFFF
 
 # ---- what it answers
 
+# The names of the rules of images.
+RULE_NAMES: list[str] = [rule.__name__.upper() for _, rule in image.RULES]
 # The first rule that is broken, and where: by a file as an image or as an object, and by the table in a section.
 verdict: Callable[[bytes], Broken | None] = image.verdict
 object_verdict: Callable[[bytes], Broken | None] = objects.verdict

@@ -6,6 +6,7 @@ import functools, glob, re, textwrap
 from collections.abc import Iterable, Iterator
 from typing import NamedTuple
 
+from .reference import RULE_NAMES
 from .suite import Tally, Test
 from .tree import TOP, Options, cells, read_text, write
 
@@ -136,3 +137,5 @@ def rules_tables(tally: Tally, options: Options) -> None:
         # The first line says by what the file is made.
         is_same = read_text(path).partition("\n")[2] == text.partition("\n")[2]
         tally.check(is_same, f"{path} is not what docs/RULES.md says; `tools/release tables` makes it anew")
+    names = [it.name for it in rules_of("image", range(1, 34))]
+    tally.check(RULE_NAMES == names, "reference/image.py has other names than docs/RULES.md")

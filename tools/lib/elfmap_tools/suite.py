@@ -58,6 +58,8 @@ class Tally:
 
     def try_steps(self, steps: list[Step], run: Callable[[str], str]) -> None:
         """Checks of each step that what its script prints fits the pattern."""
+        if not steps:
+            self.fail("there is no step")
         for title, script, pattern in steps:
             found = run(script)
             self.check(re.fullmatch(pattern, found), f"{title}: `{script}` says:\n{found}")

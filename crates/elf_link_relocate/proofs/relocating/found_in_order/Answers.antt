@@ -24,4 +24,4 @@ returns-then-found-clause-found c =
 pub returns-clause-found : goal.returns-clause-found
 returns-clause-found c =
     let l = c.args.values.now in
-    all_listed l.objects l.map l.rules c.all_fields-2.result c.all_fields-2.ensures.found
+    all_listed l.objects l.map l.rules c.pass_over_entries-2.result c.pass_over_entries-2.ensures.found

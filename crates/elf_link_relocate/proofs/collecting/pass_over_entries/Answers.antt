@@ -4,7 +4,7 @@ use Rattle.elf_object_type.specs.Object.{ObjectValue}
 use Rattle.elf_link_relocate.specs.Passes.{LinkingValue, entry_site, AreAllCopies, AreFoundBefore, copies_view}
 use Rattle.elf_link_relocate.proofs.Collected.{fields_all, none_unruled}
 use Rattle.elf_link_relocate.proofs.Patches.{found_none}
-use Rattle.elf_link_relocate.proofs.collecting.all_fields.Goals as goal
+use Rattle.elf_link_relocate.proofs.collecting.pass_over_entries.Goals as goal
 
 pub loop-file-init : goal.loop-file-init
 loop-file-init c =
