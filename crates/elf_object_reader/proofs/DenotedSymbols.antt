@@ -1,8 +1,8 @@
 -- The symbols of the object that a file denotes keep rules 7 to 9 of objects: symbol q is entry q + 1. Its name is a string. If the file
 -- breaks no rule, the section it is in is kept by rule 75, and local symbols come first by rule 47.
 use Rattle.std.proofs.Common.{◌≡◌, ℕ, ◌+◌, ◌*◌, ◌<◌, ◌≤◌, List, get_or, length, ap, ◌∙◌, arith, ◌-◌, zero, suc, Bool, true, false, not, cond, min, [], ◌∷◌, drop, take, map, refl, sym, Option, None, Some, inl, inr, subst, ◌⊎◌}
-use Rattle.std.specs.Prelude.{◌/◌, ◌%◌, ◌==◌, slice_range, if◌then◌else◌, nat_lt, Contains}
-use Rattle.std.specs.List.{before_first, prefix_len, range_with_len}
+use Rattle.std.specs.Prelude.{◌/◌, ◌%◌, ◌==◌, ◌||◌, slice_range, if◌then◌else◌, nat_lt, Contains}
+use Rattle.std.specs.List.{before_first, list_any, prefix_len, range_with_len}
 use Rattle.std.proofs.lemmas.List.{drop-drop, drop-take, length-drop, take-take, get_or-drop, get_or-map, get_or_past, length-map}
 use Rattle.std.proofs.lemmas.List.Folds.{length-prefix_len}
 use Rattle.std.proofs.lemmas.List.FromFn.{get_or-map-range_with_len, length-map-range_with_len}
@@ -20,7 +20,7 @@ use Rattle.elf_image_type.specs.ImageView.{string}
 use Rattle.elf_object_reader.proofs.FileRules.{places_sound, symbols_sound}
 use Rattle.elf_object_reader.proofs.Kept.{not_kept_past}
 use Rattle.elf_object_reader.proofs.KeptTypes.{no_zero_in_string, position_there}
-use Rattle.elf_object_reader.specs.Denotes.{Denotes, name_end, symbol_denoted, symbol_end, symbol_ends, symbols_denoted, left_out, symbol_table, place_denoted, is_kept, relocation_denoted}
+use Rattle.elf_object_reader.specs.Denotes.{Denotes, has_long_name, useful_ends, name_end, symbol_denoted, symbol_end, symbol_ends, symbols_denoted, left_out, symbol_table, place_denoted, is_kept, relocation_denoted}
 use Rattle.elf_object_reader.specs.FileRules.{block_end, IsSymbolOutside, file_rules, rules_of_symbols, symbol_outside_rules}
 use Rattle.elf_object_reader.specs.declared.object_file.LeftOut.{LeftOut}
 use Rattle.elf_object_strings.proofs.Public.{tails_none, tails_of_table}
@@ -305,6 +305,25 @@ pub tails_denoted : (f : Sections) (o : ObjectValue) → Denotes f o → AreTail
 tails_denoted f o denotes =
     subst (λ (symbols : List SymbolValue). AreTails (names_of symbols) (symbol_ends f (symbol_table f))) (sym denotes.symbols)
     (tails_of_symbols (left_out f) f (symbol_table f))
+
+pub useful_tails : (f : Sections) (o : ObjectValue) → Denotes f o → AreTails (names_of o.symbols) (useful_ends o.symbols f)
+useful_tails f o denotes = by (list_any has_long_name o.symbols) where
+  by : (b : Bool) → AreTails (names_of o.symbols) (if b then symbol_ends f (symbol_table f) else [])
+  by true = tails_denoted f o denotes
+  by false = tails_none (names_of o.symbols)
+
+-- the ends are those of all names, or none
+pub useful_all : (symbols : List SymbolValue) (f : Sections) → list_any has_long_name symbols ≡ true →
+    useful_ends symbols f ≡ symbol_ends f (symbol_table f)
+useful_all symbols f is = rw is refl
+
+pub useful_none : (symbols : List SymbolValue) (f : Sections) → list_any has_long_name symbols ≡ false → useful_ends symbols f ≡ []
+useful_none symbols f is = rw is refl
+
+-- a test of the images of a list
+pub list_any_of_map : {X Y : Type 0} (p : Y → Bool) (f : X → Y) (xs : List X) → list_any p (map f xs) ≡ list_any (λ x. p (f x)) xs
+list_any_of_map p f [] = refl
+list_any_of_map p f (x ∷ xs) = ap (λ b. p (f x) || b) (list_any_of_map p f xs)
 
 -- symbol q of the object is symbol q + 1 of the symbol table in section t
 pub record IsSymbolOf (f : Sections) (o : ObjectValue) (q t : ℕ) : Type 0 where

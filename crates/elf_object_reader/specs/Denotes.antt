@@ -1,6 +1,6 @@
 -- The object that a relocatable file denotes. (gABI chapter 4: ELF Header, Sections, Symbol Table, Relocation, Section Groups.)
 use Rattle.std.specs.Prelude.{ℕ, ◌==◌, ◌||◌, not, if◌then◌else◌, Bool, false, Option, None, Some, List, filter, length, position, ◌≡◌, ◌+◌, ◌-◌, ◌*◌, nat_lt, [], bit_and, drop, map, pos, slice_index, unwrap_or}
-use Rattle.std.specs.List.{range_with_len}
+use Rattle.std.specs.List.{list_any, range_with_len}
 use Rattle.elf_field.specs.Abi.{SHT_GROUP, SHT_NOBITS, SHT_NULL, SHT_REL, SHT_RELA, SHT_SYMTAB, EI_ABIVERSION, EI_OSABI, GRP_COMDAT, SHF_INFO_LINK, SYM_SIZE}
 use Rattle.elf_field.specs.Entries.{sym_at}
 use Rattle.elf_field.specs.declared.shdr.Shdr.{Shdr}
@@ -189,3 +189,11 @@ symbol_end f t j =
 abbrev pub symbol_ends : Sections → Option ℕ → List ℕ
 symbol_ends f None = []
 symbol_ends f (Some t) = map (symbol_end f t) (range_with_len 1 (length (symbols_of f t) - 1))
+
+-- the name is longer than 64 bytes
+abbrev pub has_long_name : SymbolValue → Bool
+has_long_name symbol = nat_lt 64 (length symbol.name)
+
+-- the ends that are of use for the names of these symbols: none if no name is long
+abbrev pub useful_ends : List SymbolValue → Sections → List ℕ
+useful_ends symbols f = if list_any has_long_name symbols then symbol_ends f (symbol_table f) else []

@@ -1,10 +1,10 @@
 //! The symbols of a file as those of an object (gABI chapter 4, Symbol Table).
-ghost use Rattle.std.specs.List.{range_with_len};
+ghost use Rattle.std.specs.List.{list_any, range_with_len};
 ghost use Rattle.std.specs.Prelude.{◌≡◌, ◌≤◌, ℕ, ◌+◌, ◌/◌, IfOk, length, map, slice_range, ◌<◌, ◌*◌, Some, drop, get_or};
 ghost use Rattle.elf_image_type.specs.ImageView.{string};
 ghost use Rattle.elf_object_reader.specs.FileRules.{BLOCK, block_end, sections_of_file};
 ghost use Rattle.elf_field.specs.Entries.{sym_at};
-ghost use Rattle.elf_object_reader.specs.Denotes.{name_end, place_denoted, symbol_denoted, symbol_ends, symbols_denoted, left_out, symbol_table};
+ghost use Rattle.elf_object_reader.specs.Denotes.{has_long_name, name_end, useful_ends, place_denoted, symbol_denoted, symbol_ends, symbols_denoted, left_out, symbol_table};
 ghost use Rattle.elf_object_type.specs.ObjectView.{symbol_value};
 ghost use Rattle.elf_table_symbols.specs.Sections.{content, order, section, sections_of};
 ghost use Rattle.elf_table_symbols.specs.Symbols.{symbol_parts};
@@ -17,6 +17,7 @@ use elf_field::{Sym, get_at};
 use elf_image_rules::MAX_LEN;
 use elf_image_type::Image;
 use elf_image_type::strings::string_at;
+use elf_object_strings::SHORT_NAME;
 use elf_object_type::{Place, Symbol};
 use std::alloc::{AllocError, Global};
 
@@ -195,8 +196,32 @@ impl<'f, 'i, 'a> FileSymbols<'f, 'i, 'a> {
     }
 }
 
+/// For each symbol that was read of an image, in their order, where its name ends in the string table; none if no name is long, since only
+/// the ends of long names save time.
+pub(crate) fn useful_ends(
+    alloc: Global,
+    image: &Image<'_>,
+    symbols: &[Symbol<'_>],
+) -> Result<Vec<u32>, AllocError>
+    requires { let f = sections_of image.now in map symbol_value symbols.now ≡ symbols_denoted (left_out f) f (symbol_table f) }
+    ensures { let f = sections_of image.now in IfOk result (λ ends. ends.items ≡ useful_ends (map symbol_value symbols.now) f) }
+{
+    if has_long_name(symbols) {
+        symbol_ends(alloc, image, symbols)
+    } else {
+        Ok(Vec::new(alloc))
+    }
+}
+
+/// Whether a symbol has a long name.
+fn has_long_name(symbols: &[Symbol<'_>]) -> bool
+    ensures { result ≡ list_any (λ symbol. has_long_name (symbol_value symbol)) symbols.now }
+{
+    symbols.iter().any(|symbol| symbol.name.len() > SHORT_NAME)
+}
+
 /// For each symbol that was read of an image, in their order, where its name ends in the string table.
-pub(crate) fn symbol_ends(
+fn symbol_ends(
     alloc: Global,
     image: &Image<'_>,
     symbols: &[Symbol<'_>],

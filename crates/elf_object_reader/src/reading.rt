@@ -2,7 +2,7 @@
 ghost use Rattle.std.specs.Prelude.{◌≡◌, None, ◌<◌, true, length, ◌+◌, IfOk, IfErr, map};
 ghost use Rattle.elf_image_rules.specs.KeepsRules.{unbroken_prop};
 ghost use Rattle.elf_image_rules.specs.Rows.{FirstIn};
-ghost use Rattle.elf_object_reader.specs.Denotes.{section_reference, position_of, is_kept, Denotes, symbol_ends, symbol_table};
+ghost use Rattle.elf_object_reader.specs.Denotes.{section_reference, position_of, is_kept, Denotes, useful_ends};
 ghost use Rattle.elf_object_reader.specs.FileRules.{file_rules, AreSectionPositions, sections_of_file, front_rules};
 ghost use Rattle.elf_table_symbols.specs.Sections.{sections_of, section};
 ghost use Rattle.elf_image_stream.specs.declared.fault.Fault.TheVariants.{OutOfMemory};
@@ -12,7 +12,7 @@ ghost use Rattle.elf_table_symbols.specs.Verdicts.{IsJudgedBehind};
 
 use crate::file_rules::judge_front;
 use crate::object_file::{LeftOut, ObjectFile};
-use crate::read_symbols::symbol_ends;
+use crate::read_symbols::useful_ends;
 use elf_field::Shdr;
 use elf_field::abi::*;
 use elf_image_stream::Fault;
@@ -112,18 +112,19 @@ pub fn object_of<'a>(alloc: Global, image: &Image<'a>) -> Result<Object<'a>, Fau
 
 /// The same object, and for each of its symbols, in their order, where its name ends in the string table that it was read from: the offset
 /// after it, plus 1; 0 if that offset is not below 2^30, the length of the longest file. Of two symbols with one such end the longer name
-/// ends with the shorter one. It takes memory for each symbol once more.
+/// ends with the shorter one. If no name is longer than 64 bytes, it lists no ends: short names are compared as they are. Otherwise it takes
+/// memory for each symbol once more.
 pub fn object_with_ends<'a>(
     alloc: Global,
     image: &Image<'a>,
 ) -> Result<(Object<'a>, Vec<u32>), Fault>
     ensures { let f = sections_of image.now in
         IsJudgedBehind (front_rules f) (file_rules f)
-        (λ (o, ends). Denotes f o × (ends.items ≡ symbol_ends f (symbol_table f)) × AreTails (map (λ s. s.name) o.symbols) ends.items)
+        (λ (o, ends). Denotes f o × (ends.items ≡ useful_ends o.symbols f) × AreTails (map (λ s. s.name) o.symbols) ends.items)
         result }
 {
     let object = object_of(alloc, image)?;
-    let ends = symbol_ends(alloc, image, object.symbols())?;
+    let ends = useful_ends(alloc, image, object.symbols())?;
     Ok((object, ends))
 }
 

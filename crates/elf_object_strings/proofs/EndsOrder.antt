@@ -11,6 +11,8 @@ use Rattle.std.proofs.lemmas.Map.Keys.{ge_from_not_lt}
 use Rattle.std.specs.Prelude.{◌==◌, if◌then◌else◌}
 use Rattle.std.proofs.lemmas.Bool.Decides.{nat_tests}
 use Rattle.elf_object_strings.proofs.Ends.{suffix_from, suffix_none, suffix_same, suffix_trans}
+use Rattle.std.specs.List.{range_with_len}
+use Rattle.std.proofs.lemmas.List.FromFn.{get_or-range_with_len, length-range_with_len}
 use Rattle.elf_object_strings.specs.Sorting.{AreInEndsOrder, indexes_in, names_by_ends, AreRuns, HaveOwners, IsLeastOwner, IsRun, AreNumbered}
 use Rattle.elf_object_strings.specs.StringTable.{IsSuffix, is_suffix, AreOwners, IsFirstOfHeld, IsOwner}
 use Rattle.elf_object_strings.specs.declared.sorting.Numbered.{Numbered}
@@ -341,6 +343,11 @@ owners_more names sorted indexes owners position owner numbered within owned new
   each = below_more (λ q. IsOwner names (get_or sorted q []) (get_or (set owners (get_or indexes position 0) owner) (get_or indexes q 0) 0))
       position earlier
       (subst (λ o. IsOwner names (get_or sorted position []) o) (sym (written (get_or indexes position 0) refl)) new);
+  rest = λ q more lt.
+      (let many : length indexes ≡ length names = numbered.all in
+      let as_many : length sorted ≡ length names = numbered.as_many in
+      let other : get_or indexes q 0 ≡ get_or indexes position 0 → ⊥ = λ same. numbered.once position q 0 (omega arith) (omega arith) (sym same) in
+      get_or-set_other owners (get_or indexes position 0) (get_or indexes q 0) owner 0 other ∙ owned.rest q (omega arith) lt);
 } where
   written : (i : ℕ) → i ≡ get_or indexes position 0 → get_or (set owners (get_or indexes position 0) owner) i 0 ≡ owner
   written i is =
@@ -360,6 +367,18 @@ owners_more names sorted indexes owners position owner numbered within owned new
     | inr other ↦ subst (λ o. IsOwner names (get_or sorted q []) o)
         (sym (get_or-set_other owners (get_or indexes position 0) (get_or indexes q 0) owner 0 other)) (owned.each q lt)
   ]
+
+-- each name as its own owner
+pub owners_none : (names sorted : List (List ℕ)) (indexes : List ℕ) → AreNumbered names sorted indexes →
+    HaveOwners names sorted indexes (range_with_len 0 (length sorted)) 0
+owners_none names sorted indexes numbered = record {
+  all = length-range_with_len 0 (length sorted) ∙ numbered.as_many;
+  each = λ q lt. absurd (omega arith);
+  rest = λ q from lt.
+      (let below = numbered.below q lt in
+      let as_many = numbered.as_many in
+      get_or-range_with_len 0 (length sorted) (get_or indexes q 0) 0 (omega arith) ∙ omega arith);
+}
 
 pub owners_all : (names sorted : List (List ℕ)) (indexes owners : List ℕ) (position : ℕ) → AreNumbered names sorted indexes →
     length sorted ≤ position →

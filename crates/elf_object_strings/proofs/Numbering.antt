@@ -1,7 +1,7 @@
 -- Names with their indexes: in the order of their list, in another order, and sorted. Each pair has a name and its index in the list, also
 -- after a permutation. Pairs sorted by `numbered_order`, which is a total order, are in the order by ends, if each has the number of its
 -- end (`end_decides`).
-use Rattle.std.proofs.Common.{◌≡◌, ℕ, zero, suc, ◌+◌, ◌-◌, ◌*◌, ◌%◌, ◌^◌, ◌<◌, ◌≤◌, ◌⊎◌, List, [], ◌∷◌, ◌++◌, length, get_or, take, drop, min, replicate, reverse, Ordering, refl, sym, ap, subst, ◌∙◌, inl, inr, add-one, arith}
+use Rattle.std.proofs.Common.{◌≡◌, ℕ, zero, suc, ◌+◌, ◌-◌, ◌*◌, ◌%◌, ◌^◌, ◌<◌, ◌≤◌, ◌⊎◌, List, [], ◌∷◌, ◌++◌, length, get_or, take, drop, min, replicate, reverse, Ordering, refl, sym, ap, subst, ◌∙◌, inl, inr, add-one, arith, nat_eq}
 use Rattle.std.specs.declared.cmp.Ordering.TheVariants.{Less, Equal, Greater}
 use Rattle.std.specs.Cmp.{nat_cmp_is, IsTotalOrder}
 use Rattle.std.specs.Cmp.Lexicographic.{slice_cmp}
@@ -13,7 +13,10 @@ use Rattle.std.proofs.lemmas.List.{append-nil, drop_all, get_or-reverse, get_or_
 use Rattle.std.specs.List.{All, Contains}
 use Rattle.std.specs.List.Sorted.{IsPermutation, IsSortedBy}
 use Rattle.std.proofs.lemmas.Cmp.{back_total, nat_cmp_total, nat_list_cmp_total, on_total, then_total}
-use Rattle.std.proofs.lemmas.List.Sorted.{All-permutation, Contains-permutation, length_permutation, ranks_by, sorted_far}
+use Rattle.std.proofs.lemmas.List.Sorted.{All-permutation, Contains-permutation, IsPermutation-map, length_permutation, ranks_by, sorted_far}
+use Rattle.std.proofs.lemmas.Bool.Decides.{Decides-eqb, nat_tests}
+use Rattle.std.proofs.lemmas.Map.Keys.{IsDistinct-IsPermutation}
+use Rattle.std.proofs.lemmas.Map.Made.{AllPairs-from_IsDistinct, IsDistinct-from_AllPairs}
 use borrow.Rule.Slice.PartMut.{post_of, put_mid}
 use Rattle.elf_field.specs.Bytes.{IsBytes, IsBytes-rest}
 use Rattle.elf_object_strings.specs.Sorting.{AreWithoutEqualEnds, HasEnd, end_number, ends_order, leading, numbered_order, AreInEndsOrder, AreNumbered, indexes_in, names_by_ends}
@@ -286,6 +289,11 @@ numbered_all names numbered are =
       below = λ q lt. let is = are.indexes q (omega arith) in omega arith;
       named = λ q lt. named_there names numbered q (omega arith);
       each = λ i lt. (i, omega arith, are.indexes i lt);
+      once = λ i j d less lt same.
+          (let long_indexes = length-map numbered index_of in
+          let at_i = get_or_default (indexes_in numbered) i d 0 (omega arith) ∙ are.indexes i (omega arith) in
+          let at_j = get_or_default (indexes_in numbered) j d 0 lt ∙ are.indexes j (omega arith) in
+          absurd (omega arith));
     }
 
 -- ---- another order
@@ -326,6 +334,10 @@ numbered_permuted names xs ys moved are =
             omega arith,
             get_or-map index_of ys r it 0 below ∙ ap index_of at ∙ sym (get_or-map index_of xs q nothing 0 within_xs) ∙ is,
           );
+      once = AllPairs-from_IsDistinct Decides-eqb (indexes_in ys)
+          (IsDistinct-IsPermutation nat_eq (λ x y. grind (arith, nat_tests)) (indexes_in xs) (indexes_in ys)
+          (IsPermutation-map index_of xs ys moved)
+          (IsDistinct-from_AllPairs Decides-eqb (indexes_in xs) are.once));
     }
 
 -- ---- sorted

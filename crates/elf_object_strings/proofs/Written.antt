@@ -1,19 +1,19 @@
 -- The names that are written, one by one. A name is written exactly if it is not empty and is its own owner (`written_is`). A name's offset
 -- is where its owner ends, less its own length (`offset_is`); that of the empty name is 0. A pass of the loop that writes adds one name's
 -- end (`written_more`).
-use Rattle.std.proofs.Common.{◌≡◌, ℕ, Bool, true, false, cond, not, List, [], ◌∷◌, ◌++◌, refl, sym, ap, ◌∙◌, ◌<◌, ◌≤◌, ◌+◌, ◌-◌, zero, suc, ◌&&◌, ◌⊎◌, inl, inr, length, take, drop, get_or, subst, append_assoc, arith, length-append}
+use Rattle.std.proofs.Common.{◌≡◌, ℕ, Bool, true, false, cond, not, List, [], ◌∷◌, ◌++◌, refl, sym, ap, ◌∙◌, ◌<◌, ◌≤◌, ◌+◌, ◌-◌, zero, suc, ◌&&◌, ◌⊎◌, inl, inr, length, take, drop, get_or, map, subst, append_assoc, arith, length-append}
 use Rattle.std.specs.Prelude.{◌||◌, ◌==◌}
 use Rattle.std.specs.List.{filter, list_any, flat_map}
 use Rattle.std.specs.Str.{bytes_eq}
 use Rattle.std.specs.Bool.{one_answer}
-use Rattle.std.proofs.lemmas.List.{append-nil, flat_map_more, get_or-take, get_or_append_left, get_or_default, get_or_push, length-take-le, length_push, take-append-drop, take_all, take_more}
+use Rattle.std.proofs.lemmas.List.{append-nil, flat_map_more, get_or-map, length-map, get_or-take, get_or_append_left, get_or_default, get_or_push, length-take-le, length_push, take-append-drop, take_all, take_more}
 use Rattle.std.proofs.lemmas.List.Elements.{filter-append}
 use Rattle.std.proofs.lemmas.Map.Views.{any-filter_same}
 use Rattle.std.proofs.lemmas.Slice.Eq.{bytes_eq-Decides}
 use Rattle.std.proofs.lemmas.Bool.{and_from, and_parts, cases_eq, cases_lt, eq-eqb, false_from_ne_true, ne_eqb, not-true, not_from_false, or_from, true≢false}
 use Rattle.std.proofs.lemmas.List.Folds.{list_any-append, list_any_at, list_any_none}
 use Rattle.elf_object_strings.proofs.Ends.{end_behind, suffix_fits, suffix_from, suffix_named, suffix_same, suffix_test}
-use Rattle.elf_object_strings.specs.StringTable.{distinct, IsFirstOfHeld, IsOwner, IsSuffix, closed, end_from, held, is_held, is_named, is_proper_suffix, is_suffix, name_offset, string_table, HasEnds, held_to, is_written, with_name}
+use Rattle.elf_object_strings.specs.StringTable.{AreEnds, AreOwners, AreTheirOwn, distinct, IsFirstOfHeld, IsOwner, IsSuffix, closed, end_from, held, is_held, is_named, is_proper_suffix, is_suffix, name_offset, string_table, HasEnds, held_to, is_written, with_name}
 
 -- Each name of a list once, one name more: a name that is already there adds nothing, and any other is put at the end. A name is in the
 -- result exactly if it is in the list.
@@ -270,13 +270,40 @@ offset_is names n ends o is has named =
     let fits = suffix_fits n (get_or names o []) is.ends in
     (omega arith, rw named (ap (λ (e : ℕ). e - length n) end))
 
--- and the empty name
-pub offset_from : (names : List (List ℕ)) (n ends : List ℕ) (o offset : ℕ) → IsOwner names n o → HasEnds names (length names) ends →
-    (is_named n ≡ false → offset ≡ 0) → (is_named n ≡ true → offset ≡ get_or ends o 0 - length n) → offset ≡ name_offset names n
+-- each owner is the one of its own name
+pub owners_own : (names : List (List ℕ)) (owners : List ℕ) → AreOwners names owners → AreTheirOwn owners
+owners_own names owners are i lt =
+    let all = are.all in
+    let o = get_or owners i 0 in
+    let is = are.each i (omega arith) in
+    let below = is.first.below in
+    let own = are.each o below in
+    let earlier : get_or owners o 0 ≤ o = own.least o is.first (suffix_same (get_or names o []) (get_or names o []) refl) in
+    let later : o ≤ get_or owners o 0 = (is.first.kept (get_or owners o 0) own.first.below own.ends).1 in
+    (omega arith, omega arith)
+
+-- where each name ends, if each owner ends there
+pub ends_of_owners : (names : List (List ℕ)) (owners ends : List ℕ) → AreOwners names owners → HasEnds names (length names) ends →
+    AreEnds names (map (λ o. get_or ends o 0) owners)
+ends_of_owners names owners ends are has = record {
+  all = length-map owners (λ o. get_or ends o 0) ∙ are.all;
+  each = λ i lt named.
+      (let all = are.all in
+      let o = get_or owners i 0 in
+      let (fits, is) = offset_is names (get_or names i []) ends o (are.each i lt) has named in
+      get_or-map (λ o. get_or ends o 0) owners i 0 0 (omega arith) ∙ omega arith);
+}
+
+-- a name begins so far before its end as it is long, and the empty one at 0
+pub begins_at : (names : List (List ℕ)) (n : List ℕ) (end offset : ℕ) → (is_named n ≡ true → end ≡ name_offset names n + length n) →
+    (is_named n ≡ false → offset ≡ 0) → (is_named n ≡ true → offset ≡ end - length n) → offset ≡ name_offset names n
 unfolding name_offset
-offset_from names n ends o offset is has empty named = by_named (is_named n) refl where
+begins_at names n end offset is empty named = by_named (is_named n) refl where
   by_named : (b : Bool) → is_named n ≡ b → offset ≡ name_offset names n
-  by_named true some = named some ∙ (offset_is names n ends o is has some).1
+  by_named true some =
+      let ends = is some in
+      let begins = named some in
+      omega arith
   by_named false none = rw none (empty none)
 
 -- ---- the loop that writes

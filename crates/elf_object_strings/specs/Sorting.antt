@@ -1,5 +1,5 @@
 -- Names sorted by what they end with.
-use Rattle.std.specs.Prelude.{◌≡◌, ◌+◌, ◌*◌, ◌^◌, ◌<◌, ◌≤◌, ℕ, zero, suc, false, List, [], ◌∷◌, ◌++◌, get_or, length, map, reverse}
+use Rattle.std.specs.Prelude.{◌≡◌, ◌≢◌, AllPairs, ◌+◌, ◌*◌, ◌^◌, ◌<◌, ◌≤◌, ℕ, zero, suc, false, List, [], ◌∷◌, ◌++◌, get_or, length, map, reverse}
 use Rattle.std.specs.Cmp.Lexicographic.{slice_cmp}
 use Rattle.std.specs.declared.cmp.Ordering.{Ordering}
 use Rattle.std.specs.Ordering.{is_lt, nat_cmp, ordering_then}
@@ -19,13 +19,14 @@ abbrev pub ends_order : List ℕ → ℕ → List ℕ → ℕ → Ordering
 ends_order name index other other_index =
     ordering_then (slice_cmp nat_cmp (reverse other) (reverse name)) (nat_cmp index other_index)
 
--- each name of a list, with an index at which the list has it, and each index
+-- each name of a list, with an index at which the list has it, and each index once
 pub record AreNumbered (names : List (List ℕ)) (sorted : List (List ℕ)) (indexes : List ℕ) : Type 0 where
   pub as_many : length sorted ≡ length names
   pub all : length indexes ≡ length names
   pub below : (q : ℕ) → q < length sorted → get_or indexes q 0 < length names
   pub named : (q : ℕ) → q < length sorted → get_or names (get_or indexes q 0) [] ≡ get_or sorted q []
   pub each : (i : ℕ) → i < length names → (q : ℕ) × (q < length sorted) × (get_or indexes q 0 ≡ i)
+  pub once : AllPairs (λ i j. i ≢ j) indexes
 
 -- none is before one that comes first
 abbrev pub AreInEndsOrder : List (List ℕ) → List ℕ → Type 0
@@ -73,10 +74,11 @@ pub record AreRuns (sorted : List (List ℕ)) (starts : List ℕ) (position : �
   pub as_many : length starts ≡ position
   pub each : (q : ℕ) → q < position → IsRun sorted q (get_or starts q 0)
 
--- the first of the sorted names have their owners, by their indexes
+-- the first of the sorted names have their owners, by their indexes, and each other one is its own
 pub record HaveOwners (names sorted : List (List ℕ)) (indexes owners : List ℕ) (position : ℕ) : Type 0 where
   pub all : length owners ≡ length names
   pub each : (q : ℕ) → q < position → IsOwner names (get_or sorted q []) (get_or owners (get_or indexes q 0) 0)
+  pub rest : (q : ℕ) → position ≤ q → q < length sorted → get_or owners (get_or indexes q 0) 0 ≡ get_or indexes q 0
 
 -- the owner of the name at a position, whichever names these are, where those before it have theirs
 abbrev pub GivesOwner : List (List ℕ) → List ℕ → List ℕ → ℕ → ℕ → Type 0

@@ -30,6 +30,12 @@ pub record AreOwners (names : List (List ℕ)) (owners : List ℕ) : Type 0 wher
   pub all : length owners ≡ length names
   pub each : (i : ℕ) → i < length names → IsOwner names (get_or names i []) (get_or owners i 0)
 
+-- each owner is its own
+abbrev pub AreTheirOwn : List ℕ → Type 0
+AreTheirOwn owners =
+    (i : ℕ) → i < length owners →
+    (get_or owners i 0 < length owners) × (get_or owners (get_or owners i 0) 0 ≡ get_or owners i 0)
+
 -- the name is not empty
 abbrev pub is_named : List ℕ → Bool
 is_named [] = false
@@ -72,6 +78,12 @@ end_from offset (first ∷ rest) name =
 -- where a name begins in the table: at the end of the first held name that ends with it, the empty one at the first zero
 unfoldable pub name_offset : List (List ℕ) → List ℕ → ℕ
 name_offset names name = if is_named name then end_from 1 (held names) name - length name else 0
+
+-- where each name ends in the table, if it is not empty: its zero is there
+pub record AreEnds (names : List (List ℕ)) (ends : List ℕ) : Type 0 where
+  pub all : length ends ≡ length names
+  pub each : (i : ℕ) → i < length names → is_named (get_or names i []) ≡ true →
+      get_or ends i 0 ≡ name_offset names (get_or names i []) + length (get_or names i [])
 
 -- What is known of a string table that holds names, however it holds them. (gABI chapter 4, String Table.)
 

@@ -15,4 +15,5 @@ mod sorting;
 mod table;
 
 pub use laws::{holds_names, shares_tails};
+pub use name_list::SHORT_NAME;
 pub use table::{Shared, shared_table, shared_table_at};

@@ -10,7 +10,7 @@ use std::cmp::Ordering;
 use std::marker::Model;
 
 /// Names of up to so many bytes are compared as they are: that takes no longer than to look up their ends.
-const SHORT: usize = 64;
+pub const SHORT_NAME: usize = 64;
 
 /// Names, and for each where it ends in the string table that it was read from; 0, or none, if that is not known. Of two names with one end
 /// the longer one ends with the other, so neither has to be read to see it.
@@ -75,7 +75,7 @@ impl<'n, 'a> NameList<'n, 'a> {
     {
         let left = self.name(a);
         let right = self.name(b);
-        if left.len() > SHORT && self.have_one_end(a, b) {
+        if left.len() > SHORT_NAME && self.have_one_end(a, b) {
             left.len().cmp(&right.len())
         } else {
             compare_ends(left, right)
@@ -88,7 +88,7 @@ impl<'n, 'a> NameList<'n, 'a> {
     {
         let name = self.name(a);
         let other = self.name(b);
-        if name.len() > SHORT && self.have_one_end(a, b) {
+        if name.len() > SHORT_NAME && self.have_one_end(a, b) {
             name.len() <= other.len()
         } else {
             is_suffix(name, other)

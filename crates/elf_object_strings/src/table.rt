@@ -1,7 +1,7 @@
 //! The bytes of a string table, and where its names begin.
-ghost use Rattle.std.specs.Prelude.{◌≡◌, ◌<◌, [], get_or, min, if◌then◌else◌, length, IfOk, ◌≤◌, ◌-◌, true, false, map};
-ghost use Rattle.std.specs.List.{All};
-ghost use Rattle.elf_object_strings.specs.StringTable.{AreOwners, AreTails, texts, is_suffix, AreZeroFree, HoldsEach, IsShortest, Shares, is_named, name_offset, string_table, HasEnds, with_name};
+ghost use Rattle.std.specs.Prelude.{◌≡◌, ◌<◌, [], get_or, min, if◌then◌else◌, length, IfOk, ◌≤◌, ◌-◌, true, false, map, set};
+ghost use Rattle.std.specs.List.{All, range_with_len};
+ghost use Rattle.elf_object_strings.specs.StringTable.{AreEnds, AreOwners, AreTails, AreTheirOwn, texts, is_suffix, AreZeroFree, HoldsEach, IsShortest, Shares, is_named, name_offset, string_table, HasEnds, with_name};
 ghost use Rattle.elf_object_strings.specs.Sorting.{AreBelow, AreRuns, GivesOwner, HasEnd, IsRun, AreInEndsOrder, AreNumbered, indexes_in, names_by_ends};
 
 use crate::name_list::NameList;
@@ -36,15 +36,32 @@ fn owners_in(
     requires ends { All (HasEnd list.now) sorted.now }
     ensures { IfOk result (λ owners. AreOwners list.now owners.items) }
 {
-    let mut owners = Vec::new(alloc);
-    owners.resize(sorted.len(), 0)?;
+    let mut owners = own_owners(alloc, sorted.len())?;
     let mut starts = Vec::with_capacity(alloc, sorted.len())?;
     for position in 0..sorted.len() {
         let (start, owner) = run_of(list, sorted, &starts, &owners, position);
-        owners[sorted[position].index] = owner;
+        set_owner(&mut owners, sorted[position].index, owner);
         starts.push(start)?;
     }
     Ok(owners)
+}
+
+/// So many names, each of which is its own owner.
+fn own_owners(alloc: Global, count: usize) -> Result<Vec<usize>, AllocError>
+    ensures { IfOk result (λ owners. owners.items ≡ range_with_len 0 count) }
+{
+    (0..count).collect(alloc)
+}
+
+/// Sets the owner of a name that is its own so far. The names come in no order: the memory of one that stays its own is not looked at.
+fn set_owner(owners: &mut [usize], index: usize, owner: usize)
+    requires within { index < length owners.old }
+    requires own { get_or owners.old index 0 ≡ index }
+    ensures { owners.new ≡ set owners.old index owner }
+{
+    if owner != index {
+        owners[index] = owner;
+    }
 }
 
 /// Where the run of the names that end with this one begins, which ends at it; and its owner.
@@ -136,7 +153,7 @@ fn table_of(alloc: Global, names: &[&[u8]], ends: &[u32]) -> Result<Shared, Allo
 {
     let owners = owners_of(alloc, names, ends)?;
     let (bytes, zeros) = write_names(alloc, names, &owners)?;
-    let offsets = offsets_of(alloc, names, &owners, &zeros)?;
+    let offsets = offsets_of(names, &owners, zeros);
     Ok(Shared { bytes, offsets })
 }
 
@@ -171,22 +188,39 @@ fn write_name(bytes: &mut Vec<u8>, name: &[u8], is_owner: bool) -> Result<(), Al
     Ok(())
 }
 
-/// Where each name begins: so far before the zero of its owner as it is long.
-fn offsets_of(
-    alloc: Global,
-    names: &[&[u8]],
-    owners: &[usize],
-    ends: &[u64],
-) -> Result<Vec<u64>, AllocError>
+/// Where each name begins, from where the zeros of the owners are.
+fn offsets_of(names: &[&[u8]], owners: &[usize], zeros: Vec<u64>) -> Vec<u64>
     requires owners { AreOwners (texts names.now) owners.now }
-    requires ends { HasEnds (texts names.now) (length names.now) ends.now }
-    ensures { IfOk result (λ offsets. offsets.items ≡ map (name_offset (texts names.now)) (texts names.now)) }
+    requires ends { HasEnds (texts names.now) (length names.now) zeros.items }
+    ensures { result.items ≡ map (name_offset (texts names.now)) (texts names.now) }
 {
-    let mut offsets = Vec::with_capacity(alloc, names.len())?;
-    for i in 0..names.len() {
-        offsets.push(offset_of(names[i], ends[owners[i]]))?;
+    begin_names(names, share_ends(owners, zeros))
+}
+
+/// Lets each name end where its owner does, which is its own owner. Most names are: they stay as they are.
+fn share_ends(owners: &[usize], mut ends: Vec<u64>) -> Vec<u64>
+    requires all { length ends.items ≡ length owners.now }
+    requires own { AreTheirOwn owners.now }
+    ensures { result.items ≡ map (λ owner. get_or ends.items owner 0) owners.now }
+{
+    for i in 0..owners.len() {
+        let owner = owners[i];
+        if owner != i {
+            ends[i] = ends[owner];
+        }
     }
-    Ok(offsets)
+    ends
+}
+
+/// Puts where each name begins in place of where it ends.
+fn begin_names(names: &[&[u8]], mut ends: Vec<u64>) -> Vec<u64>
+    requires { AreEnds (texts names.now) ends.items }
+    ensures { result.items ≡ map (name_offset (texts names.now)) (texts names.now) }
+{
+    for i in 0..names.len() {
+        ends[i] = offset_of(names[i], ends[i]);
+    }
+    ends
 }
 
 /// Where a name begins that ends at an offset.
