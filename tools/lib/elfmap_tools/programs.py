@@ -38,7 +38,7 @@ DEV: list[Command] = [
     ("doc", "print the page of the whole library, for a browser", doc.main, []),
     ("explain", "say in words why elfmap refused a file: elfmap-explain of the Python package", package_command, [OF_PACKAGE]),
     ("picture", "draw the bytes of a file: elfmap-picture of the Python package", package_command, [OF_PACKAGE]),
-    ("peers", "print docs/PEERS.md: what other tools say of files that elfmap refuses", peers.peers, []),
+    ("peers", "write the tables of docs/PEERS.md: what other tools say of files that elfmap refuses", peers.peers, []),
     ("shared-tails", "print how much shorter string tables are whose names share tails", peers.shared_tails, OBJECTS),
     ("minutes", "print at its end the processor minutes of a process", minutes.main, [word("pid", "its number", type=int)]),
     ("told", "write the files that the tests of bindings/ try, and what they have to say", dump.main, [word("folder", "where to")]),
