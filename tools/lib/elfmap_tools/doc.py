@@ -67,7 +67,7 @@ class Page:
         body = "\n".join([self.contents(), *sections, self.glossary()])
         front = PublicCrate(self, "").told(source(module_file("elf", ()))[0])
         own = {"STYLE": read_text("page/doc.css"), "SCRIPT": read_text("page/doc.js")}
-        return filled("page/doc.html", FRONT=front, BODY=body, **own).rstrip("\n")
+        return filled(read_text("page/doc.html"), FRONT=front, BODY=body, **own).rstrip("\n")
 
     def contents(self) -> str:
         lines = []

@@ -81,7 +81,7 @@ def page() -> str:
     script = common + constants(RULES=rules, MODULE=code) + read_text("page/draw.js")
     if "</script" in worker + script:
         raise SystemExit("page: a script ends its own element")
-    return filled("page/page.html", STYLE=read_text("page/style.css"), WORKER=worker, SCRIPT=script)
+    return filled(read_text("page/page.html"), STYLE=read_text("page/style.css"), WORKER=worker, SCRIPT=script)
 
 
 def main(options: Options) -> None:

@@ -221,11 +221,11 @@ def glibc_of(path: str) -> str:
     return "{}.{}".format(*max([(2, 5), *((int(major), int(minor)) for major, minor in found)]))
 
 
-def put_help(root: str, tree: str, command: man.Command) -> None:
+def put_help(root: str, tree: str, name: str) -> None:
     """Puts the manual page and the completions of a command into a package."""
-    page = read_bytes(f"{tree}/share/man/man1/{command.name}.1")
-    put(f"{root}/usr/share/man/man1/{command.name}.1.gz", gzip.compress(page, mtime=0))
-    for place, text in man.files(command).items():
+    page = read_bytes(f"{tree}/share/man/man1/{name}.1")
+    put(f"{root}/usr/share/man/man1/{name}.1.gz", gzip.compress(page, mtime=0))
+    for place, text in man.completions(name).items():
         put(f"{root}/usr/share/{place}", text)
 
 
@@ -233,7 +233,7 @@ def put_elfmap(root: str, tree: str, version: str) -> None:
     copied(f"{tree}/elfmap", f"{root}/usr/lib/elfmap/elfmap")
     copied(f"{tree}/rules", f"{root}/usr/share/elfmap/rules")
     put(f"{root}/usr/bin/elfmap", runner(version, "lib/elfmap/elfmap"))
-    put_help(root, tree, man.command_of("elfmap", lambda *words: said(PROGRAM, *words, "--help").stdout))
+    put_help(root, tree, "elfmap")
 
 
 def put_doc(root: str, tree: str, version: str) -> None:
@@ -266,7 +266,7 @@ def put_python(root: str, tree: str, version: str) -> None:
         put(f"{root}/{os.path.dirname(PYTHON)}/elfmap-{version}.dist-info/{name}", text)
     for name, (module, function) in commands().items():
         put(f"{root}/usr/bin/{name}", SCRIPT.format(module=module, function=function))
-        put_help(root, tree, man.command_of(name, lambda: help_of(module)))
+        put_help(root, tree, name)
     for name, text in COMPILED.items():
         put(f"{root}/DEBIAN/{name}", text)
 

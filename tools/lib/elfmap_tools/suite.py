@@ -8,7 +8,7 @@ from typing import Any
 
 from . import packages
 from .building import built
-from .tree import PROCESSORS, TOP, Options, Texts, filled, progress, said, side_by_side
+from .tree import PROCESSORS, TOP, Options, Texts, filled, progress, read_text, said, side_by_side
 
 # Of a step its title, its script, and a pattern of what this prints.
 Step = tuple[str, str, str]
@@ -17,7 +17,7 @@ COUNTS = re.compile(r"^(\d+) passed, (\d+) failed\n\Z", re.M)
 
 def steps_of(name: str, **marks: str) -> list[Step]:
     """The steps of a file of cases/, with texts for its marks, as @NAME@."""
-    return re.findall(r"^== (.*)\n((?:.*\n)*?)= ?(.*)$", filled(f"cases/{name}", **marks), re.M)
+    return re.findall(r"^== (.*)\n((?:.*\n)*?)= ?(.*)$", filled(read_text(f"cases/{name}"), **marks), re.M)
 
 
 class Tally:

@@ -38,9 +38,8 @@ def write(path: str, content: bytes | str) -> str:
     return path
 
 
-def filled(path: str, **parts: str) -> str:
-    """The text of a file, with these parts for its marks, as @NAME@."""
-    text = read_text(path)
+def filled(text: str, **parts: str) -> str:
+    """A text with these parts for its marks, as @NAME@."""
     for name, part in parts.items():
         text = text.replace(f"@{name}@", part)
     return text
