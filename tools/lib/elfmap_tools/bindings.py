@@ -5,13 +5,12 @@ in a temporary folder. `tools/test explain` runs the package's tests of elfmap-e
 import ctypes, re, sys
 from typing import Any
 
+from elfmap import _library
+
 from .library import BOTH, FOLDER, PACKERS, c_type, calls, packed, structs
 from .packages import JSONSCHEMA, JUNITPARSER
 from .suite import Tally, Test, environment
 from .tree import PACKAGE, TOP, Options, Texts, read_text, said
-
-sys.path.insert(0, PACKAGE)
-from elfmap import _library  # noqa: E402
 
 TOOLS = f"{PACKERS} cargo git pre-commit {JSONSCHEMA} {JUNITPARSER}"
 Structs = dict[str, list[tuple[str, str]]]

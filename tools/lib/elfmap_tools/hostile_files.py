@@ -4,10 +4,12 @@ times as many bytes as its files have, all growths together; `check --seek` for 
 have. Each call has a small stack. The large files have up to 4 MB, but for sparse ones of up to 2^30 bytes, whose tables are far from the
 header. `failing.c` counts what is asked for. The answers of large objects are the reference implementation's."""
 
-import os, random, sys
+import os, random
 from collections.abc import Callable, Iterator
 from dataclasses import dataclass
 from itertools import chain, product
+
+import made
 
 from .cases import Case, every_case
 from .failing_calls import failing_library
@@ -18,10 +20,7 @@ from .reference import (
     relocations, section, symbol, text, with_index_table, words,
 )  # fmt: skip
 from .suite import Tally, Test, environment
-from .tree import PROGRAM, TOP, Answer, Options, read_text, run
-
-sys.path.insert(0, f"{TOP}/bench")
-import made  # noqa: E402
+from .tree import PROGRAM, Answer, Options, read_text, run
 
 MOST_SECONDS = 1.0
 LEAST_MEMORY, MOST_MEMORY, SEEKING_MEMORY = 1 << 20, 128, 2

@@ -9,15 +9,14 @@ valgrind counts (its tool callgrind). It interprets the program, so the same run
 folder, with relative names, the same environment, and the same routines of the C library on every processor. With another version of the C
 library or of valgrind the counts are slightly different."""
 
-import fcntl, os, re, shutil, subprocess, sys
+import fcntl, os, re, shutil, subprocess
 from collections.abc import Callable
 from typing import Any
 
+import made
+
 from .suite import Tally, Test, flag
 from .tree import PROGRAM, TOP, Options, read_bytes, read_text, said, write
-
-sys.path.insert(0, f"{TOP}/bench")
-import made  # noqa: E402
 
 STORED = f"{TOP}/bench/instructions"
 HEAD = "# The instructions of each command and input. `tools/test instructions --store` writes this file.\n"

@@ -1,20 +1,19 @@
 """`tools/test real-files` and `tools/test real-objects`: files of this machine. A part of them is tried, the same each time: those whose
 paths have the least sums."""
 
-import contextlib, hashlib, os, re, shutil, sys, tempfile
+import contextlib, hashlib, os, re, shutil, tempfile
 from collections import Counter
 from collections.abc import Iterable, Iterator
 from itertools import chain, product
 from typing import Any
 
+from elfmap._archives import members
+from elfmap._sources import Unreadable, opened
+
 from .building import output_of
 from .reference import GROUP, NOBITS, REL, RELA, File, kept, string
 from .suite import Tally, Test, number
-from .tree import PACKAGE, PROGRAM, TOP, Options, ending, files_below, read_bytes, run, side_by_side, write
-
-sys.path.insert(0, PACKAGE)
-from elfmap._archives import members  # noqa: E402
-from elfmap._sources import Unreadable, opened  # noqa: E402
+from .tree import PROGRAM, TOP, Options, ending, files_below, read_bytes, run, side_by_side, write
 
 ELF_64 = b"\x7fELF\x02"
 

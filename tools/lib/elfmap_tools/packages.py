@@ -7,8 +7,7 @@ from .tree import run
 
 KLIBC = "/usr/lib/klibc/lib/libc.a"
 # What Debian's python3 imports.
-PYTHON_MODULES = "/usr/lib/python3/dist-packages"
-JSONSCHEMA, JUNITPARSER, SELENIUM = (f"{PYTHON_MODULES}/{it}/__init__.py" for it in ("jsonschema", "junitparser", "selenium"))
+JSONSCHEMA, JUNITPARSER, SELENIUM = (f"/usr/lib/python3/dist-packages/{it}/__init__.py" for it in ("jsonschema", "junitparser", "selenium"))
 # Debian's clang brings its checks of addresses and of undefined behavior only as a recommended package.
 SANITIZERS = "/usr/lib/llvm-*/lib/clang/*/lib/linux/libclang_rt.asan-x86_64.a"
 # The commands of each package, by their first words, or a file that has to be there.

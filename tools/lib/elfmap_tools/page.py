@@ -4,18 +4,16 @@ It is one file, which needs no network: the library for C as a WebAssembly modul
 The module is made of the same proved crates as the library for C: the kit's compiler makes it for a memory of 64-bit addresses, which not
 every browser has, and wasm-opt (of binaryen) lowers it to one of 32-bit addresses."""
 
-import base64, contextlib, ctypes, json, os, shutil, sys, tempfile, time
+import base64, contextlib, ctypes, json, os, shutil, tempfile, time
 from typing import Any, cast
+
+from elfmap import _names as names
 
 from . import library
 from .building import built_below, is_current, kit, words
 from .library import VERDICTS as CRATE
-from .packages import PYTHON_MODULES
 from .rules_tables import file_rules
-from .tree import PACKAGE, TOP, Options, filled, read_bytes, read_text, wanted, write
-
-sys.path.insert(0, PACKAGE)
-from elfmap import _names as names  # noqa: E402
+from .tree import TOP, Options, filled, read_bytes, read_text, wanted, write
 
 Structs = dict[str, dict[str, Any]]
 TARGET = "wasm64-unknown-unknown"
@@ -105,8 +103,6 @@ class Browser:
     """One page in a Chromium of its own."""
 
     def __init__(self) -> None:
-        # Another python3 than Debian's finds it there too.
-        sys.path.append(PYTHON_MODULES)
         from selenium import webdriver
 
         options = webdriver.ChromeOptions()

@@ -18,7 +18,7 @@ def run(name: str, about: str, commands: list[Command], words: list[str]) -> int
     for command, what, main, arguments in commands:
         add_command(added, command, what, arguments).set_defaults(main=main)
     options = parser.parse_args(words)
-    with progress(f"{name} {options.command}"):
+    with progress(lambda: f"{name} {options.command}"):
         return int(options.main(options) or 0)
 
 

@@ -1,6 +1,6 @@
 """The tests of `tools/test`: each by its name, with the commands and the built crates that it needs; alone or side by side."""
 
-import argparse, contextlib, functools, os, re, shutil, sys, tempfile, threading, time, traceback
+import argparse, contextlib, functools, os, re, shutil, sys, tempfile, time, traceback
 from collections.abc import Callable, Iterable, Iterator
 from concurrent.futures import ThreadPoolExecutor, as_completed
 from dataclasses import dataclass
@@ -119,7 +119,7 @@ def commands_of(tests: Iterable[Test]) -> list[str]:
 
 def run_one(test: Test, options: Options) -> int:
     """Runs a test here: prints what failed, and last how many passed. A test whose commands are missing has failed."""
-    with tempfile.TemporaryDirectory(prefix=f"elfmap-{test.name}.") as folder, progress(f"tools/test {test.name}"):
+    with tempfile.TemporaryDirectory(prefix=f"elfmap-{test.name}.") as folder, progress(lambda: f"tools/test {test.name}"):
         tally, lacking = Tally(test.name, folder), packages.missing(test.commands.split())
         try:
             if lacking:
@@ -141,13 +141,14 @@ class Runner:
 
     def __init__(self) -> None:
         self.passed, self.failed, self.skipped, self.broken = 0, 0, list[str](), list[str]()
-        self.running: dict[str, float] = {}
+        self.running = list[str]()
 
     def run(self, test: Test) -> tuple[Test, float, Texts]:
         """One test: how long it took, and how it ended."""
-        self.running[test.name] = time.monotonic()
-        ended = said(sys.executable, f"{TOP}/tools/test", test.name)
-        return test, time.monotonic() - self.running.pop(test.name), ended
+        self.running.append(test.name)
+        begun, ended = time.monotonic(), said(sys.executable, f"{TOP}/tools/test", test.name)
+        self.running.remove(test.name)
+        return test, time.monotonic() - begun, ended
 
     def count(self, test: Test, seconds: float, ended: Texts) -> None:
         """Prints what a test printed, in one piece, and counts what it counted; one that ends without its last line has failed."""
@@ -159,23 +160,13 @@ class Runner:
         self.skipped += re.findall(rf"^{test.name}: (skipped: .*)", ended.stdout, re.M)
         self.broken += [f"failed: {failed} of {test.name}: run `tools/test {test.name}`"] if failed else []
 
-    def show(self, ended: threading.Event) -> None:
-        """Every ten seconds a line on what runs."""
-        while not ended.wait(10):
-            names = ", ".join(f"{name} {time.monotonic() - begun:.0f} s" for name, begun in list(self.running.items()))
-            print(f"tools/test: {names}", file=sys.stderr, flush=True)
-
     def all(self, tests: list[Test], jobs: int) -> int:
         """Runs tests, so many side by side."""
-        ended = threading.Event()
-        if sys.stderr.isatty():
-            threading.Thread(target=self.show, args=(ended,), daemon=True).start()
-        with ThreadPoolExecutor(jobs) as pool:
+        with progress(lambda: f"tools/test {', '.join(self.running)}"), ThreadPoolExecutor(jobs) as pool:
             for it in as_completed([pool.submit(self.run, it) for it in tests if not it.alone]):
                 self.count(*it.result())
-        for test in (it for it in tests if it.alone):
-            self.count(*self.run(test))
-        ended.set()
+            for test in (it for it in tests if it.alone):
+                self.count(*self.run(test))
         print("\n".join([*self.skipped, *self.broken, f"{self.passed} passed, {self.failed} failed"]))
         return 1 if self.failed else 0
 

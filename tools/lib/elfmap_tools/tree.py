@@ -5,7 +5,8 @@ from collections.abc import Callable, Iterable, Iterator, Mapping
 from concurrent.futures import ProcessPoolExecutor, ThreadPoolExecutor
 from typing import Any, TypeVar
 
-TOP = os.path.dirname(os.path.dirname(os.path.dirname(os.path.dirname(os.path.realpath(__file__)))))
+from . import TOP as TOP
+
 PROCESSORS = len(os.sched_getaffinity(0))
 PROGRAM = f"{TOP}/crates/elfmap/out/elfmap"
 RULES = f"{TOP}/rules/x86-64.rules"
@@ -115,25 +116,20 @@ def files_below(folder: str) -> Iterator[str]:
 
 
 @contextlib.contextmanager
-def progress(name: str) -> Iterator[None]:
-    """While the block runs, for longer than ten seconds, standard error has a line that counts them, if it is a terminal."""
+def progress(what: Callable[[], str]) -> Iterator[None]:
+    """While the block runs, standard error has a line on what runs every ten seconds, if it is a terminal."""
     ended, begun = threading.Event(), time.monotonic()
 
-    def count() -> None:
-        if not ended.wait(10):
-            while not ended.wait(1):
-                print(f"\r{name}: {time.monotonic() - begun:.0f} s ", end="", file=sys.stderr, flush=True)
-            print("\r\033[K", end="", file=sys.stderr, flush=True)
+    def show() -> None:
+        while not ended.wait(10):
+            print(f"{what()}: {time.monotonic() - begun:.0f} s", file=sys.stderr, flush=True)
 
-    thread = threading.Thread(target=count, daemon=True)
     if sys.stderr.isatty():
-        thread.start()
+        threading.Thread(target=show, daemon=True).start()
     try:
         yield
     finally:
         ended.set()
-        if thread.is_alive():
-            thread.join()
 
 
 # ---- the crates, by their lines in crates.txt
