@@ -18,26 +18,13 @@ MARK = re.compile(r"\[((?:`[^`]*`|[^\]`])*)\]\(([^)]*)\)|`([^`]*)`|\*\*([^*]*)\*
 # The signs of ASCII, of which groff would make others.
 SIGNS = str.maketrans({"-": r"\-", "'": r"\(aq", "`": r"\(ga", "^": r"\(ha", "~": r"\(ti"})
 WIDTH = 68
-SEE_ALSO = r""".BR readelf (1),
-.BR ld (1),
-.BR elf (5),
-.BR elfmap\-lint (1),
-.BR elfmap\-explain (1),
-.BR elfmap\-same (1),
-.BR elfmap\-gaps (1),
-.BR elfmap\-picture (1)
-.PP
-In the directory of the release:
-.B \%docs/MANUAL.md
-has these texts and the libraries,
-.B \%docs/RULES.md
-every rule by its number, what it means and what to do,
-.B \%docs/RULE_FILES.md
-the files of rules line by line,
-.B \%doc/elfmap\-doc.html
-the library, and
-.B \%include/elfmap.h
-the calls for C."""
+# Pages, with their sections of the system's manual.
+SEE_ALSO = {"readelf": 1, "ld": 1, "elf": 5} | dict.fromkeys(
+    ("elfmap-lint", "elfmap-explain", "elfmap-same", "elfmap-gaps", "elfmap-picture"), 1
+)
+PAGES = """In the directory of the release: `docs/MANUAL.md` has these texts and the libraries, `docs/RULES.md` every rule by its number, what it
+means and what to do, `docs/RULE_FILES.md` the files of rules line by line, `doc/elfmap-doc.html` the library, and `include/elfmap.h` the
+calls for C."""
 
 
 # ---- docs/MANUAL.md
@@ -148,7 +135,8 @@ def page(version: str) -> str:
         examples += section(f".SS {title}", found[first:]) if found[first:] else []
     for title, name in OTHERS.items():
         lines += section(f".SH {name}", (it for it in parts()[title] if not is_example(it)))
-    return "\n".join([*lines, *examples, ".SH SEE ALSO", SEE_ALSO, ""])
+    others = ",\n".join(f".BR {literal(name)} ({part})" for name, part in SEE_ALSO.items())
+    return "\n".join([*lines, *examples, ".SH SEE ALSO", others, *macros(PAGES), ""])
 
 
 def main(options: Options) -> None:
