@@ -7,7 +7,7 @@ the tests in it are skipped by their names."""
 import os, re, shutil, sys, tempfile, zlib
 
 from .library import BOTH, PACKERS, calls
-from .packages import setup
+from .packages import WHEEL, setup
 from .release import LIBRARIES, version_of
 from .suite import Tally, Test, environment, steps_of
 from .tree import TOP, Options, Texts, files_below, read_bytes, read_text, said
@@ -67,7 +67,7 @@ def contents(folder: str) -> dict[str, bytes]:
     return {os.path.basename(it): read_bytes(it) for it in files_below(folder)}
 
 
-TOOLS = f"{PACKERS} readelf nm git wasm-opt dpkg-deb unshare"
+TOOLS = f"{PACKERS} readelf nm git wasm-opt dpkg-deb unshare {WHEEL}"
 
 
 @Test("packages", "what people install is the same twice, and works in a clean root", commands=TOOLS, crates=f"elfmap {BOTH}")

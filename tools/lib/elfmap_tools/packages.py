@@ -7,7 +7,8 @@ from .tree import run
 
 KLIBC = "/usr/lib/klibc/lib/libc.a"
 # What Debian's python3 imports.
-JSONSCHEMA, JUNITPARSER, SELENIUM = (f"/usr/lib/python3/dist-packages/{it}/__init__.py" for it in ("jsonschema", "junitparser", "selenium"))
+IMPORTED = "/usr/lib/python3/dist-packages/{}/__init__.py"
+JSONSCHEMA, JUNITPARSER, SELENIUM, WHEEL = map(IMPORTED.format, ("jsonschema", "junitparser", "selenium", "wheel"))
 # Debian's clang brings its checks of addresses and of undefined behavior only as a recommended package.
 SANITIZERS = "/usr/lib/llvm-*/lib/clang/*/lib/linux/libclang_rt.asan-x86_64.a"
 # The commands of each package, by their first words, or a file that has to be there.
@@ -19,7 +20,7 @@ COMMANDS = {
     "lld": "ld.lld", "lld-19": "ld.lld-19", "llvm": "llvm-objcopy llvm-readobj", "llvm-19": "llvm-mc-19",
     "man-db": "man", "mypy": "mypy", "nodejs": "node", "pkg-config": "pkg-config",
     "pre-commit": "pre-commit", "python3-jsonschema": JSONSCHEMA, "python3-junitparser": JUNITPARSER, "python3-selenium": SELENIUM,
-    "rustc-web": "rustc", "util-linux": "prlimit unshare", "valgrind": "valgrind",
+    "python3-wheel": WHEEL, "rustc-web": "rustc", "util-linux": "prlimit unshare", "valgrind": "valgrind",
 }  # fmt: skip
 PACKAGES = {command: package for package, commands in COMMANDS.items() for command in commands.split()}
 # The machines of rules/, by the names of qemu's program and of the tools; one that qemu has no program for; and those that LLVM alone has,

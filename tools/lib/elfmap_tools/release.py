@@ -8,7 +8,7 @@ given. The same program, library, version, texts and commit make the same archiv
 Python package as a wheel with the library in it, the Rust crate with the static library, and their SHA256SUMS. docs/MANUAL.md lists what
 each has. The same build makes the same bytes: every file has the time of the commit."""
 
-import base64, functools, glob, gzip, hashlib, os, re, shutil, sys, tempfile, time, zipfile
+import functools, glob, gzip, hashlib, os, re, shutil, sys, tempfile
 
 from . import doc, library, man, page
 from .building import is_current, output_of
@@ -22,17 +22,18 @@ if [ -L "$0" ]; then here=$(readlink -f -- "$0"); else here=$0; fi
 case $here in */*) ;; *) here=./$here ;; esac
 {settings}exec "${{here%/*}}/../{program}" "$@"
 """
-COMMAND = """#!/usr/bin/env python3
-# {name} WORDS..: over the package and the library of this directory.
+# A command of the Python package, and where a release has the package.
+COMMAND = """#!{python}
 import os, sys
-
-top = os.path.dirname(os.path.dirname(os.path.realpath(__file__)))
-sys.path.insert(0, f"{{top}}/bindings/python")
+{path}
 from {module} import {function}
 
 if __name__ == "__main__":
     sys.exit({function}())
 """
+BESIDE = """
+top = os.path.dirname(os.path.dirname(os.path.realpath(__file__)))
+sys.path.insert(0, f"{top}/bindings/python")"""
 PKG_CONFIG = """prefix={prefix}
 includedir=${{prefix}}/include
 libdir=${{prefix}}/{libdir}
@@ -153,7 +154,7 @@ def put_release(folder: str, version: str) -> None:
         "share/man/man1/elfmap.1": man.page(version),
     }
     for name, (module, function) in commands().items():
-        texts[f"bin/{name}"] = COMMAND.format(name=name, module=module, function=function)
+        texts[f"bin/{name}"] = COMMAND.format(python="/usr/bin/env python3", path=BESIDE, module=module, function=function)
         texts[f"share/man/man1/{name}.1"] = page_of(name, module, version)
     if shutil.which("wasm-opt"):
         texts["elfmap.html"] = page.page()
@@ -194,14 +195,6 @@ TRIPLET = "x86_64-linux-gnu"
 LIBRARIES = f"usr/lib/{TRIPLET}"
 PYTHON = "usr/lib/python3/dist-packages/elfmap"
 MAINTAINER = "the authors of elfmap <elfmap@localhost>"
-SCRIPT = """#!/usr/bin/python3
-import sys
-
-from {module} import {function}
-
-if __name__ == "__main__":
-    sys.exit({function}())
-"""
 # Python compiles the modules of a package once, when it is installed.
 COMPILED = {
     "postinst": '#!/bin/sh\nset -e\nif [ "$1" = configure ]; then py3compile -p python3-elfmap; fi\n',
@@ -265,7 +258,7 @@ def put_python(root: str, tree: str, version: str) -> None:
     for name, text in metadata(version).items():
         put(f"{root}/{os.path.dirname(PYTHON)}/elfmap-{version}.dist-info/{name}", text)
     for name, (module, function) in commands().items():
-        put(f"{root}/usr/bin/{name}", SCRIPT.format(module=module, function=function))
+        put(f"{root}/usr/bin/{name}", COMMAND.format(python="/usr/bin/python3", path="", module=module, function=function))
         put_help(root, tree, name)
     for name, text in COMPILED.items():
         put(f"{root}/DEBIAN/{name}", text)
@@ -305,8 +298,7 @@ def deb(name: str, tree: str, folder: str, version: str) -> None:
         lines |= {"Multi-Arch": "same"} if name == "libelfmap0" else {}
         put(f"{root}/DEBIAN/control", "".join(f"{key}: {value}\n" for key, value in lines.items()))
         settle(root)
-        made = ["dpkg-deb", "--root-owner-group", "-Zxz", "--build", root, f"{folder}/{name}_{version}_{machine}.deb"]
-        wanted("env", f"SOURCE_DATE_EPOCH={epoch()}", *made)
+        wanted("dpkg-deb", "--root-owner-group", "-Zxz", "--build", root, f"{folder}/{name}_{version}_{machine}.deb")
 
 
 # ---- the wheel and the crate
@@ -323,18 +315,14 @@ def metadata(version: str) -> dict[str, str]:
 def wheel(tree: str, folder: str, version: str) -> None:
     """The package with the library in it, for every Linux for x86-64 that has the C library that it needs."""
     tag = f"py3-none-manylinux_{glibc_of(f'{tree}/lib/{SHARED}').replace('.', '_')}_x86_64"
-    files = {f"elfmap/{os.path.basename(it)}": read_bytes(it) for it in files_below(f"{tree}/bindings/python/elfmap")}
-    files["elfmap/libelfmap.so"] = read_bytes(f"{tree}/lib/{SHARED}")
-    own = f"elfmap-{version}.dist-info"
-    about = {**metadata(version), "WHEEL": f"Wheel-Version: 1.0\nGenerator: elfmap\nRoot-Is-Purelib: false\nTag: {tag}\n"}
-    files |= {f"{own}/{name}": text.encode() for name, text in about.items()}
-    sums = {name: base64.urlsafe_b64encode(hashlib.sha256(it).digest()).decode().rstrip("=") for name, it in files.items()}
-    record = "".join(f"{name},sha256={sums[name]},{len(it)}\n" for name, it in files.items()) + f"{own}/RECORD,,\n"
-    with zipfile.ZipFile(f"{folder}/elfmap-{version}-{tag}.whl", "w", zipfile.ZIP_DEFLATED) as it:
-        for name, content in {**files, f"{own}/RECORD": record.encode()}.items():
-            entry = zipfile.ZipInfo(name, time.gmtime(epoch())[:6])
-            entry.external_attr, entry.compress_type = 0o100644 << 16, zipfile.ZIP_DEFLATED
-            it.writestr(entry, content)
+    with tempfile.TemporaryDirectory(prefix="elfmap-wheel-") as room:
+        copied(f"{tree}/bindings/python/elfmap", f"{room}/elfmap")
+        copied(f"{tree}/lib/{SHARED}", f"{room}/elfmap/libelfmap.so")
+        about = {**metadata(version), "WHEEL": f"Wheel-Version: 1.0\nGenerator: elfmap\nRoot-Is-Purelib: false\nTag: {tag}\n"}
+        for name, text in about.items():
+            put(f"{room}/elfmap-{version}.dist-info/{name}", text)
+        settle(room)
+        wanted("/usr/bin/python3", "-m", "wheel", "pack", "--dest-dir", folder, room)
 
 
 def crate(tree: str, folder: str, version: str) -> None:
@@ -351,6 +339,8 @@ def packages(folder: str) -> list[str]:
     """Makes all packages in a folder: their names."""
     version = version_of()
     os.makedirs(folder, exist_ok=True)
+    # What dpkg-deb and wheel make has this time.
+    os.environ["SOURCE_DATE_EPOCH"] = str(epoch())
     with tempfile.TemporaryDirectory(prefix="elfmap-packages-") as room:
         made, tree = f"{room}/made", f"{room}/elfmap-{version}-x86_64-linux"
         os.mkdir(made)
