@@ -8,8 +8,7 @@ from typing import Any
 from elfmap import _library
 
 from .library import BOTH, FOLDER, PACKERS, c_type, calls, packed, structs
-from .packages import JSONSCHEMA, JUNITPARSER
-from .suite import Tally, Test, environment
+from .suite import JSONSCHEMA, JUNITPARSER, Tally, Test, environment
 from .tree import PACKAGE, TOP, Options, Texts, read_text, said
 
 TOOLS = f"{PACKERS} cargo git pre-commit {JSONSCHEMA} {JUNITPARSER}"

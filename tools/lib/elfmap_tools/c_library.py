@@ -16,9 +16,8 @@ from dataclasses import replace
 from .building import built
 from .cases import Case, case_files, every_case
 from .library import BOTH, ENGINES, FUNCTIONS, NUMBERS, PACKERS, RENAMED, VERDICTS, c_type, calls, packed, structs
-from .packages import SANITIZERS
 from .reference import parsed, shown
-from .suite import Tally, Test, number
+from .suite import SANITIZERS, Tally, Test, number
 from .dump import c_lines
 from .tree import PROCESSORS, TOP, Options, by_cc, libraries, read_bytes, read_text, said, side_by_side, texts_of, wanted, write
 

@@ -7,9 +7,8 @@ the tests in it are skipped by their names."""
 import os, re, shutil, sys, tempfile, zlib
 
 from .library import BOTH, PACKERS, calls
-from .packages import WHEEL, setup
 from .release import LIBRARIES, version_of
-from .suite import Tally, Test, environment, steps_of
+from .suite import WHEEL, Tally, Test, environment, setup, steps_of
 from .tree import TOP, Options, Texts, files_below, read_bytes, read_text, said
 
 SUITE = "bookworm"

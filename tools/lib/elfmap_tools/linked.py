@@ -19,9 +19,8 @@ from collections.abc import Iterator
 from functools import partial
 from typing import Any, NamedTuple
 
-from .packages import BY_LLVM, KLIBC, MACHINES, RUN_BY_QEMU
 from .reference import ALLOC, NOBITS, SYMTAB, UNDEF, File, answer, kept, string, symbols
-from .suite import Tally, Test
+from .suite import BY_LLVM, KLIBC, MACHINES, RUN_BY_QEMU, Tally, Test
 from .tree import PROGRAM, RULES, TOP, Answer, Options, answer_of, ending, read_bytes, read_text, run, wanted, write
 
 SOURCES = f"{TOP}/cases/sources"

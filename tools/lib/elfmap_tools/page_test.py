@@ -10,10 +10,9 @@ from collections.abc import Iterator
 from .cases import case_files, cases_of
 from .library import VERDICTS as CRATE
 from .making import fuzzed
-from .packages import SELENIUM
 from .page import Browser, layout, module, page
 from .reference import verdict
-from .suite import Tally, Test, number
+from .suite import SELENIUM, Tally, Test, number
 from .tree import PROGRAM, TOP, Options, read_bytes, said, write
 
 MACHINE_FILES = ["/bin/true", "/bin/ls", "/usr/lib/gcc/x86_64-linux-gnu/12/crtbegin.o"]
