@@ -2,13 +2,13 @@
 `tools/release library`; what both declare of the library is what include/elfmap.h declares. Nothing is fetched, and nothing is written but
 in a temporary folder. `tools/test explain` runs the package's tests of elfmap-explain alone."""
 
-import ctypes, re, sys
+import ctypes, os, re, sys
 from typing import Any
 
 from elfmap import _library
 
 from .library import BOTH, FOLDER, PACKERS, c_type, calls, packed, structs
-from .suite import JSONSCHEMA, JUNITPARSER, Tally, Test, environment
+from .suite import JSONSCHEMA, JUNITPARSER, Tally, Test
 from .tree import PACKAGE, TOP, Options, Texts, read_text, said
 
 TOOLS = f"{PACKERS} cargo git pre-commit {JSONSCHEMA} {JUNITPARSER}"
@@ -68,7 +68,7 @@ def count_run(tally: Tally, ran: Texts, passed: int, failed: int) -> None:
 def unittests(tally: Tally, *modules: str) -> None:
     """Runs tests of the package: all, or those of some modules."""
     packed()
-    own = environment(ELFMAP_LIB_DIR=FOLDER, XDG_CACHE_HOME=f"{tally.folder}/cache", PYTHONDONTWRITEBYTECODE="1")
+    own = os.environ | {"ELFMAP_LIB_DIR": FOLDER, "XDG_CACHE_HOME": f"{tally.folder}/cache", "PYTHONDONTWRITEBYTECODE": "1"}
     ran = said(sys.executable, "-m", "unittest", *modules, folder=PACKAGE, env=own)
     count = sum(int(it) for it in re.findall(r"^Ran (\d+) tests?", ran.stdout, re.M))
     # A test of many files fails for each of them.
@@ -81,7 +81,7 @@ def bindings(tally: Tally, options: Options) -> None:
     declarations(tally)
     unittests(tally)
     folders = {"CARGO_HOME": f"{tally.folder}/cargo", "CARGO_TARGET_DIR": f"{tally.folder}/target"}
-    env = environment(ELFMAP_LIB_DIR=FOLDER, CARGO_INCREMENTAL="0", **folders)
+    env = os.environ | folders | {"ELFMAP_LIB_DIR": FOLDER, "CARGO_INCREMENTAL": "0"}
     ran = said("cargo", "test", "--frozen", "--no-fail-fast", folder=f"{TOP}/bindings/rust", env=env)
     found = re.findall(r"^test result: .* (\d+) passed; (\d+) failed;", ran.stdout, re.M)
     count_run(tally, ran, sum(int(it) for it, _ in found), sum(int(it) for _, it in found))

@@ -48,17 +48,12 @@ def gate_folder(crate: str) -> str:
     return f"{TOP}/crates/{crate}/out/rlib"
 
 
-def is_built_by_gate(crate: str) -> bool:
-    """Whether `rt ci` built the library after its texts were last written."""
-    return is_newer(f"{gate_folder(crate)}/{crate}.rlib", texts_of(crate))
-
-
 def built_below(crates: Iterable[str]) -> tuple[FolderOf, list[str]]:
     """The folder of each library below these crates, all built by `tools/dev prove` or all by `rt ci`: a mixture does not fit together.
     Where neither has them all, also those that `tools/dev prove` lacks."""
     names = list(dict.fromkeys(it for crate in crates for it in below(crate)))
     lacking = [it for it in names if not is_built_by_prove(it)]
-    if lacking and all(map(is_built_by_gate, names)):
+    if lacking and all(is_newer(f"{gate_folder(it)}/{it}.rlib", texts_of(it)) for it in names):
         return gate_folder, []
     return lambda name: RLIBS, lacking
 

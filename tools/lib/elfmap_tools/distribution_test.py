@@ -8,7 +8,7 @@ import os, re, shutil, sys, tempfile, zlib
 
 from .library import BOTH, PACKERS, calls
 from .release import LIBRARIES, version_of
-from .suite import WHEEL, Tally, Test, environment, setup, steps_of
+from .suite import WHEEL, Tally, Test, setup, steps_of
 from .tree import TOP, Options, Texts, files_below, read_bytes, read_text, said
 
 SUITE = "bookworm"
@@ -79,7 +79,7 @@ def packages(tally: Tally, options: Options) -> None:
     first, second = f"{room}/first", f"{room}/second"
     for it, mask, zone in ((first, "022", "UTC"), (second, "077", "Asia/Tokyo")):
         words = ["sh", "-c", f'umask {mask} && exec "$@"', "sh", sys.executable, f"{TOP}/tools/release", "packages", it]
-        made = said(*words, folder=room, env=environment(TZ=zone))
+        made = said(*words, folder=room, env=os.environ | {"TZ": zone})
         if not tally.check(made.returncode == 0, f"no packages are made: {made.stdout}"):
             return
     tally.check(contents(first) == contents(second), "the packages have other bytes the second time")

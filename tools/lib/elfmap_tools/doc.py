@@ -10,7 +10,7 @@ from . import definitions, guarantees
 from .rules_tables import by_anchor
 from .sources import PUBLIC_CRATES, WORD, Definition, Item, Uses, definition, items_of, module_file, named_in, reach, source
 from .suite import Tally, Test
-from .tree import Options, cells, filled, matched, read_text, replaced
+from .tree import Options, cells, filled, read_text, replaced
 
 # Where a word leads to, and its title.
 Place = tuple[str, str] | None
@@ -84,7 +84,7 @@ def anchor_of(found: Definition) -> str:
 
 def name_of(text: str) -> str:
     """The name of a field or a variant."""
-    return matched(r"\w+", text)[0]
+    return re.sub(r"(?s)\W.*", "", text)
 
 
 def place_in(found: Definition, word: str) -> Place:

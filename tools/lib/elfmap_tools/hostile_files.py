@@ -19,7 +19,7 @@ from .reference import (
     ALLOC, DYNSYM, HASH, NOTE, PROGBITS, SECTION_HEADER, STRTAB, SYMBOL, File, answer, edited, group, object_file, object_of, record,
     relocations, section, symbol, text, with_index_table, words,
 )  # fmt: skip
-from .suite import Tally, Test, environment
+from .suite import Tally, Test
 from .tree import PROGRAM, Answer, Options, read_text, run
 
 MOST_SECONDS = 1.0
@@ -120,7 +120,7 @@ def large_rows() -> Iterator[Row]:
 
 def counting(library: str, report: str) -> dict[str, str]:
     """The environment of a call in which the library counts what it asks for, and reports it in a file."""
-    return environment(LD_PRELOAD=library, FAILING_CALL=f"count 1 nothing {report}")
+    return os.environ | {"LD_PRELOAD": library, "FAILING_CALL": f"count 1 nothing {report}"}
 
 
 def asked(report: str) -> int:

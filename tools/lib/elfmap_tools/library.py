@@ -6,7 +6,7 @@ which exports the calls of include/elfmap.h and nothing else."""
 import functools, glob, os, re, shutil, tempfile
 
 from .building import built, output_of
-from .tree import TOP, Options, is_newer, matched, read_text, wanted, write
+from .tree import TOP, Options, is_newer, read_text, wanted, write
 
 VERDICTS, ENGINES = "elf_c", "elf_c_engines"
 # As words: the crates of the library, and the commands that pack it.
@@ -55,7 +55,7 @@ def structs() -> dict[str, list[tuple[str, str, str]]]:
 
 def c_type(kind: str, tags: dict[str, str]) -> str:
     """A type of Rust or Rattle as C has it, with the tags of structs by their names; a slice is a pointer, beside which C has a length."""
-    pointer, name, count = matched(r"(\*const |\*mut |&mut |&|)\[?(\w+)(?:; (\w+))?\]?$", kind).groups()
+    ((pointer, name, count),) = re.findall(r"^(\*const |\*mut |&mut |&|)\[?(\w+)(?:; (\w+))?\]?$", kind)
     own = NUMBERS.get(name) or f"struct {tags[name]}"
     if pointer:
         return f"{'' if 'mut' in pointer else 'const '}{own} *"

@@ -5,7 +5,7 @@ import collections, glob, os, re, shutil
 
 from .doc_examples import words as words_over_sources
 from .building import kit
-from .sources import Definition, definitions
+from .sources import definitions
 from .suite import Tally, Test, flag, steps_of
 from .tree import PACKAGE, TOP, Options, read_text, run, said, write
 
@@ -14,14 +14,13 @@ from .tree import PACKAGE, TOP, Options, read_text, run, said, write
 
 @Test("names", "each name of a definition is in one crate")
 def names(tally: Tally, options: Options) -> None:
-    places = collections.defaultdict[str, list[Definition]](list)
+    places = collections.defaultdict[str, list[str]](list)
     for path in sorted(glob.glob("crates/*/specs/**/*.antt", root_dir=TOP, recursive=True)):
-        for name, it in definitions(path)[0].items():
-            places[name].append(it)
-    several = {name: own for name, own in sorted(places.items()) if len({it.path.split("/")[1] for it in own}) > 1}
-    for name, own in several.items():
-        lines = ((it.path, read_text(it.path).partition(it.text)[0].count("\n") + 1) for it in own)
-        tally.fail(f"{name}: {', '.join(f'{path}:{line}' for path, line in lines)}")
+        for name in definitions(path)[0]:
+            places[name].append(path)
+    several = {name: paths for name, paths in sorted(places.items()) if len({it.split("/")[1] for it in paths}) > 1}
+    for name, paths in several.items():
+        tally.fail(f"{name}: {', '.join(paths)}")
     tally.check(places and not several, "a name is defined in more than one crate")
 
 

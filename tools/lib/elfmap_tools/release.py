@@ -13,7 +13,7 @@ import functools, glob, gzip, hashlib, os, re, shutil, sys, tempfile
 from . import doc, library, man, page
 from .building import is_current, output_of
 from .library import SHARED
-from .tree import PROGRAM, TOP, Options, files_below, read_bytes, read_text, run, said, wanted, write
+from .tree import PACKAGE, PROGRAM, TOP, Options, files_below, read_bytes, read_text, run, said, wanted, write
 
 RUNNER = """#!/bin/sh
 # elfmap WORDS..: the program elfmap, with settings of the C library's memory.
@@ -82,15 +82,10 @@ def commands() -> dict[str, tuple[str, str]]:
     return {name: (module, function) for name, module, function in found}
 
 
-def help_of(module: str) -> str:
-    """The help of a command of the Python package, in long lines."""
-    env = {**os.environ, "COLUMNS": "300", "PYTHONDONTWRITEBYTECODE": "1"}
-    return said(sys.executable, "-m", module, "--help", folder=f"{TOP}/bindings/python", env=env).stdout
-
-
 def page_of(name: str, module: str, version: str) -> str:
-    """The manual page of a command of the Python package, which is its help."""
-    usage, about, *rest = help_of(module).strip().split("\n\n")
+    """The manual page of a command of the Python package, which is its help, in long lines."""
+    help = said(sys.executable, "-B", "-m", module, "--help", folder=PACKAGE, env=os.environ | {"COLUMNS": "300"})
+    usage, about, *rest = help.stdout.strip().split("\n\n")
     lines = [f'.TH {name.upper()} 1 "" "elfmap {version}" "elfmap"', ".SH NAME", rf"{name} \- {man.escaped(about)}", ".SH SYNOPSIS"]
     lines += [man.literal(usage.removeprefix("usage: ")), ".SH OPTIONS"]
     for it in rest[:-1]:

@@ -76,12 +76,6 @@ class Release:
         ended = ran(*words, folder=folder or self.folder, env=env)
         self.check(ended.returncode == status and re.fullmatch(pattern, ended.stdout), f"{status} and '{pattern}' is not: {ended}")
 
-    def program(self) -> None:
-        """It accepts a file of the machine, and refuses changed copies."""
-        self.tries(0, rf"ok {os.path.getsize(TRUE)} .*\n", "./elfmap", "check", TRUE)
-        for path in self.broken:
-            self.tries(1, r"refused \d+ \d+\n", "./elfmap", "check", path)
-
     def runner(self) -> None:
         """bin/elfmap gives its words to the program, by a link too, with settings of memory in an environment that has none."""
         os.makedirs(f"{self.room}/copy/bin")
@@ -205,5 +199,5 @@ TOOLS = f"{PACKERS} nm git pkg-config cargo groff man wasm-opt"
 @Test("release", "what a release has, and that all of it works", commands=TOOLS, crates=f"elfmap {BOTH}")
 def release(tally: Tally, options: Options) -> None:
     it = Release(tally, tally.folder)
-    for part in (it.links, it.program, it.runner, it.usage, it.names, it.c, it.rust, it.python, it.commands, it.manual):
+    for part in (it.links, it.runner, it.usage, it.names, it.c, it.rust, it.python, it.commands, it.manual):
         part()

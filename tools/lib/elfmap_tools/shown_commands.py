@@ -24,7 +24,7 @@ from collections.abc import Iterator
 
 from .library import BOTH
 from .release import pack
-from .suite import TESTS, Tally, Test, environment, families
+from .suite import TESTS, Tally, Test, families
 from .tree import PROGRAM, TOP, Options, read_text, said, wanted, write
 
 MEDIAN, LONG_SENTENCE, WORDS = 18, 30, 30_000
@@ -199,7 +199,7 @@ class Page:
         # Files that are missing or others, as a command that makes them was skipped, and why.
         self.lacking: dict[str, str] = {}
         own = {"PATH": f"{folder}/bin:{os.environ['PATH']}", "XDG_CACHE_HOME": f"{folder}/.cache", "HOME": folder}
-        self.environment = environment(LC_ALL="C.UTF-8", ELFMAP=PROGRAM, **own)
+        self.environment = os.environ | own | {"LC_ALL": "C.UTF-8", "ELFMAP": PROGRAM}
 
     def foreign(self, tool: str) -> str:
         """Why what a tool says can't be compared."""

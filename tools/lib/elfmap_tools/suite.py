@@ -312,7 +312,3 @@ def count_tries(tally: Tally, options: Options, name: str, wrong_in: Callable[[i
     """Counts so many tries of a seed, side by side."""
     tries = functools.partial(tried_in_folder, name, wrong_in, options.seed)
     tally.count(options.count, filter(None, side_by_side(tries, range(options.count), True)))
-
-
-def environment(**more: str) -> dict[str, str]:
-    return {**os.environ, **more}

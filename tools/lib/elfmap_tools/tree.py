@@ -60,13 +60,6 @@ def cells(line: str) -> list[str]:
     return [it.strip() for it in re.split(r"(?<!\\)\|", line.strip()[1:-1])]
 
 
-def matched(pattern: str | re.Pattern[str], text: str) -> re.Match[str]:
-    """A match at the beginning of a text, which has to be there."""
-    found = re.match(pattern, text)
-    assert found, text
-    return found
-
-
 def run(*words: str, folder: str | None = None, env: Mapping[str, str] | None = None, timeout: float | None = None) -> Ended:
     """Runs a command without input: its status, and the bytes of both its outputs."""
     return subprocess.run(words, cwd=folder, env=env, timeout=timeout, stdin=subprocess.DEVNULL, capture_output=True)
