@@ -7,6 +7,7 @@ header. `failing.c` counts what is asked for. The answers of large objects are t
 import os, random
 from collections.abc import Callable, Iterator
 from dataclasses import dataclass
+from functools import partial
 from itertools import chain, product
 
 import made
@@ -20,7 +21,7 @@ from .reference import (
     relocations, section, symbol, text, with_index_table, words,
 )  # fmt: skip
 from .suite import Tally, Test
-from .tree import PROGRAM, Answer, Options, read_text, run
+from .tree import PROGRAM, Options, T, read_text, run, write
 
 MOST_SECONDS = 1.0
 LEAST_MEMORY, MOST_MEMORY, SEEKING_MEMORY = 1 << 20, 128, 2
@@ -118,30 +119,20 @@ def large_rows() -> Iterator[Row]:
 # ---- the calls
 
 
-def counting(library: str, report: str) -> dict[str, str]:
-    """The environment of a call in which the library counts what it asks for, and reports it in a file."""
-    return os.environ | {"LD_PRELOAD": library, "FAILING_CALL": f"count 1 nothing {report}"}
+def measured(folder: str, call: Callable[..., T]) -> tuple[T, float, int]:
+    """The answer of a call, the seconds of the processor, of this process's children, and the bytes that were asked for: the library counts
+    them."""
+    before, report = sum(os.times()[2:4]), write(f"{folder}/report", "")
+    answer = call(env=os.environ | {"LD_PRELOAD": f"{folder}/failing.so", "FAILING_CALL": f"count 1 nothing {report}"})
+    return answer, sum(os.times()[2:4]) - before, int(dict(line.split() for line in read_text(report).splitlines())["asked"])
 
 
-def asked(report: str) -> int:
-    """How many bytes the call asked for that has this report, which is removed."""
-    found = int(dict(line.split() for line in read_text(report).splitlines())["asked"])
-    os.remove(report)
-    return found
-
-
-def run_case(case: Case, library: str, report: str) -> tuple[Answer, float, int]:
-    """The answer, the seconds of the processor, of this process's children, and the bytes that were asked for."""
-    before = sum(os.times()[2:4])
-    answer = case.found("prlimit", f"--stack={STACK}", PROGRAM, env=counting(library, report))
-    return answer, sum(os.times()[2:4]) - before, asked(report)
-
-
-def wrong_with(case: Case, library: str, report: str) -> str:
-    (status, out, err), seconds, memory = run_case(case, library, report)
+def wrong_with(case: Case, folder: str) -> str:
+    call = partial(case.found, "prlimit", f"--stack={STACK}", PROGRAM)
+    (status, out, err), seconds, memory = measured(folder, call)
     if seconds > MOST_SECONDS:
         # A machine with much to do beside it may take longer once.
-        seconds = run_case(case, library, report)[1]
+        seconds = measured(folder, call)[1]
     if seconds > MOST_SECONDS:
         return f"it takes {seconds:.2f} s"
     # A file may be named by several words.
@@ -163,9 +154,9 @@ def wrong_with(case: Case, library: str, report: str) -> str:
 FAR = (2**24 + 8, 2**29 + 8, 2**30 - 136)
 
 
-def far_tables(tally: Tally, library: str) -> None:
+def far_tables(tally: Tally) -> None:
     """Sparse files of a header, far from it two section headers, and a name table of one byte after them."""
-    path, report = f"{tally.folder}/f", f"{tally.folder}/report"
+    path = f"{tally.folder}/f"
     for order, at in product((LITTLE, "big"), FAR):
         header = edited(object_file([], order=order)[:64], ("e_shoff", at), ("e_shnum", 2), ("e_shstrndx", 1))
         names = record(order, SECTION_HEADER, sh_type=STRTAB, sh_offset=at + 128, sh_size=1, sh_addralign=1)
@@ -175,9 +166,9 @@ def far_tables(tally: Tally, library: str) -> None:
             it.write(names)
             it.truncate(at + 136)
         for command, most in (["check"], LEAST_MEMORY + MOST_MEMORY * at), (["check", "--seek"], LEAST_MEMORY):
-            output, right = run(PROGRAM, *command, path, env=counting(library, report)).stdout, b"ok %d 2 0\n" % (at + 136)
-            memory, what = asked(report), f"{' '.join(command)} of a table at {at}, {order}"
-            tally.check(output == right and memory <= most, f"{what}: {output!r}, and not {right!r}; {memory} bytes, and not {most}")
+            ended, _, memory = measured(tally.folder, partial(run, PROGRAM, *command, path))
+            right, what = b"ok %d 2 0\n" % (at + 136), f"{' '.join(command)} of a table at {at}, {order}"
+            tally.check(ended.stdout == right and memory <= most, f"{what}: {ended.stdout!r}, and not {right!r}; {memory} of {most} bytes")
 
 
 ABOUT = "tables made to do harm, and large files: answers, time, memory, and a small stack"
@@ -186,9 +177,9 @@ ABOUT = "tables made to do harm, and large files: answers, time, memory, and a s
 # It looks at the time of the processor, which other work on it lengthens.
 @Test("hostile-files", ABOUT, commands="cc prlimit", crates="elfmap", alone=True, family="fuzz")
 def hostile_files(tally: Tally, options: Options) -> None:
-    library = failing_library(tally.folder)
+    failing_library(tally.folder)
     of_cases = (it for it in every_case() if it.needs)
     for number, it in enumerate(chain(of_cases, many_rows(), large_rows())):
-        why = wrong_with(it, library, f"{tally.folder}/report")
+        why = wrong_with(it, tally.folder)
         tally.check(not why, f"row {number}, {it}: {why}")
-    far_tables(tally, library)
+    far_tables(tally)

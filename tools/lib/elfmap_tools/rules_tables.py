@@ -14,18 +14,14 @@ MADE = "Made by `tools/release tables` from docs/RULES.md."
 
 
 class Rule(NamedTuple):
-    """A rule: its number, its definition, its name, what is refused and why, and what to do."""
+    """A rule: its number, its definition, its name, why something is refused, and with what is refused, and what to do."""
 
     number: int
     definition: str
     name: str
-    refused: str
     words: str
+    sentence: str
     advice: str
-
-    @property
-    def sentence(self) -> str:
-        return f"{self.refused} {self.words}"
 
 
 @functools.cache
@@ -40,7 +36,7 @@ def by_anchor() -> dict[str, Rule]:
         if anchor:
             advice = advice if row[4] == "the same" else row[4]
             definition, name, *_ = re.findall(r"`(\w+)`", row[1])
-            found[anchor[1]] = Rule(int(anchor[2]), definition, name, refused, row[2], advice)
+            found[anchor[1]] = Rule(int(anchor[2]), definition, name, row[2], f"{refused} {row[2]}", advice)
     return found
 
 
