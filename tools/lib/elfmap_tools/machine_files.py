@@ -166,22 +166,6 @@ def try_object(place: Place) -> str:
     return f"{place[0]}({place[1]}): {wrong}" if wrong else "written"
 
 
-def printed(folder: str, parts: list[str]) -> tuple[int, bytes]:
-    """What a program of these files prints, or the linker where it does not link them."""
-    made = run("gcc", "-no-pie", *parts, "-o", f"{folder}/program")
-    return made.returncode, made.stderr if made.returncode else run(f"{folder}/program").stdout
-
-
-def linked(folder: str) -> Iterator[str]:
-    """Programs of two files that went through `rewrite`, linked and run: each prints what it printed before."""
-    for way in range(len(WAYS)):
-        parts = [f"{folder}/{name}.gcc.{way}.o" for name in SOURCES[:2]]
-        own = printed(folder, parts)
-        after = printed(folder, [write(f"{it}.after.o", run(PROGRAM, "rewrite", it).stdout) for it in parts])
-        if own != after or own[0]:
-            yield f"a program of rewritten files prints {after}, and not {own}"
-
-
 TOOLS = "gcc g++ clang readelf eu-elflint"
 ABOUT = "objects of this machine and its compilers through `rewrite`, beside readelf and eu-elflint"
 
@@ -192,4 +176,3 @@ def real_objects(tally: Tally, options: Options) -> None:
     found = {f"{path}({at})": (path, at, size) for it in below for path, at, size in objects_of(it)}
     objects = [place for path in compiled(tally.folder) for place in objects_of(path)] + [found[it] for it in some(found, options)]
     count_ends(tally, side_by_side(try_object, objects), r"written|refused by rule \d+")
-    tally.count(len(WAYS), linked(tally.folder))

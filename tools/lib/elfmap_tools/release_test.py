@@ -165,20 +165,14 @@ class Release:
             self.tries(0, f"(?s).*{wanted}.*", f"bin/elfmap-{command}", *words, env=env)
 
     def manual(self) -> None:
-        """`man` and `groff` format the manual pages without a warning."""
+        """`groff` formats the manual pages without a warning."""
         page = "share/man/man1/elfmap.1"
         self.check(re.findall(r"^\.SH (.*)", self.text(page), re.M) == SECTIONS, f"the manual page has other sections than {SECTIONS}")
         self.check(f'"elfmap {VERSION}"' in self.text(page), "the manual page has not the version")
-        readers = [["groff", "-man", "-Tutf8", "-ww", f"share/man/man1/{it}.1"] for it in ("elfmap", *commands())]
-        # Where an image was made without manual pages, `man` may be a text that says so.
-        if re.match(r"man [\d.]+$", ran("man", "--version", folder="/").stdout):
-            readers.append(["man", "--warnings", "-l", page])
-        else:
-            self.tally.note("skipped: what man would say, which is no reader of pages here")
-        for command in readers:
-            shown = ran(*command, folder=self.folder)
+        for name in ("elfmap", *commands()):
+            shown = ran("groff", "-man", "-Tutf8", "-ww", f"share/man/man1/{name}.1", folder=self.folder)
             is_shown = shown.returncode == 0 and not shown.stderr and re.search(r"ELFMAP[A-Z-]*\(1\)", shown.stdout)
-            self.check(is_shown, f"{command}: {shown.stderr or shown.stdout[:200]}")
+            self.check(is_shown, f"{name}: {shown.stderr or shown.stdout[:200]}")
 
 
 def words_of(usage: str) -> list[str]:
@@ -193,7 +187,7 @@ def usage_by_help(said: str) -> str:
     return re.sub(r"[<>]", "", usage.replace("[OPTIONS]", " ".join(f"[{it}]" for it in options)))
 
 
-TOOLS = f"{PACKERS} nm git pkg-config cargo groff man wasm-opt"
+TOOLS = f"{PACKERS} nm git pkg-config cargo groff wasm-opt"
 
 
 @Test("release", "what a release has, and that all of it works", commands=TOOLS, crates=f"elfmap {BOTH}")

@@ -25,7 +25,7 @@ COMMANDS = {
     "chromium": "chromium", "chromium-driver": "chromedriver", "clang": "clang", "debootstrap": "debootstrap", "dpkg": "dpkg-deb", "elfutils": "eu-elflint",
     "g++": "c++ g++", "gcc": "cc gcc", "git": "git", "groff": "groff", "libclang-rt-14-dev": SANITIZERS, "libklibc-dev": KLIBC,
     "lld": "ld.lld", "lld-19": "ld.lld-19", "llvm": "llvm-objcopy llvm-readobj", "llvm-19": "llvm-mc-19",
-    "man-db": "man", "mypy": "mypy", "nodejs": "node", "pkg-config": "pkg-config",
+    "mypy": "mypy", "nodejs": "node", "pkg-config": "pkg-config",
     "pre-commit": "pre-commit", "python3-jsonschema": JSONSCHEMA, "python3-junitparser": JUNITPARSER, "python3-selenium": SELENIUM,
     "python3-wheel": WHEEL, "rustc-web": "rustc", "util-linux": "prlimit unshare", "valgrind": "valgrind",
 }  # fmt: skip
