@@ -82,12 +82,8 @@ def counted(folder: str, command: str, make: Callable[[int], Any], names: list[s
     is_piped = PIPE in COMMANDS[command]
     words = [*VALGRIND, "./program", *(own.get(it, it) for it in COMMANDS[command]), *([] if is_piped else names)]
     with open(input_of(f"{folder}/{names[0]}" if is_piped else None), "rb") as source:
-        try:
-            ended = subprocess.run(
-                words, cwd=folder, env=ENVIRONMENT, stdin=source, stdout=subprocess.DEVNULL, stderr=subprocess.PIPE, timeout=LONGEST
-            )
-        except subprocess.TimeoutExpired:
-            return 0, f"it takes more than {LONGEST} s"
+        outputs: dict[str, Any] = {"stdout": subprocess.DEVNULL, "stderr": subprocess.PIPE}
+        ended = subprocess.run(words, cwd=folder, env=ENVIRONMENT, stdin=source, timeout=LONGEST, **outputs)
     found = re.findall(rb"^==\d+== Collected : (\d+)$", ended.stderr, re.M)
     if ended.returncode or len(found) != 1:
         lines = b" ".join(it for it in ended.stderr.splitlines() if not it.startswith(b"=="))

@@ -191,21 +191,20 @@ class Both:
 def linked_like_ld(tally: Tally, options: Options) -> None:
     totals = Counter[str]()
     for title, words, base, page, fits in LD_CASES:
-        with tally.trying(title):
-            shop = Workshop(tally.new_folder(title))
-            objects = [shop.compiled("gcc", f"{it}.c", [*LD_FLAGS, *words.split()]) for it in PARTS]
-            for it in objects:
-                # ld reads .eh_frame and writes it anew.
-                shop.wanted("objcopy", "--rename-section", ".eh_frame=.frames", it)
-            both = Both(shop, objects, base, page, RULES, ["ld", "-m", "elf_x86_64"])
-            if fits:
-                wrong, made = both.differences(), both.map
-                tally.check(not wrong, f"{title}: {'; '.join(wrong)}")
-                totals.update(sections=len(made.bytes), bytes=sum(map(len, made.bytes.values())), names=len(made.names))
-            else:
-                is_refused = both.ruled.returncode == 1 and both.ruled.stdout.startswith(b"refused 16 ")
-                both_refuse = is_refused and both.by_ld.returncode and b"relocation truncated to fit" in both.by_ld.stderr
-                tally.check(both_refuse, f"{title}: it is not refused by both: {both.ends}")
+        shop = Workshop(tally.new_folder(title))
+        objects = [shop.compiled("gcc", f"{it}.c", [*LD_FLAGS, *words.split()]) for it in PARTS]
+        for it in objects:
+            # ld reads .eh_frame and writes it anew.
+            shop.wanted("objcopy", "--rename-section", ".eh_frame=.frames", it)
+        both = Both(shop, objects, base, page, RULES, ["ld", "-m", "elf_x86_64"])
+        if fits:
+            wrong, made = both.differences(), both.map
+            tally.check(not wrong, f"{title}: {'; '.join(wrong)}")
+            totals.update(sections=len(made.bytes), bytes=sum(map(len, made.bytes.values())), names=len(made.names))
+        else:
+            is_refused = both.ruled.returncode == 1 and both.ruled.stdout.startswith(b"refused 16 ")
+            both_refuse = is_refused and both.by_ld.returncode and b"relocation truncated to fit" in both.by_ld.stderr
+            tally.check(both_refuse, f"{title}: it is not refused by both: {both.ends}")
     tally.note(", ".join(f"{count} {kind}" for kind, count in totals.items()) + " agree with ld")
 
 
@@ -253,14 +252,13 @@ def difference(shop: Workshop, objects: list[str], entry: str, base: str, page: 
 def linked_runs(tally: Tally, options: Options) -> None:
     for way, (compiler, flags, sources, _, entry) in ((way, it) for it in RUNS for way in it[3]):
         title = f"{' '.join(sources)} by {compiler} {way}"
-        with tally.trying(title):
-            shop = Workshop(tally.new_folder(title))
-            objects = [shop.compiled(compiler, it, [*flags, *way.split()]) for it in sources]
-            if entry == "_start":
-                objects = with_archive(shop, [CRT0, *objects])
-            for place in PLACES:
-                wrong = difference(shop, objects, entry, *place)
-                tally.check(not wrong, f"{title}: {wrong}")
+        shop = Workshop(tally.new_folder(title))
+        objects = [shop.compiled(compiler, it, [*flags, *way.split()]) for it in sources]
+        if entry == "_start":
+            objects = with_archive(shop, [CRT0, *objects])
+        for place in PLACES:
+            wrong = difference(shop, objects, entry, *place)
+            tally.check(not wrong, f"{title}: {wrong}")
 
 
 # ---- linked-elsewhere
@@ -271,13 +269,12 @@ ELSEWHERE = " ".join(["gcc", *(f"{target}-as {target}-ld qemu-{qemu}" for qemu, 
 @Test("linked-elsewhere", "programs of other machines run the same", commands=ELSEWHERE, crates="elfmap", family="linked")
 def linked_elsewhere(tally: Tally, options: Options) -> None:
     for machine, target in RUN_BY_QEMU.items():
-        with tally.trying(machine):
-            shop = Workshop(tally.new_folder(machine))
-            objects = [shop.assembled(machine, it) for it in ("elsewhere.S", "elsewhere_data.S")]
-            shop.wanted(f"{target}-ld", "-Ttext-segment=0x400000", "-e", "start", *objects, "-o", "by-ld")
-            shop.link(objects, "0x400000", "0x10000", "start", f"{TOP}/rules/{machine}.rules")
-            ends = [it[:2] for it in shop.answers(f"qemu-{machine}")]
-            tally.same(f"{machine}: by ld and by elfmap it", ends, 2 * [(42, b"hello\n")])
+        shop = Workshop(tally.new_folder(machine))
+        objects = [shop.assembled(machine, it) for it in ("elsewhere.S", "elsewhere_data.S")]
+        shop.wanted(f"{target}-ld", "-Ttext-segment=0x400000", "-e", "start", *objects, "-o", "by-ld")
+        shop.link(objects, "0x400000", "0x10000", "start", f"{TOP}/rules/{machine}.rules")
+        ends = [it[:2] for it in shop.answers(f"qemu-{machine}")]
+        tally.same(f"{machine}: by ld and by elfmap it", ends, 2 * [(42, b"hello\n")])
 
 
 # ---- linked-kinds
@@ -325,6 +322,5 @@ def linked_kinds(tally: Tally, options: Options) -> None:
         lines = [it.split() for it in read_text(f"rules/{machine}.rules").splitlines()]
         numbers, names = named_kinds(machine)
         tally.check(numbers == {int(it[0]) for it in lines}, f"docs/RULE_FILES.md lists other kinds than rules/{machine}.rules")
-        with tally.trying(machine):
-            wrong = kinds_differ(Workshop(tally.new_folder(machine)), machine, lines, names)
-            tally.check(not wrong, f"{machine}: {'; '.join(wrong)}")
+        wrong = kinds_differ(Workshop(tally.new_folder(machine)), machine, lines, names)
+        tally.check(not wrong, f"{machine}: {'; '.join(wrong)}")

@@ -1,7 +1,7 @@
 """The tests of `tools/test`: each by its name, with the commands and the built crates that it needs; alone or side by side. `tools/test setup`
 installs the Debian packages of the commands that are missing."""
 
-import argparse, contextlib, functools, glob, os, re, shutil, subprocess, sys, tempfile, time, traceback
+import argparse, functools, glob, os, re, shutil, subprocess, sys, tempfile, time, traceback
 from collections.abc import Callable, Iterable, Iterator
 from concurrent.futures import ThreadPoolExecutor, as_completed
 from dataclasses import dataclass
@@ -124,14 +124,6 @@ class Tally:
         for it in wrong:
             self.fail(it)
         self.passed += tried - (self.failed - before)
-
-    @contextlib.contextmanager
-    def trying(self, what: str) -> Iterator[None]:
-        """A block that has failed, and ends, where a command in it does that has to end well."""
-        try:
-            yield
-        except SystemExit as error:
-            self.fail(f"{what}: {error}")
 
     def try_steps(self, steps: list[Step], run: Callable[[str], str]) -> None:
         """Checks of each step that what its script prints fits the pattern."""
