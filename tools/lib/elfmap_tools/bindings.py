@@ -7,21 +7,13 @@ from typing import Any
 
 from elfmap import _library
 
-from .library import BOTH, FOLDER, PACKERS, c_type, calls, packed, structs
+from .library import BOTH, FOLDER, PACKERS, STRUCTS, c_type, calls, packed, structs
 from .suite import JSONSCHEMA, JUNITPARSER, Tally, Test
 from .tree import PACKAGE, TOP, Options, Texts, read_text, said
 
 TOOLS = f"{PACKERS} cargo git pre-commit {JSONSCHEMA} {JUNITPARSER}"
 Structs = dict[str, list[tuple[str, str]]]
 Calls = dict[str, list[str]]
-# The structs of C as Rust and Python name them.
-STRUCTS = {
-    "Fault": "elfmap_fault", "Extent": "elfmap_extent", "Numbers": "elfmap_file", "Header": "elfmap_header",
-    "SectionHeader": "elfmap_section", "Section": "elfmap_section", "ProgramHeader": "elfmap_segment", "Segment": "elfmap_segment",
-    "Table": "elfmap_table", "SymbolEntry": "elfmap_symbol", "Symbol": "elfmap_symbol", "Relocation": "elfmap_relocation",
-    "Dynamic": "elfmap_dynamic", "NoteEntry": "elfmap_note", "Note": "elfmap_note", "Piece": "elfmap_part", "Part": "elfmap_part",
-    "Outcome": "elfmap_outcome", "LinkOptions": "elfmap_options",
-}  # fmt: skip
 
 
 def in_rust() -> tuple[Structs, Calls]:

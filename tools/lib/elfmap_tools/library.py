@@ -18,6 +18,14 @@ FUNCTIONS = ("alloc", "dealloc", "realloc")
 # Rust's and Rattle's numbers as C has them.
 NUMBERS = {f"{kind[0]}{width}": f"{kind}{width}_t" for kind in ("int", "uint") for width in (8, 16, 32, 64)}
 NUMBERS |= {"usize": "size_t", "bool": "bool"}
+# The structs of C as Rust and Python name them.
+STRUCTS = {
+    "Fault": "elfmap_fault", "Extent": "elfmap_extent", "Numbers": "elfmap_file", "Header": "elfmap_header",
+    "SectionHeader": "elfmap_section", "Section": "elfmap_section", "ProgramHeader": "elfmap_segment", "Segment": "elfmap_segment",
+    "Table": "elfmap_table", "SymbolEntry": "elfmap_symbol", "Symbol": "elfmap_symbol", "Relocation": "elfmap_relocation",
+    "Dynamic": "elfmap_dynamic", "NoteEntry": "elfmap_note", "Note": "elfmap_note", "Piece": "elfmap_part", "Part": "elfmap_part",
+    "Outcome": "elfmap_outcome", "LinkOptions": "elfmap_options",
+}  # fmt: skip
 RENAMED = [word for it in FUNCTIONS for word in ("--redefine-sym", f"rattle_{it}=elfmap_{it}")]
 
 

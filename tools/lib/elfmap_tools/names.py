@@ -66,12 +66,11 @@ SETTINGS = f"{TOP}/tools/pyproject.toml"
 
 @Test("types", "mypy --strict over tools/ and the Python package", commands="mypy")
 def types(tally: Tally, options: Options) -> None:
-    words = ["mypy", "--config-file", SETTINGS, "--cache-dir", f"{TOP}/crates/elfmap/out/mypy"]
-    ran = said(*words, f"{TOP}/tools/lib/elfmap_tools", *PROGRAMS, folder=f"{TOP}/tools")
-    tally.check(ran.returncode == 0, ran.stdout)
+    own = ["--config-file", SETTINGS, f"{TOP}/tools/lib/elfmap_tools", *PROGRAMS]
     # The package runs by Python 3.9 too.
-    ran = said("mypy", "--strict", "--python-version", "3.9", "--cache-dir", f"{TOP}/crates/elfmap/out/mypy", "elfmap", folder=PACKAGE)
-    tally.check(ran.returncode == 0, ran.stdout)
+    for folder, words in ((f"{TOP}/tools", own), (PACKAGE, ["--strict", "--python-version", "3.9", "elfmap"])):
+        ran = said("mypy", "--cache-dir", f"{TOP}/crates/elfmap/out/mypy", *words, folder=folder)
+        tally.check(ran.returncode == 0, ran.stdout)
 
 
 @Test("format", "black over tools/ and the Python package", commands="black", options=(flag("write", "format it"),))

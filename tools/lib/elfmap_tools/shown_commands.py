@@ -184,11 +184,6 @@ def made_by(command: str) -> set[str]:
     return objects | set(re.findall(r"(?:> *|-o |\bcp \S+ |objcopy \S+ )([^\s>&|]+)", command))
 
 
-def version_of(tool: str) -> str:
-    found = re.search(r"\d+\.\d[.\d]*", said(tool, "--version").stdout)
-    return found[0] if found else "unknown"
-
-
 class Page:
     """A page, and the folder in which its commands run."""
 
@@ -204,7 +199,8 @@ class Page:
     def foreign(self, tool: str) -> str:
         """Why what a tool says can't be compared."""
         package = PACKAGES[tool]
-        named, own = re.search(rf"\b{package} (\d+(?:\.\d+)+)", read_text("README.md")), version_of(tool)
+        named = re.search(rf"\b{package} (\d+(?:\.\d+)+)", read_text("README.md"))
+        own = [*re.findall(r"\d+\.\d[.\d]*", said(tool, "--version").stdout), "unknown"][0]
         if named and f"{own}.".startswith(f"{named[1]}."):
             return ""
         return f"with {package} {own}, not {named[1] if named else 'named in README.md'}"
