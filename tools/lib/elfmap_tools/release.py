@@ -8,7 +8,7 @@ given. The same program, library, version, texts and commit make the same archiv
 Python package as a wheel with the library in it, the Rust crate with the static library, and their SHA256SUMS. docs/MANUAL.md lists what
 each has. The same build makes the same bytes: every file has the time of the commit."""
 
-import functools, glob, gzip, hashlib, os, re, shutil, sys, tempfile
+import functools, glob, gzip, os, re, shutil, sys, tempfile, zipfile
 
 from . import doc, library, man, page
 from .building import is_current, output_of
@@ -188,19 +188,13 @@ def main(options: Options) -> None:
 
 TRIPLET = "x86_64-linux-gnu"
 LIBRARIES = f"usr/lib/{TRIPLET}"
-PYTHON = "usr/lib/python3/dist-packages/elfmap"
+PYTHON = "usr/lib/python3/dist-packages"
 MAINTAINER = "the authors of elfmap <elfmap@localhost>"
 # Python compiles the modules of a package once, when it is installed.
 COMPILED = {
     "postinst": '#!/bin/sh\nset -e\nif [ "$1" = configure ]; then py3compile -p python3-elfmap; fi\n',
     "prerm": "#!/bin/sh\nset -e\npy3clean -p python3-elfmap\n",
 }
-METADATA = """Metadata-Version: 2.1
-Name: elfmap
-Version: {version}
-Summary: {description}
-Requires-Python: {python}
-"""
 
 
 def glibc_of(path: str) -> str:
@@ -248,10 +242,12 @@ def put_dev(root: str, tree: str, version: str) -> None:
 
 
 def put_python(root: str, tree: str, version: str) -> None:
-    copied(f"{tree}/bindings/python/elfmap", f"{root}/{PYTHON}")
-    os.symlink(f"../../../{TRIPLET}/{SHARED}", f"{root}/{PYTHON}/libelfmap.so")
-    for name, text in metadata(version).items():
-        put(f"{root}/{os.path.dirname(PYTHON)}/elfmap-{version}.dist-info/{name}", text)
+    """What the wheel has, with the library of its own package."""
+    with tempfile.TemporaryDirectory(prefix="elfmap-wheel-") as room, zipfile.ZipFile(wheel(tree, room)) as packed:
+        packed.extractall(f"{root}/{PYTHON}")
+    os.remove(f"{root}/{PYTHON}/elfmap-{version}.dist-info/RECORD")
+    os.remove(f"{root}/{PYTHON}/elfmap/libelfmap.so")
+    os.symlink(f"../../../{TRIPLET}/{SHARED}", f"{root}/{PYTHON}/elfmap/libelfmap.so")
     for name, (module, function) in commands().items():
         put(f"{root}/usr/bin/{name}", COMMAND.format(python="/usr/bin/python3", path="", module=module, function=function))
         put_help(root, tree, name)
@@ -299,25 +295,18 @@ def deb(name: str, tree: str, folder: str, version: str) -> None:
 # ---- the wheel and the crate
 
 
-def metadata(version: str) -> dict[str, str]:
-    """The files of a package of Python that say what it is."""
-    project = dict(re.findall(r'^([\w-]+) = "(.*)"', read_text("bindings/python/pyproject.toml"), re.M))
-    scripts = "".join(f"{name} = {module}:{function}\n" for name, (module, function) in commands().items())
-    about = METADATA.format(version=version, description=project["description"], python=project["requires-python"])
-    return {"METADATA": about, "entry_points.txt": f"[console_scripts]\n{scripts}"}
-
-
-def wheel(tree: str, folder: str, version: str) -> None:
-    """The package with the library in it, for every Linux for x86-64 that has the C library that it needs."""
-    tag = f"py3-none-manylinux_{glibc_of(f'{tree}/lib/{SHARED}').replace('.', '_')}_x86_64"
+def wheel(tree: str, folder: str) -> str:
+    """The package with the library in it, for every Linux for x86-64 that has the C library that it needs: its path."""
+    library = f"{tree}/lib/{SHARED}"
     with tempfile.TemporaryDirectory(prefix="elfmap-wheel-") as room:
-        copied(f"{tree}/bindings/python/elfmap", f"{room}/elfmap")
-        copied(f"{tree}/lib/{SHARED}", f"{room}/elfmap/libelfmap.so")
-        about = {**metadata(version), "WHEEL": f"Wheel-Version: 1.0\nGenerator: elfmap\nRoot-Is-Purelib: false\nTag: {tag}\n"}
-        for name, text in about.items():
-            put(f"{room}/elfmap-{version}.dist-info/{name}", text)
-        settle(room)
-        wanted("/usr/bin/python3", "-m", "wheel", "pack", "--dest-dir", folder, room)
+        own = f"{room}/package"
+        shutil.copytree(f"{tree}/bindings/python", own)
+        copied(library, f"{own}/elfmap/libelfmap.so")
+        without_dead_links(own)
+        settle(own)
+        build = ["/usr/bin/python3", "-c", "import setuptools; setuptools.setup()", "bdist_wheel", "--dist-dir", folder]
+        wanted(*build, "--plat-name", f"manylinux_{glibc_of(library).replace('.', '_')}_x86_64", folder=own)
+    return glob.glob(f"{folder}/*.whl")[0]
 
 
 def crate(tree: str, folder: str, version: str) -> None:
@@ -334,20 +323,20 @@ def packages(folder: str) -> list[str]:
     """Makes all packages in a folder: their names."""
     version = version_of()
     os.makedirs(folder, exist_ok=True)
-    # What dpkg-deb and wheel make has this time.
+    # What others make of it has this time, and its files these permissions.
     os.environ["SOURCE_DATE_EPOCH"] = str(epoch())
+    os.umask(0o022)
     with tempfile.TemporaryDirectory(prefix="elfmap-packages-") as room:
         made, tree = f"{room}/made", f"{room}/elfmap-{version}-x86_64-linux"
         os.mkdir(made)
         put_release(tree, version)
         for name in PACKAGES:
             deb(name, tree, made, version)
-        wheel(tree, made, version)
+        wheel(tree, made)
         crate(tree, made, version)
         archived(tree, f"{made}/{os.path.basename(tree)}.tar.gz")
         names = sorted(os.listdir(made))
-        sums = (f"{hashlib.sha256(read_bytes(f'{made}/{it}')).hexdigest()}  {it}\n" for it in names)
-        write(f"{made}/SHA256SUMS", "".join(sums))
+        write(f"{made}/SHA256SUMS", wanted("sha256sum", *names, folder=made))
         for it in os.listdir(made):
             shutil.move(f"{made}/{it}", f"{folder}/{it}")
     return [*names, "SHA256SUMS"]

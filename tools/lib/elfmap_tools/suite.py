@@ -15,7 +15,7 @@ from .tree import PROCESSORS, TOP, Options, Texts, filled, progress, read_text, 
 KLIBC = "/usr/lib/klibc/lib/libc.a"
 # What Debian's python3 imports.
 IMPORTED = "/usr/lib/python3/dist-packages/{}/__init__.py"
-JSONSCHEMA, JUNITPARSER, SELENIUM, WHEEL = map(IMPORTED.format, ("jsonschema", "junitparser", "selenium", "wheel"))
+JSONSCHEMA, JUNITPARSER, SELENIUM, SETUPTOOLS, WHEEL = map(IMPORTED.format, "jsonschema junitparser selenium setuptools wheel".split())
 # Debian's clang brings its checks of addresses and of undefined behavior only as a recommended package.
 SANITIZERS = "/usr/lib/llvm-*/lib/clang/*/lib/linux/libclang_rt.asan-x86_64.a"
 # The commands of each package, by their first words, or a file that has to be there.
@@ -27,7 +27,7 @@ COMMANDS = {
     "lld": "ld.lld", "lld-19": "ld.lld-19", "llvm": "llvm-objcopy llvm-readobj", "llvm-19": "llvm-mc-19",
     "mypy": "mypy", "nodejs": "node", "pkg-config": "pkg-config",
     "pre-commit": "pre-commit", "python3-jsonschema": JSONSCHEMA, "python3-junitparser": JUNITPARSER, "python3-selenium": SELENIUM,
-    "python3-wheel": WHEEL, "rustc-web": "rustc", "util-linux": "prlimit unshare", "valgrind": "valgrind",
+    "python3-setuptools": SETUPTOOLS, "python3-wheel": WHEEL, "rustc-web": "rustc", "util-linux": "prlimit unshare", "valgrind": "valgrind",
 }  # fmt: skip
 PACKAGES = {command: package for package, commands in COMMANDS.items() for command in commands.split()}
 # The machines of rules/, by the names of qemu's program and of the tools; one that qemu has no program for; and those that LLVM alone has,
