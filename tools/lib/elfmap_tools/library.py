@@ -3,7 +3,7 @@
 takes of it what it calls: without an engine neither the engines nor malloc. A release has the same as a shared library, libelfmap.so.0,
 which exports the calls of include/elfmap.h and nothing else."""
 
-import functools, glob, os, re, shutil, tempfile
+import functools, os, re, shutil, tempfile
 
 from .building import built, output_of
 from .tree import TOP, Options, is_newer, read_text, wanted, write
@@ -35,17 +35,11 @@ def pack(folder: str) -> str:
         for crate in (VERDICTS, ENGINES):
             if not os.path.isfile(output_of(crate)):
                 raise SystemExit(f"library: there is no {output_of(crate)}: tools/dev prove {crate} builds it")
-            os.mkdir(f"{room}/{crate}")
-            wanted("ar", "x", output_of(crate), folder=f"{room}/{crate}")
-            for name in os.listdir(f"{room}/{crate}"):
-                # The members have the name of their crate before theirs.
-                member = shutil.move(f"{room}/{crate}/{name}", f"{room}/{crate}-{name}")
-                if crate == ENGINES:
-                    wanted("objcopy", *RENAMED, member)
+            wanted("objcopy", *RENAMED, output_of(crate), f"{room}/{crate}.a")
         memory = ["cc", "-std=c99", "-O2", "-fPIC", f"-I{TOP}/include", "-c", f"{TOP}/bindings/c/memory.c"]
         wanted(*memory, "-o", f"{room}/memory.o")
-        # Without times and names of users, so that the same members make the same archive.
-        wanted("ar", "rcsD", "libelfmap.a", *sorted(glob.glob("*.o", root_dir=room)), folder=room)
+        write(f"{room}/script", f"create libelfmap.a\naddlib {VERDICTS}.a\naddlib {ENGINES}.a\naddmod memory.o\nsave\nend\n")
+        wanted("sh", "-c", "ar -M < script", folder=room)
         return str(shutil.move(f"{room}/libelfmap.a", f"{folder}/libelfmap.a"))
 
 
