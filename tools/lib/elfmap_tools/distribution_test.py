@@ -6,8 +6,8 @@ the tests in it are skipped by their names."""
 
 import os, re, shutil, sys, tempfile, zlib
 
-from .library import BOTH, PACKERS, calls
-from .release import LIBRARIES, version_of
+from .library import BOTH, calls
+from .release import LIBRARIES, MAKERS, version_of
 from .suite import SETUPTOOLS, WHEEL, Tally, Test, setup, steps_of
 from .tree import TOP, Options, Texts, files_below, read_bytes, read_text, said
 
@@ -66,7 +66,7 @@ def contents(folder: str) -> dict[str, bytes]:
     return {os.path.basename(it): read_bytes(it) for it in files_below(folder)}
 
 
-TOOLS = f"{PACKERS} readelf nm git wasm-opt dpkg-deb unshare {SETUPTOOLS} {WHEEL}"
+TOOLS = f"{MAKERS} readelf nm git dpkg-deb unshare {SETUPTOOLS} {WHEEL}"
 
 
 @Test("packages", "what people install is the same twice, and works in a clean root", commands=TOOLS, crates=f"elfmap {BOTH}")

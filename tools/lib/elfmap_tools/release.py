@@ -12,7 +12,8 @@ import functools, glob, gzip, os, re, shutil, sys, tempfile, zipfile
 
 from . import doc, library, man, page
 from .building import is_current, output_of
-from .library import SHARED
+from .library import PACKERS, SHARED
+from .suite import JINJA2, MARKDOWN
 from .tree import PACKAGE, PROGRAM, TOP, Options, files_below, read_bytes, read_text, run, said, wanted, write
 
 RUNNER = """#!/bin/sh
@@ -49,6 +50,8 @@ FILES = """README.md CONTRIBUTING.md CHANGELOG.md SECURITY.md docs/* rules/*.rul
     bindings/rust/Cargo.lock bindings/rust/Cargo.toml bindings/rust/README.md bindings/rust/build.rs bindings/rust/examples/*
     bindings/rust/src/* bindings/python/README.md bindings/python/pyproject.toml bindings/python/examples/* bindings/python/elfmap/*.py
     bindings/python/elfmap/py.typed""".split()
+# The commands, and what Debian's python3 imports, by which all of it is made.
+MAKERS = f"{PACKERS} {JINJA2} {MARKDOWN} wasm-opt"
 LINK = re.compile(r"(?<!!)\[((?:`[^`]*`|[^\]`])*)\]\((?!https?:|#)([^)#\s]+)[^)]*\)")
 
 

@@ -4,8 +4,8 @@ nothing on the PATH but /usr/bin and /bin. MOST_SECONDS of a processor have to b
 import glob, os, re, shutil, subprocess, sys
 from collections.abc import Mapping
 
-from .library import BOTH, PACKERS
-from .release import commands, pack, version_of
+from .library import BOTH
+from .release import MAKERS, commands, pack, version_of
 from .suite import Tally, Test
 from .tree import TOP, Options, Texts, files_below, read_bytes, read_text, write
 
@@ -187,7 +187,7 @@ def usage_by_help(said: str) -> str:
     return re.sub(r"[<>]", "", usage.replace("[OPTIONS]", " ".join(f"[{it}]" for it in options)))
 
 
-TOOLS = f"{PACKERS} nm git pkg-config cargo groff wasm-opt"
+TOOLS = f"{MAKERS} nm git pkg-config cargo groff"
 
 
 @Test("release", "what a release has, and that all of it works", commands=TOOLS, crates=f"elfmap {BOTH}")

@@ -23,7 +23,7 @@ import glob, os, re, shutil, statistics, subprocess, sys
 from collections.abc import Iterator
 
 from .library import BOTH
-from .release import pack
+from .release import MAKERS, pack
 from .suite import TESTS, Tally, Test, families
 from .tree import PROGRAM, TOP, Options, read_text, said, wanted, write
 
@@ -274,7 +274,7 @@ class Page:
         self.tally.check(not links, f"{self.name} has links that lead nowhere: {links}")
 
 
-TOOLS = " ".join([*PACKAGES, "cc ar pkg-config wasm-opt"])
+TOOLS = " ".join([*PACKAGES, "pkg-config", MAKERS])
 
 
 @Test("shown-commands", "the commands that the pages show print what is below them", commands=TOOLS, crates=f"elfmap {BOTH}")

@@ -15,7 +15,8 @@ from .tree import PROCESSORS, TOP, Options, Texts, filled, progress, read_text, 
 KLIBC = "/usr/lib/klibc/lib/libc.a"
 # What Debian's python3 imports.
 IMPORTED = "/usr/lib/python3/dist-packages/{}/__init__.py"
-JSONSCHEMA, JUNITPARSER, SELENIUM, SETUPTOOLS, WHEEL = map(IMPORTED.format, "jsonschema junitparser selenium setuptools wheel".split())
+IMPORTS = "jinja2 jsonschema junitparser markdown selenium setuptools wheel".split()
+JINJA2, JSONSCHEMA, JUNITPARSER, MARKDOWN, SELENIUM, SETUPTOOLS, WHEEL = map(IMPORTED.format, IMPORTS)
 # Debian's clang brings its checks of addresses and of undefined behavior only as a recommended package.
 SANITIZERS = "/usr/lib/llvm-*/lib/clang/*/lib/linux/libclang_rt.asan-x86_64.a"
 # The commands of each package, by their first words, or a file that has to be there.
@@ -26,8 +27,7 @@ COMMANDS = {
     "g++": "c++ g++", "gcc": "cc gcc", "git": "git", "groff": "groff", "libclang-rt-14-dev": SANITIZERS, "libklibc-dev": KLIBC,
     "lld": "ld.lld", "lld-19": "ld.lld-19", "llvm": "llvm-objcopy llvm-readobj", "llvm-19": "llvm-mc-19",
     "mypy": "mypy", "nodejs": "node", "pkg-config": "pkg-config",
-    "pre-commit": "pre-commit", "python3-jsonschema": JSONSCHEMA, "python3-junitparser": JUNITPARSER, "python3-selenium": SELENIUM,
-    "python3-setuptools": SETUPTOOLS, "python3-wheel": WHEEL, "rustc-web": "rustc", "util-linux": "prlimit unshare", "valgrind": "valgrind",
+    "pre-commit": "pre-commit", "rustc-web": "rustc", "util-linux": "prlimit unshare", "valgrind": "valgrind",
 }  # fmt: skip
 PACKAGES = {command: package for package, commands in COMMANDS.items() for command in commands.split()}
 # The machines of rules/, by the names of qemu's program and of the tools; one that qemu has no program for; and those that LLVM alone has,
@@ -37,6 +37,7 @@ RUN_BY_QEMU |= {"mips64": "mips64-linux-gnuabi64", "ppc64": "powerpc64-linux-gnu
 MACHINES = RUN_BY_QEMU | {"ia64": "ia64-linux-gnu"}
 BY_LLVM = {"amdgpu": ("amdgcn-amd-amdhsa", "elf64_amdgpu"), "loongarch64": ("loongarch64", "elf64loongarch")}
 PACKAGES |= {f"{target}-{tool}": f"binutils-{target}" for target in MACHINES.values() for tool in ("as", "ld")}
+PACKAGES |= {IMPORTED.format(it): f"python3-{it}" for it in IMPORTS}
 PACKAGES |= {f"qemu-{qemu}": "qemu-user" for qemu in RUN_BY_QEMU}
 # A cargo whose rustc compiles the tests of bindings/rust too; Debian has an older one beside it.
 LEAST = {"cargo": (1, 85)}
