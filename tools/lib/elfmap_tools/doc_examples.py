@@ -7,7 +7,7 @@ crate for this alone. There it sees what its own crate shows; names of crates be
 read as they are, so none has to be built. The function `REFUSED` beside the examples borrows wrongly: that it is refused shows that borrows
 are checked, and ends the compiler before the work of proofs, which takes ten times as long."""
 
-import functools, os, re, tempfile
+import functools, os, re
 from collections import Counter
 from collections.abc import Iterator
 from dataclasses import dataclass
@@ -99,8 +99,8 @@ def words(crates: list[str]) -> list[str]:
     return [*found, "--logic-built", f"{kit()}/logic_built"]
 
 
-def faults_of(examples: list[Example], room: str) -> tuple[dict[Example, list[str]], str]:
-    """What the compiler says against these examples, by example; and what it says where it can't judge them."""
+def faults_of(examples: list[Example], room: str) -> dict[Example, list[str]]:
+    """What the compiler says against these examples, by example. It checks borrows where all names and types are right."""
     modules = {f"example_{number}": it for number, it in enumerate(examples)}
     files = {"refused": REFUSED, **{name: function_of(it) for name, it in modules.items()}}
     files["lib"] = "//! Examples of docs.\n#![tactic(auto)]\n" + "".join(f"pub mod {name};\n" for name in files)
@@ -112,31 +112,14 @@ def faults_of(examples: list[Example], room: str) -> tuple[dict[Example, list[st
     for name, line in re.findall(r"^src/(\w+)(\.rt:\d+:\d+: error.*)", output, re.M):
         if name in modules:
             faults.setdefault(modules[name], []).append(f"src/{name}{line}".replace(f"src/{name}.rt", modules[name].path))
-    is_checked = faults or re.search(r"^src/refused\.rt:3:.*borrow-e0506", output, re.M)
-    return faults, "" if is_checked else output
-
-
-def all_faults(examples: list[Example]) -> tuple[dict[Example, list[str]], str]:
-    """All that is said against the examples. The compiler checks borrows where all names and types are right: examples in which it found
-    faults are left out then, until it finds no more."""
-    found: dict[Example, list[str]] = {}
-    while left := [it for it in examples if it not in found]:
-        with tempfile.TemporaryDirectory(prefix="doc-examples-") as room:
-            faults, broken = faults_of(left, room)
-        if broken:
-            return {**found, **{it: ["no verdict"] for it in left}}, broken
-        if not faults:
-            break
-        found.update(faults)
-    return found, ""
+    if not faults and not re.search(r"^src/refused\.rt:3:.*borrow-e0506", output, re.M):
+        raise SystemExit(f"the compiler does not judge the examples:\n{output}")
+    return faults
 
 
 @Test("doc-examples", "each example in a doc comment compiles")
 def doc_examples(tally: Tally, options: Options) -> None:
     crates = [it for it in libraries() if not is_program(it)]
     examples = [it for crate in crates for path in sources.sources_of(crate) for it in examples_in(crate, path)]
-    faults, broken = all_faults(examples)
-    if broken:
-        tally.note(f"the compiler does not judge the examples:\n{broken}")
-    tally.count(len(examples), ("\n".join(lines) for lines in faults.values()))
+    tally.count(len(examples), map("\n".join, faults_of(examples, tally.folder).values()))
     tally.note(", ".join(f"{crate} {count}" for crate, count in Counter(it.crate for it in examples).items()))
