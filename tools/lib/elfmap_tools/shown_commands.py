@@ -123,8 +123,6 @@ PACKAGES = {"gcc": "gcc", "readelf": "binutils", "objcopy": "binutils", "ld": "b
 PACKAGES |= {"llvm-objcopy": "LLVM", "llvm-readobj": "LLVM"}
 # Files of the machine, and how long they are where the pages' lines were printed (Debian 12).
 MACHINE_FILES = {"/bin/true": 35664}
-# What commands make, and the file of the repository that has to be the same.
-PICTURES = {"answer.svg": "docs/picture.svg"}
 # A code line that begins so is a command.
 COMMAND_LIKE = re.compile(r"^(?:\./|scripts/|tools/|bench/|\.ci/|rt |tar |man |gcc |cc |cargo |python3 ).*", re.M)
 
@@ -230,9 +228,9 @@ class Page:
 
     def try_all(self) -> None:
         self.try_commands()
-        for made, kept in PICTURES.items():
-            if os.path.exists(f"{self.folder}/{made}"):
-                self.tally.check(read_text(f"{self.folder}/{made}") == read_text(kept), f"{kept} is not the {made} of {self.name}")
+        # The picture that a page's command makes.
+        if os.path.exists(made := f"{self.folder}/answer.svg"):
+            self.tally.check(read_text(made) == read_text("docs/picture.svg"), f"docs/picture.svg is not that of {self.name}")
         named = {it.rstrip(".,:;") for it in re.findall(r"`((?:scripts|tools|bench|reference)/[\w./-]*)", self.text)}
         gone = sorted(it for it in named if not os.path.exists(f"{TOP}/{it}"))
         self.tally.check(not gone, f"{self.name} names what is not there: {gone}")
