@@ -140,30 +140,22 @@ class Map:
         return "\n".join([*lines, *(f"  {name} = {address};" for name, address in self.commons.items()), "}", ""])
 
     def differences(self, made: Any) -> Iterator[str]:
-        """What ld made otherwise."""
+        """What ld made otherwise: output sections, the bytes of live ones, each by its file and position, and names."""
         loaded = {section_name(made, it): (i, it) for i, it in made.sections() if it.sh_flags & ALLOC}
-        own_places = {f".out.{number}": (it.address, it.length) for number, it in enumerate(self.outputs)}
-        places = {name: (it.sh_addr, it.sh_size) for name, (_, it) in loaded.items()}
-        if own_places != places:
-            yield f"the output sections, each with address and length, are {own_places}, of ld {places}"
-            return
-        theirs: dict[Place, bytes] = {}
-        for output, (i, it) in zip(self.outputs, (loaded[name] for name in own_places)):
+        own: dict[object, object] = {f".out.{number}": (it.address, it.length) for number, it in enumerate(self.outputs)}
+        theirs: dict[object, object] = {name: (it.sh_addr, it.sh_size) for name, (_, it) in loaded.items()}
+        for number, output in enumerate(self.outputs):
+            i, it = loaded.get(f".out.{number}", (0, made.section(0)))
             content = b"" if it.sh_type == NOBITS else made.content(i)
-            theirs |= {place: content[at - output.address :][:size] for at, size, place in output.members if output.has_bits}
-        if list(self.bytes) != list(theirs):
-            yield f"there are bytes of {list(self.bytes)}, of ld of {list(theirs)}"
-        for place, own in self.bytes.items():
-            other = theirs.get(place, own)
-            if own != other:
-                at = len(os.path.commonprefix([own, other]))
-                what = f"section {place[1]} ({self.title[place]}) of file {place[0]}"
-                yield f"{what} differs at 0x{at:x}: {own[at:at + 8].hex()}, of ld {other[at:at + 8].hex()}"
-        symbols = symbols_of(made)
-        for name, (value, what) in self.names.items():
-            at, defined = symbols.get(name, (0, False))
-            if value != "-" and (int(value, 16), what != "zero") != (at, defined):
-                yield f"{name} is {what} {value}, of ld {'defined' if defined else 'undefined'} 0x{at:x}"
+            theirs |= {place: content[at - output.address :][:size].hex() for at, size, place in output.members if output.has_bits}
+        own |= {place: content.hex() for place, content in self.bytes.items()}
+        own |= {name: (int(value, 16), what != "zero") for name, (value, what) in self.names.items() if value != "-"}
+        theirs |= {name: it for name, it in {**dict.fromkeys(self.names, (0, False)), **symbols_of(made)}.items() if name in own}
+        for what in dict.fromkeys([*own, *theirs]):
+            pair = str(own.get(what)), str(theirs.get(what))
+            at = len(os.path.commonprefix(pair))
+            if pair[0] != pair[1]:
+                yield f"{what} from digit {at} on: {pair[0][at:][:40]}, of ld {pair[1][at:][:40]}"
 
 
 # Without a page size of its own ld would refuse addresses that share a page; nothing is loaded.
