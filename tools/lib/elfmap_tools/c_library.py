@@ -163,8 +163,7 @@ def c_library(tally: Tally, options: Options) -> None:
     paths = [write(f"{room}/{name}", content) for content, name in case_files().items()]
     files = {path: c_lines(read_bytes(path)) for path in [*paths, *filter(os.path.isfile, MACHINE_FILES)]}
     engines = f"{room}/lib{ENGINES}.a"
-    ran = said("objcopy", *RENAMED, built(ENGINES), engines)
-    tally.check(ran.returncode == 0, f"objcopy: {ran.stdout}")
+    wanted("objcopy", *RENAMED, built(ENGINES), engines)
     compare_names(tally, engines, ENGINES, {f"elfmap_{it}" for it in FUNCTIONS}, ON_BYTES)
     for compiler in COMPILERS:
         program = f"{room}/test-{compiler}"
