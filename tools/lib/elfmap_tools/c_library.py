@@ -74,14 +74,12 @@ def compare_names(tally: Tally, library: str, crate: str, needs: set[str], may_n
 # ---- what the libraries answer
 
 
-def compiled(tally: Tally, compiler: str, program: str, *words: str) -> bool:
-    """Compiles a test and runs it: whether it could be compiled."""
-    made = said(compiler, *WARNINGS, *COMPILERS[compiler], *words, "-o", program)
-    if not tally.check(made.returncode == 0, f"{compiler} does not build {words[0]}:\n{made.stdout}"):
-        return False
+def compile_and_run(tally: Tally, compiler: str, program: str, *words: str) -> None:
+    """Compiles a test and runs it."""
+    wanted(compiler, *WARNINGS, *COMPILERS[compiler], *words, "-o", program)
     ran = said(program)
     is_passed = ran.returncode == 0 and re.search(r"^\d+ passed, 0 failed$", ran.stdout, re.M)
-    return tally.check(is_passed, f"{words[0]} by {compiler}:\n{ran.stdout}") or True
+    tally.check(is_passed, f"{words[0]} by {compiler}:\n{ran.stdout}")
 
 
 def compare_files(tally: Tally, program: str, files: dict[str, list[str]]) -> None:
@@ -167,14 +165,13 @@ def c_library(tally: Tally, options: Options) -> None:
     compare_names(tally, engines, ENGINES, {f"elfmap_{it}" for it in FUNCTIONS}, ON_BYTES)
     for compiler in COMPILERS:
         program = f"{room}/test-{compiler}"
-        if compiled(tally, compiler, program, f"{C}/test.c", verdicts):
-            compare_files(tally, program, files)
-        if compiled(tally, compiler, f"{program}-engines", f"{C}/engines.c", engines, verdicts):
-            try_engines(tally, f"{program}-engines")
-    if compiled(tally, "cc", f"{room}/over-malloc", f"{C}/engines.c", "-DOVER_MALLOC", f"{C}/memory.c", engines, verdicts):
-        try_engines(tally, f"{room}/over-malloc")
-    ran = said("c++", "-Wall", "-Wextra", "-Werror", "-fsyntax-only", "-x", "c++", f"{TOP}/include/elfmap.h")
-    tally.check(ran.returncode == 0, f"the header in C++:\n{ran.stdout}")
+        compile_and_run(tally, compiler, program, f"{C}/test.c", verdicts)
+        compare_files(tally, program, files)
+        compile_and_run(tally, compiler, f"{program}-engines", f"{C}/engines.c", engines, verdicts)
+        try_engines(tally, f"{program}-engines")
+    compile_and_run(tally, "cc", f"{room}/over-malloc", f"{C}/engines.c", "-DOVER_MALLOC", f"{C}/memory.c", engines, verdicts)
+    try_engines(tally, f"{room}/over-malloc")
+    wanted("c++", "-Wall", "-Wextra", "-Werror", "-fsyntax-only", "-x", "c++", f"{TOP}/include/elfmap.h")
 
 
 # ---- laws: what the library says of changed files agrees with itself
