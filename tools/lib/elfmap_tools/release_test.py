@@ -129,17 +129,15 @@ class Release:
         self.tries(0, f"{VERSION}\n", "pkg-config", "--modversion", "elfmap", folder=self.room, env=env)
         for name, wanted in (("sections", self.by_show("section", 6, 11)), ("symbols", "")):
             shutil.copy(f"{self.folder}/bindings/c/{name}.c", f"{self.room}/program.c")
-            built = ran("sh", "-c", f"{COMPILE} -Wall -Wextra -Werror -o {name}", folder=self.room, env=env)
-            if self.check(built.returncode == 0, f"{name}.c is not compiled:\n{built.stdout}{built.stderr}"):
-                self.lister(f"./{name}", wanted=wanted)
+            self.tries(0, "", "sh", "-c", f"{COMPILE} -Wall -Wextra -Werror -o {name}", folder=self.room, env=env)
+            self.lister(f"./{name}", wanted=wanted)
 
     def rust(self) -> None:
         """The crate's example by cargo, which builds outside of the archive."""
         path = f"{os.path.dirname(shutil.which('cargo') or '')}:{PLAIN['PATH']}"
         env = {**os.environ, "PATH": path, "CARGO_TARGET_DIR": f"{self.room}/target"}
-        built = ran("cargo", "build", "--frozen", "--example", "symbols", folder=f"{self.folder}/bindings/rust", env=env)
-        if self.check(built.returncode == 0, f"the crate's example is not built:\n{built.stdout}{built.stderr}"):
-            self.lister(f"{self.room}/target/debug/examples/symbols")
+        self.tries(0, "", "cargo", "build", "--frozen", "--example", "symbols", folder=f"{self.folder}/bindings/rust", env=env)
+        self.lister(f"{self.room}/target/debug/examples/symbols")
 
     def python(self) -> None:
         env = {"PYTHONPATH": f"{self.folder}/bindings/python", "PYTHONDONTWRITEBYTECODE": "1", "XDG_CACHE_HOME": f"{self.room}/cache"}
