@@ -32,14 +32,12 @@ def count_ends(tally: Tally, ends: list[str], good: str) -> None:
 # ---- whole files
 
 
-def files() -> Iterable[str]:
-    """Each file once, by its device and number, that begins as an ELF file of class 64 does."""
-    found: dict[tuple[int, int], str] = {}
+def files() -> Iterator[str]:
+    """The files that begin as an ELF file of class 64 does."""
     for path in chain(files_below("/usr/bin"), files_below("/usr/lib")):
         with contextlib.suppress(OSError), open(path, "rb") as it:
             if it.read(5) == ELF_64:
-                found.setdefault((os.stat(path).st_dev, os.stat(path).st_ino), path)
-    return found.values()
+                yield path
 
 
 def try_file(path: str) -> str:
