@@ -6,7 +6,6 @@ header. `failing.c` counts what is asked for. The answers of large objects are t
 
 import os, random
 from collections.abc import Callable, Iterator
-from dataclasses import dataclass
 from functools import partial
 from itertools import chain, product
 
@@ -29,18 +28,11 @@ STACK = 1 << 20
 LITTLE, GLOBAL, WEAK, IN_GROUP = "little", 0x10, 0x20, 0x206
 
 
-@dataclass
-class Row(Case):
-    """A case, of which some answer with a status of 0 and an output of which this holds."""
-
-    holds: Callable[[bytes], bool] | None = None
-
-
-def row(command: str, *files: bytes, out: bytes | Callable[[bytes], bool] | None = None) -> Row:
-    """A row of files f0, f1 and so on, with the answer of the reference implementation, if none is given."""
+def row(command: str, *files: bytes, out: bytes | Callable[[bytes], bool] | None = None) -> Case:
+    """A case of files f0, f1 and so on, with the answer of the reference implementation, if none is given, or what holds of its output."""
     names = [f"f{k}" for k in range(len(files))]
     contents = {**dict(zip(names, files)), "r": b"2 pc 4 signed\n"}
-    found = Row([*command.split(), *names], [f"{it}={it}" for it in contents], files={it: bytearray(own) for it, own in contents.items()})
+    found = Case([*command.split(), *names], [f"{it}={it}" for it in contents], files={it: bytearray(own) for it, own in contents.items()})
     if callable(out):
         found.holds = out
     else:
@@ -61,7 +53,7 @@ def loaded(names: list[bytes], hash_words: bytes, strings: bytes = b"") -> bytes
     return object_file([section(b".dynstr", STRTAB, strings), symbols, section(b".hash", HASH, hash_words, ALLOC, 4, 4, 1)])
 
 
-def many_rows() -> Iterator[Row]:
+def many_rows() -> Iterator[Case]:
     """Objects of a few hundred sections, groups of many members, an index table, notes and a hash table of a thousand symbols."""
     chance = random.Random("many")
     plain = [text(bytes(k % 7), IN_GROUP if k % 3 else 6, b".text.%d" % k, 2 ** (k % 5)) for k in range(280)]
@@ -86,11 +78,11 @@ def many_rows() -> Iterator[Row]:
     yield row("check --seek", far, out=b"ok %d 65305 0\n" % len(far))
 
 
-def large_rows() -> Iterator[Row]:
+def large_rows() -> Iterator[Case]:
     """Files of up to 4 MB whose tables cost the most; the reference is too slow for them."""
     # An alignment for which the file would be too long.
     too_long = edited(object_file([text(b"")]), ("sh_addralign", 1, 2**63))
-    yield Row(["rewrite", "f"], ["f=f"], 1, b"", b"too long\n", files={"f": bytearray(too_long)})
+    yield Case(["rewrite", "f"], ["f=f"], 1, b"", b"too long\n", files={"f": bytearray(too_long)})
     # Groups of one signature, each of one section.
     count = 32760
     sections = [group([count + k]) for k in range(count)] + [text(b"", IN_GROUP, b"f")] * count
@@ -141,7 +133,7 @@ def wrong_with(case: Case, folder: str) -> str:
     most = LEAST_MEMORY + (SEEKING_MEMORY if "--seek" in case.words else MOST_MEMORY) * lengths
     if memory > most:
         return f"it asks for {memory} bytes, and not for {most} at most"
-    if isinstance(case, Row) and case.holds:
+    if case.holds:
         return "" if (status, err) == (0, b"") and case.holds(out) else f"status {status}, {out[-80:]!r}"
     if (status, out) == (case.status, case.out) and (err == case.err or status > 1 and not case.err):
         return ""
