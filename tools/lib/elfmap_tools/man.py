@@ -104,17 +104,6 @@ def macros(block: str) -> list[str]:
     return [".PP", ".RS 4", ".EX", *(guarded(literal(it)) for it in lines), ".EE", ".RE"]
 
 
-def usage(line: str) -> list[str]:
-    """A synopsis: what is typed so is bold, what a word or a file stands for is italic."""
-    command, sub, rest = line.split(None, 2)
-
-    def styled(word: re.Match[str]) -> str:
-        return (r"\fB" if word[0][0] == "-" else r"\fI") + literal(word[0]) + r"\fP"
-
-    groups = re.findall(r"\[[^\]]*\]|--\w+ [A-Z]+|\S+", rest)
-    return [f'.SY "{command} {sub}"', *(re.sub(r"--\w+|[A-Z]+", styled, it).replace(" ", r"\ ") for it in groups), ".YS"]
-
-
 # ---- The page
 
 
@@ -126,8 +115,7 @@ def page(version: str) -> str:
     summary = blocks(read_text(MANUAL))[1]
     name = summary.partition(", the ")[0].replace("elfmap ", r"elfmap \- ", 1)
     lines = [f'.TH ELFMAP 1 "" "elfmap {escaped(version)}" "elfmap"', ".ad l", ".SH NAME", name, ".SH SYNOPSIS"]
-    lines += [it for line in parts()[""][0].split("\n") for it in usage(line)]
-    lines += [*section(".SH DESCRIPTION", [summary]), ".SH COMMANDS"]
+    lines += [*macros(parts()[""][0]), *section(".SH DESCRIPTION", [summary]), ".SH COMMANDS"]
     examples = [".SH EXAMPLES"]
     for title, found in list(parts().items())[1:]:
         first = next((at for at, it in enumerate(found) if is_example(it)), len(found))

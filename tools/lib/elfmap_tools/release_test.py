@@ -95,13 +95,11 @@ class Release:
         commands = re.findall(r"^  (\w+) ", listed, re.M)
         usages = re.findall(r"^    (elfmap (\w+) .*)", self.text("docs/MANUAL.md").partition("\n## The commands\n")[2], re.M)
         self.tally.same("the commands of docs/MANUAL.md, by the program", [it for _, it in usages], commands)
-        synopses = re.findall(r'^\.SY "(.*)"\n((?:.*\n)*?)\.YS', self.text("share/man/man1/elfmap.1"), re.M)
-        by_page = {head: re.sub(r"\\f.|\\(?=[- ])", "", f"{head} {rest}".replace("\n", " ")) for head, rest in synopses}
+        synopsis = self.text("share/man/man1/elfmap.1").replace(r"\-", "-").partition("\n.SH DESCRIPTION\n")[0].splitlines()
         for usage, command in usages:
             own = usage_by_help(self.elfmap(command, "--help").stderr)
             self.check(words_of(own) == words_of(usage), f"the program's usage is '{own}', and docs/MANUAL.md has '{usage}'")
-            page = by_page.get(f"elfmap {command}", "")
-            self.check(words_of(page) == words_of(usage), f"the manual page has '{page}', and docs/MANUAL.md '{usage}'")
+            self.check(usage in synopsis, f"the manual page has not the usage '{usage}'")
 
     def names(self) -> None:
         """What the library exports and needs."""
