@@ -17,7 +17,6 @@ OTHERS = {"Exit status": "EXIT STATUS", "Files of rules": "FILES", "Limits": "LI
 MARK = re.compile(r"\[((?:`[^`]*`|[^\]`])*)\]\(([^)]*)\)|`([^`]*)`|\*\*([^*]*)\*\*")
 # The signs of ASCII, of which groff would make others.
 SIGNS = str.maketrans({"-": r"\-", "'": r"\(aq", "`": r"\(ga", "^": r"\(ha", "~": r"\(ti"})
-WIDTH = 68
 # Pages, with their sections of the system's manual.
 SEE_ALSO = {"readelf": 1, "ld": 1, "elf": 5} | dict.fromkeys(
     ("elfmap-lint", "elfmap-explain", "elfmap-same", "elfmap-gaps", "elfmap-picture"), 1
@@ -82,25 +81,13 @@ def guarded(line: str) -> str:
     return rf"\&{line}" if line.startswith((".", "'")) else line
 
 
-def folded(line: str) -> list[str]:
-    """A line of an example; a command that is too long for a page goes on in further lines."""
-    if not line.startswith("$ ") or len(line) <= WIDTH:
-        return [line]
-    lines = [""]
-    for word in re.findall(r"(?:'[^']*'|\S)+", line):
-        if len(lines[-1]) + len(word) > WIDTH - 3:
-            lines.append("     ")
-        lines[-1] += f" {word}" if lines[-1] else word
-    return [*(f"{it} \\" for it in lines[:-1]), lines[-1]]
-
-
 def macros(block: str) -> list[str]:
     if block.startswith("|"):
         rows = ([it.replace("\\|", "|") for it in cells(line)] for line in block.split("\n")[2:])
         return [it for tag, *texts in rows for it in (".TP", guarded(marked(tag)), guarded(marked(", ".join(texts))))]
     if not block.startswith("    "):
         return [".PP", *(guarded(it) for it in marked(block).split("\n"))]
-    lines = [it for line in block.split("\n") for it in folded(line.removeprefix("    "))]
+    lines = (line.removeprefix("    ") for line in block.split("\n"))
     return [".PP", ".RS 4", ".EX", *(guarded(literal(it)) for it in lines), ".EE", ".RE"]
 
 
