@@ -17,10 +17,7 @@ OTHERS = {"Exit status": "EXIT STATUS", "Files of rules": "FILES", "Limits": "LI
 MARK = re.compile(r"\[((?:`[^`]*`|[^\]`])*)\]\(([^)]*)\)|`([^`]*)`|\*\*([^*]*)\*\*")
 # The signs of ASCII, of which groff would make others.
 SIGNS = str.maketrans({"-": r"\-", "'": r"\(aq", "`": r"\(ga", "^": r"\(ha", "~": r"\(ti"})
-# Pages, with their sections of the system's manual.
-SEE_ALSO = {"readelf": 1, "ld": 1, "elf": 5} | dict.fromkeys(
-    ("elfmap-lint", "elfmap-explain", "elfmap-same", "elfmap-gaps", "elfmap-picture"), 1
-)
+SEE_ALSO = "readelf(1), ld(1), elf(5), elfmap-lint(1), elfmap-explain(1), elfmap-same(1), elfmap-gaps(1), elfmap-picture(1)"
 PAGES = """In the directory of the release: `docs/MANUAL.md` has these texts and the libraries, `docs/RULES.md` every rule by its number, what it
 means and what to do, `docs/RULE_FILES.md` the files of rules line by line, `doc/elfmap-doc.html` the library, and `include/elfmap.h` the
 calls for C."""
@@ -58,11 +55,6 @@ def literal(text: str) -> str:
     return escaped(re.sub(r"(?<![\w/.])\./elfmap\b", "elfmap", text)).translate(SIGNS)
 
 
-def bold(code: str) -> str:
-    """Code, no word of which is cut at the end of a line."""
-    return r"\fB" + re.sub(r"(\S+)", r"\%\1", literal(code)) + r"\fP"
-
-
 def marked(text: str) -> str:
     """Text whose code and stress are bold. A link is its words; one that leads to a part of the manual that the page lacks says so."""
     here = {f"#{it.lower().replace(' ', '-')}" for it in parts()}
@@ -70,7 +62,7 @@ def marked(text: str) -> str:
     def own(mark: re.Match[str]) -> str:
         words, target, code, stress = mark.groups()
         if words is None:
-            return bold(code) if code is not None else rf"\fB{escaped(stress)}\fP"
+            return rf"\fB{escaped(stress) if code is None else literal(code)}\fP"
         return marked(words) + (f" ({MANUAL})" if target.startswith("#") and target not in here else "")
 
     return replaced(MARK, text, own, escaped)
@@ -101,7 +93,8 @@ def section(title: str, blocks: Iterable[str]) -> list[str]:
 def page(version: str) -> str:
     summary = blocks(read_text(MANUAL))[1]
     name = summary.partition(", the ")[0].replace("elfmap ", r"elfmap \- ", 1)
-    lines = [f'.TH ELFMAP 1 "" "elfmap {escaped(version)}" "elfmap"', ".ad l", ".SH NAME", name, ".SH SYNOPSIS"]
+    # No word is cut at the end of a line: it may be one that is typed.
+    lines = [f'.TH ELFMAP 1 "" "elfmap {escaped(version)}" "elfmap"', ".ad l", ".nr HY 0", ".SH NAME", name, ".SH SYNOPSIS"]
     lines += [*macros(parts()[""][0]), *section(".SH DESCRIPTION", [summary]), ".SH COMMANDS"]
     examples = [".SH EXAMPLES"]
     for title, found in list(parts().items())[1:]:
@@ -110,7 +103,7 @@ def page(version: str) -> str:
         examples += section(f".SS {title}", found[first:]) if found[first:] else []
     for title, name in OTHERS.items():
         lines += section(f".SH {name}", (it for it in parts()[title] if not is_example(it)))
-    others = ",\n".join(f".BR {literal(name)} ({part})" for name, part in SEE_ALSO.items())
+    others = re.sub(r"(\S+)(\(\d\),?) ?", lambda it: f".BR {literal(it[1])} {it[2]}\n", SEE_ALSO).rstrip()
     return "\n".join([*lines, *examples, ".SH SEE ALSO", others, *macros(PAGES), ""])
 
 
