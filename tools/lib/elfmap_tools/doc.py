@@ -10,7 +10,7 @@ from . import definitions, guarantees
 from .rules_tables import by_anchor
 from .sources import PUBLIC_CRATES, WORD, Definition, Item, Uses, definition, items_of, module_file, named_in, reach, source
 from .suite import JINJA2, MARKDOWN, Tally, Test
-from .tree import Options, read_text, replaced
+from .tree import Options, read_text
 
 # Where a word leads to, and its title.
 Place = tuple[str, str] | None
@@ -76,12 +76,13 @@ def text_of(found: Definition) -> str:
 def linked(text: str, place_of: Callable[[str], Place]) -> str:
     """A text of code, each word of it with the anchor and the title that it has, if it has one."""
 
-    def link(word: re.Match[str]) -> str:
-        anchor, title = place_of(word[0]) or ("", "")
+    def link(word: str) -> str:
+        anchor, title = place_of(word) or ("", "")
         said = f' title="{escape(title)}"' if title else ""
-        return f'<a href="#{escape(anchor)}"{said}>{escape(word[0])}</a>' if anchor else escape(word[0])
+        return f'<a href="#{escape(anchor)}"{said}>{escape(word)}</a>' if anchor else escape(word)
 
-    return replaced(WORD, text, link, escape)
+    parts = re.split(f"({WORD.pattern})", text)
+    return "".join(link(it) if k % 2 else escape(it) for k, it in enumerate(parts))
 
 
 def said_of(found: Definition) -> str:

@@ -8,7 +8,7 @@ option takes. All other words are files."""
 import functools, re
 from collections.abc import Iterable
 
-from .tree import Options, cells, filled, read_text, replaced
+from .tree import Options, cells, filled, read_text
 
 # Where the text is that the page is made of.
 MANUAL = "docs/MANUAL.md"
@@ -51,8 +51,8 @@ def escaped(text: str) -> str:
 
 
 def literal(text: str) -> str:
-    """Text that is typed or printed so."""
-    return escaped(re.sub(r"(?<![\w/.])\./elfmap\b", "elfmap", text)).translate(SIGNS)
+    """Escaped text that is typed or printed so."""
+    return re.sub(r"(?<![\w/.])\./elfmap\b", "elfmap", text).translate(SIGNS)
 
 
 def marked(text: str) -> str:
@@ -62,10 +62,10 @@ def marked(text: str) -> str:
     def own(mark: re.Match[str]) -> str:
         words, target, code, stress = mark.groups()
         if words is None:
-            return rf"\fB{escaped(stress) if code is None else literal(code)}\fP"
-        return marked(words) + (f" ({MANUAL})" if target.startswith("#") and target not in here else "")
+            return rf"\fB{stress if code is None else literal(code)}\fP"
+        return MARK.sub(own, words) + (f" ({MANUAL})" if target.startswith("#") and target not in here else "")
 
-    return replaced(MARK, text, own, escaped)
+    return MARK.sub(own, escaped(text))
 
 
 def guarded(line: str) -> str:
@@ -80,7 +80,7 @@ def macros(block: str) -> list[str]:
     if not block.startswith("    "):
         return [".PP", *(guarded(it) for it in marked(block).split("\n"))]
     lines = (line.removeprefix("    ") for line in block.split("\n"))
-    return [".PP", ".RS 4", ".EX", *(guarded(literal(it)) for it in lines), ".EE", ".RE"]
+    return [".PP", ".RS 4", ".EX", *(guarded(literal(escaped(it))) for it in lines), ".EE", ".RE"]
 
 
 # ---- The page

@@ -90,10 +90,10 @@ def page_of(name: str, module: str, version: str) -> str:
     help = said(sys.executable, "-B", "-m", module, "--help", folder=PACKAGE, env=os.environ | {"COLUMNS": "300"})
     usage, about, *rest = help.stdout.strip().split("\n\n")
     lines = [f'.TH {name.upper()} 1 "" "elfmap {version}" "elfmap"', ".SH NAME", rf"{name} \- {man.escaped(about)}", ".SH SYNOPSIS"]
-    lines += [man.literal(usage.removeprefix("usage: ")), ".SH OPTIONS"]
+    lines += [man.literal(man.escaped(usage.removeprefix("usage: "))), ".SH OPTIONS"]
     for it in rest[:-1]:
         rows = re.findall(r"^  (\S.*?)(?:  +|\n +)(\S.*)$", it, re.M)
-        lines += [line for head, text in rows for line in (".TP", f".B {man.literal(head)}", man.guarded(man.escaped(text)))]
+        lines += [line for head, text in rows for line in (".TP", f".B {man.literal(man.escaped(head))}", man.guarded(man.escaped(text)))]
     return "\n".join([*lines, ".SH EXIT STATUS", man.escaped(rest[-1]), ".SH SEE ALSO", ".BR elfmap (1)", ""])
 
 

@@ -46,15 +46,6 @@ def filled(text: str, **parts: str) -> str:
     return text
 
 
-def replaced(pattern: re.Pattern[str], text: str, own: Callable[[re.Match[str]], str], other: Callable[[str], str]) -> str:
-    """A text in which each match, and what is between them, is replaced."""
-    parts, at = list[str](), 0
-    for it in pattern.finditer(text):
-        parts += [other(text[at : it.start()]), own(it)]
-        at = it.end()
-    return "".join([*parts, other(text[at:])])
-
-
 def cells(line: str) -> list[str]:
     """The cells of a line of a table of a page."""
     return [it.strip() for it in re.split(r"(?<!\\)\|", line.strip()[1:-1])]
