@@ -5,6 +5,7 @@ import argparse, functools, glob, os, re, shutil, subprocess, sys, tempfile, tim
 from collections.abc import Callable, Iterable, Iterator
 from concurrent.futures import ThreadPoolExecutor, as_completed
 from dataclasses import dataclass
+from itertools import chain
 from typing import Any
 
 from .building import built
@@ -206,39 +207,30 @@ def run_one(test: Test, options: Options) -> int:
     return 1 if tally.failed else 0
 
 
-class Runner:
-    """A run of several tests, each in a process of its own: what they counted, which failed, and what was skipped."""
+def run_all(tests: list[Test], jobs: int) -> int:
+    """Runs tests, each in a process of its own, so many side by side; prints what each printed, in one piece, and counts what it counted."""
+    running, all_passed, all_failed, last = list[str](), 0, 0, list[str]()
 
-    def __init__(self) -> None:
-        self.passed, self.failed, self.skipped, self.broken = 0, 0, list[str](), list[str]()
-        self.running = list[str]()
-
-    def run(self, test: Test) -> tuple[Test, float, Texts]:
-        """One test: how long it took, and how it ended."""
-        self.running.append(test.name)
+    def run_beside(test: Test) -> tuple[Test, float, Texts]:
+        running.append(test.name)
         begun, ended = time.monotonic(), said(sys.executable, f"{TOP}/tools/test", test.name)
-        self.running.remove(test.name)
+        running.remove(test.name)
         return test, time.monotonic() - begun, ended
 
-    def count(self, test: Test, seconds: float, ended: Texts) -> None:
-        """Prints what a test printed, in one piece, and counts what it counted; one that ends without its last line has failed."""
-        print(f"{test.name}: {seconds:.0f} s\n{ended.stdout}", end="", flush=True)
-        counts = COUNTS.search(ended.stdout)
-        passed, failed = (int(counts[1]), int(counts[2])) if counts else (0, 1)
-        failed = failed or int(ended.returncode != 0)
-        self.passed, self.failed = self.passed + passed, self.failed + failed
-        self.skipped += re.findall(rf"^{test.name}: (skipped: .*)", ended.stdout, re.M)
-        self.broken += [f"failed: {failed} of {test.name}: run `tools/test {test.name}`"] if failed else []
-
-    def all(self, tests: list[Test], jobs: int) -> int:
-        """Runs tests, so many side by side."""
-        with progress(lambda: f"tools/test {', '.join(self.running)}"), ThreadPoolExecutor(jobs) as pool:
-            for it in as_completed([pool.submit(self.run, it) for it in tests if not it.alone]):
-                self.count(*it.result())
-            for test in (it for it in tests if it.alone):
-                self.count(*self.run(test))
-        print("\n".join([*self.skipped, *self.broken, f"{self.passed} passed, {self.failed} failed"]))
-        return 1 if self.failed else 0
+    with progress(lambda: f"tools/test {', '.join(running)}"), ThreadPoolExecutor(jobs) as pool:
+        beside = as_completed([pool.submit(run_beside, it) for it in tests if not it.alone])
+        alone = map(run_beside, (it for it in tests if it.alone))
+        for test, seconds, ended in chain((it.result() for it in beside), alone):
+            print(f"{test.name}: {seconds:.0f} s\n{ended.stdout}", end="", flush=True)
+            # One that ends without its last line has failed.
+            counts = COUNTS.search(ended.stdout)
+            passed, failed = (int(counts[1]), int(counts[2])) if counts else (0, 1)
+            failed = failed or int(ended.returncode != 0)
+            all_passed, all_failed = all_passed + passed, all_failed + failed
+            last[:0] = re.findall(rf"^{test.name}: (skipped: .*)", ended.stdout, re.M)
+            last += [f"failed: {failed} of {test.name}: run `tools/test {test.name}`"] if failed else []
+    print("\n".join([*last, f"{all_passed} passed, {all_failed} failed"]))
+    return 1 if all_failed else 0
 
 
 def run_several(tests: list[Test], jobs: int) -> int:
@@ -249,7 +241,7 @@ def run_several(tests: list[Test], jobs: int) -> int:
             built(crate)
         except SystemExit as error:
             print(f"tools/test: {error}")
-    return Runner().all(tests, jobs)
+    return run_all(tests, jobs)
 
 
 def families(tests: list[Test]) -> dict[str, list[Test]]:
