@@ -1,6 +1,6 @@
 "use strict";
 // What the module tells of a file in its memory. The module is the library for C: each of its answers is proved; nothing here reads a byte
-// of the file itself, but for what is to be seen of it. LAYOUT is made from include/elfmap.h: the size of each struct, and of each field
+// of the file itself, but for what is to be seen of it. LAYOUT has the structs of include/elfmap.h: the size of each, and of each field
 // its name, offset, width, whether it has a sign, and how many of them there are.
 
 const PAGE = 65536;

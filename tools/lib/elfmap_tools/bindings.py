@@ -2,28 +2,18 @@
 `tools/release library`; what both declare of the library is what include/elfmap.h declares. Nothing is fetched, and nothing is written but
 in a temporary folder. `tools/test explain` runs the package's tests of elfmap-explain alone."""
 
-import ctypes, re, sys
+import ctypes, os, re, sys
 from typing import Any
 
-from .library import BOTH, FOLDER, PACKERS, c_type, calls, packed, structs
-from .packages import JSONSCHEMA, JUNITPARSER
-from .suite import Tally, Test, environment
-from .tree import PACKAGE, TOP, Options, Texts, read_text, said
+from elfmap import _library
 
-sys.path.insert(0, PACKAGE)
-from elfmap import _library  # noqa: E402
+from .library import BOTH, FOLDER, PACKERS, STRUCTS, c_type, calls, packed, structs
+from .suite import JSONSCHEMA, JUNITPARSER, Tally, Test
+from .tree import PACKAGE, TOP, Options, Texts, read_text, said
 
 TOOLS = f"{PACKERS} cargo git pre-commit {JSONSCHEMA} {JUNITPARSER}"
 Structs = dict[str, list[tuple[str, str]]]
 Calls = dict[str, list[str]]
-# The structs of C as Rust and Python name them.
-STRUCTS = {
-    "Fault": "elfmap_fault", "Extent": "elfmap_extent", "Numbers": "elfmap_file", "Header": "elfmap_header",
-    "SectionHeader": "elfmap_section", "Section": "elfmap_section", "ProgramHeader": "elfmap_segment", "Segment": "elfmap_segment",
-    "Table": "elfmap_table", "SymbolEntry": "elfmap_symbol", "Symbol": "elfmap_symbol", "Relocation": "elfmap_relocation",
-    "Dynamic": "elfmap_dynamic", "NoteEntry": "elfmap_note", "Note": "elfmap_note", "Piece": "elfmap_part", "Part": "elfmap_part",
-    "Outcome": "elfmap_outcome", "LinkOptions": "elfmap_options",
-}  # fmt: skip
 
 
 def in_rust() -> tuple[Structs, Calls]:
@@ -70,7 +60,7 @@ def count_run(tally: Tally, ran: Texts, passed: int, failed: int) -> None:
 def unittests(tally: Tally, *modules: str) -> None:
     """Runs tests of the package: all, or those of some modules."""
     packed()
-    own = environment(ELFMAP_LIB_DIR=FOLDER, XDG_CACHE_HOME=f"{tally.folder}/cache", PYTHONDONTWRITEBYTECODE="1")
+    own = os.environ | {"ELFMAP_LIB_DIR": FOLDER, "XDG_CACHE_HOME": f"{tally.folder}/cache", "PYTHONDONTWRITEBYTECODE": "1"}
     ran = said(sys.executable, "-m", "unittest", *modules, folder=PACKAGE, env=own)
     count = sum(int(it) for it in re.findall(r"^Ran (\d+) tests?", ran.stdout, re.M))
     # A test of many files fails for each of them.
@@ -83,7 +73,7 @@ def bindings(tally: Tally, options: Options) -> None:
     declarations(tally)
     unittests(tally)
     folders = {"CARGO_HOME": f"{tally.folder}/cargo", "CARGO_TARGET_DIR": f"{tally.folder}/target"}
-    env = environment(ELFMAP_LIB_DIR=FOLDER, CARGO_INCREMENTAL="0", **folders)
+    env = os.environ | folders | {"ELFMAP_LIB_DIR": FOLDER, "CARGO_INCREMENTAL": "0"}
     ran = said("cargo", "test", "--frozen", "--no-fail-fast", folder=f"{TOP}/bindings/rust", env=env)
     found = re.findall(r"^test result: .* (\d+) passed; (\d+) failed;", ran.stdout, re.M)
     count_run(tally, ran, sum(int(it) for it, _ in found), sum(int(it) for _, it in found))

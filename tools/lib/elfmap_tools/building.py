@@ -48,17 +48,12 @@ def gate_folder(crate: str) -> str:
     return f"{TOP}/crates/{crate}/out/rlib"
 
 
-def is_built_by_gate(crate: str) -> bool:
-    """Whether `rt ci` built the library after its texts were last written."""
-    return is_newer(f"{gate_folder(crate)}/{crate}.rlib", texts_of(crate))
-
-
 def built_below(crates: Iterable[str]) -> tuple[FolderOf, list[str]]:
     """The folder of each library below these crates, all built by `tools/dev prove` or all by `rt ci`: a mixture does not fit together.
     Where neither has them all, also those that `tools/dev prove` lacks."""
     names = list(dict.fromkeys(it for crate in crates for it in below(crate)))
     lacking = [it for it in names if not is_built_by_prove(it)]
-    if lacking and all(map(is_built_by_gate, names)):
+    if lacking and all(is_newer(f"{gate_folder(it)}/{it}.rlib", texts_of(it)) for it in names):
         return gate_folder, []
     return lambda name: RLIBS, lacking
 
@@ -200,8 +195,6 @@ def built(crate: str) -> str:
 
 
 def prove(options: Options) -> None:
-    if options.crate not in libraries():
-        raise SystemExit(f"prove: {options.crate} is no crate of crates.txt")
     Build(options.crate).all()
 
 
@@ -260,8 +253,8 @@ def tested(crate: str, folder_of: FolderOf, kept: str, name: str) -> tuple[bool,
 
 def check(options: Options) -> int:
     crate, begun = options.crate, time.monotonic()
-    if crate not in libraries() or options.test and options.function:
-        raise SystemExit("usage: tools/dev check CRATE [FUNCTION.. | --test NAME], a crate of crates.txt")
+    if options.test and options.function:
+        raise SystemExit("usage: tools/dev check CRATE [FUNCTION.. | --test NAME]")
     folder_of, lacking = built_below([crate])
     if lacking:
         print(f"check: these libraries below {crate} are not built, or were changed since: {' '.join(lacking)}", file=sys.stderr)

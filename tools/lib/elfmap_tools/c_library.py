@@ -16,9 +16,8 @@ from dataclasses import replace
 from .building import built
 from .cases import Case, case_files, every_case
 from .library import BOTH, ENGINES, FUNCTIONS, NUMBERS, PACKERS, RENAMED, VERDICTS, c_type, calls, packed, structs
-from .packages import SANITIZERS
 from .reference import parsed, shown
-from .suite import Tally, Test, number
+from .suite import SANITIZERS, Tally, Test, number
 from .dump import c_lines
 from .tree import PROCESSORS, TOP, Options, by_cc, libraries, read_bytes, read_text, said, side_by_side, texts_of, wanted, write
 
@@ -75,24 +74,21 @@ def compare_names(tally: Tally, library: str, crate: str, needs: set[str], may_n
 # ---- what the libraries answer
 
 
-def compiled(tally: Tally, compiler: str, program: str, *words: str) -> bool:
-    """Compiles a test and runs it: whether it could be compiled."""
-    made = said(compiler, *WARNINGS, *COMPILERS[compiler], *words, "-o", program)
-    if not tally.check(made.returncode == 0, f"{compiler} does not build {words[0]}:\n{made.stdout}"):
-        return False
+def compile_and_run(tally: Tally, compiler: str, program: str, *words: str) -> None:
+    """Compiles a test and runs it."""
+    wanted(compiler, *WARNINGS, *COMPILERS[compiler], *words, "-o", program)
     ran = said(program)
     is_passed = ran.returncode == 0 and re.search(r"^\d+ passed, 0 failed$", ran.stdout, re.M)
-    return tally.check(is_passed, f"{words[0]} by {compiler}:\n{ran.stdout}") or True
+    tally.check(is_passed, f"{words[0]} by {compiler}:\n{ran.stdout}")
 
 
 def compare_files(tally: Tally, program: str, files: dict[str, list[str]]) -> None:
     """The test prints the lines of each file twice, of its bytes in two places."""
     found = said(program, *files).stdout.split("-- ")[1:]
-    if tally.check(len(found) == 2 * len(files), f"{program} tells of {len(found) // 2} files, not of {len(files)}: {found[-1:]}"):
-        for k, (path, right) in enumerate(files.items()):
-            both = [it.rstrip("\n").split("\n")[1:] for it in found[2 * k : 2 * k + 2]]
-            other: list[str] = next((lines for lines in both if lines != right), [])
-            tally.check(both == [right, right], f"{path}: {[pair for pair in zip(other, right) if pair[0] != pair[1]][:2]}")
+    for k, (path, right) in enumerate(files.items()):
+        both = [it.rstrip("\n").split("\n")[1:] for it in found[2 * k : 2 * k + 2]]
+        other: list[str] = next((lines for lines in both if lines != right), [])
+        tally.check(both == [right, right], f"{path}: {[pair for pair in zip(other, right) if pair[0] != pair[1]][:2]}")
 
 
 DONE, REFUSED, NOT_LINKED, TOO_LONG, BAD_RULES = 0, 1, 2, 3, 6
@@ -164,19 +160,17 @@ def c_library(tally: Tally, options: Options) -> None:
     paths = [write(f"{room}/{name}", content) for content, name in case_files().items()]
     files = {path: c_lines(read_bytes(path)) for path in [*paths, *filter(os.path.isfile, MACHINE_FILES)]}
     engines = f"{room}/lib{ENGINES}.a"
-    ran = said("objcopy", *RENAMED, built(ENGINES), engines)
-    tally.check(ran.returncode == 0, f"objcopy: {ran.stdout}")
+    wanted("objcopy", *RENAMED, built(ENGINES), engines)
     compare_names(tally, engines, ENGINES, {f"elfmap_{it}" for it in FUNCTIONS}, ON_BYTES)
     for compiler in COMPILERS:
         program = f"{room}/test-{compiler}"
-        if compiled(tally, compiler, program, f"{C}/test.c", verdicts):
-            compare_files(tally, program, files)
-        if compiled(tally, compiler, f"{program}-engines", f"{C}/engines.c", engines, verdicts):
-            try_engines(tally, f"{program}-engines")
-    if compiled(tally, "cc", f"{room}/over-malloc", f"{C}/engines.c", "-DOVER_MALLOC", f"{C}/memory.c", engines, verdicts):
-        try_engines(tally, f"{room}/over-malloc")
-    ran = said("c++", "-Wall", "-Wextra", "-Werror", "-fsyntax-only", "-x", "c++", f"{TOP}/include/elfmap.h")
-    tally.check(ran.returncode == 0, f"the header in C++:\n{ran.stdout}")
+        compile_and_run(tally, compiler, program, f"{C}/test.c", verdicts)
+        compare_files(tally, program, files)
+        compile_and_run(tally, compiler, f"{program}-engines", f"{C}/engines.c", engines, verdicts)
+        try_engines(tally, f"{program}-engines")
+    compile_and_run(tally, "cc", f"{room}/over-malloc", f"{C}/engines.c", "-DOVER_MALLOC", f"{C}/memory.c", engines, verdicts)
+    try_engines(tally, f"{room}/over-malloc")
+    wanted("c++", "-Wall", "-Wextra", "-Werror", "-fsyntax-only", "-x", "c++", f"{TOP}/include/elfmap.h")
 
 
 # ---- laws: what the library says of changed files agrees with itself

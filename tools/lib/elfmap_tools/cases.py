@@ -18,7 +18,7 @@ Files = dict[str, bytearray]
 @dataclass
 class Case:
     """The words, the files they need (a place, `=` and the file's name, or a folder), the answer, and what another test needs of it; where
-    it is written, and the files by their names."""
+    it is written, and the files by their names; and what holds of an output that is not given."""
 
     words: list[str]
     needs: list[str]
@@ -28,6 +28,7 @@ class Case:
     note: str = ""
     source: str = ""
     files: Files = field(default_factory=dict)
+    holds: Callable[[bytes], bool] | None = None
 
     def __str__(self) -> str:
         return f"{self.source}: elfmap {' '.join(self.words)} with {' '.join(self.needs)}"

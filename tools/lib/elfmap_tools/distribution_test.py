@@ -6,11 +6,10 @@ the tests in it are skipped by their names."""
 
 import os, re, shutil, sys, tempfile, zlib
 
-from .library import BOTH, PACKERS, calls
-from .packages import setup
-from .release import LIBRARIES, version_of
-from .suite import Tally, Test, environment, steps_of
-from .tree import TOP, Options, Texts, files_below, read_bytes, read_text, said
+from .library import BOTH, calls
+from .release import LIBRARIES, MAKERS, version_of
+from .suite import SETUPTOOLS, WHEEL, Tally, Test, setup, steps_of
+from .tree import TOP, Options, Texts, files_below, read_bytes, read_text, said, wanted
 
 SUITE = "bookworm"
 INCLUDED = "python3,python3-venv,gcc,libc6-dev,pkg-config,man-db,fish,zsh,cargo"
@@ -67,7 +66,7 @@ def contents(folder: str) -> dict[str, bytes]:
     return {os.path.basename(it): read_bytes(it) for it in files_below(folder)}
 
 
-TOOLS = f"{PACKERS} readelf nm git wasm-opt dpkg-deb unshare"
+TOOLS = f"{MAKERS} readelf nm git dpkg-deb unshare {SETUPTOOLS} {WHEEL}"
 
 
 @Test("packages", "what people install is the same twice, and works in a clean root", commands=TOOLS, crates=f"elfmap {BOTH}")
@@ -79,10 +78,8 @@ def packages(tally: Tally, options: Options) -> None:
     tally.same("./elfmap --version", said("./elfmap", "--version").stdout, f"elfmap {version}\n")
     first, second = f"{room}/first", f"{room}/second"
     for it, mask, zone in ((first, "022", "UTC"), (second, "077", "Asia/Tokyo")):
-        words = ["sh", "-c", f'umask {mask} && exec "$@"', "sh", sys.executable, f"{TOP}/tools/release", "packages", it]
-        made = said(*words, folder=room, env=environment(TZ=zone))
-        if not tally.check(made.returncode == 0, f"no packages are made: {made.stdout}"):
-            return
+        words = ["sh", "-c", f'umask {mask} && TZ={zone} exec "$@"', "sh", sys.executable, f"{TOP}/tools/release", "packages", it]
+        wanted(*words, folder=room)
     tally.check(contents(first) == contents(second), "the packages have other bytes the second time")
     summed, names = said("sha256sum", "-c", "--quiet", "SHA256SUMS", folder=first), contents(first).keys() - {"SHA256SUMS"}
     is_whole = summed.returncode == 0 and names == set(read_text(f"{first}/SHA256SUMS").split()[1::2])

@@ -2,12 +2,12 @@
 proved of it, since what an example leaves out, as a check of a number, a proof would need.
 
 An example is a code block of a doc comment whose fence names no language. It is made the body of a function that returns any error, in a
-crate for this alone. There it sees what its own crate shows; names of crates below are imported for it, and so are those of std in
-`OF_STD`. What it uses and does not bind is a parameter, of the type in `GIVEN`; a name that is not there is an unknown one. The crates are
-read as they are, so none has to be built. The function `REFUSED` beside the examples borrows wrongly: that it is refused shows that borrows
-are checked, and ends the compiler before the work of proofs, which takes ten times as long."""
+crate for this alone. There it sees what its own crate shows, before what crates below show, and what is named in `OF_STD`. What it uses and
+does not bind is a parameter, of the type in `GIVEN`; a name that is not there is an unknown one. The crates are read as they are, so none
+has to be built. The function `REFUSED` beside the examples borrows wrongly: that it is refused shows that borrows are checked, and ends the
+compiler before the work of proofs, which takes ten times as long."""
 
-import functools, os, re, tempfile
+import os, re
 from collections import Counter
 from collections.abc import Iterator
 from dataclasses import dataclass
@@ -23,10 +23,7 @@ GIVEN = {
     "bytes": "&'a [u8]", "header": "[u8; 64]", "names": "Vec<&'a [u8]>", "symbols": "Vec<u32>", "object": "Object<'a>",
     "objects": "&'a [Object<'a>]", "options": "Options<'a>", "rules": "&'a [RelocRule]",
 }  # fmt: skip
-OF_STD = {
-    "Abort": "process", "BuildHasherDefault": "hash", "FoldHasher": "hash", "Global": "alloc", "Print": "io", "Read": "io", "Seek": "io",
-    "Write": "io",
-}  # fmt: skip
+OF_STD = "use std::{alloc::Global, hash::{BuildHasherDefault, FoldHasher}, io::{Print, Read, Seek, Write}, process::Abort};"
 FENCED = re.compile(r"^ *//[/!] ?```(?P<language>.*?) *\n(?P<lines>(?: *//[/!].*\n)*?) *//[/!] ?```", re.M)
 REFUSED = """pub fn refused(bytes: &mut [u8; 2]) {
     let first = &mut bytes[0];
@@ -57,32 +54,15 @@ def examples_in(crate: str, path: str) -> Iterator[Example]:
             yield Example(crate, path, text.count("\n", 0, it.start()) + 1, re.findall(r"^ *//[/!] ?(.*)", it["lines"], re.M))
 
 
-@functools.cache
-def shown(crate: str) -> set[str]:
-    """The names that a library shows."""
-    own = re.findall(r"^pub (?:fn|struct|enum|trait|const|mod|type) (\w+)", read_text(root_of(crate)), re.M)
-    return {*own, *[name for _, name, _ in sources.shown_by(root_of(crate))]}
-
-
-def import_of(name: str, crate: str) -> str | None:
-    """The import of a name that its own crate doesn't show: of the nearest crate below that does. None where it needs none."""
-    homes = [] if name in shown(crate) else [it for it in reversed(below(crate)) if name in shown(it)]
-    home = f"std::{OF_STD[name]}" if name in OF_STD else homes[0] if homes else None
-    return home and f"use {home}::{name};"
-
-
 def function_of(example: Example) -> str:
     """A file with the example as a function, each of whose lines has the number that it has in the docs."""
     bare = re.sub(r'"(?:\\.|[^"\\])*"|//.*', "", "\n".join(example.lines))
-    # The names in it but for members and those of fields; of these the ones that can be values.
-    names = set(re.findall(r"(?<![.\w])[A-Za-z_]\w*(?!\w|\s*:[^:])", bare))
+    # The names that can be values, but for members and fields, and those that are bound.
     values = set(re.findall(r"(?<![.\w])[a-z_]\w*(?!\w|\s*:)", bare)) - set(re.findall(r"\blet (?:mut )?(\w+)", bare))
     given = {name: kind for name, kind in GIVEN.items() if name in values}
-    imported = set(re.findall(r"\w+", " ".join(re.findall(r"^use .*", bare, re.M))))
-    names = (names - imported).union(*[re.findall(r"\w+", kind) for kind in given.values()])
-    imports = [it for it in (import_of(name, example.crate) for name in sorted(names)) if it]
     parameters = ", ".join(f"mut {name}: {kind}" for name, kind in given.items())
-    head = [f"use {example.crate}::*;", *imports, f"pub fn example<'a>({parameters}) -> Result<(), std::test::Fail> {{"]
+    imports = (f"use {it}::*;" for it in [example.crate, *below(example.crate)])
+    head = [*imports, OF_STD, f"pub fn example<'a>({parameters}) -> Result<(), std::test::Fail> {{ use {example.crate}::*;"]
     return "\n".join([" ".join(head) + "\n" * (example.at - 1), *[f"    {it}" for it in example.lines], "    Ok(())", "}", ""])
 
 
@@ -99,8 +79,8 @@ def words(crates: list[str]) -> list[str]:
     return [*found, "--logic-built", f"{kit()}/logic_built"]
 
 
-def faults_of(examples: list[Example], room: str) -> tuple[dict[Example, list[str]], str]:
-    """What the compiler says against these examples, by example; and what it says where it can't judge them."""
+def faults_of(examples: list[Example], room: str) -> dict[Example, list[str]]:
+    """What the compiler says against these examples, by example. It checks borrows where all names and types are right."""
     modules = {f"example_{number}": it for number, it in enumerate(examples)}
     files = {"refused": REFUSED, **{name: function_of(it) for name, it in modules.items()}}
     files["lib"] = "//! Examples of docs.\n#![tactic(auto)]\n" + "".join(f"pub mod {name};\n" for name in files)
@@ -112,31 +92,14 @@ def faults_of(examples: list[Example], room: str) -> tuple[dict[Example, list[st
     for name, line in re.findall(r"^src/(\w+)(\.rt:\d+:\d+: error.*)", output, re.M):
         if name in modules:
             faults.setdefault(modules[name], []).append(f"src/{name}{line}".replace(f"src/{name}.rt", modules[name].path))
-    is_checked = faults or re.search(r"^src/refused\.rt:3:.*borrow-e0506", output, re.M)
-    return faults, "" if is_checked else output
-
-
-def all_faults(examples: list[Example]) -> tuple[dict[Example, list[str]], str]:
-    """All that is said against the examples. The compiler checks borrows where all names and types are right: examples in which it found
-    faults are left out then, until it finds no more."""
-    found: dict[Example, list[str]] = {}
-    while left := [it for it in examples if it not in found]:
-        with tempfile.TemporaryDirectory(prefix="doc-examples-") as room:
-            faults, broken = faults_of(left, room)
-        if broken:
-            return {**found, **{it: ["no verdict"] for it in left}}, broken
-        if not faults:
-            break
-        found.update(faults)
-    return found, ""
+    if not faults and not re.search(r"^src/refused\.rt:3:.*borrow-e0506", output, re.M):
+        raise SystemExit(f"the compiler does not judge the examples:\n{output}")
+    return faults
 
 
 @Test("doc-examples", "each example in a doc comment compiles")
 def doc_examples(tally: Tally, options: Options) -> None:
     crates = [it for it in libraries() if not is_program(it)]
     examples = [it for crate in crates for path in sources.sources_of(crate) for it in examples_in(crate, path)]
-    faults, broken = all_faults(examples)
-    if broken:
-        tally.note(f"the compiler does not judge the examples:\n{broken}")
-    tally.count(len(examples), ("\n".join(lines) for lines in faults.values()))
+    tally.count(len(examples), map("\n".join, faults_of(examples, tally.folder).values()))
     tally.note(", ".join(f"{crate} {count}" for crate, count in Counter(it.crate for it in examples).items()))

@@ -8,7 +8,7 @@ By `growths` it makes the calls of the library one by one, with the Nth growth r
 out of memory or what it answers with enough; a reading goes on where a growth was refused, and loses nothing; what takes no memory answers
 as ever, and made three times it grows as much as made not at all."""
 
-import re
+import os, re
 from collections.abc import Iterator
 from itertools import count
 
@@ -18,7 +18,7 @@ from .making import full_object
 from .reference import (
     ALLOC, COMMON, HASH, PROGBITS, WRITE, edited, group, object_file, relocations, section, symbol, text, words as number_words,
 )  # fmt: skip
-from .suite import Tally, Test, environment
+from .suite import Tally, Test
 from .tree import PROGRAM, RULES, Answer, Options, answer_of, by_cc, read_text, run, wanted, write
 
 CALLER = "int callee(int); extern int shared; int common; int main(void) { return callee(1) + shared + common; }\n"
@@ -75,8 +75,8 @@ def make_files(folder: str) -> None:
 def ended(folder: str, words: list[str], call: str = "", program: str = PROGRAM) -> tuple[Answer, list[str]]:
     """How the program ended, and what the library says of the call that failed."""
     report = write(f"{folder}/report", "")
-    around = environment(LD_PRELOAD=f"{folder}/failing.so", FAILING_CALL=f"{call} {report}")
-    it = run(program, *words, folder=folder, env=around)
+    env = os.environ | {"LD_PRELOAD": f"{folder}/failing.so", "FAILING_CALL": f"{call} {report}"}
+    it = run(program, *words, folder=folder, env=env)
     return answer_of(it), read_text(report).split("\n")[:-1]
 
 

@@ -4,10 +4,12 @@ times as many bytes as its files have, all growths together; `check --seek` for 
 have. Each call has a small stack. The large files have up to 4 MB, but for sparse ones of up to 2^30 bytes, whose tables are far from the
 header. `failing.c` counts what is asked for. The answers of large objects are the reference implementation's."""
 
-import os, random, sys
+import os, random
 from collections.abc import Callable, Iterator
-from dataclasses import dataclass
+from functools import partial
 from itertools import chain, product
+
+import made
 
 from .cases import Case, every_case
 from .failing_calls import failing_library
@@ -17,11 +19,8 @@ from .reference import (
     ALLOC, DYNSYM, HASH, NOTE, PROGBITS, SECTION_HEADER, STRTAB, SYMBOL, File, answer, edited, group, object_file, object_of, record,
     relocations, section, symbol, text, with_index_table, words,
 )  # fmt: skip
-from .suite import Tally, Test, environment
-from .tree import PROGRAM, TOP, Answer, Options, read_text, run
-
-sys.path.insert(0, f"{TOP}/bench")
-import made  # noqa: E402
+from .suite import Tally, Test
+from .tree import PROGRAM, Options, T, read_text, run, write
 
 MOST_SECONDS = 1.0
 LEAST_MEMORY, MOST_MEMORY, SEEKING_MEMORY = 1 << 20, 128, 2
@@ -29,18 +28,11 @@ STACK = 1 << 20
 LITTLE, GLOBAL, WEAK, IN_GROUP = "little", 0x10, 0x20, 0x206
 
 
-@dataclass
-class Row(Case):
-    """A case, of which some answer with a status of 0 and an output of which this holds."""
-
-    holds: Callable[[bytes], bool] | None = None
-
-
-def row(command: str, *files: bytes, out: bytes | Callable[[bytes], bool] | None = None) -> Row:
-    """A row of files f0, f1 and so on, with the answer of the reference implementation, if none is given."""
+def row(command: str, *files: bytes, out: bytes | Callable[[bytes], bool] | None = None) -> Case:
+    """A case of files f0, f1 and so on, with the answer of the reference implementation, if none is given, or what holds of its output."""
     names = [f"f{k}" for k in range(len(files))]
     contents = {**dict(zip(names, files)), "r": b"2 pc 4 signed\n"}
-    found = Row([*command.split(), *names], [f"{it}={it}" for it in contents], files={it: bytearray(own) for it, own in contents.items()})
+    found = Case([*command.split(), *names], [f"{it}={it}" for it in contents], files={it: bytearray(own) for it, own in contents.items()})
     if callable(out):
         found.holds = out
     else:
@@ -61,7 +53,7 @@ def loaded(names: list[bytes], hash_words: bytes, strings: bytes = b"") -> bytes
     return object_file([section(b".dynstr", STRTAB, strings), symbols, section(b".hash", HASH, hash_words, ALLOC, 4, 4, 1)])
 
 
-def many_rows() -> Iterator[Row]:
+def many_rows() -> Iterator[Case]:
     """Objects of a few hundred sections, groups of many members, an index table, notes and a hash table of a thousand symbols."""
     chance = random.Random("many")
     plain = [text(bytes(k % 7), IN_GROUP if k % 3 else 6, b".text.%d" % k, 2 ** (k % 5)) for k in range(280)]
@@ -86,11 +78,11 @@ def many_rows() -> Iterator[Row]:
     yield row("check --seek", far, out=b"ok %d 65305 0\n" % len(far))
 
 
-def large_rows() -> Iterator[Row]:
+def large_rows() -> Iterator[Case]:
     """Files of up to 4 MB whose tables cost the most; the reference is too slow for them."""
     # An alignment for which the file would be too long.
     too_long = edited(object_file([text(b"")]), ("sh_addralign", 1, 2**63))
-    yield Row(["rewrite", "f"], ["f=f"], 1, b"", b"too long\n", files={"f": bytearray(too_long)})
+    yield Case(["rewrite", "f"], ["f=f"], 1, b"", b"too long\n", files={"f": bytearray(too_long)})
     # Groups of one signature, each of one section.
     count = 32760
     sections = [group([count + k]) for k in range(count)] + [text(b"", IN_GROUP, b"f")] * count
@@ -119,30 +111,20 @@ def large_rows() -> Iterator[Row]:
 # ---- the calls
 
 
-def counting(library: str, report: str) -> dict[str, str]:
-    """The environment of a call in which the library counts what it asks for, and reports it in a file."""
-    return environment(LD_PRELOAD=library, FAILING_CALL=f"count 1 nothing {report}")
+def measured(folder: str, call: Callable[..., T]) -> tuple[T, float, int]:
+    """The answer of a call, the seconds of the processor, of this process's children, and the bytes that were asked for: the library counts
+    them."""
+    before, report = sum(os.times()[2:4]), write(f"{folder}/report", "")
+    answer = call(env=os.environ | {"LD_PRELOAD": f"{folder}/failing.so", "FAILING_CALL": f"count 1 nothing {report}"})
+    return answer, sum(os.times()[2:4]) - before, int(dict(line.split() for line in read_text(report).splitlines())["asked"])
 
 
-def asked(report: str) -> int:
-    """How many bytes the call asked for that has this report, which is removed."""
-    found = int(dict(line.split() for line in read_text(report).splitlines())["asked"])
-    os.remove(report)
-    return found
-
-
-def run_case(case: Case, library: str, report: str) -> tuple[Answer, float, int]:
-    """The answer, the seconds of the processor, of this process's children, and the bytes that were asked for."""
-    before = sum(os.times()[2:4])
-    answer = case.found("prlimit", f"--stack={STACK}", PROGRAM, env=counting(library, report))
-    return answer, sum(os.times()[2:4]) - before, asked(report)
-
-
-def wrong_with(case: Case, library: str, report: str) -> str:
-    (status, out, err), seconds, memory = run_case(case, library, report)
+def wrong_with(case: Case, folder: str) -> str:
+    call = partial(case.found, "prlimit", f"--stack={STACK}", PROGRAM)
+    (status, out, err), seconds, memory = measured(folder, call)
     if seconds > MOST_SECONDS:
         # A machine with much to do beside it may take longer once.
-        seconds = run_case(case, library, report)[1]
+        seconds = measured(folder, call)[1]
     if seconds > MOST_SECONDS:
         return f"it takes {seconds:.2f} s"
     # A file may be named by several words.
@@ -151,7 +133,7 @@ def wrong_with(case: Case, library: str, report: str) -> str:
     most = LEAST_MEMORY + (SEEKING_MEMORY if "--seek" in case.words else MOST_MEMORY) * lengths
     if memory > most:
         return f"it asks for {memory} bytes, and not for {most} at most"
-    if isinstance(case, Row) and case.holds:
+    if case.holds:
         return "" if (status, err) == (0, b"") and case.holds(out) else f"status {status}, {out[-80:]!r}"
     if (status, out) == (case.status, case.out) and (err == case.err or status > 1 and not case.err):
         return ""
@@ -164,9 +146,9 @@ def wrong_with(case: Case, library: str, report: str) -> str:
 FAR = (2**24 + 8, 2**29 + 8, 2**30 - 136)
 
 
-def far_tables(tally: Tally, library: str) -> None:
+def far_tables(tally: Tally) -> None:
     """Sparse files of a header, far from it two section headers, and a name table of one byte after them."""
-    path, report = f"{tally.folder}/f", f"{tally.folder}/report"
+    path = f"{tally.folder}/f"
     for order, at in product((LITTLE, "big"), FAR):
         header = edited(object_file([], order=order)[:64], ("e_shoff", at), ("e_shnum", 2), ("e_shstrndx", 1))
         names = record(order, SECTION_HEADER, sh_type=STRTAB, sh_offset=at + 128, sh_size=1, sh_addralign=1)
@@ -176,9 +158,9 @@ def far_tables(tally: Tally, library: str) -> None:
             it.write(names)
             it.truncate(at + 136)
         for command, most in (["check"], LEAST_MEMORY + MOST_MEMORY * at), (["check", "--seek"], LEAST_MEMORY):
-            output, right = run(PROGRAM, *command, path, env=counting(library, report)).stdout, b"ok %d 2 0\n" % (at + 136)
-            memory, what = asked(report), f"{' '.join(command)} of a table at {at}, {order}"
-            tally.check(output == right and memory <= most, f"{what}: {output!r}, and not {right!r}; {memory} bytes, and not {most}")
+            ended, _, memory = measured(tally.folder, partial(run, PROGRAM, *command, path))
+            right, what = b"ok %d 2 0\n" % (at + 136), f"{' '.join(command)} of a table at {at}, {order}"
+            tally.check(ended.stdout == right and memory <= most, f"{what}: {ended.stdout!r}, and not {right!r}; {memory} of {most} bytes")
 
 
 ABOUT = "tables made to do harm, and large files: answers, time, memory, and a small stack"
@@ -187,9 +169,9 @@ ABOUT = "tables made to do harm, and large files: answers, time, memory, and a s
 # It looks at the time of the processor, which other work on it lengthens.
 @Test("hostile-files", ABOUT, commands="cc prlimit", crates="elfmap", alone=True, family="fuzz")
 def hostile_files(tally: Tally, options: Options) -> None:
-    library = failing_library(tally.folder)
+    failing_library(tally.folder)
     of_cases = (it for it in every_case() if it.needs)
     for number, it in enumerate(chain(of_cases, many_rows(), large_rows())):
-        why = wrong_with(it, library, f"{tally.folder}/report")
+        why = wrong_with(it, tally.folder)
         tally.check(not why, f"row {number}, {it}: {why}")
-    far_tables(tally, library)
+    far_tables(tally)

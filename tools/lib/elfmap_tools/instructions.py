@@ -9,15 +9,14 @@ valgrind counts (its tool callgrind). It interprets the program, so the same run
 folder, with relative names, the same environment, and the same routines of the C library on every processor. With another version of the C
 library or of valgrind the counts are slightly different."""
 
-import fcntl, os, re, shutil, subprocess, sys
+import fcntl, os, re, shutil, subprocess
 from collections.abc import Callable
 from typing import Any
 
+import made
+
 from .suite import Tally, Test, flag
 from .tree import PROGRAM, TOP, Options, read_bytes, read_text, said, write
-
-sys.path.insert(0, f"{TOP}/bench")
-import made  # noqa: E402
 
 STORED = f"{TOP}/bench/instructions"
 HEAD = "# The instructions of each command and input. `tools/test instructions --store` writes this file.\n"
@@ -51,8 +50,6 @@ TUNABLES = ["glibc.cpu.hwcaps=" + "".join(f"-{it}," for it in FEATURES.split()),
 TUNABLES += ["glibc.cpu.x86_shared_cache_size=1048576", "glibc.cpu.x86_non_temporal_threshold=786432"]
 ENVIRONMENT = {"LC_ALL": "C", "GLIBC_TUNABLES": ":".join(TUNABLES)}
 VALGRIND = [shutil.which("valgrind") or "valgrind", "--tool=callgrind", "--callgrind-out-file=/dev/null"]
-# The count of a row, or what is wrong with how it ended.
-Count = tuple[int, str]
 
 
 def written(folder: str, make: Callable[[int], Any], length: int) -> list[str]:
@@ -78,22 +75,17 @@ def input_of(path: str | None) -> int:
     return source
 
 
-def counted(folder: str, command: str, make: Callable[[int], Any], names: list[str]) -> Count:
+def counted(folder: str, command: str, make: Callable[[int], Any], names: list[str]) -> int:
     own = {"RULES": f"{make.__name__}/rules", "ENTRY": getattr(make, "entry", "name")}
     is_piped = PIPE in COMMANDS[command]
     words = [*VALGRIND, "./program", *(own.get(it, it) for it in COMMANDS[command]), *([] if is_piped else names)]
+    outputs: dict[str, Any] = {"stdout": subprocess.DEVNULL, "stderr": subprocess.PIPE}
     with open(input_of(f"{folder}/{names[0]}" if is_piped else None), "rb") as source:
-        try:
-            ended = subprocess.run(
-                words, cwd=folder, env=ENVIRONMENT, stdin=source, stdout=subprocess.DEVNULL, stderr=subprocess.PIPE, timeout=LONGEST
-            )
-        except subprocess.TimeoutExpired:
-            return 0, f"it takes more than {LONGEST} s"
+        ended = subprocess.run(words, cwd=folder, env=ENVIRONMENT, stdin=source, timeout=LONGEST, **outputs)
     found = re.findall(rb"^==\d+== Collected : (\d+)$", ended.stderr, re.M)
     if ended.returncode or len(found) != 1:
-        lines = b" ".join(it for it in ended.stderr.splitlines() if not it.startswith(b"=="))
-        return 0, f"it ended with status {ended.returncode}: {lines[:200]!r}"
-    return int(found[0]), ""
+        raise SystemExit(f"{command}: {make.__name__} ended with status {ended.returncode}: {ended.stderr[:300]!r}")
+    return int(found[0])
 
 
 STORE = flag("store", "store the new numbers")
@@ -102,17 +94,17 @@ STORE = flag("store", "store the new numbers")
 @Test("instructions", "the instructions of each command, beside the stored numbers", commands="valgrind", crates="elfmap", options=(STORE,))
 def instructions(tally: Tally, options: Options) -> None:
     shutil.copy(PROGRAM, f"{tally.folder}/program")
-    counts: dict[str, Count] = {}
+    counts: dict[str, int] = {}
     for make, length, commands in ROWS:
         names = written(tally.folder, make, length)
         counts |= {f"{it}: {make.__name__}": counted(tally.folder, it, make, names) for it in commands}
-    if options.store and not any(why for _, why in counts.values()):
-        write(STORED, HEAD + "".join(f"{count:10} {row}\n" for row, (count, _) in counts.items()))
+    if options.store:
+        write(STORED, HEAD + "".join(f"{count:10} {row}\n" for row, count in counts.items()))
     lines = [line.split(maxsplit=1) for line in read_text(STORED).splitlines() if not line.startswith("#")]
     stored = {row: int(count) for count, row in lines}
-    for row, (count, why) in counts.items():
-        if why or row not in stored:
-            tally.fail(f"{row}: {why or f'{count:,}; no number is stored'}")
+    for row, count in counts.items():
+        if row not in stored:
+            tally.fail(f"{row}: {count:,}; no number is stored")
             continue
         what = f"{row}: {count:,}, {abs(count / stored[row] - 1):.1%}"
         tally.check(count * 100 <= stored[row] * (100 + PERCENT), f"{what} above the stored {stored[row]:,}")
@@ -122,4 +114,4 @@ def instructions(tally: Tally, options: Options) -> None:
     listed = re.findall(r"^  (\w+) ", said(PROGRAM, "--help").stdout.partition("Commands:\n")[2].partition("\n\n")[0], re.M)
     used = {COMMANDS[it][0] for _, _, commands in ROWS for it in commands}
     tally.check(listed and not set(listed) - used, f"commands of --help without a row: {set(listed) - used or 'none is listed'}")
-    tally.note(f"{sum(count for count, _ in counts.values()):,} in {len(counts)} rows")
+    tally.note(f"{sum(counts.values()):,} in {len(counts)} rows")

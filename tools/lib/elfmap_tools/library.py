@@ -3,10 +3,10 @@
 takes of it what it calls: without an engine neither the engines nor malloc. A release has the same as a shared library, libelfmap.so.0,
 which exports the calls of include/elfmap.h and nothing else."""
 
-import functools, glob, os, re, shutil, tempfile
+import functools, os, re, shutil, tempfile
 
 from .building import built, output_of
-from .tree import TOP, Options, is_newer, matched, read_text, wanted, write
+from .tree import TOP, Options, is_newer, read_text, wanted, write
 
 VERDICTS, ENGINES = "elf_c", "elf_c_engines"
 # As words: the crates of the library, and the commands that pack it.
@@ -18,6 +18,14 @@ FUNCTIONS = ("alloc", "dealloc", "realloc")
 # Rust's and Rattle's numbers as C has them.
 NUMBERS = {f"{kind[0]}{width}": f"{kind}{width}_t" for kind in ("int", "uint") for width in (8, 16, 32, 64)}
 NUMBERS |= {"usize": "size_t", "bool": "bool"}
+# The structs of C as Rust and Python name them.
+STRUCTS = {
+    "Fault": "elfmap_fault", "Extent": "elfmap_extent", "Numbers": "elfmap_file", "Header": "elfmap_header",
+    "SectionHeader": "elfmap_section", "Section": "elfmap_section", "ProgramHeader": "elfmap_segment", "Segment": "elfmap_segment",
+    "Table": "elfmap_table", "SymbolEntry": "elfmap_symbol", "Symbol": "elfmap_symbol", "Relocation": "elfmap_relocation",
+    "Dynamic": "elfmap_dynamic", "NoteEntry": "elfmap_note", "Note": "elfmap_note", "Piece": "elfmap_part", "Part": "elfmap_part",
+    "Outcome": "elfmap_outcome", "LinkOptions": "elfmap_options",
+}  # fmt: skip
 RENAMED = [word for it in FUNCTIONS for word in ("--redefine-sym", f"rattle_{it}=elfmap_{it}")]
 
 
@@ -27,17 +35,11 @@ def pack(folder: str) -> str:
         for crate in (VERDICTS, ENGINES):
             if not os.path.isfile(output_of(crate)):
                 raise SystemExit(f"library: there is no {output_of(crate)}: tools/dev prove {crate} builds it")
-            os.mkdir(f"{room}/{crate}")
-            wanted("ar", "x", output_of(crate), folder=f"{room}/{crate}")
-            for name in os.listdir(f"{room}/{crate}"):
-                # The members have the name of their crate before theirs.
-                member = shutil.move(f"{room}/{crate}/{name}", f"{room}/{crate}-{name}")
-                if crate == ENGINES:
-                    wanted("objcopy", *RENAMED, member)
+            wanted("objcopy", *RENAMED, output_of(crate), f"{room}/{crate}.a")
         memory = ["cc", "-std=c99", "-O2", "-fPIC", f"-I{TOP}/include", "-c", f"{TOP}/bindings/c/memory.c"]
         wanted(*memory, "-o", f"{room}/memory.o")
-        # Without times and names of users, so that the same members make the same archive.
-        wanted("ar", "rcsD", "libelfmap.a", *sorted(glob.glob("*.o", root_dir=room)), folder=room)
+        write(f"{room}/script", f"create libelfmap.a\naddlib {VERDICTS}.a\naddlib {ENGINES}.a\naddmod memory.o\nsave\nend\n")
+        wanted("sh", "-c", "ar -M < script", folder=room)
         return str(shutil.move(f"{room}/libelfmap.a", f"{folder}/libelfmap.a"))
 
 
@@ -55,7 +57,7 @@ def structs() -> dict[str, list[tuple[str, str, str]]]:
 
 def c_type(kind: str, tags: dict[str, str]) -> str:
     """A type of Rust or Rattle as C has it, with the tags of structs by their names; a slice is a pointer, beside which C has a length."""
-    pointer, name, count = matched(r"(\*const |\*mut |&mut |&|)\[?(\w+)(?:; (\w+))?\]?$", kind).groups()
+    ((pointer, name, count),) = re.findall(r"^(\*const |\*mut |&mut |&|)\[?(\w+)(?:; (\w+))?\]?$", kind)
     own = NUMBERS.get(name) or f"struct {tags[name]}"
     if pointer:
         return f"{'' if 'mut' in pointer else 'const '}{own} *"

@@ -19,9 +19,8 @@ from collections.abc import Iterator
 from functools import partial
 from typing import Any, NamedTuple
 
-from .packages import BY_LLVM, KLIBC, MACHINES, RUN_BY_QEMU
 from .reference import ALLOC, NOBITS, SYMTAB, UNDEF, File, answer, kept, string, symbols
-from .suite import Tally, Test
+from .suite import BY_LLVM, KLIBC, MACHINES, RUN_BY_QEMU, Tally, Test
 from .tree import PROGRAM, RULES, TOP, Answer, Options, answer_of, ending, read_bytes, read_text, run, wanted, write
 
 SOURCES = f"{TOP}/cases/sources"
@@ -141,30 +140,22 @@ class Map:
         return "\n".join([*lines, *(f"  {name} = {address};" for name, address in self.commons.items()), "}", ""])
 
     def differences(self, made: Any) -> Iterator[str]:
-        """What ld made otherwise."""
+        """What ld made otherwise: output sections, the bytes of live ones, each by its file and position, and names."""
         loaded = {section_name(made, it): (i, it) for i, it in made.sections() if it.sh_flags & ALLOC}
-        own_places = {f".out.{number}": (it.address, it.length) for number, it in enumerate(self.outputs)}
-        places = {name: (it.sh_addr, it.sh_size) for name, (_, it) in loaded.items()}
-        if own_places != places:
-            yield f"the output sections, each with address and length, are {own_places}, of ld {places}"
-            return
-        theirs: dict[Place, bytes] = {}
-        for output, (i, it) in zip(self.outputs, (loaded[name] for name in own_places)):
+        own: dict[object, object] = {f".out.{number}": (it.address, it.length) for number, it in enumerate(self.outputs)}
+        theirs: dict[object, object] = {name: (it.sh_addr, it.sh_size) for name, (_, it) in loaded.items()}
+        for number, output in enumerate(self.outputs):
+            i, it = loaded.get(f".out.{number}", (0, made.section(0)))
             content = b"" if it.sh_type == NOBITS else made.content(i)
-            theirs |= {place: content[at - output.address :][:size] for at, size, place in output.members if output.has_bits}
-        if list(self.bytes) != list(theirs):
-            yield f"there are bytes of {list(self.bytes)}, of ld of {list(theirs)}"
-        for place, own in self.bytes.items():
-            other = theirs.get(place, own)
-            if own != other:
-                at = len(os.path.commonprefix([own, other]))
-                what = f"section {place[1]} ({self.title[place]}) of file {place[0]}"
-                yield f"{what} differs at 0x{at:x}: {own[at:at + 8].hex()}, of ld {other[at:at + 8].hex()}"
-        symbols = symbols_of(made)
-        for name, (value, what) in self.names.items():
-            at, defined = symbols.get(name, (0, False))
-            if value != "-" and (int(value, 16), what != "zero") != (at, defined):
-                yield f"{name} is {what} {value}, of ld {'defined' if defined else 'undefined'} 0x{at:x}"
+            theirs |= {place: content[at - output.address :][:size].hex() for at, size, place in output.members if output.has_bits}
+        own |= {place: content.hex() for place, content in self.bytes.items()}
+        own |= {name: (int(value, 16), what != "zero") for name, (value, what) in self.names.items() if value != "-"}
+        theirs |= {name: it for name, it in {**dict.fromkeys(self.names, (0, False)), **symbols_of(made)}.items() if name in own}
+        for what in dict.fromkeys([*own, *theirs]):
+            pair = str(own.get(what)), str(theirs.get(what))
+            at = len(os.path.commonprefix(pair))
+            if pair[0] != pair[1]:
+                yield f"{what} from digit {at} on: {pair[0][at:][:40]}, of ld {pair[1][at:][:40]}"
 
 
 # Without a page size of its own ld would refuse addresses that share a page; nothing is loaded.
@@ -192,21 +183,20 @@ class Both:
 def linked_like_ld(tally: Tally, options: Options) -> None:
     totals = Counter[str]()
     for title, words, base, page, fits in LD_CASES:
-        with tally.trying(title):
-            shop = Workshop(tally.new_folder(title))
-            objects = [shop.compiled("gcc", f"{it}.c", [*LD_FLAGS, *words.split()]) for it in PARTS]
-            for it in objects:
-                # ld reads .eh_frame and writes it anew.
-                shop.wanted("objcopy", "--rename-section", ".eh_frame=.frames", it)
-            both = Both(shop, objects, base, page, RULES, ["ld", "-m", "elf_x86_64"])
-            if fits:
-                wrong, made = both.differences(), both.map
-                tally.check(not wrong, f"{title}: {'; '.join(wrong)}")
-                totals.update(sections=len(made.bytes), bytes=sum(map(len, made.bytes.values())), names=len(made.names))
-            else:
-                is_refused = both.ruled.returncode == 1 and both.ruled.stdout.startswith(b"refused 16 ")
-                both_refuse = is_refused and both.by_ld.returncode and b"relocation truncated to fit" in both.by_ld.stderr
-                tally.check(both_refuse, f"{title}: it is not refused by both: {both.ends}")
+        shop = Workshop(tally.new_folder(title))
+        objects = [shop.compiled("gcc", f"{it}.c", [*LD_FLAGS, *words.split()]) for it in PARTS]
+        for it in objects:
+            # ld reads .eh_frame and writes it anew.
+            shop.wanted("objcopy", "--rename-section", ".eh_frame=.frames", it)
+        both = Both(shop, objects, base, page, RULES, ["ld", "-m", "elf_x86_64"])
+        if fits:
+            wrong, made = both.differences(), both.map
+            tally.check(not wrong, f"{title}: {'; '.join(wrong)}")
+            totals.update(sections=len(made.bytes), bytes=sum(map(len, made.bytes.values())), names=len(made.names))
+        else:
+            is_refused = both.ruled.returncode == 1 and both.ruled.stdout.startswith(b"refused 16 ")
+            both_refuse = is_refused and both.by_ld.returncode and b"relocation truncated to fit" in both.by_ld.stderr
+            tally.check(both_refuse, f"{title}: it is not refused by both: {both.ends}")
     tally.note(", ".join(f"{count} {kind}" for kind, count in totals.items()) + " agree with ld")
 
 
@@ -254,14 +244,13 @@ def difference(shop: Workshop, objects: list[str], entry: str, base: str, page: 
 def linked_runs(tally: Tally, options: Options) -> None:
     for way, (compiler, flags, sources, _, entry) in ((way, it) for it in RUNS for way in it[3]):
         title = f"{' '.join(sources)} by {compiler} {way}"
-        with tally.trying(title):
-            shop = Workshop(tally.new_folder(title))
-            objects = [shop.compiled(compiler, it, [*flags, *way.split()]) for it in sources]
-            if entry == "_start":
-                objects = with_archive(shop, [CRT0, *objects])
-            for place in PLACES:
-                wrong = difference(shop, objects, entry, *place)
-                tally.check(not wrong, f"{title}: {wrong}")
+        shop = Workshop(tally.new_folder(title))
+        objects = [shop.compiled(compiler, it, [*flags, *way.split()]) for it in sources]
+        if entry == "_start":
+            objects = with_archive(shop, [CRT0, *objects])
+        for place in PLACES:
+            wrong = difference(shop, objects, entry, *place)
+            tally.check(not wrong, f"{title}: {wrong}")
 
 
 # ---- linked-elsewhere
@@ -272,13 +261,12 @@ ELSEWHERE = " ".join(["gcc", *(f"{target}-as {target}-ld qemu-{qemu}" for qemu, 
 @Test("linked-elsewhere", "programs of other machines run the same", commands=ELSEWHERE, crates="elfmap", family="linked")
 def linked_elsewhere(tally: Tally, options: Options) -> None:
     for machine, target in RUN_BY_QEMU.items():
-        with tally.trying(machine):
-            shop = Workshop(tally.new_folder(machine))
-            objects = [shop.assembled(machine, it) for it in ("elsewhere.S", "elsewhere_data.S")]
-            shop.wanted(f"{target}-ld", "-Ttext-segment=0x400000", "-e", "start", *objects, "-o", "by-ld")
-            shop.link(objects, "0x400000", "0x10000", "start", f"{TOP}/rules/{machine}.rules")
-            ends = [it[:2] for it in shop.answers(f"qemu-{machine}")]
-            tally.same(f"{machine}: by ld and by elfmap it", ends, 2 * [(42, b"hello\n")])
+        shop = Workshop(tally.new_folder(machine))
+        objects = [shop.assembled(machine, it) for it in ("elsewhere.S", "elsewhere_data.S")]
+        shop.wanted(f"{target}-ld", "-Ttext-segment=0x400000", "-e", "start", *objects, "-o", "by-ld")
+        shop.link(objects, "0x400000", "0x10000", "start", f"{TOP}/rules/{machine}.rules")
+        ends = [it[:2] for it in shop.answers(f"qemu-{machine}")]
+        tally.same(f"{machine}: by ld and by elfmap it", ends, 2 * [(42, b"hello\n")])
 
 
 # ---- linked-kinds
@@ -326,6 +314,5 @@ def linked_kinds(tally: Tally, options: Options) -> None:
         lines = [it.split() for it in read_text(f"rules/{machine}.rules").splitlines()]
         numbers, names = named_kinds(machine)
         tally.check(numbers == {int(it[0]) for it in lines}, f"docs/RULE_FILES.md lists other kinds than rules/{machine}.rules")
-        with tally.trying(machine):
-            wrong = kinds_differ(Workshop(tally.new_folder(machine)), machine, lines, names)
-            tally.check(not wrong, f"{machine}: {'; '.join(wrong)}")
+        wrong = kinds_differ(Workshop(tally.new_folder(machine)), machine, lines, names)
+        tally.check(not wrong, f"{machine}: {'; '.join(wrong)}")

@@ -5,7 +5,7 @@ status depends on where words, commons, weak and absolute names and groups that 
 is written is the executable of the reference implementation, byte for byte, and `elfmap check` accepts it. The same seed makes the same
 programs. What went wrong is put into the current folder, as made-program-SEED-K."""
 
-import os, platform, random
+import os, random
 from dataclasses import dataclass
 
 from .making import Chance
@@ -14,7 +14,6 @@ from .suite import Tally, Test, count_tries, number
 from .tree import PROGRAM, RULES, Options, answer_of, ending, read_bytes, run, wanted, write
 
 ASSEMBLER = "x86_64-linux-gnu-as"
-RUNS = platform.machine() == "x86_64"
 # Every so many programs has the larger page, for which the file has megabytes of zeros.
 PLACES = [("0x400000", "0x1000")] * 12 + [("0x10000000", "0x1000")] * 7 + [("0x10000000", "0x200000")]
 OPTIONS = (number("count", 100, "so many programs"), number("seed", 1, "the same seed makes the same programs"))
@@ -125,10 +124,8 @@ class Program:
                 file += field("addl %edi, 0(%rip)", "PC32", name)
                 word.number = (number + self.status) % 2**32
                 return
-            is_absolute = kind == "absolute"
-            file += (
-                field("addl 0, %edi", chance.choice(("32", "32S")), name, 0) if is_absolute else field("addl 0(%rip), %edi", "PC32", name)
-            )
+            absolute = "addl 0, %edi", chance.choice(("32", "32S")), name, 0
+            file += field(*absolute) if kind == "absolute" else field("addl 0(%rip), %edi", "PC32", name)
         elif kind == "pointer" and self.pointers:
             name, target = chance.choice(list(self.pointers.items()))
             file += [*field("movq 0(%rip), %rax", "PC32", name), "addl (%rax), %edi"]
@@ -159,7 +156,7 @@ def wrong_in(seed: int, k: int, folder: str) -> str:
     if run(PROGRAM, "check", program).returncode:
         return "what is linked is refused"
     os.chmod(program, 0o755)
-    status = run(program, timeout=10).returncode if RUNS else made.status & 0xFF
+    status = run(program, timeout=10).returncode
     return f"it ends with {status}, and not with {made.status & 0xFF}" if status != made.status & 0xFF else ""
 
 
@@ -169,5 +166,3 @@ ABOUT = "programs of chance objects, linked and run"
 @Test("made-programs", ABOUT, commands=ASSEMBLER, crates="elfmap", alone=True, family="linked", options=OPTIONS)
 def made_programs(tally: Tally, options: Options) -> None:
     count_tries(tally, options, "made-program", wrong_in)
-    if not RUNS:
-        tally.note("the programs do not run on this machine")

@@ -2,14 +2,13 @@
 command has a part of its own, whose text up to the first example comes below COMMANDS, and what follows below EXAMPLES. A row of a table
 becomes a paragraph with its first cell as the tag.
 
-And completions of bash, zsh and fish for a command, made from the help that it prints: its subcommands, its options, and the words that an
+And completions of bash, zsh and fish for a command. They read the help that it prints: its subcommands, its options, and the words that an
 option takes. All other words are files."""
 
 import functools, re
-from collections.abc import Callable, Iterable
-from dataclasses import dataclass, field
+from collections.abc import Iterable
 
-from .tree import Options, cells, read_text, replaced
+from .tree import Options, cells, filled, read_text
 
 # Where the text is that the page is made of.
 MANUAL = "docs/MANUAL.md"
@@ -18,27 +17,10 @@ OTHERS = {"Exit status": "EXIT STATUS", "Files of rules": "FILES", "Limits": "LI
 MARK = re.compile(r"\[((?:`[^`]*`|[^\]`])*)\]\(([^)]*)\)|`([^`]*)`|\*\*([^*]*)\*\*")
 # The signs of ASCII, of which groff would make others.
 SIGNS = str.maketrans({"-": r"\-", "'": r"\(aq", "`": r"\(ga", "^": r"\(ha", "~": r"\(ti"})
-WIDTH = 68
-SEE_ALSO = r""".BR readelf (1),
-.BR ld (1),
-.BR elf (5),
-.BR elfmap\-lint (1),
-.BR elfmap\-explain (1),
-.BR elfmap\-same (1),
-.BR elfmap\-gaps (1),
-.BR elfmap\-picture (1)
-.PP
-In the directory of the release:
-.B \%docs/MANUAL.md
-has these texts and the libraries,
-.B \%docs/RULES.md
-every rule by its number, what it means and what to do,
-.B \%docs/RULE_FILES.md
-the files of rules line by line,
-.B \%doc/elfmap\-doc.html
-the library, and
-.B \%include/elfmap.h
-the calls for C."""
+SEE_ALSO = "readelf(1), ld(1), elf(5), elfmap-lint(1), elfmap-explain(1), elfmap-same(1), elfmap-gaps(1), elfmap-picture(1)"
+PAGES = """In the directory of the release: `docs/MANUAL.md` has these texts and the libraries, `docs/RULES.md` every rule by its number, what it
+means and what to do, `docs/RULE_FILES.md` the files of rules line by line, `doc/elfmap-doc.html` the library, and `include/elfmap.h` the
+calls for C."""
 
 
 # ---- docs/MANUAL.md
@@ -69,13 +51,8 @@ def escaped(text: str) -> str:
 
 
 def literal(text: str) -> str:
-    """Text that is typed or printed so."""
-    return escaped(re.sub(r"(?<![\w/.])\./elfmap\b", "elfmap", text)).translate(SIGNS)
-
-
-def bold(code: str) -> str:
-    """Code, no word of which is cut at the end of a line."""
-    return r"\fB" + re.sub(r"(\S+)", r"\%\1", literal(code)) + r"\fP"
+    """Escaped text that is typed or printed so."""
+    return re.sub(r"(?<![\w/.])\./elfmap\b", "elfmap", text).translate(SIGNS)
 
 
 def marked(text: str) -> str:
@@ -85,27 +62,15 @@ def marked(text: str) -> str:
     def own(mark: re.Match[str]) -> str:
         words, target, code, stress = mark.groups()
         if words is None:
-            return bold(code) if code is not None else rf"\fB{escaped(stress)}\fP"
-        return marked(words) + (f" ({MANUAL})" if target.startswith("#") and target not in here else "")
+            return rf"\fB{stress if code is None else literal(code)}\fP"
+        return MARK.sub(own, words) + (f" ({MANUAL})" if target.startswith("#") and target not in here else "")
 
-    return replaced(MARK, text, own, escaped)
+    return MARK.sub(own, escaped(text))
 
 
 def guarded(line: str) -> str:
     """A line that is no macro."""
     return rf"\&{line}" if line.startswith((".", "'")) else line
-
-
-def folded(line: str) -> list[str]:
-    """A line of an example; a command that is too long for a page goes on in further lines."""
-    if not line.startswith("$ ") or len(line) <= WIDTH:
-        return [line]
-    lines = [""]
-    for word in re.findall(r"(?:'[^']*'|\S)+", line):
-        if len(lines[-1]) + len(word) > WIDTH - 3:
-            lines.append("     ")
-        lines[-1] += f" {word}" if lines[-1] else word
-    return [*(f"{it} \\" for it in lines[:-1]), lines[-1]]
 
 
 def macros(block: str) -> list[str]:
@@ -114,19 +79,8 @@ def macros(block: str) -> list[str]:
         return [it for tag, *texts in rows for it in (".TP", guarded(marked(tag)), guarded(marked(", ".join(texts))))]
     if not block.startswith("    "):
         return [".PP", *(guarded(it) for it in marked(block).split("\n"))]
-    lines = [it for line in block.split("\n") for it in folded(line.removeprefix("    "))]
-    return [".PP", ".RS 4", ".EX", *(guarded(literal(it)) for it in lines), ".EE", ".RE"]
-
-
-def usage(line: str) -> list[str]:
-    """A synopsis: what is typed so is bold, what a word or a file stands for is italic."""
-    command, sub, rest = line.split(None, 2)
-
-    def styled(word: re.Match[str]) -> str:
-        return (r"\fB" if word[0][0] == "-" else r"\fI") + literal(word[0]) + r"\fP"
-
-    groups = re.findall(r"\[[^\]]*\]|--\w+ [A-Z]+|\S+", rest)
-    return [f'.SY "{command} {sub}"', *(re.sub(r"--\w+|[A-Z]+", styled, it).replace(" ", r"\ ") for it in groups), ".YS"]
+    lines = (line.removeprefix("    ") for line in block.split("\n"))
+    return [".PP", ".RS 4", ".EX", *(guarded(literal(escaped(it))) for it in lines), ".EE", ".RE"]
 
 
 # ---- The page
@@ -139,9 +93,9 @@ def section(title: str, blocks: Iterable[str]) -> list[str]:
 def page(version: str) -> str:
     summary = blocks(read_text(MANUAL))[1]
     name = summary.partition(", the ")[0].replace("elfmap ", r"elfmap \- ", 1)
-    lines = [f'.TH ELFMAP 1 "" "elfmap {escaped(version)}" "elfmap"', ".ad l", ".SH NAME", name, ".SH SYNOPSIS"]
-    lines += [it for line in parts()[""][0].split("\n") for it in usage(line)]
-    lines += [*section(".SH DESCRIPTION", [summary]), ".SH COMMANDS"]
+    # No word is cut at the end of a line: it may be one that is typed.
+    lines = [f'.TH ELFMAP 1 "" "elfmap {escaped(version)}" "elfmap"', ".ad l", ".nr HY 0", ".SH NAME", name, ".SH SYNOPSIS"]
+    lines += [*macros(parts()[""][0]), *section(".SH DESCRIPTION", [summary]), ".SH COMMANDS"]
     examples = [".SH EXAMPLES"]
     for title, found in list(parts().items())[1:]:
         first = next((at for at, it in enumerate(found) if is_example(it)), len(found))
@@ -149,7 +103,8 @@ def page(version: str) -> str:
         examples += section(f".SS {title}", found[first:]) if found[first:] else []
     for title, name in OTHERS.items():
         lines += section(f".SH {name}", (it for it in parts()[title] if not is_example(it)))
-    return "\n".join([*lines, *examples, ".SH SEE ALSO", SEE_ALSO, ""])
+    others = re.sub(r"(\S+)(\(\d\),?) ?", lambda it: f".BR {literal(it[1])} {it[2]}\n", SEE_ALSO).rstrip()
+    return "\n".join([*lines, *examples, ".SH SEE ALSO", others, *macros(PAGES), ""])
 
 
 def main(options: Options) -> None:
@@ -158,116 +113,44 @@ def main(options: Options) -> None:
 
 # ---- Completions
 
-OPTION = re.compile(r"^ {2,8}(-\S.*?)(?:  +(.*))?$", re.M)
-# What completes as a file; other values are numbers and names.
-FILES = ("FILE", "RULES")
-BASH = """# bash completion of {name}
-{function}() {{
-    local word=${{COMP_WORDS[COMP_CWORD]}} words=""
-    case "{subject}" in
-{cases}    esac
-    COMPREPLY=($(compgen -W "$words" -- "$word"))
-}}
-complete -o default -F {function} {name}
+# The help of a command, in which each thing listed has one line; of these the words, with what is said of them; and the words that an option
+# takes.
+HELP = r"--help 2>&1 | sed -zE 's/\n {10,}/  /g'"
+LISTED = r"sed -nE 's/^ +(-., )?(--?[a-z0-9-]+|[a-z]+)( [^ ]+)*  +(.*)/\2\t\4/p'"
+CHOICES = r"sed -nE 's/^ +'$before' \{(.*)\}.*/\1/p'"
+BASH = r"""# bash completion of @NAME@
+@FUNCTION@() {
+    local word=${COMP_WORDS[COMP_CWORD]} before=${COMP_WORDS[COMP_CWORD-1]//[^-a-z0-9]/}
+    local sub=$( ((COMP_CWORD > 1)) && grep -x '[a-z]*' <<< "${COMP_WORDS[1]}")
+    local help=$(@NAME@ $sub @HELP@)
+    local words=$(@LISTED@ <<< "$help" | cut -f 1 | if [[ $word == -* ]]; then cat; else grep '^[a-z]'; fi)
+    COMPREPLY=($(compgen -W "$words $(@CHOICES@ <<< "$help" | tr , ' ')" -- "$word"))
+}
+complete -o default -F @FUNCTION@ @NAME@
+"""
+ZSH = r"""#compdef @NAME@
+local before=${words[CURRENT-1]//[^-a-z0-9]/} sub=""
+(( CURRENT > 2 )) && [[ $words[2] == [a-z]* ]] && sub=$words[2]
+local help="$(@NAME@ $sub @HELP@)"
+local -a listed=(${(f)"$(@LISTED@ <<< $help | tr '\t' :)"})
+local -a options=(${(M)listed:#-*}) commands=(${listed:#-*}) choices=(${(s:,:)"$(@CHOICES@ <<< $help)"})
+_describe -o option options && return
+_describe word choices || _describe command commands || _files
+"""
+FISH = r"""function @FUNCTION@
+    set -l words (commandline -opc)
+    set -l before (string replace -ra '[^-a-z0-9]' '' -- $words[-1])
+    set -l help (env $words[1] (string match -r '^[a-z]+$' -- $words[2]) @HELP@ | string collect)
+    set -l kind (string match -rq '^-' -- (commandline -ct); and echo '^-'; or echo '^[a-z]')
+    echo $help | @LISTED@ | string match -re $kind
+    echo $help | @CHOICES@ | string split ,
+end
+complete -c @NAME@ -a '(@FUNCTION@)'
 """
 
 
-@dataclass
-class Option:
-    names: list[str]
-    value: str
-    choices: list[str]
-    about: str
-
-
-@dataclass
-class Command:
-    """A command, or a subcommand, with what it says of itself."""
-
-    name: str
-    about: str = ""
-    options: list[Option] = field(default_factory=list)
-    subcommands: list["Command"] = field(default_factory=list)
-
-
-def options_of(help: str) -> list[Option]:
-    """The options that a help lists; the words of one may be on the line below it."""
-    found = []
-    for head, about in OPTION.findall(re.sub(r"^( {2,8}-\S.*)\n {10,}(?=\S)", r"\1  ", help, flags=re.M)):
-        choices, value = re.search(r"\{(.*)\}", head), re.search(r" <?([A-Z][A-Z0-9]*)", head)
-        names = re.findall(r"(?:^|, )(--?[\w-]+)", head)
-        found.append(Option(names, value[1] if value else "", choices[1].split(",") if choices else [], about))
-    return found
-
-
-def command_of(name: str, help_of: Callable[..., str]) -> Command:
-    """A command by its help, and by that of each subcommand that this lists."""
-    help = help_of()
-    listed = re.findall(r"^  (\w+)  +(.*)$", help.partition("\nCommands:\n")[2].partition("\n\n")[0], re.M)
-    return Command(name, "", options_of(help), [Command(sub, about, options_of(help_of(sub))) for sub, about in listed])
-
-
-def names_in(own: Command) -> str:
-    return " ".join(name for it in own.options for name in it.names)
-
-
-def quoted(text: str) -> str:
-    return "'" + text.replace("'", "'\\''") + "'"
-
-
-def bash(own: Command) -> str:
-    """Words by the number of the word, the subcommand and the word; or by the name, the word and the one in front of it."""
-    if own.subcommands:
-        subject = "$COMP_CWORD,${COMP_WORDS[1]},$word"
-        words = {"1,*": f"{' '.join(it.name for it in own.subcommands)} {names_in(own)}"}
-        words |= {f"*,{it.name},-*": names_in(it) for it in own.subcommands}
-    else:
-        subject = f"{own.name},$word,${{COMP_WORDS[COMP_CWORD-1]}}"
-        words = {f"{own.name},*,{it.names[-1]}": " ".join(it.choices) for it in own.options if it.choices}
-        words |= {"*,-*,*": names_in(own)}
-    cases = "".join(f'    {pattern}) words="{it}" ;;\n' for pattern, it in words.items())
-    return BASH.format(name=own.name, function="_" + re.sub(r"\W", "_", own.name), subject=subject, cases=cases)
-
-
-def zsh_words(own: Command) -> str:
-    """The words of _arguments for the options of a command."""
-    found = []
-    for it in own.options:
-        value = f":{it.value}:({' '.join(it.choices)})" if it.choices else f":{it.value}:{'_files' if it.value in FILES else ' '}"
-        tail = quoted(f"[{re.sub(r'[][]', '', it.about)}]" + (value if it.value or it.choices else ""))
-        found += [name + tail for name in it.names]
-    return " ".join([*found, "'*:file:_files'"])
-
-
-def zsh(own: Command) -> str:
-    lines = [f"#compdef {own.name}"]
-    if own.subcommands:
-        described = " ".join(quoted(f"{it.name}:{it.about}") for it in own.subcommands)
-        lines += [f"local -a commands=({described})", "if (( CURRENT == 2 )); then _describe command commands; return; fi"]
-        lines += ["shift words; (( CURRENT-- ))", "case $words[1] in"]
-        lines += [*(f"{it.name}) _arguments -s {zsh_words(it)} ;;" for it in own.subcommands), "esac"]
-    else:
-        lines.append(f"_arguments -s {zsh_words(own)}")
-    return "\n".join([*lines, ""])
-
-
-def fish(own: Command) -> str:
-    complete = f"complete -c {own.name}"
-    lines = [f"{complete} -n __fish_use_subcommand -f -a {it.name} -d {quoted(it.about)}" for it in own.subcommands]
-    for sub in own.subcommands or [own]:
-        scope = f" -n '__fish_seen_subcommand_from {sub.name}'" if own.subcommands else ""
-        for option in sub.options:
-            names = " ".join(f"-l {it[2:]}" if it.startswith("--") else f"-s {it[1:]}" for it in option.names)
-            value = f" -x -a '{' '.join(option.choices)}'" if option.choices else ""
-            value = value or (" -r" if option.value in FILES else " -x" if option.value else "")
-            lines.append(f"{complete}{scope} {names}{value} -d {quoted(option.about)}")
-    return "\n".join([*lines, ""])
-
-
-def files(own: Command) -> dict[str, str]:
+def completions(name: str) -> dict[str, str]:
     """The files of the completions of a command, by their places below /usr/share."""
-    return {
-        f"bash-completion/completions/{own.name}": bash(own),
-        f"zsh/vendor-completions/_{own.name}": zsh(own),
-        f"fish/vendor_completions.d/{own.name}.fish": fish(own),
-    }
+    parts = {"NAME": name, "FUNCTION": "_" + re.sub(r"\W", "_", name), "HELP": HELP, "LISTED": LISTED, "CHOICES": CHOICES}
+    texts = {"bash-completion/completions/{}": BASH, "zsh/vendor-completions/_{}": ZSH, "fish/vendor_completions.d/{}.fish": FISH}
+    return {place.format(name): filled(text, **parts) for place, text in texts.items()}

@@ -99,13 +99,12 @@ def functions_in(path: str, text: str) -> list[Function]:
 
 def last_call(expression: str) -> str:
     """The name of the call that an expression ends with: a function's, a method's, or a macro's."""
-    depth, bare = 0, expression.rstrip("? ")
-    for at in range(len(bare) - 1, -1, -1) if bare.endswith((")", "]")) else ():
-        depth += (bare[at] in ")]") - (bare[at] in "([")
-        if depth == 0:
-            name = re.search(r"(\w+!?)(?:::<[^()]*>)?$", bare[:at])
-            return name[1] if name else ""
-    return ""
+    bare, shorter = "", expression.rstrip("? ")
+    # What is in brackets, from inside to outside, becomes a sign.
+    while bare != shorter:
+        bare, shorter = shorter, re.sub(r"[(\[][^()\[\]]*[)\]]", "¤", shorter)
+    name = re.search(r"(\w+!?)(?:::<[^¤]*>)?¤$", bare)
+    return name[1] if name else ""
 
 
 class Reading:

@@ -5,7 +5,7 @@ import collections, glob, os, re, shutil
 
 from .doc_examples import words as words_over_sources
 from .building import kit
-from .sources import Definition, definitions
+from .sources import definitions
 from .suite import Tally, Test, flag, steps_of
 from .tree import PACKAGE, TOP, Options, read_text, run, said, write
 
@@ -14,14 +14,13 @@ from .tree import PACKAGE, TOP, Options, read_text, run, said, write
 
 @Test("names", "each name of a definition is in one crate")
 def names(tally: Tally, options: Options) -> None:
-    places = collections.defaultdict[str, list[Definition]](list)
+    places = collections.defaultdict[str, list[str]](list)
     for path in sorted(glob.glob("crates/*/specs/**/*.antt", root_dir=TOP, recursive=True)):
-        for name, it in definitions(path)[0].items():
-            places[name].append(it)
-    several = {name: own for name, own in sorted(places.items()) if len({it.path.split("/")[1] for it in own}) > 1}
-    for name, own in several.items():
-        lines = ((it.path, read_text(it.path).partition(it.text)[0].count("\n") + 1) for it in own)
-        tally.fail(f"{name}: {', '.join(f'{path}:{line}' for path, line in lines)}")
+        for name in definitions(path)[0]:
+            places[name].append(path)
+    several = {name: paths for name, paths in sorted(places.items()) if len({it.split("/")[1] for it in paths}) > 1}
+    for name, paths in several.items():
+        tally.fail(f"{name}: {', '.join(paths)}")
     tally.check(places and not several, "a name is defined in more than one crate")
 
 
@@ -35,14 +34,9 @@ def must_not_compile(tally: Tally, options: Options) -> None:
     write(f"{tally.new_folder('src')}/lib.rt", text)
     output = said(f"{kit()}/bin/rattle", *words_over_sources(re.findall(r"^use (elf_\w+)::", text, re.M)), folder=tally.folder).stdout
     refused = [int(it) for it in re.findall(r"^src/lib\.rt:(\d+):.*borrow-e0(?:505|515|597)", output, re.M)]
-    functions = list(re.finditer(r"^pub fn (\w+)(?:.*\n)*?^}", text, re.M))
-    if not functions:
-        tally.fail("there is no function")
-    for it in functions:
+    for it in re.finditer(r"^pub fn (\w+)(?:.*\n)*?^}", text, re.M):
         first, last = (text.count("\n", 0, place) + 1 for place in it.span())
-        tally.check(any(first <= line <= last for line in refused), f"the borrow checker did not refuse {it[1]}")
-    if tally.failed:
-        tally.note(output[-2000:])
+        tally.check(any(first <= line <= last for line in refused), f"the borrow checker did not refuse {it[1]}: {output[-2000:]}")
 
 
 # ---- launcher: what ./elfmap builds and runs for which words
@@ -67,12 +61,11 @@ SETTINGS = f"{TOP}/tools/pyproject.toml"
 
 @Test("types", "mypy --strict over tools/ and the Python package", commands="mypy")
 def types(tally: Tally, options: Options) -> None:
-    words = ["mypy", "--config-file", SETTINGS, "--cache-dir", f"{TOP}/crates/elfmap/out/mypy"]
-    ran = said(*words, f"{TOP}/tools/lib/elfmap_tools", *PROGRAMS, folder=f"{TOP}/tools")
-    tally.check(ran.returncode == 0, ran.stdout)
+    own = ["--config-file", SETTINGS, f"{TOP}/tools/lib/elfmap_tools", *PROGRAMS]
     # The package runs by Python 3.9 too.
-    ran = said("mypy", "--strict", "--python-version", "3.9", "--cache-dir", f"{TOP}/crates/elfmap/out/mypy", "elfmap", folder=PACKAGE)
-    tally.check(ran.returncode == 0, ran.stdout)
+    for folder, words in ((f"{TOP}/tools", own), (PACKAGE, ["--strict", "--python-version", "3.9", "elfmap"])):
+        ran = said("mypy", "--cache-dir", f"{TOP}/crates/elfmap/out/mypy", *words, folder=folder)
+        tally.check(ran.returncode == 0, ran.stdout)
 
 
 @Test("format", "black over tools/ and the Python package", commands="black", options=(flag("write", "format it"),))

@@ -4,18 +4,16 @@ It is one file, which needs no network: the library for C as a WebAssembly modul
 The module is made of the same proved crates as the library for C: the kit's compiler makes it for a memory of 64-bit addresses, which not
 every browser has, and wasm-opt (of binaryen) lowers it to one of 32-bit addresses."""
 
-import base64, contextlib, ctypes, json, os, shutil, sys, tempfile, time
+import base64, contextlib, ctypes, json, os, shutil, tempfile, time
 from typing import Any, cast
+
+from elfmap import _library, _names as names
 
 from . import library
 from .building import built_below, is_current, kit, words
 from .library import VERDICTS as CRATE
-from .packages import PYTHON_MODULES
 from .rules_tables import file_rules
-from .tree import PACKAGE, TOP, Options, filled, read_bytes, read_text, wanted, write
-
-sys.path.insert(0, PACKAGE)
-from elfmap import _names as names  # noqa: E402
+from .tree import TOP, Options, filled, read_bytes, read_text, wanted, write
 
 Structs = dict[str, dict[str, Any]]
 TARGET = "wasm64-unknown-unknown"
@@ -46,21 +44,17 @@ def module() -> str:
 
 
 def layout() -> Structs:
-    """The structs of include/elfmap.h: the size of each, and its fields with their offsets, as C lays them out."""
+    """The structs of include/elfmap.h, as the Python package declares them: the size of each, and its fields with their offsets."""
+    tags = {getattr(_library, name): tag for name, tag in library.STRUCTS.items() if hasattr(_library, name)}
     found: Structs = {}
-    numbers = [f"{sign}int{width}" for sign in ("", "u") for width in (8, 16, 32, 64)]
-    types: dict[str, Any] = {f"{it}_t": getattr(ctypes, f"c_{it}") for it in numbers}
-    for tag, fields in library.structs().items():
-        if any(kind not in types for kind, _, _ in fields):
-            continue  # It belongs to the engines, which the page has not.
-        own = [(name, types[kind] * int(count) if count else types[kind]) for kind, name, count in fields]
-        made = types[f"struct {tag}"] = type(tag, (ctypes.Structure,), {"_fields_": own})
+    for made, tag in tags.items():
         found[tag] = {"size": ctypes.sizeof(made), "align": ctypes.alignment(made), "fields": []}
-        for kind, name, count in fields:
-            place: dict[str, Any] = {"name": name, "at": getattr(made, name).offset, "width": ctypes.sizeof(types[kind])}
-            place |= {"struct": kind[7:]} if kind.startswith("struct ") else {}
-            place |= {"count": int(count)} if count else {}
-            place |= {"signed": True} if kind.startswith("int") else {}
+        for name, kind in made._fields_:
+            own = kind._type_ if issubclass(kind, ctypes.Array) else kind
+            place: dict[str, Any] = {"name": name, "at": getattr(made, name).offset, "width": ctypes.sizeof(own)}
+            place |= {"struct": tags[own]} if own in tags else {}
+            place |= {"count": kind._length_} if own is not kind else {}
+            place |= {"signed": True} if own is ctypes.c_int64 else {}
             found[tag]["fields"].append(place)
     return found
 
@@ -81,7 +75,7 @@ def page() -> str:
     script = common + constants(RULES=rules, MODULE=code) + read_text("page/draw.js")
     if "</script" in worker + script:
         raise SystemExit("page: a script ends its own element")
-    return filled("page/page.html", STYLE=read_text("page/style.css"), WORKER=worker, SCRIPT=script)
+    return filled(read_text("page/page.html"), STYLE=read_text("page/style.css"), WORKER=worker, SCRIPT=script)
 
 
 def main(options: Options) -> None:
@@ -105,8 +99,6 @@ class Browser:
     """One page in a Chromium of its own."""
 
     def __init__(self) -> None:
-        # Another python3 than Debian's finds it there too.
-        sys.path.append(PYTHON_MODULES)
         from selenium import webdriver
 
         options = webdriver.ChromeOptions()

@@ -10,11 +10,10 @@ from collections.abc import Iterator
 from .cases import case_files, cases_of
 from .library import VERDICTS as CRATE
 from .making import fuzzed
-from .packages import SELENIUM
 from .page import Browser, layout, module, page
 from .reference import verdict
-from .suite import Tally, Test, number
-from .tree import PROGRAM, TOP, Options, read_bytes, said, write
+from .suite import SELENIUM, Tally, Test, number
+from .tree import PROGRAM, TOP, Options, read_bytes, said, wanted, write
 
 MACHINE_FILES = ["/bin/true", "/bin/ls", "/usr/lib/gcc/x86_64-linux-gnu/12/crtbegin.o"]
 MACHINE_FILES += [f"/usr/lib/x86_64-linux-gnu/{it}" for it in ("crt1.o", "Scrt1.o", "crti.o", "libdl.so.2", "libutil.so.1")]
@@ -32,16 +31,12 @@ def in_node(tally: Tally, room: str, count: int) -> None:
     files = [write(f"{room}/files/{name}", content) for content, name in contents.items()]
     chance, sound = random.Random(48), [it for it in map(read_bytes, files) if len(it) <= LONGEST and verdict(it) is None]
     files += [write(f"{room}/files/changed-{k}", fuzzed(chance.choice(sound), chance)) for k in range(count)]
-    told: dict[str, list[str]] = {}
+    told: dict[str, str] = {}
     for k in range(0, len(files), 500):
-        ran = said("node", f"{TOP}/page/lines.js", module(), f"{room}/layout.json", *files[k : k + 500])
-        for it in f"\n{ran.stdout}".split("\n-- ")[1:]:
-            path, _, text = it.partition("\n")
-            told[path] = text.splitlines()
-        if not tally.check(ran.returncode == 0, f"node: {ran.stdout[-600:]}"):
-            return
+        text = wanted("node", f"{TOP}/page/lines.js", module(), f"{room}/layout.json", *files[k : k + 500])
+        told |= dict(it.split("\n", 1) for it in f"\n{text}".split("\n-- ")[1:])
     for path in files:
-        own, lines = told[path], [it for it in said(PROGRAM, "show", path).stdout.splitlines() if not it.startswith("group ")]
+        own, lines = told[path].splitlines(), [it for it in said(PROGRAM, "show", path).stdout.splitlines() if not it.startswith("group ")]
         tally.check(own == lines, f"{path}: {[pair for pair in zip(own, lines) if pair[0] != pair[1]][:2] or (len(own), len(lines))}")
 
 
@@ -214,13 +209,12 @@ class InChromium(Browser):
     def million(self) -> None:
         path = f"{self.room}/million.o"
         write(f"{self.room}/million.s", "".join(f".globl name_{k}\nname_{k}={k}\n" for k in range(SYMBOLS)))
-        made = said("cc", "-c", f"{self.room}/million.s", "-o", path)
-        if self.check(made.returncode == 0, f"the object is not made: {made.stdout[:200]}"):
-            self.show(path)
-            took = float(self.value("document.body.dataset.took"))
-            self.note(f"an object of {SYMBOLS:,} symbols, {os.path.getsize(path) / 2**20:.0f} MiB, was validated in {took:.1f} ms")
-            self.check(took < MOST_MILLISECONDS, f"that took {took} ms")
-            self.opens("symbols", "Symbols 1 to 100 of 1,000,")
+        wanted("cc", "-c", f"{self.room}/million.s", "-o", path)
+        self.show(path)
+        took = float(self.value("document.body.dataset.took"))
+        self.note(f"an object of {SYMBOLS:,} symbols, {os.path.getsize(path) / 2**20:.0f} MiB, was validated in {took:.1f} ms")
+        self.check(took < MOST_MILLISECONDS, f"that took {took} ms")
+        self.opens("symbols", "Symbols 1 to 100 of 1,000,")
 
 
 ABOUT, TOOLS = "the page for a browser, in node beside `elfmap show`, and in chromium", f"node wasm-opt chromium chromedriver {SELENIUM} cc"
@@ -232,7 +226,7 @@ def try_page(tally: Tally, options: Options) -> None:
     room = tally.folder
     in_node(tally, room, options.count)
     html, file = write(f"{room}/elfmap.html", page()), f"{room}/object.o"
-    said("cc", "-c", "-O1", write(f"{room}/object.c", SOURCE), "-o", file)
+    wanted("cc", "-c", "-O1", write(f"{room}/object.c", SOURCE), "-o", file)
     with contextlib.closing(InChromium(tally, room)) as it:
         it.open(html)
         it.sound_file(file)

@@ -1,5 +1,5 @@
-"""`tools/dev peers > docs/PEERS.md`: what other tools say of files that elfmap refuses; and `tools/dev shared-tails PROGRAM FILE..`, how
-much shorter string tables are whose names share their tails.
+"""`tools/dev peers`: the tables of docs/PEERS.md, what other tools say of files that elfmap refuses; and `tools/dev shared-tails PROGRAM
+FILE..`, how much shorter string tables are whose names share their tails.
 
 For each rule of images, tables and objects there are up to FILES_A_RULE files that break it first. They are files that cc made, with one
 byte changed, which the other tools take without a word as they were; where no such change is found for a rule, files of cases/*.txt; of
@@ -12,8 +12,9 @@ from .cases import every_case
 from .machine_files import content_of, objects_of
 from .reference import SYMTAB, File, object_verdict, shown, symbols, verdict
 from .rules_tables import by_anchor
-from .tree import Options, by_cc, read_bytes, run, side_by_side, write
+from .tree import TOP, Options, by_cc, read_bytes, read_text, run, side_by_side, write
 
+PAGE = "docs/PEERS.md"
 FILES_A_RULE = 2
 # So many bytes are changed, one at a time.
 CHANGES = 30000
@@ -27,23 +28,6 @@ TOOLS = {
 }  # fmt: skip
 # The rules by the command that answers them, and where docs/RULES.md has them.
 KINDS = {"check": ("image", range(1, 34)), "show": ("table", range(40, 70)), "rewrite": ("object", range(70, 80))}
-HEAD = """# What other tools say
-
-`tools/dev peers > docs/PEERS.md` makes this page. For each rule of elfmap but 1 and 40, it has up to {most} files that break it first, and
-what other tools say about them. The files are objects, an executable and a library that cc made of a few lines of C, each with one byte
-changed. Files of a rule marked with * are generated files of `cases/`, and may be odd in other ways too. The first rows are the files
-without a change. Files that break rule 1 are longer than 1 GiB, and no command returns rule 40.
-
-Do not read this as a contest. The other tools have other tasks, and for them many of these files are fine. elfmap's rules are its own.
-
-- *silent*: the tool ended with status 0, and wrote no warning.
-- *warns*: it ended with status 0, and wrote something to standard error, or the word `warning` or `error` to standard output.
-- *rejects*: it ended with another status.
-- *killed*: a signal ended it.
-
-elfmap rejects each of these files with this rule, at the lowest offset where it is broken: `check` with rules 1 to 33, `show` a table with
-rules 40 to 69, `rewrite` an object with rules 70 to 79.
-"""
 Files = dict[int, list[bytes]]
 
 
@@ -119,17 +103,16 @@ def peers(options: Options) -> None:
         made = {name: read_bytes(by_cc(f"{room}/made", words, "answer_peers.c")) for name, words in MADE.items()}
     changed = changed_files(list(made.values()))
     found = case_files() | changed
-    print(HEAD.format(most=FILES_A_RULE))
+    # The page says above its list of tools what it has.
+    lines = [read_text(PAGE).partition("\n- `")[0]]
     for it in tools:
-        print(f"- `{TOOLS[it]}`: {run(TOOLS[it].split()[0], '--version').stdout.decode().strip().splitlines()[0].strip()}")
-    print(f"\n| rule | files | {' | '.join(f'`{it}`' for it in tools)} |\n|---|---|{'---|' * len(tools)}")
-    for name, content in made.items():
-        print(row(f"none: {name}", [content], tools))
+        lines.append(f"- `{TOOLS[it]}`: {run(TOOLS[it].split()[0], '--version').stdout.decode().strip().splitlines()[0].strip()}")
+    lines += ["", f"| rule | files | {' | '.join(f'`{it}`' for it in tools)} |", f"|---|---|{'---|' * len(tools)}"]
+    lines += [row(f"none: {name}", [content], tools) for name, content in made.items()]
     for rule, contents in sorted(found.items()):
         kind = next(kind for kind, own in KINDS.values() if rule in own)
-        title = f"{rule} `{by_anchor()[f'{kind}-{rule}'].name}`" + ("" if rule in changed else " *")
-        print(row(title, contents, tools))
-    print(f"\n{sum(map(len, found.values()))} files.")
+        lines.append(row(f"{rule} `{by_anchor()[f'{kind}-{rule}'].name}`" + ("" if rule in changed else " *"), contents, tools))
+    write(f"{TOP}/{PAGE}", "\n".join([*lines, "", f"{sum(map(len, found.values()))} files.", ""]))
 
 
 # ---- shared tails

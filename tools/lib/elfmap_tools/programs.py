@@ -5,7 +5,7 @@ from collections.abc import Callable
 
 from . import building, definitions, doc, dump, library, man, minutes, page, peers, release as releasing, rules_tables
 from .suite import TESTS, Option, add_command, main as run_tests, word
-from .tree import PACKAGE, TOP, Options, progress
+from .tree import PACKAGE, TOP, Options, libraries, progress
 
 # Its name, what it does, the function, whose answer is the status, and its words.
 Command = tuple[str, str, Callable[[Options], int | None], list[Option]]
@@ -18,7 +18,7 @@ def run(name: str, about: str, commands: list[Command], words: list[str]) -> int
     for command, what, main, arguments in commands:
         add_command(added, command, what, arguments).set_defaults(main=main)
     options = parser.parse_args(words)
-    with progress(f"{name} {options.command}"):
+    with progress(lambda: f"{name} {options.command}"):
         return int(options.main(options) or 0)
 
 
@@ -29,7 +29,7 @@ def package_command(options: Options) -> int:
 
 
 FUNCTION = word("function", "a function's path in the crate, or the end of it that fits one alone, or a module, or a type", nargs="*")
-CRATE, OF_PACKAGE = word("crate", "a crate of crates.txt"), word("words", "its words", nargs=argparse.REMAINDER)
+CRATE, OF_PACKAGE = word("crate", "a crate of crates.txt", choices=libraries()), word("words", "its words", nargs=argparse.REMAINDER)
 TEST = word("--test", "the tests alone whose names hold this", metavar="NAME")
 OBJECTS = [word("program", "elfmap"), word("file", "an object, or an archive of objects", nargs="+")]
 DEV: list[Command] = [
@@ -38,7 +38,7 @@ DEV: list[Command] = [
     ("doc", "print the page of the whole library, for a browser", doc.main, []),
     ("explain", "say in words why elfmap refused a file: elfmap-explain of the Python package", package_command, [OF_PACKAGE]),
     ("picture", "draw the bytes of a file: elfmap-picture of the Python package", package_command, [OF_PACKAGE]),
-    ("peers", "print docs/PEERS.md: what other tools say of files that elfmap refuses", peers.peers, []),
+    ("peers", "write the tables of docs/PEERS.md: what other tools say of files that elfmap refuses", peers.peers, []),
     ("shared-tails", "print how much shorter string tables are whose names share tails", peers.shared_tails, OBJECTS),
     ("minutes", "print at its end the processor minutes of a process", minutes.main, [word("pid", "its number", type=int)]),
     ("told", "write the files that the tests of bindings/ try, and what they have to say", dump.main, [word("folder", "where to")]),

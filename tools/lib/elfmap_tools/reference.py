@@ -1,19 +1,16 @@
 """The reference implementation (reference/), as the tools call it: written in Python from the rules' words in docs/RULES.md alone. Its
 modules have no types, so what they answer gets its type here. And small objects and files, made by their parts."""
 
-import sys
 from collections.abc import Callable, Mapping, Sequence
 from typing import Any, cast
 
-from .tree import TOP, Answer
+import executable, image, link, objects, show, tables
+from objects import Value, kept, record
+from records import DYNAMIC, HEADER, PROGRAM_HEADER, RELOCATION, SECTION_HEADER, SYMBOL, File
+from show import name_of, parts, signed
+from tables import ENTRY_SIZE, elf_hash, entries_before_null, is_section, notes, padded, symbols
 
-sys.dont_write_bytecode = True
-sys.path.insert(0, f"{TOP}/reference")
-import executable, image, link, objects, show, tables  # noqa: E402
-from objects import Value, kept, record  # noqa: E402
-from records import DYNAMIC, HEADER, PROGRAM_HEADER, RELOCATION, SECTION_HEADER, SYMBOL, File  # noqa: E402
-from show import name_of, parts, signed  # noqa: E402
-from tables import ENTRY_SIZE, elf_hash, entries_before_null, is_section, notes, padded, symbols  # noqa: E402
+from .tree import Answer
 
 Broken = tuple[int, int]
 laid: Callable[[Any], bytes] = objects.laid

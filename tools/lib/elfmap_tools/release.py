@@ -8,12 +8,13 @@ given. The same program, library, version, texts and commit make the same archiv
 Python package as a wheel with the library in it, the Rust crate with the static library, and their SHA256SUMS. docs/MANUAL.md lists what
 each has. The same build makes the same bytes: every file has the time of the commit."""
 
-import base64, functools, glob, gzip, hashlib, os, re, shutil, sys, tempfile, time, zipfile
+import functools, glob, gzip, os, re, shutil, sys, tempfile, zipfile
 
 from . import doc, library, man, page
 from .building import is_current, output_of
-from .library import SHARED
-from .tree import PROGRAM, TOP, Options, files_below, read_bytes, read_text, run, said, wanted, write
+from .library import PACKERS, SHARED
+from .suite import JINJA2, MARKDOWN
+from .tree import PACKAGE, PROGRAM, TOP, Options, files_below, read_bytes, read_text, run, said, wanted, write
 
 RUNNER = """#!/bin/sh
 # elfmap WORDS..: the program elfmap, with settings of the C library's memory.
@@ -22,17 +23,18 @@ if [ -L "$0" ]; then here=$(readlink -f -- "$0"); else here=$0; fi
 case $here in */*) ;; *) here=./$here ;; esac
 {settings}exec "${{here%/*}}/../{program}" "$@"
 """
-COMMAND = """#!/usr/bin/env python3
-# {name} WORDS..: over the package and the library of this directory.
+# A command of the Python package, and where a release has the package.
+COMMAND = """#!{python}
 import os, sys
-
-top = os.path.dirname(os.path.dirname(os.path.realpath(__file__)))
-sys.path.insert(0, f"{{top}}/bindings/python")
+{path}
 from {module} import {function}
 
 if __name__ == "__main__":
     sys.exit({function}())
 """
+BESIDE = """
+top = os.path.dirname(os.path.dirname(os.path.realpath(__file__)))
+sys.path.insert(0, f"{top}/bindings/python")"""
 PKG_CONFIG = """prefix={prefix}
 includedir=${{prefix}}/include
 libdir=${{prefix}}/{libdir}
@@ -48,6 +50,8 @@ FILES = """README.md CONTRIBUTING.md CHANGELOG.md SECURITY.md docs/* rules/*.rul
     bindings/rust/Cargo.lock bindings/rust/Cargo.toml bindings/rust/README.md bindings/rust/build.rs bindings/rust/examples/*
     bindings/rust/src/* bindings/python/README.md bindings/python/pyproject.toml bindings/python/examples/* bindings/python/elfmap/*.py
     bindings/python/elfmap/py.typed""".split()
+# The commands, and what Debian's python3 imports, by which all of it is made.
+MAKERS = f"{PACKERS} {JINJA2} {MARKDOWN} wasm-opt"
 LINK = re.compile(r"(?<!!)\[((?:`[^`]*`|[^\]`])*)\]\((?!https?:|#)([^)#\s]+)[^)]*\)")
 
 
@@ -81,20 +85,15 @@ def commands() -> dict[str, tuple[str, str]]:
     return {name: (module, function) for name, module, function in found}
 
 
-def help_of(module: str) -> str:
-    """The help of a command of the Python package, in long lines."""
-    env = {**os.environ, "COLUMNS": "300", "PYTHONDONTWRITEBYTECODE": "1"}
-    return said(sys.executable, "-m", module, "--help", folder=f"{TOP}/bindings/python", env=env).stdout
-
-
 def page_of(name: str, module: str, version: str) -> str:
-    """The manual page of a command of the Python package, which is its help."""
-    usage, about, *rest = help_of(module).strip().split("\n\n")
+    """The manual page of a command of the Python package, which is its help, in long lines."""
+    help = said(sys.executable, "-B", "-m", module, "--help", folder=PACKAGE, env=os.environ | {"COLUMNS": "300"})
+    usage, about, *rest = help.stdout.strip().split("\n\n")
     lines = [f'.TH {name.upper()} 1 "" "elfmap {version}" "elfmap"', ".SH NAME", rf"{name} \- {man.escaped(about)}", ".SH SYNOPSIS"]
-    lines += [man.literal(usage.removeprefix("usage: ")), ".SH OPTIONS"]
+    lines += [man.literal(man.escaped(usage.removeprefix("usage: "))), ".SH OPTIONS"]
     for it in rest[:-1]:
         rows = re.findall(r"^  (\S.*?)(?:  +|\n +)(\S.*)$", it, re.M)
-        lines += [line for head, text in rows for line in (".TP", f".B {man.literal(head)}", man.guarded(man.escaped(text)))]
+        lines += [line for head, text in rows for line in (".TP", f".B {man.literal(man.escaped(head))}", man.guarded(man.escaped(text)))]
     return "\n".join([*lines, ".SH EXIT STATUS", man.escaped(rest[-1]), ".SH SEE ALSO", ".BR elfmap (1)", ""])
 
 
@@ -153,7 +152,7 @@ def put_release(folder: str, version: str) -> None:
         "share/man/man1/elfmap.1": man.page(version),
     }
     for name, (module, function) in commands().items():
-        texts[f"bin/{name}"] = COMMAND.format(name=name, module=module, function=function)
+        texts[f"bin/{name}"] = COMMAND.format(python="/usr/bin/env python3", path=BESIDE, module=module, function=function)
         texts[f"share/man/man1/{name}.1"] = page_of(name, module, version)
     if shutil.which("wasm-opt"):
         texts["elfmap.html"] = page.page()
@@ -192,27 +191,13 @@ def main(options: Options) -> None:
 
 TRIPLET = "x86_64-linux-gnu"
 LIBRARIES = f"usr/lib/{TRIPLET}"
-PYTHON = "usr/lib/python3/dist-packages/elfmap"
+PYTHON = "usr/lib/python3/dist-packages"
 MAINTAINER = "the authors of elfmap <elfmap@localhost>"
-SCRIPT = """#!/usr/bin/python3
-import sys
-
-from {module} import {function}
-
-if __name__ == "__main__":
-    sys.exit({function}())
-"""
 # Python compiles the modules of a package once, when it is installed.
 COMPILED = {
     "postinst": '#!/bin/sh\nset -e\nif [ "$1" = configure ]; then py3compile -p python3-elfmap; fi\n',
     "prerm": "#!/bin/sh\nset -e\npy3clean -p python3-elfmap\n",
 }
-METADATA = """Metadata-Version: 2.1
-Name: elfmap
-Version: {version}
-Summary: {description}
-Requires-Python: {python}
-"""
 
 
 def glibc_of(path: str) -> str:
@@ -221,11 +206,11 @@ def glibc_of(path: str) -> str:
     return "{}.{}".format(*max([(2, 5), *((int(major), int(minor)) for major, minor in found)]))
 
 
-def put_help(root: str, tree: str, command: man.Command) -> None:
+def put_help(root: str, tree: str, name: str) -> None:
     """Puts the manual page and the completions of a command into a package."""
-    page = read_bytes(f"{tree}/share/man/man1/{command.name}.1")
-    put(f"{root}/usr/share/man/man1/{command.name}.1.gz", gzip.compress(page, mtime=0))
-    for place, text in man.files(command).items():
+    page = read_bytes(f"{tree}/share/man/man1/{name}.1")
+    put(f"{root}/usr/share/man/man1/{name}.1.gz", gzip.compress(page, mtime=0))
+    for place, text in man.completions(name).items():
         put(f"{root}/usr/share/{place}", text)
 
 
@@ -233,7 +218,7 @@ def put_elfmap(root: str, tree: str, version: str) -> None:
     copied(f"{tree}/elfmap", f"{root}/usr/lib/elfmap/elfmap")
     copied(f"{tree}/rules", f"{root}/usr/share/elfmap/rules")
     put(f"{root}/usr/bin/elfmap", runner(version, "lib/elfmap/elfmap"))
-    put_help(root, tree, man.command_of("elfmap", lambda *words: said(PROGRAM, *words, "--help").stdout))
+    put_help(root, tree, "elfmap")
 
 
 def put_doc(root: str, tree: str, version: str) -> None:
@@ -260,13 +245,15 @@ def put_dev(root: str, tree: str, version: str) -> None:
 
 
 def put_python(root: str, tree: str, version: str) -> None:
-    copied(f"{tree}/bindings/python/elfmap", f"{root}/{PYTHON}")
-    os.symlink(f"../../../{TRIPLET}/{SHARED}", f"{root}/{PYTHON}/libelfmap.so")
-    for name, text in metadata(version).items():
-        put(f"{root}/{os.path.dirname(PYTHON)}/elfmap-{version}.dist-info/{name}", text)
+    """What the wheel has, with the library of its own package."""
+    with tempfile.TemporaryDirectory(prefix="elfmap-wheel-") as room, zipfile.ZipFile(wheel(tree, room)) as packed:
+        packed.extractall(f"{root}/{PYTHON}")
+    os.remove(f"{root}/{PYTHON}/elfmap-{version}.dist-info/RECORD")
+    os.remove(f"{root}/{PYTHON}/elfmap/libelfmap.so")
+    os.symlink(f"../../../{TRIPLET}/{SHARED}", f"{root}/{PYTHON}/elfmap/libelfmap.so")
     for name, (module, function) in commands().items():
-        put(f"{root}/usr/bin/{name}", SCRIPT.format(module=module, function=function))
-        put_help(root, tree, man.command_of(name, lambda: help_of(module)))
+        put(f"{root}/usr/bin/{name}", COMMAND.format(python="/usr/bin/python3", path="", module=module, function=function))
+        put_help(root, tree, name)
     for name, text in COMPILED.items():
         put(f"{root}/DEBIAN/{name}", text)
 
@@ -305,36 +292,24 @@ def deb(name: str, tree: str, folder: str, version: str) -> None:
         lines |= {"Multi-Arch": "same"} if name == "libelfmap0" else {}
         put(f"{root}/DEBIAN/control", "".join(f"{key}: {value}\n" for key, value in lines.items()))
         settle(root)
-        made = ["dpkg-deb", "--root-owner-group", "-Zxz", "--build", root, f"{folder}/{name}_{version}_{machine}.deb"]
-        wanted("env", f"SOURCE_DATE_EPOCH={epoch()}", *made)
+        wanted("dpkg-deb", "--root-owner-group", "-Zxz", "--build", root, f"{folder}/{name}_{version}_{machine}.deb")
 
 
 # ---- the wheel and the crate
 
 
-def metadata(version: str) -> dict[str, str]:
-    """The files of a package of Python that say what it is."""
-    project = dict(re.findall(r'^([\w-]+) = "(.*)"', read_text("bindings/python/pyproject.toml"), re.M))
-    scripts = "".join(f"{name} = {module}:{function}\n" for name, (module, function) in commands().items())
-    about = METADATA.format(version=version, description=project["description"], python=project["requires-python"])
-    return {"METADATA": about, "entry_points.txt": f"[console_scripts]\n{scripts}"}
-
-
-def wheel(tree: str, folder: str, version: str) -> None:
-    """The package with the library in it, for every Linux for x86-64 that has the C library that it needs."""
-    tag = f"py3-none-manylinux_{glibc_of(f'{tree}/lib/{SHARED}').replace('.', '_')}_x86_64"
-    files = {f"elfmap/{os.path.basename(it)}": read_bytes(it) for it in files_below(f"{tree}/bindings/python/elfmap")}
-    files["elfmap/libelfmap.so"] = read_bytes(f"{tree}/lib/{SHARED}")
-    own = f"elfmap-{version}.dist-info"
-    about = {**metadata(version), "WHEEL": f"Wheel-Version: 1.0\nGenerator: elfmap\nRoot-Is-Purelib: false\nTag: {tag}\n"}
-    files |= {f"{own}/{name}": text.encode() for name, text in about.items()}
-    sums = {name: base64.urlsafe_b64encode(hashlib.sha256(it).digest()).decode().rstrip("=") for name, it in files.items()}
-    record = "".join(f"{name},sha256={sums[name]},{len(it)}\n" for name, it in files.items()) + f"{own}/RECORD,,\n"
-    with zipfile.ZipFile(f"{folder}/elfmap-{version}-{tag}.whl", "w", zipfile.ZIP_DEFLATED) as it:
-        for name, content in {**files, f"{own}/RECORD": record.encode()}.items():
-            entry = zipfile.ZipInfo(name, time.gmtime(epoch())[:6])
-            entry.external_attr, entry.compress_type = 0o100644 << 16, zipfile.ZIP_DEFLATED
-            it.writestr(entry, content)
+def wheel(tree: str, folder: str) -> str:
+    """The package with the library in it, for every Linux for x86-64 that has the C library that it needs: its path."""
+    library = f"{tree}/lib/{SHARED}"
+    with tempfile.TemporaryDirectory(prefix="elfmap-wheel-") as room:
+        own = f"{room}/package"
+        shutil.copytree(f"{tree}/bindings/python", own)
+        copied(library, f"{own}/elfmap/libelfmap.so")
+        without_dead_links(own)
+        settle(own)
+        build = ["/usr/bin/python3", "-c", "import setuptools; setuptools.setup()", "bdist_wheel", "--dist-dir", folder]
+        wanted(*build, "--plat-name", f"manylinux_{glibc_of(library).replace('.', '_')}_x86_64", folder=own)
+    return glob.glob(f"{folder}/*.whl")[0]
 
 
 def crate(tree: str, folder: str, version: str) -> None:
@@ -351,18 +326,20 @@ def packages(folder: str) -> list[str]:
     """Makes all packages in a folder: their names."""
     version = version_of()
     os.makedirs(folder, exist_ok=True)
+    # What others make of it has this time, and its files these permissions.
+    os.environ["SOURCE_DATE_EPOCH"] = str(epoch())
+    os.umask(0o022)
     with tempfile.TemporaryDirectory(prefix="elfmap-packages-") as room:
         made, tree = f"{room}/made", f"{room}/elfmap-{version}-x86_64-linux"
         os.mkdir(made)
         put_release(tree, version)
         for name in PACKAGES:
             deb(name, tree, made, version)
-        wheel(tree, made, version)
+        wheel(tree, made)
         crate(tree, made, version)
         archived(tree, f"{made}/{os.path.basename(tree)}.tar.gz")
         names = sorted(os.listdir(made))
-        sums = (f"{hashlib.sha256(read_bytes(f'{made}/{it}')).hexdigest()}  {it}\n" for it in names)
-        write(f"{made}/SHA256SUMS", "".join(sums))
+        write(f"{made}/SHA256SUMS", wanted("sha256sum", *names, folder=made))
         for it in os.listdir(made):
             shutil.move(f"{made}/{it}", f"{folder}/{it}")
     return [*names, "SHA256SUMS"]

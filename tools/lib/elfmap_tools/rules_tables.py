@@ -2,7 +2,7 @@
 `src/rule_names.rt`; and with their sentences for the bindings: bindings/rust/src/rules.rs and bindings/python/elfmap/_rules.py.
 `tools/test rules-tables` fails where one of them differs."""
 
-import functools, glob, re, textwrap
+import functools, glob, pprint, re, textwrap
 from collections.abc import Iterable, Iterator
 from typing import NamedTuple
 
@@ -14,18 +14,14 @@ MADE = "Made by `tools/release tables` from docs/RULES.md."
 
 
 class Rule(NamedTuple):
-    """A rule: its number, its definition, its name, what is refused and why, and what to do."""
+    """A rule: its number, its definition, its name, why something is refused, and with what is refused, and what to do."""
 
     number: int
     definition: str
     name: str
-    refused: str
     words: str
+    sentence: str
     advice: str
-
-    @property
-    def sentence(self) -> str:
-        return f"{self.refused} {self.words}"
 
 
 @functools.cache
@@ -40,7 +36,7 @@ def by_anchor() -> dict[str, Rule]:
         if anchor:
             advice = advice if row[4] == "the same" else row[4]
             definition, name, *_ = re.findall(r"`(\w+)`", row[1])
-            found[anchor[1]] = Rule(int(anchor[2]), definition, name, refused, row[2], advice)
+            found[anchor[1]] = Rule(int(anchor[2]), definition, name, row[2], f"{refused} {row[2]}", advice)
     return found
 
 
@@ -61,12 +57,6 @@ def filled(text: str, width: int) -> list[str]:
     return textwrap.wrap(text, width, break_long_words=False, break_on_hyphens=False)
 
 
-def pieces(text: str) -> list[str]:
-    """Text in pieces for a literal of several lines, of which each but the last one ends with a space."""
-    *before, last = filled(text.replace("\\", "\\\\").replace('"', '\\"'), 76)
-    return [*(f"{it} " for it in before), last]
-
-
 def rust_constants(rules: Iterable[Rule], indent: str = "") -> Iterator[str]:
     for it in rules:
         comment = (f"{indent}/// {line}" for line in filled(f"Rule {it.number}: {it.sentence}.", 90 - len(indent)))
@@ -76,7 +66,8 @@ def rust_constants(rules: Iterable[Rule], indent: str = "") -> Iterator[str]:
 def rust_table(name: str, rules: list[Rule]) -> Iterator[str]:
     yield from ("#[rustfmt::skip]", f"pub(crate) const {name}: [(u16, &str, &str); {len(rules)}] = [")
     for it in rules:
-        literal = "\\\n         ".join(pieces(it.sentence))
+        # A literal of several lines, each but the last of which ends with a space.
+        literal = " \\\n         ".join(filled(it.sentence.replace("\\", "\\\\").replace('"', '\\"'), 76))
         yield from ("    (", f"        {it.number},", f'        "{it.name}",', f'        "{literal}",', "    ),")
     yield "];"
 
@@ -88,20 +79,14 @@ def rust() -> str:
     return "\n".join([*lines, *rust_table("TABLE", file_rules()), "", *rust_table("LINK_TABLE", link_rules()), ""])
 
 
-def python_table(name: str, words: str, rules: list[Rule]) -> Iterator[str]:
-    yield from ("", f"# {words}", f"{name} = {{")
-    for it in rules:
-        yield f"    {it.number}: ("
-        for *before, last in map(pieces, (it.name, it.sentence, it.advice)):
-            yield from (*(f'        "{line}"' for line in before), f'        "{last}",')
-        yield "    ),"
-    yield "}"
+def python_table(name: str, words: str, rules: list[Rule]) -> str:
+    table = pprint.pformat({it.number: (it.name, it.sentence, it.advice) for it in rules}, width=88)
+    return f"\n# {words}\n{name} = {table}\n"
 
 
 def python() -> str:
-    lines = [f'"""The rules by their numbers. {MADE}"""']
-    lines += python_table("RULES", "The name, the sentence and the advice of each rule of files.", file_rules())
-    return "\n".join([*lines, *python_table("LINK_RULES", "Those of each rule of links.", link_rules()), ""])
+    files = python_table("RULES", "The name, the sentence and the advice of each rule of files.", file_rules())
+    return f'"""The rules by their numbers. {MADE}"""\n{files}{python_table("LINK_RULES", "Those of each rule of links.", link_rules())}'
 
 
 def rattle(words: str, rules: list[Rule]) -> str:

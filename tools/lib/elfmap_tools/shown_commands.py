@@ -5,9 +5,9 @@ output and standard error. There a line `..` means lines left out, and ` ..` at 
 its order in a folder of their own. That is a release of the version VERSION, unpacked, whose bin/ is on the PATH, with its archive and the
 folders that the repository alone has. Commands within prose are not looked at.
 
-Skipped are the commands of SKIPPED, by their text, those of tools of other versions than README.md names, those on files of the machine of
-other lengths, what is not built, and what needs a file that such a command makes. A code line that begins as a command does has to have its
-`$ `, and the tools that a page names and what it links to have to be there.
+Skipped are the commands of SKIPPED, by their text, and those of a page of which one needs a tool of another version than README.md names,
+or a file of the machine of another length. A code line that begins as a command does has to have its `$ `, and the tools that a page names
+and what it links to have to be there.
 
 `tools/test pages`: how long the sentences of the pages are. Tables, code, headings and the targets of links are no prose.
 
@@ -19,12 +19,12 @@ A fenced block whose first line names a file quotes it: the file has to have the
 has at most README_LINES lines, and its two commands in the first screen. A proof file of more than PROOF_LINES lines opens with a comment,
 its idea."""
 
-import glob, os, re, shutil, statistics, subprocess, sys
+import glob, os, re, shutil, statistics, sys
 from collections.abc import Iterator
 
 from .library import BOTH
-from .release import pack
-from .suite import TESTS, Tally, Test, environment, families
+from .release import MAKERS, pack
+from .suite import TESTS, Tally, Test, families
 from .tree import PROGRAM, TOP, Options, read_text, said, wanted, write
 
 MEDIAN, LONG_SENTENCE, WORDS = 18, 30, 30_000
@@ -123,8 +123,6 @@ PACKAGES = {"gcc": "gcc", "readelf": "binutils", "objcopy": "binutils", "ld": "b
 PACKAGES |= {"llvm-objcopy": "LLVM", "llvm-readobj": "LLVM"}
 # Files of the machine, and how long they are where the pages' lines were printed (Debian 12).
 MACHINE_FILES = {"/bin/true": 35664}
-# What commands make, and the file of the repository that has to be the same.
-PICTURES = {"answer.svg": "docs/picture.svg"}
 # A code line that begins so is a command.
 COMMAND_LIKE = re.compile(r"^(?:\./|scripts/|tools/|bench/|\.ci/|rt |tar |man |gcc |cc |cargo |python3 ).*", re.M)
 
@@ -171,22 +169,17 @@ def broken_links(page: str, text: str) -> Iterator[str]:
             yield link
 
 
-# ---- what a command needs
-
-
-def words_of(command: str) -> list[str]:
-    return re.findall(r"[^\s|&;<>()]+", command)
-
-
-def made_by(command: str) -> set[str]:
-    """The files that a command makes, as its words tell them: objects of C, outputs, and copies."""
-    objects = {it[:-2] + ".o" for it in words_of(command) if it.endswith(".c")}
-    return objects | set(re.findall(r"(?:> *|-o |\bcp \S+ |objcopy \S+ )([^\s>&|]+)", command))
-
-
-def version_of(tool: str) -> str:
-    found = re.search(r"\d+\.\d[.\d]*", said(tool, "--version").stdout)
-    return found[0] if found else "unknown"
+def foreign(commands: list[str]) -> Iterator[str]:
+    """Tools and files of the machine that these commands need, and that are others where what the pages show was printed."""
+    words = {it for command in commands for it in re.findall(r"[^\s|&;<>()]+", command)}
+    for tool in (it for it in PACKAGES if it in words):
+        named = re.search(rf"\b{PACKAGES[tool]} (\d+(?:\.\d+)+)", read_text("README.md"))
+        own = re.search(r"\d+\.\d[.\d]*", said(tool, "--version").stdout)
+        if not (named and own and f"{own[0]}.".startswith(f"{named[1]}.")):
+            yield f"{tool} {own[0] if own else 'of no version'}, not {named[1] if named else 'named in README.md'}"
+    for path, length in MACHINE_FILES.items():
+        if path in words and not (os.path.isfile(path) and os.path.getsize(path) == length):
+            yield f"{path}, not {length} bytes long"
 
 
 class Page:
@@ -196,69 +189,33 @@ class Page:
         self.tally, self.path, self.folder = tally, path, folder
         self.name = os.path.relpath(path, TOP)
         self.text = read_text(path)
-        # Files that are missing or others, as a command that makes them was skipped, and why.
-        self.lacking: dict[str, str] = {}
         own = {"PATH": f"{folder}/bin:{os.environ['PATH']}", "XDG_CACHE_HOME": f"{folder}/.cache", "HOME": folder}
-        self.environment = environment(LC_ALL="C.UTF-8", ELFMAP=PROGRAM, **own)
-
-    def foreign(self, tool: str) -> str:
-        """Why what a tool says can't be compared."""
-        package = PACKAGES[tool]
-        named, own = re.search(rf"\b{package} (\d+(?:\.\d+)+)", read_text("README.md")), version_of(tool)
-        if named and f"{own}.".startswith(f"{named[1]}."):
-            return ""
-        return f"with {package} {own}, not {named[1] if named else 'named in README.md'}"
-
-    def why_skipped(self, command: str) -> str:
-        if command in SKIPPED:
-            return SKIPPED[command]
-        # The programs that it starts, by their first words, in substitutions too.
-        starts = re.findall(r"(?:^|[|;&(]\s*)([^\s|&;<>()]+)", command)
-        for why in filter(None, map(self.foreign, (it for it in starts if it in PACKAGES))):
-            return why
-        for path in (os.path.normpath(it) for it in words_of(command)):
-            length = MACHINE_FILES.get(path)
-            if path in self.lacking:
-                return self.lacking[path]
-            if length and (not os.path.isfile(path) or os.path.getsize(path) != length):
-                return f"{path} is not {length} bytes long"
-            if re.match(r"crates/\w+/out/", path) and not os.path.exists(f"{self.folder}/{path}"):
-                return f"{path} is not built"
-        return ""
-
-    def skip(self, command: str, why: str) -> None:
-        self.tally.note(f"skipped in {self.name}, {why}: {command}")
+        self.environment = os.environ | own | {"LC_ALL": "C.UTF-8", "ELFMAP": PROGRAM}
 
     def run(self, command: str) -> str:
         """What a command says. The variables that it exports and the folder that it goes to stay for the next one."""
         state = f"{self.folder}/.state"
         before = f'. "{state}"' if os.path.exists(state) else ":"
         script = f'{before}\n{command}\nstatus=$?\n{{ export -p; printf "cd %q\\n" "$PWD"; }} > "{state}"\nexit $status'
-        try:
-            return said("bash", "-c", script, folder=self.folder, env=self.environment, timeout=LONGEST).stdout
-        except subprocess.TimeoutExpired:
-            return f"it took more than {LONGEST} s\n"
+        return said("bash", "-c", script, folder=self.folder, env=self.environment, timeout=LONGEST).stdout
 
     def try_command(self, command: str, shown: str) -> None:
-        why = self.why_skipped(command)
-        if why:
-            self.skip(command, why)
-            self.lacking |= dict.fromkeys(made_by(command), why) if command not in SKIPPED else {}
-            return
+        if command in SKIPPED:
+            return self.tally.note(f"skipped in {self.name}, {SKIPPED[command]}: {command}")
         output = self.run(command)
         self.tally.check(is_as_shown(output, shown), f"{self.name} shows below '{command}':\n{shown}\nand it says:\n{output}")
 
     def try_python(self, block: str) -> None:
         """A block of Python, as doctest has it."""
-        lacks = next((why for name, why in self.lacking.items() if f'"{name}"' in block), "")
-        if lacks:
-            return self.skip(">>> ..", lacks)
         write(f"{self.folder}/shown.txt", re.sub(r" \.\.$", " ...", block, flags=re.M))
         env = f'PYTHONDONTWRITEBYTECODE=1 PYTHONPATH="{self.folder}/bindings/python"'
         output = self.run(f'{env} "{sys.executable}" -m doctest -o ELLIPSIS "{self.folder}/shown.txt"')
         self.tally.check(not output, f"{self.name} shows other lines of Python than there are:\n{output}")
 
-    def try_all(self) -> None:
+    def try_commands(self) -> None:
+        every = [command for block in blocks(self.text) for command, _ in commands(block) if command not in SKIPPED]
+        if others := list(foreign(every)):
+            return self.tally.note(f"skipped: the commands of {self.name}, here with {', '.join(others)}")
         for block in blocks(self.text):
             bare = COMMAND_LIKE.search(block)
             if bare and not commands(block):
@@ -268,9 +225,12 @@ class Page:
             # The pages of the bindings are tried by their own tests.
             if re.search("^>>> ", block, re.M) and not self.name.startswith("bindings/"):
                 self.try_python(block)
-        for made, kept in PICTURES.items():
-            if os.path.exists(f"{self.folder}/{made}"):
-                self.tally.check(read_text(f"{self.folder}/{made}") == read_text(kept), f"{kept} is not the {made} of {self.name}")
+
+    def try_all(self) -> None:
+        self.try_commands()
+        # The picture that a page's command makes.
+        if os.path.exists(made := f"{self.folder}/answer.svg"):
+            self.tally.check(read_text(made) == read_text("docs/picture.svg"), f"docs/picture.svg is not that of {self.name}")
         named = {it.rstrip(".,:;") for it in re.findall(r"`((?:scripts|tools|bench|reference)/[\w./-]*)", self.text)}
         gone = sorted(it for it in named if not os.path.exists(f"{TOP}/{it}"))
         self.tally.check(not gone, f"{self.name} names what is not there: {gone}")
@@ -278,10 +238,12 @@ class Page:
         self.tally.check(not links, f"{self.name} has links that lead nowhere: {links}")
 
 
-TOOLS = " ".join([*PACKAGES, "cc ar pkg-config wasm-opt"])
+TOOLS = " ".join([*PACKAGES, "pkg-config", MAKERS])
 
 
-@Test("shown-commands", "the commands that the pages show print what is below them", commands=TOOLS, crates=f"elfmap {BOTH}")
+@Test(
+    "shown-commands", "the commands that the pages show print what is below them", commands=TOOLS, crates=f"elfmap {BOTH} example_symbols"
+)
 def shown_commands(tally: Tally, options: Options) -> None:
     pages = [f"{TOP}/{it}" for it in all_pages()]
     every = [command for path in pages for block in blocks(read_text(path)) for command, _ in commands(block)]

@@ -4,7 +4,7 @@ import functools, os, re, textwrap
 from collections.abc import Iterator
 from dataclasses import dataclass, field, replace
 
-from .tree import TOP, libraries, matched, read_text, texts_of
+from .tree import TOP, libraries, read_text, texts_of
 
 # The comment lines and the attributes above a text, and its lines.
 Block = tuple[list[str], list[str], list[str]]
@@ -147,7 +147,7 @@ def fields_of(text: list[str]) -> Iterator[tuple[list[str], str]]:
 
 
 def item_of(docs: list[str], marks: list[str], text: list[str], source: str, uses: Uses) -> Item:
-    kind, name = matched(HEAD, text[0]).groups()
+    kind, name = HEAD.findall(text[0])[0]
     if kind == "fn":
         return Item(kind, name, source, docs, *signature_and_clauses(text), uses)
     item = Item(kind, name, source, docs, unindented(text), uses=uses)

@@ -1,14 +1,93 @@
-"""The tests of `tools/test`: each by its name, with the commands and the built crates that it needs; alone or side by side."""
+"""The tests of `tools/test`: each by its name, with the commands and the built crates that it needs; alone or side by side. `tools/test setup`
+installs the Debian packages of the commands that are missing."""
 
-import argparse, contextlib, functools, os, re, shutil, sys, tempfile, threading, time, traceback
+import argparse, functools, glob, os, re, shutil, subprocess, sys, tempfile, time, traceback
 from collections.abc import Callable, Iterable, Iterator
 from concurrent.futures import ThreadPoolExecutor, as_completed
 from dataclasses import dataclass
+from itertools import chain
 from typing import Any
 
-from . import packages
 from .building import built
-from .tree import PROCESSORS, TOP, Options, Texts, filled, progress, said, side_by_side
+from .tree import PROCESSORS, TOP, Options, Texts, filled, progress, read_text, run, said, side_by_side
+
+# ---- the commands that tests start, and the Debian packages that have them
+
+KLIBC = "/usr/lib/klibc/lib/libc.a"
+# What Debian's python3 imports.
+IMPORTED = "/usr/lib/python3/dist-packages/{}/__init__.py"
+IMPORTS = "jinja2 jsonschema junitparser markdown selenium setuptools wheel".split()
+JINJA2, JSONSCHEMA, JUNITPARSER, MARKDOWN, SELENIUM, SETUPTOOLS, WHEEL = map(IMPORTED.format, IMPORTS)
+# Debian's clang brings its checks of addresses and of undefined behavior only as a recommended package.
+SANITIZERS = "/usr/lib/llvm-*/lib/clang/*/lib/linux/libclang_rt.asan-x86_64.a"
+# The commands of each package, by their first words, or a file that has to be there.
+COMMANDS = {
+    "binutils": "ar as ld nm objcopy readelf", "binaryen": "wasm-opt", "black": "black", "cargo-web": "cargo",
+    "binutils-x86-64-linux-gnu": "x86_64-linux-gnu-as",
+    "chromium": "chromium", "chromium-driver": "chromedriver", "clang": "clang", "debootstrap": "debootstrap", "dpkg": "dpkg-deb", "elfutils": "eu-elflint",
+    "g++": "c++ g++", "gcc": "cc gcc", "git": "git", "groff": "groff", "libclang-rt-14-dev": SANITIZERS, "libklibc-dev": KLIBC,
+    "lld": "ld.lld", "lld-19": "ld.lld-19", "llvm": "llvm-objcopy llvm-readobj", "llvm-19": "llvm-mc-19",
+    "mypy": "mypy", "nodejs": "node", "pkg-config": "pkg-config",
+    "pre-commit": "pre-commit", "rustc-web": "rustc", "util-linux": "prlimit unshare", "valgrind": "valgrind",
+}  # fmt: skip
+PACKAGES = {command: package for package, commands in COMMANDS.items() for command in commands.split()}
+# The machines of rules/, by the names of qemu's program and of the tools; one that qemu has no program for; and those that LLVM alone has,
+# by its names of the machine and for its linker.
+RUN_BY_QEMU = {it: f"{it}-linux-gnu" for it in ("aarch64", "alpha", "riscv64", "s390x", "sparc64")}
+RUN_BY_QEMU |= {"mips64": "mips64-linux-gnuabi64", "ppc64": "powerpc64-linux-gnu"}
+MACHINES = RUN_BY_QEMU | {"ia64": "ia64-linux-gnu"}
+BY_LLVM = {"amdgpu": ("amdgcn-amd-amdhsa", "elf64_amdgpu"), "loongarch64": ("loongarch64", "elf64loongarch")}
+PACKAGES |= {f"{target}-{tool}": f"binutils-{target}" for target in MACHINES.values() for tool in ("as", "ld")}
+PACKAGES |= {IMPORTED.format(it): f"python3-{it}" for it in IMPORTS}
+PACKAGES |= {f"qemu-{qemu}": "qemu-user" for qemu in RUN_BY_QEMU}
+# A cargo whose rustc compiles the tests of bindings/rust too; Debian has an older one beside it.
+LEAST = {"cargo": (1, 85)}
+
+
+def is_there(command: str) -> bool:
+    """Whether a command, or a file, is on this machine, and not too old."""
+    if command.startswith("/"):
+        return bool(glob.glob(command))
+    if not shutil.which(command) or command not in LEAST:
+        return shutil.which(command) is not None
+    version = re.search(rb"(\d+)\.(\d+)", run(command, "--version").stdout)
+    return version is not None and (int(version[1]), int(version[2])) >= LEAST[command]
+
+
+def missing(commands: Iterable[str]) -> list[str]:
+    return [it for it in commands if not is_there(it)]
+
+
+def words_of(lacking: Iterable[str]) -> str:
+    """What to say of missing commands: the package of each, and how to get it."""
+    return ", ".join(f"there is no {it} (package {PACKAGES[it]})" for it in lacking) + "; `tools/test setup` installs it"
+
+
+def setup(commands: Iterable[str]) -> bool:
+    """Installs the packages of the commands that are missing: whether all are there then."""
+    lacking = missing(commands)
+    packages = sorted({PACKAGES[it] for it in lacking})
+    if not packages:
+        return True
+    if not shutil.which("apt-get"):
+        print(f"setup: there is no apt-get, which would install {' '.join(packages)}", file=sys.stderr)
+        return False
+    words = [] if os.geteuid() == 0 else ["sudo"]
+    words += ["env", "DEBIAN_FRONTEND=noninteractive", "apt-get"]
+    subprocess.run([*words, "update"], stdin=subprocess.DEVNULL, stdout=subprocess.DEVNULL)
+    print(f"setup: installs {' '.join(packages)}", flush=True)
+    install = [*words, "install", "-y", "--no-install-recommends"]
+    if subprocess.run([*install, *packages], stdin=subprocess.DEVNULL, stdout=subprocess.DEVNULL).returncode:
+        # One package that can't be had keeps none of the others away.
+        for it in packages:
+            subprocess.run([*install, it], stdin=subprocess.DEVNULL, stdout=subprocess.DEVNULL)
+    left = missing(lacking)
+    if left:
+        print(f"setup: still {words_of(left)}", file=sys.stderr)
+    return not left
+
+
+# ---- what a test counts
 
 # Of a step its title, its script, and a pattern of what this prints.
 Step = tuple[str, str, str]
@@ -17,7 +96,7 @@ COUNTS = re.compile(r"^(\d+) passed, (\d+) failed\n\Z", re.M)
 
 def steps_of(name: str, **marks: str) -> list[Step]:
     """The steps of a file of cases/, with texts for its marks, as @NAME@."""
-    return re.findall(r"^== (.*)\n((?:.*\n)*?)= ?(.*)$", filled(f"cases/{name}", **marks), re.M)
+    return re.findall(r"^== (.*)\n((?:.*\n)*?)= ?(.*)$", filled(read_text(f"cases/{name}"), **marks), re.M)
 
 
 class Tally:
@@ -47,14 +126,6 @@ class Tally:
         for it in wrong:
             self.fail(it)
         self.passed += tried - (self.failed - before)
-
-    @contextlib.contextmanager
-    def trying(self, what: str) -> Iterator[None]:
-        """A block that has failed, and ends, where a command in it does that has to end well."""
-        try:
-            yield
-        except SystemExit as error:
-            self.fail(f"{what}: {error}")
 
     def try_steps(self, steps: list[Step], run: Callable[[str], str]) -> None:
         """Checks of each step that what its script prints fits the pattern."""
@@ -119,11 +190,11 @@ def commands_of(tests: Iterable[Test]) -> list[str]:
 
 def run_one(test: Test, options: Options) -> int:
     """Runs a test here: prints what failed, and last how many passed. A test whose commands are missing has failed."""
-    with tempfile.TemporaryDirectory(prefix=f"elfmap-{test.name}.") as folder, progress(f"tools/test {test.name}"):
-        tally, lacking = Tally(test.name, folder), packages.missing(test.commands.split())
+    with tempfile.TemporaryDirectory(prefix=f"elfmap-{test.name}.") as folder, progress(lambda: f"tools/test {test.name}"):
+        tally, lacking = Tally(test.name, folder), missing(test.commands.split())
         try:
             if lacking:
-                raise SystemExit(packages.words_of(lacking))
+                raise SystemExit(words_of(lacking))
             for crate in test.crates.split():
                 built(crate)
             test.function(tally, options)
@@ -136,59 +207,41 @@ def run_one(test: Test, options: Options) -> int:
     return 1 if tally.failed else 0
 
 
-class Runner:
-    """A run of several tests, each in a process of its own: what they counted, which failed, and what was skipped."""
+def run_all(tests: list[Test], jobs: int) -> int:
+    """Runs tests, each in a process of its own, so many side by side; prints what each printed, in one piece, and counts what it counted."""
+    running, all_passed, all_failed, last = list[str](), 0, 0, list[str]()
 
-    def __init__(self) -> None:
-        self.passed, self.failed, self.skipped, self.broken = 0, 0, list[str](), list[str]()
-        self.running: dict[str, float] = {}
+    def run_beside(test: Test) -> tuple[Test, float, Texts]:
+        running.append(test.name)
+        begun, ended = time.monotonic(), said(sys.executable, f"{TOP}/tools/test", test.name)
+        running.remove(test.name)
+        return test, time.monotonic() - begun, ended
 
-    def run(self, test: Test) -> tuple[Test, float, Texts]:
-        """One test: how long it took, and how it ended."""
-        self.running[test.name] = time.monotonic()
-        ended = said(sys.executable, f"{TOP}/tools/test", test.name)
-        return test, time.monotonic() - self.running.pop(test.name), ended
-
-    def count(self, test: Test, seconds: float, ended: Texts) -> None:
-        """Prints what a test printed, in one piece, and counts what it counted; one that ends without its last line has failed."""
-        print(f"{test.name}: {seconds:.0f} s\n{ended.stdout}", end="", flush=True)
-        counts = COUNTS.search(ended.stdout)
-        passed, failed = (int(counts[1]), int(counts[2])) if counts else (0, 1)
-        failed = failed or int(ended.returncode != 0)
-        self.passed, self.failed = self.passed + passed, self.failed + failed
-        self.skipped += re.findall(rf"^{test.name}: (skipped: .*)", ended.stdout, re.M)
-        self.broken += [f"failed: {failed} of {test.name}: run `tools/test {test.name}`"] if failed else []
-
-    def show(self, ended: threading.Event) -> None:
-        """Every ten seconds a line on what runs."""
-        while not ended.wait(10):
-            names = ", ".join(f"{name} {time.monotonic() - begun:.0f} s" for name, begun in list(self.running.items()))
-            print(f"tools/test: {names}", file=sys.stderr, flush=True)
-
-    def all(self, tests: list[Test], jobs: int) -> int:
-        """Runs tests, so many side by side."""
-        ended = threading.Event()
-        if sys.stderr.isatty():
-            threading.Thread(target=self.show, args=(ended,), daemon=True).start()
-        with ThreadPoolExecutor(jobs) as pool:
-            for it in as_completed([pool.submit(self.run, it) for it in tests if not it.alone]):
-                self.count(*it.result())
-        for test in (it for it in tests if it.alone):
-            self.count(*self.run(test))
-        ended.set()
-        print("\n".join([*self.skipped, *self.broken, f"{self.passed} passed, {self.failed} failed"]))
-        return 1 if self.failed else 0
+    with progress(lambda: f"tools/test {', '.join(running)}"), ThreadPoolExecutor(jobs) as pool:
+        beside = as_completed([pool.submit(run_beside, it) for it in tests if not it.alone])
+        alone = map(run_beside, (it for it in tests if it.alone))
+        for test, seconds, ended in chain((it.result() for it in beside), alone):
+            print(f"{test.name}: {seconds:.0f} s\n{ended.stdout}", end="", flush=True)
+            # One that ends without its last line has failed.
+            counts = COUNTS.search(ended.stdout)
+            passed, failed = (int(counts[1]), int(counts[2])) if counts else (0, 1)
+            failed = failed or int(ended.returncode != 0)
+            all_passed, all_failed = all_passed + passed, all_failed + failed
+            last[:0] = re.findall(rf"^{test.name}: (skipped: .*)", ended.stdout, re.M)
+            last += [f"failed: {failed} of {test.name}: run `tools/test {test.name}`"] if failed else []
+    print("\n".join([*last, f"{all_passed} passed, {all_failed} failed"]))
+    return 1 if all_failed else 0
 
 
 def run_several(tests: list[Test], jobs: int) -> int:
     """Installs what is missing, builds what is older than its texts, and runs these tests."""
-    packages.setup(commands_of(tests))
+    setup(commands_of(tests))
     for crate in dict.fromkeys(crate for it in tests for crate in it.crates.split()):
         try:
             built(crate)
         except SystemExit as error:
             print(f"tools/test: {error}")
-    return Runner().all(tests, jobs)
+    return run_all(tests, jobs)
 
 
 def families(tests: list[Test]) -> dict[str, list[Test]]:
@@ -225,7 +278,7 @@ def main(tests: list[Test], words: list[str]) -> int:
         return run_several([by_name[it] for it in names], jobs)
     options = parser_of(tests).parse_args(words)
     if options.name == "setup":
-        return 0 if packages.setup(commands_of(tests)) else 1
+        return 0 if setup(commands_of(tests)) else 1
     if options.name in by_name:
         return run_one(by_name[options.name], options)
     return run_several(families(tests).get(options.name, tests), options.jobs)
@@ -244,7 +297,3 @@ def count_tries(tally: Tally, options: Options, name: str, wrong_in: Callable[[i
     """Counts so many tries of a seed, side by side."""
     tries = functools.partial(tried_in_folder, name, wrong_in, options.seed)
     tally.count(options.count, filter(None, side_by_side(tries, range(options.count), True)))
-
-
-def environment(**more: str) -> dict[str, str]:
-    return {**os.environ, **more}

@@ -5,7 +5,8 @@ from collections.abc import Callable, Iterable, Iterator, Mapping
 from concurrent.futures import ProcessPoolExecutor, ThreadPoolExecutor
 from typing import Any, TypeVar
 
-TOP = os.path.dirname(os.path.dirname(os.path.dirname(os.path.dirname(os.path.realpath(__file__)))))
+from . import TOP as TOP
+
 PROCESSORS = len(os.sched_getaffinity(0))
 PROGRAM = f"{TOP}/crates/elfmap/out/elfmap"
 RULES = f"{TOP}/rules/x86-64.rules"
@@ -38,33 +39,16 @@ def write(path: str, content: bytes | str) -> str:
     return path
 
 
-def filled(path: str, **parts: str) -> str:
-    """The text of a file, with these parts for its marks, as @NAME@."""
-    text = read_text(path)
+def filled(text: str, **parts: str) -> str:
+    """A text with these parts for its marks, as @NAME@."""
     for name, part in parts.items():
         text = text.replace(f"@{name}@", part)
     return text
 
 
-def replaced(pattern: re.Pattern[str], text: str, own: Callable[[re.Match[str]], str], other: Callable[[str], str]) -> str:
-    """A text in which each match, and what is between them, is replaced."""
-    parts, at = list[str](), 0
-    for it in pattern.finditer(text):
-        parts += [other(text[at : it.start()]), own(it)]
-        at = it.end()
-    return "".join([*parts, other(text[at:])])
-
-
 def cells(line: str) -> list[str]:
     """The cells of a line of a table of a page."""
     return [it.strip() for it in re.split(r"(?<!\\)\|", line.strip()[1:-1])]
-
-
-def matched(pattern: str | re.Pattern[str], text: str) -> re.Match[str]:
-    """A match at the beginning of a text, which has to be there."""
-    found = re.match(pattern, text)
-    assert found, text
-    return found
 
 
 def run(*words: str, folder: str | None = None, env: Mapping[str, str] | None = None, timeout: float | None = None) -> Ended:
@@ -116,25 +100,20 @@ def files_below(folder: str) -> Iterator[str]:
 
 
 @contextlib.contextmanager
-def progress(name: str) -> Iterator[None]:
-    """While the block runs, for longer than ten seconds, standard error has a line that counts them, if it is a terminal."""
+def progress(what: Callable[[], str]) -> Iterator[None]:
+    """While the block runs, standard error has a line on what runs every ten seconds, if it is a terminal."""
     ended, begun = threading.Event(), time.monotonic()
 
-    def count() -> None:
-        if not ended.wait(10):
-            while not ended.wait(1):
-                print(f"\r{name}: {time.monotonic() - begun:.0f} s ", end="", file=sys.stderr, flush=True)
-            print("\r\033[K", end="", file=sys.stderr, flush=True)
+    def show() -> None:
+        while not ended.wait(10):
+            print(f"{what()}: {time.monotonic() - begun:.0f} s", file=sys.stderr, flush=True)
 
-    thread = threading.Thread(target=count, daemon=True)
     if sys.stderr.isatty():
-        thread.start()
+        threading.Thread(target=show, daemon=True).start()
     try:
         yield
     finally:
         ended.set()
-        if thread.is_alive():
-            thread.join()
 
 
 # ---- the crates, by their lines in crates.txt
