@@ -301,7 +301,7 @@ tails_of_symbols left f None = tails_none []
 tails_of_symbols left f (Some t) =
     tails_of_table (symbol_parts f t).names (names_of (symbols_denoted left f (Some t))) (symbol_ends f (Some t)) (ends_denoted left f t)
 
-pub tails_denoted : (f : Sections) (o : ObjectValue) → Denotes f o → AreTails (names_of o.symbols) (symbol_ends f (symbol_table f))
+tails_denoted : (f : Sections) (o : ObjectValue) → Denotes f o → AreTails (names_of o.symbols) (symbol_ends f (symbol_table f))
 tails_denoted f o denotes =
     subst (λ (symbols : List SymbolValue). AreTails (names_of symbols) (symbol_ends f (symbol_table f))) (sym denotes.symbols)
     (tails_of_symbols (left_out f) f (symbol_table f))

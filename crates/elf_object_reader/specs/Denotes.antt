@@ -11,6 +11,7 @@ use Rattle.elf_image_type.specs.ImageView.{string}
 use Rattle.elf_object_reader.specs.declared.object_file.BodyKind.TheVariants.{Bits, NoBits, Relocs, Group}
 use Rattle.elf_object_reader.specs.declared.object_file.BodyKind.{BodyKind}
 use Rattle.elf_object_reader.specs.declared.object_file.LeftOut.{LeftOut}
+use Rattle.elf_object_strings.specs.StringTable.{SHORT_NAME}
 use Rattle.elf_object_type.specs.Object.{symbol_reference, BodyValue, bits, no_bits, relocs, group, ObjectValue, SectionValue, SymbolValue}
 use Rattle.elf_object_type.specs.declared.parts.Info.{Info}
 use Rattle.elf_object_type.specs.declared.parts.Place.{Place}
@@ -190,10 +191,10 @@ abbrev pub symbol_ends : Sections → Option ℕ → List ℕ
 symbol_ends f None = []
 symbol_ends f (Some t) = map (symbol_end f t) (range_with_len 1 (length (symbols_of f t) - 1))
 
--- the name is longer than 64 bytes
+-- the name is longer than a short one
 abbrev pub has_long_name : SymbolValue → Bool
-has_long_name symbol = nat_lt 64 (length symbol.name)
+has_long_name symbol = nat_lt SHORT_NAME (length symbol.name)
 
--- the ends that are of use for the names of these symbols: none if no name is long
+-- where the name of each symbol ends, if one of them is long; else no ends
 abbrev pub useful_ends : List SymbolValue → Sections → List ℕ
 useful_ends symbols f = if list_any has_long_name symbols then symbol_ends f (symbol_table f) else []

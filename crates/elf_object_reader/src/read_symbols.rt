@@ -196,8 +196,8 @@ impl<'f, 'i, 'a> FileSymbols<'f, 'i, 'a> {
     }
 }
 
-/// For each symbol that was read of an image, in their order, where its name ends in the string table; none if no name is long, since only
-/// the ends of long names save time.
+/// For each symbol that was read of an image, in their order, where its name ends in the string table. If no name is long, the list is empty:
+/// only the ends of long names save time.
 pub(crate) fn useful_ends(
     alloc: Global,
     image: &Image<'_>,

@@ -112,8 +112,8 @@ pub fn object_of<'a>(alloc: Global, image: &Image<'a>) -> Result<Object<'a>, Fau
 
 /// The same object, and for each of its symbols, in their order, where its name ends in the string table that it was read from: the offset
 /// after it, plus 1; 0 if that offset is not below 2^30, the length of the longest file. Of two symbols with one such end the longer name
-/// ends with the shorter one. If no name is longer than 64 bytes, it lists no ends: short names are compared as they are. Otherwise it takes
-/// memory for each symbol once more.
+/// ends with the shorter one. If no name is longer than 64 bytes, the list is empty, since a string table is made of short names without their
+/// ends. Otherwise it takes 4 bytes of memory a symbol more.
 pub fn object_with_ends<'a>(
     alloc: Global,
     image: &Image<'a>,

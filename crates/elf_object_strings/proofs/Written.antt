@@ -13,7 +13,7 @@ use Rattle.std.proofs.lemmas.Slice.Eq.{bytes_eq-Decides}
 use Rattle.std.proofs.lemmas.Bool.{and_from, and_parts, cases_eq, cases_lt, eq-eqb, false_from_ne_true, ne_eqb, not-true, not_from_false, or_from, true≢false}
 use Rattle.std.proofs.lemmas.List.Folds.{list_any-append, list_any_at, list_any_none}
 use Rattle.elf_object_strings.proofs.Ends.{end_behind, suffix_fits, suffix_from, suffix_named, suffix_same, suffix_test}
-use Rattle.elf_object_strings.specs.StringTable.{AreEnds, AreOwners, AreTheirOwn, distinct, IsFirstOfHeld, IsOwner, IsSuffix, closed, end_from, held, is_held, is_named, is_proper_suffix, is_suffix, name_offset, string_table, HasEnds, held_to, is_written, with_name}
+use Rattle.elf_object_strings.specs.StringTable.{AreOwners, AreTheirOwn, HaveZeros, distinct, IsFirstOfHeld, IsOwner, IsSuffix, closed, end_from, held, is_held, is_named, is_proper_suffix, is_suffix, name_offset, string_table, HasEnds, held_to, is_written, with_name}
 
 -- Each name of a list once, one name more: a name that is already there adds nothing, and any other is put at the end. A name is in the
 -- result exactly if it is in the list.
@@ -260,7 +260,7 @@ end_of_owner names n o is written =
     ∙ end_behind 1 (held_to names o) (get_or names o []) split.0 n (none_earlier names n o is o le)
     (suffix_test n (get_or names o []) is.ends)
 
-pub offset_is : (names : List (List ℕ)) (n ends : List ℕ) (o : ℕ) → IsOwner names n o → HasEnds names (length names) ends →
+offset_is : (names : List (List ℕ)) (n ends : List ℕ) (o : ℕ) → IsOwner names n o → HasEnds names (length names) ends →
     is_named n ≡ true → (length n ≤ get_or ends o 0) × (get_or ends o 0 - length n ≡ name_offset names n)
 unfolding name_offset
 offset_is names n ends o is has named =
@@ -284,7 +284,7 @@ owners_own names owners are i lt =
 
 -- where each name ends, if each owner ends there
 pub ends_of_owners : (names : List (List ℕ)) (owners ends : List ℕ) → AreOwners names owners → HasEnds names (length names) ends →
-    AreEnds names (map (λ o. get_or ends o 0) owners)
+    HaveZeros names (map (λ o. get_or ends o 0) owners)
 ends_of_owners names owners ends are has = record {
   all = length-map owners (λ o. get_or ends o 0) ∙ are.all;
   each = λ i lt named.

@@ -74,7 +74,7 @@ pub record AreRuns (sorted : List (List ℕ)) (starts : List ℕ) (position : �
   pub as_many : length starts ≡ position
   pub each : (q : ℕ) → q < position → IsRun sorted q (get_or starts q 0)
 
--- the first of the sorted names have their owners, by their indexes, and each other one is its own
+-- the first of the sorted names have their owners, by their indexes, and each other one is its own owner
 pub record HaveOwners (names sorted : List (List ℕ)) (indexes owners : List ℕ) (position : ℕ) : Type 0 where
   pub all : length owners ≡ length names
   pub each : (q : ℕ) → q < position → IsOwner names (get_or sorted q []) (get_or owners (get_or indexes q 0) 0)

@@ -30,7 +30,7 @@ pub record AreOwners (names : List (List ℕ)) (owners : List ℕ) : Type 0 wher
   pub all : length owners ≡ length names
   pub each : (i : ℕ) → i < length names → IsOwner names (get_or names i []) (get_or owners i 0)
 
--- each owner is its own
+-- each owner is one of the names, and its own owner
 abbrev pub AreTheirOwn : List ℕ → Type 0
 AreTheirOwn owners =
     (i : ℕ) → i < length owners →
@@ -79,11 +79,11 @@ end_from offset (first ∷ rest) name =
 unfoldable pub name_offset : List (List ℕ) → List ℕ → ℕ
 name_offset names name = if is_named name then end_from 1 (held names) name - length name else 0
 
--- where each name ends in the table, if it is not empty: its zero is there
-pub record AreEnds (names : List (List ℕ)) (ends : List ℕ) : Type 0 where
-  pub all : length ends ≡ length names
+-- for each name that is not empty, the offset of the zero after it in the table
+pub record HaveZeros (names : List (List ℕ)) (zeros : List ℕ) : Type 0 where
+  pub all : length zeros ≡ length names
   pub each : (i : ℕ) → i < length names → is_named (get_or names i []) ≡ true →
-      get_or ends i 0 ≡ name_offset names (get_or names i []) + length (get_or names i [])
+      get_or zeros i 0 ≡ name_offset names (get_or names i []) + length (get_or names i [])
 
 -- What is known of a string table that holds names, however it holds them. (gABI chapter 4, String Table.)
 
@@ -144,6 +144,10 @@ pub record SharesTails (names : List (List ℕ)) : Type 0 where
   pub shortest : IsShortest names (string_table names)
 
 -- Where names end in a string table that they were read from. (gABI chapter 4, String Table.)
+
+-- names of up to so many bytes are short: it takes no longer to compare them than to look up their ends
+abbrev pub SHORT_NAME : ℕ
+SHORT_NAME = 64
 
 -- the name at one index is longer than that at another, or ends it
 abbrev pub IsTailOf : List (List ℕ) → ℕ → ℕ → Type 0

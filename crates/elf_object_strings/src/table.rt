@@ -1,7 +1,7 @@
 //! The bytes of a string table, and where its names begin.
 ghost use Rattle.std.specs.Prelude.{◌≡◌, ◌<◌, [], get_or, min, if◌then◌else◌, length, IfOk, ◌≤◌, ◌-◌, true, false, map, set};
 ghost use Rattle.std.specs.List.{All, range_with_len};
-ghost use Rattle.elf_object_strings.specs.StringTable.{AreEnds, AreOwners, AreTails, AreTheirOwn, texts, is_suffix, AreZeroFree, HoldsEach, IsShortest, Shares, is_named, name_offset, string_table, HasEnds, with_name};
+ghost use Rattle.elf_object_strings.specs.StringTable.{AreOwners, AreTails, AreTheirOwn, HaveZeros, texts, is_suffix, AreZeroFree, HoldsEach, IsShortest, Shares, is_named, name_offset, string_table, HasEnds, with_name};
 ghost use Rattle.elf_object_strings.specs.Sorting.{AreBelow, AreRuns, GivesOwner, HasEnd, IsRun, AreInEndsOrder, AreNumbered, indexes_in, names_by_ends};
 
 use crate::name_list::NameList;
@@ -53,7 +53,8 @@ fn own_owners(alloc: Global, count: usize) -> Result<Vec<usize>, AllocError>
     (0..count).collect(alloc)
 }
 
-/// Sets the owner of a name that is its own so far. The names come in no order: the memory of one that stays its own is not looked at.
+/// Sets the owner of a name that is its own owner so far. The names come in the order of their ends, so the writes are scattered: nothing is
+/// written for a name that stays its own owner.
 fn set_owner(owners: &mut [usize], index: usize, owner: usize)
     requires within { index < length owners.old }
     requires own { get_or owners.old index 0 ≡ index }
@@ -191,13 +192,13 @@ fn write_name(bytes: &mut Vec<u8>, name: &[u8], is_owner: bool) -> Result<(), Al
 /// Where each name begins, from where the zeros of the owners are.
 fn offsets_of(names: &[&[u8]], owners: &[usize], zeros: Vec<u64>) -> Vec<u64>
     requires owners { AreOwners (texts names.now) owners.now }
-    requires ends { HasEnds (texts names.now) (length names.now) zeros.items }
+    requires zeros { HasEnds (texts names.now) (length names.now) zeros.items }
     ensures { result.items ≡ map (name_offset (texts names.now)) (texts names.now) }
 {
     begin_names(names, share_ends(owners, zeros))
 }
 
-/// Lets each name end where its owner does, which is its own owner. Most names are: they stay as they are.
+/// Gives each name the end of its owner. An owner is its own owner, so its end stays.
 fn share_ends(owners: &[usize], mut ends: Vec<u64>) -> Vec<u64>
     requires all { length ends.items ≡ length owners.now }
     requires own { AreTheirOwn owners.now }
@@ -212,15 +213,16 @@ fn share_ends(owners: &[usize], mut ends: Vec<u64>) -> Vec<u64>
     ends
 }
 
-/// Puts where each name begins in place of where it ends.
-fn begin_names(names: &[&[u8]], mut ends: Vec<u64>) -> Vec<u64>
-    requires { AreEnds (texts names.now) ends.items }
+/// Where each name begins, from where its zero is.
+fn begin_names(names: &[&[u8]], zeros: Vec<u64>) -> Vec<u64>
+    requires { HaveZeros (texts names.now) zeros.items }
     ensures { result.items ≡ map (name_offset (texts names.now)) (texts names.now) }
 {
+    let mut offsets = zeros;
     for i in 0..names.len() {
-        ends[i] = offset_of(names[i], ends[i]);
+        offsets[i] = offset_of(names[i], offsets[i]);
     }
-    ends
+    offsets
 }
 
 /// Where a name begins that ends at an offset.

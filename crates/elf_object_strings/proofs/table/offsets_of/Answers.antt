@@ -1,7 +1,7 @@
 -- Each owner is its own (`owners_own`), so each name gets the end of its owner (`ends_of_owners`).
 use Rattle.std.proofs.Common.{◌≡◌, Bor, List, length, subst, sym, ℕ}
 use Rattle.std.proofs.lemmas.List.{length-map}
-use Rattle.elf_object_strings.specs.StringTable.{AreEnds, HasEnds, texts}
+use Rattle.elf_object_strings.specs.StringTable.{HasEnds, HaveZeros, texts}
 use Rattle.elf_object_strings.proofs.Written.{ends_of_owners, owners_own}
 use Rattle.elf_object_strings.proofs.table.offsets_of.Goals as goal
 
@@ -15,5 +15,5 @@ pub begin_names-requires : goal.begin_names-requires
 begin_names-requires c =
     let names = c.args.names.now in
     let many : length (texts names) ≡ length names = length-map names now_of in
-    let has = subst (λ k. HasEnds (texts names) k c.args.zeros.items) (sym many) c.requires.ends in
-    subst (AreEnds (texts names)) (sym c.share_ends.ensures) (ends_of_owners (texts names) c.args.owners.now c.args.zeros.items c.requires.owners has)
+    let has = subst (λ k. HasEnds (texts names) k c.args.zeros.items) (sym many) c.requires.zeros in
+    subst (HaveZeros (texts names)) (sym c.share_ends.ensures) (ends_of_owners (texts names) c.args.owners.now c.args.zeros.items c.requires.owners has)
