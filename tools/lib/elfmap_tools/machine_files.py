@@ -32,12 +32,14 @@ def count_ends(tally: Tally, ends: list[str], good: str) -> None:
 # ---- whole files
 
 
-def files() -> Iterator[str]:
-    """The files that begin as an ELF file of class 64 does."""
+def files() -> Iterable[str]:
+    """Each file once, by its device and number, that begins as an ELF file of class 64 does."""
+    found: dict[tuple[int, int], str] = {}
     for path in chain(files_below("/usr/bin"), files_below("/usr/lib")):
         with contextlib.suppress(OSError), open(path, "rb") as it:
             if it.read(5) == ELF_64:
-                yield path
+                found.setdefault((os.stat(path).st_dev, os.stat(path).st_ino), path)
+    return found.values()
 
 
 def try_file(path: str) -> str:
@@ -164,6 +166,22 @@ def try_object(place: Place) -> str:
     return f"{place[0]}({place[1]}): {wrong}" if wrong else "written"
 
 
+def printed(folder: str, parts: list[str]) -> tuple[int, bytes]:
+    """What a program of these files prints, or the linker where it does not link them."""
+    made = run("gcc", "-no-pie", *parts, "-o", f"{folder}/program")
+    return made.returncode, made.stderr if made.returncode else run(f"{folder}/program").stdout
+
+
+def linked(folder: str) -> Iterator[str]:
+    """Programs of two files that went through `rewrite`, linked and run: each prints what it printed before."""
+    for way in range(len(WAYS)):
+        parts = [f"{folder}/{name}.gcc.{way}.o" for name in SOURCES[:2]]
+        own = printed(folder, parts)
+        after = printed(folder, [write(f"{it}.after.o", run(PROGRAM, "rewrite", it).stdout) for it in parts])
+        if own != after or own[0]:
+            yield f"a program of rewritten files prints {after}, and not {own}"
+
+
 TOOLS = "gcc g++ clang readelf eu-elflint"
 ABOUT = "objects of this machine and its compilers through `rewrite`, beside readelf and eu-elflint"
 
@@ -174,3 +192,4 @@ def real_objects(tally: Tally, options: Options) -> None:
     found = {f"{path}({at})": (path, at, size) for it in below for path, at, size in objects_of(it)}
     objects = [place for path in compiled(tally.folder) for place in objects_of(path)] + [found[it] for it in some(found, options)]
     count_ends(tally, side_by_side(try_object, objects), r"written|refused by rule \d+")
+    tally.count(len(WAYS), linked(tally.folder))
