@@ -11,7 +11,7 @@ use elf_table_lists as lists;
 
 /// `struct elfmap_fault`: the first rule that a file breaks, and where.
 #[repr(C)]
-#[derive(Clone, Copy, Debug, PartialEq, Eq)]
+#[derive(Clone, Copy)]
 pub struct Fault {
     /// The lowest offset at which the rule is broken, in bytes.
     pub at: u64,
@@ -21,7 +21,7 @@ pub struct Fault {
 
 /// `struct elfmap_file`: what the accessors need of a file.
 #[repr(C)]
-#[derive(Clone, Copy, Debug, PartialEq, Eq)]
+#[derive(Clone, Copy)]
 pub struct File {
     /// The offset of the program header table in the file, in bytes; 0 for none.
     pub e_phoff: u64,
@@ -39,7 +39,7 @@ pub struct File {
 
 /// `struct elfmap_header`: the ELF header.
 #[repr(C)]
-#[derive(Clone, Copy, Debug, PartialEq, Eq)]
+#[derive(Clone, Copy)]
 pub struct Header {
     pub e_ident: [u8; EI_NIDENT],
     pub e_type: u16,
@@ -83,7 +83,7 @@ impl Header {
 
 /// `struct elfmap_section`: a section header.
 #[repr(C)]
-#[derive(Clone, Copy, Debug, PartialEq, Eq)]
+#[derive(Clone, Copy)]
 pub struct Section {
     pub sh_name: u32,
     pub sh_type: u32,
@@ -119,7 +119,7 @@ impl Section {
 
 /// `struct elfmap_segment`: a program header.
 #[repr(C)]
-#[derive(Clone, Copy, Debug, PartialEq, Eq)]
+#[derive(Clone, Copy)]
 pub struct Segment {
     pub p_type: u32,
     pub p_flags: u32,
@@ -151,7 +151,7 @@ impl Segment {
 
 /// `struct elfmap_table`: what the accessors of a table's entries need.
 #[repr(C)]
-#[derive(Clone, Copy, Debug, PartialEq, Eq)]
+#[derive(Clone, Copy)]
 pub struct Table {
     /// The content of the section.
     pub content: Slot,
@@ -170,7 +170,7 @@ pub struct Table {
 
 /// `struct elfmap_symbol`: an entry of a symbol table, with its name and its section.
 #[repr(C)]
-#[derive(Clone, Copy, Debug, PartialEq, Eq)]
+#[derive(Clone, Copy)]
 pub struct Symbol {
     /// Where its name is in the file, without its closing zero.
     pub name: Slot,
@@ -187,7 +187,7 @@ pub struct Symbol {
 
 /// `struct elfmap_relocation`: an entry of a relocation section.
 #[repr(C)]
-#[derive(Clone, Copy, Debug, PartialEq, Eq)]
+#[derive(Clone, Copy)]
 pub struct Relocation {
     pub r_offset: u64,
     /// 0 in a section of type `SHT_REL`, where the addend is in the bytes that are relocated.
@@ -214,7 +214,7 @@ impl Relocation {
 
 /// `struct elfmap_dynamic`: an entry of a dynamic array.
 #[repr(C)]
-#[derive(Clone, Copy, Debug, PartialEq, Eq)]
+#[derive(Clone, Copy)]
 pub struct DynamicEntry {
     pub d_tag: i64,
     /// `d_val` or `d_ptr`, as the tag says.
@@ -235,7 +235,7 @@ impl DynamicEntry {
 
 /// `struct elfmap_note`: a note of a note section.
 #[repr(C)]
-#[derive(Clone, Copy, Debug, PartialEq, Eq)]
+#[derive(Clone, Copy)]
 pub struct Note {
     /// Where its name is in the file, without its closing zero and its padding.
     pub name: Slot,

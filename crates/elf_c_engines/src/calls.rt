@@ -32,7 +32,7 @@ const BAD_FILES: u32 = 7;
 
 /// `struct elfmap_outcome`: what a call reports beside its status. A number that says nothing is 0.
 #[repr(C)]
-#[derive(Clone, Copy, Debug, PartialEq, Eq)]
+#[derive(Clone, Copy)]
 pub struct Outcome {
     /// How long the whole text or file is, in bytes, also if the buffer is shorter.
     pub length: u64,
@@ -48,7 +48,7 @@ pub struct Outcome {
 }
 
 /// Why a call ends without the output of an engine.
-#[derive(Clone, Copy, Debug, PartialEq, Eq)]
+#[derive(Clone, Copy)]
 pub(crate) enum CallFault {
     /// This line of the rules is bad, and none before it. Lines count from 1.
     BadRules { line: usize },

@@ -75,7 +75,7 @@ pub extern "C" fn elfmap_rewrite(
 
 /// `struct elfmap_options`: where the link places sections, and whether `map` has relocation rules.
 #[repr(C)]
-#[derive(Clone, Copy, Debug, PartialEq, Eq)]
+#[derive(Clone, Copy)]
 pub struct LinkOptions {
     /// The address that placement begins at: a multiple of `page`.
     pub base: u64,

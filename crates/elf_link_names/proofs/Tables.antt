@@ -368,6 +368,18 @@ own_named ls i k l own read =
     let some = slice_get_read ls (length ls) i l refl (own_within ls i k own) read in
     eqb-true l.name k (subst (λ (o : Option Large). is_of k o ≡ true) some own)
 
+-- of what an answer says, after it was read behind a reference
+pub is_here : (behind ls : List Large) (i k : ℕ) (told answer : Bool) → behind ≡ ls → told ≡ is_of k (slice_get behind i) → told ≡ answer →
+    is_of k (slice_get ls i) ≡ answer
+is_here behind ls i k told answer same is now = subst (λ (l : List Large). is_of k (slice_get l i) ≡ answer) same (sym is ∙ now)
+
+-- a name of the list has a row, and one that has a large one leads to it, both within the vectors
+pub has_row : (ls : List Large) (rs : List KnownRow) (k wide : ℕ) → k < length (known_from ls 0 rs) → length rs ≡ wide → k < wide
+has_row ls rs k wide within is = (let many = length-known_from ls 0 rs in omega arith)
+
+pub has_large : (ls : List Large) (i k wide : ℕ) → is_of k (slice_get ls i) ≡ true → length ls ≡ wide → i < wide
+has_large ls i k wide own is = (let within = own_within ls i k own in omega arith)
+
 by_own : (k : ℕ) (found : Option Large) (l : Large) (small : Known) → found ≡ Some l → is_of k found ≡ true → known_by k found small ≡ l.known
 by_own k found l small is own = (let named = subst (λ (o : Option Large). is_of k o ≡ true) is own in rw (is, named) refl)
 

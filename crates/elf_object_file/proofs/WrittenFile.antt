@@ -183,6 +183,24 @@ record IsFitBody (o : ObjectValue) (s : SectionValue) (b : BodyValue) : Type 0 w
   info : IsPast (length o.sections) (info_position s.info) → ⊥
   reference : HasWrongReference o b → ⊥
 
+relocations_fit : (o : ObjectValue) (s : SectionValue) (rela : Bool) (target : ℕ) (entries : List Relocation) → body_type (relocs rela target entries) < 2 ^ 32
+    → taken (own_with o s (relocs rela target entries)) ≡ length (body_bytes o.order (relocs rela target entries))
+    → length o.sections + 3 < 2 ^ 24 → SectionFits s → IsFitBody o s (relocs rela target entries) → PlainFits (own_with o s (relocs rela target entries))
+relocations_fit o s rela target entries type all few fits body =
+    let within = above target (length o.sections) (λ past. body.reference (inl (inl past))) in
+    record {
+      type = type;
+      flags = fits.flags;
+      addr = fits.addr;
+      link = omega arith;
+      info = omega arith;
+      align = fits.align;
+      entsize = fits.entsize;
+      space = omega arith;
+      bytes = IsBytes-relocations o.order rela entries;
+      taken = all;
+    }
+
 own_fits : (o : ObjectValue) (s : SectionValue) (b : BodyValue) → length o.sections + 3 < 2 ^ 24 → length o.symbols < 2 ^ 30 → SectionFits s → IsFitBody o s b → PlainFits (own_with o s b)
 own_fits o s (bits type content) few some fits body =
     let link = index_short (length o.sections) s.link body.link in
@@ -212,34 +230,8 @@ own_fits o s (no_bits size) few some fits body =
       bytes = IsBytes-nil;
       taken = refl;
     }
-own_fits o s (relocs true target entries) few some fits body =
-    let within = above target (length o.sections) (λ past. body.reference (inl (inl past))) in
-    record {
-      type = omega arith;
-      flags = fits.flags;
-      addr = fits.addr;
-      link = omega arith;
-      info = omega arith;
-      align = fits.align;
-      entsize = fits.entsize;
-      space = omega arith;
-      bytes = IsBytes-relocations o.order true entries;
-      taken = refl;
-    }
-own_fits o s (relocs false target entries) few some fits body =
-    let within = above target (length o.sections) (λ past. body.reference (inl (inl past))) in
-    record {
-      type = omega arith;
-      flags = fits.flags;
-      addr = fits.addr;
-      link = omega arith;
-      info = omega arith;
-      align = fits.align;
-      entsize = fits.entsize;
-      space = omega arith;
-      bytes = IsBytes-relocations o.order false entries;
-      taken = refl;
-    }
+own_fits o s (relocs true target entries) few some fits body = relocations_fit o s true target entries (omega arith) refl few fits body
+own_fits o s (relocs false target entries) few some fits body = relocations_fit o s false target entries (omega arith) refl few fits body
 own_fits o s (group comdat signature members) few some fits body =
     let within = above signature (length o.symbols) (λ past. body.reference (inl past)) in
     record {

@@ -9,7 +9,8 @@ use Rattle.elf_image_outline.specs.Image.{ImageValue, PlacedPart}
 use Rattle.elf_image_outline.specs.declared.outline.Part.{Part}
 use Rattle.elf_table_all.specs.Tables.{TablesValue}
 use Rattle.elf_tool_show.specs.Show.{all_table_lines, part_lines, section_lines, segment_lines, show_text, file_line, part_line}
-use Rattle.elf_tool_text.specs.Engine.{Buffers, IsCutShort}
+use Rattle.elf_tool_text.specs.Engine.{Buffers, IsCutShort, WritesPrefix}
+use Rattle.elf_tool_text.specs.declared.engine.ToolFault.{ToolFault}
 use Rattle.elf_tool_text.specs.declared.engine.Output.{Output}
 use Rattle.elf_tool_text.proofs.Public.{all_out, all_cut, buffers_both, buffers_line, buffers_none, cut_later, cut_longer}
 use Rattle.elf_tool_show.proofs.engine.show_image.Goals as goal
@@ -25,6 +26,16 @@ file_buffered : (a : Option (List ℕ)) (o p : Output) (h header : Ehdr) → h �
 file_buffered a o p h header same pushed count =
     subst (λ (x : Ehdr). Buffers a a o p (file_line x)) same (buffers_line a a o o p [] (file_line h) (buffers_none a o) pushed count)
 
+-- the first line and the parts are sent; what stops behind them stops in the whole text
+parts_cut : (a x y : Option (List ℕ)) (o p q : Output) (b : List ℕ) (v : ImageValue) (h : Ehdr) (ps : List Part) (rest : List ℕ) (fault : ToolFault)
+    → o.pending.items ≡ [] → o.written ≡ 0 → h ≡ v.header → p.pending.items ≡ o.pending.items ++ file_line h → p.written ≡ o.written
+    → ps ≡ map (λ (l : PlacedPart). l.part) v.parts → Buffers a x p q (flat_map (part_line b) ps) → IsCutShort x y q rest fault
+    → WritesPrefix (file_line v.header ++ (part_lines b v ++ rest)) a y fault
+parts_cut a x y o p q b v h ps rest fault empty none header pushed count same sent stop =
+    all_cut a y o (file_line v.header ++ (part_lines b v ++ rest)) fault empty none
+    (cut_later a a y o p (file_line v.header) (part_lines b v ++ rest) fault (file_buffered a o p h v.header header pushed count)
+    (cut_later a x y p q (part_lines b v) rest fault (subst (Buffers a x p q) (parts_text b v ps same) sent) stop))
+
 pub returns-in_err-show_parts : goal.returns-in_err-show_parts
 unfolding show_text
 returns-in_err-show_parts g c =
@@ -33,7 +44,7 @@ returns-in_err-show_parts g c =
     let v = c.args.image.now in
     let t : TablesValue = record { image = v; verdicts = c.args.tables.now.verdicts } in
     let o = c.new-output.result in
-    let p : Output = record { pending = c.push_file_line.new.text; written = c.new-output.result.written } in
+    let p : Output = record { pending = c.push_file_line.new.text; written = o.written } in
     let first = file_buffered a o p c.header.result v.header c.header.ensures c.in_ok-push_file_line.ensures refl in
     let q = err_from_is_err_and c.from_residual-in_err-show_parts.result c.from_residual-in_err-show_parts.ensures.1 in
     let fault = c.in_err-show_parts.field-0.0 in
@@ -45,39 +56,29 @@ returns-in_err-show_parts g c =
 pub returns-in_err-show_sections : goal.returns-in_err-show_sections
 unfolding show_text
 returns-in_err-show_sections g c =
-    let a = g.W.Write.contents c.args.writer.now in
-    let b = c.args.bytes.now in
     let v = c.args.image.now in
     let t : TablesValue = record { image = v; verdicts = c.args.tables.now.verdicts } in
     let o = c.new-output.result in
-    let p : Output = record { pending = c.push_file_line.new.text; written = c.new-output.result.written } in
-    let first = file_buffered a o p c.header.result v.header c.header.ensures c.in_ok-push_file_line.ensures refl in
-    let second = subst (λ (s : List ℕ). Buffers a (g.W.Write.contents c.show_parts.new.writer) p c.show_parts.new.output s) (parts_text b v c.parts.result.now c.parts.ensures.value) c.in_ok-show_parts.ensures in
+    let p : Output = record { pending = c.push_file_line.new.text; written = o.written } in
     let q = err_from_is_err_and c.from_residual-in_err-show_sections.result c.from_residual-in_err-show_sections.ensures.1 in
     let fault = c.in_err-show_sections.field-0.0 in
-    rw (q.1, q.2) (all_cut a _ o (show_text b t) fault c.new-output.ensures.pending c.new-output.ensures.written
-    (cut_later a a _ o p (file_line v.header) (part_lines b v ++ (section_lines v ++ (segment_lines v ++ all_table_lines t))) fault first
-    (cut_later a _ _ p c.show_parts.new.output (part_lines b v) (section_lines v ++ (segment_lines v ++ all_table_lines t)) fault second
-    (cut_longer _ _ c.show_parts.new.output (section_lines v) (segment_lines v ++ all_table_lines t) fault c.in_err-show_sections.ensures))))
+    rw (q.1, q.2) (parts_cut (g.W.Write.contents c.args.writer.now) _ _ o p c.show_parts.new.output c.args.bytes.now v c.header.result c.parts.result.now _ fault
+    c.new-output.ensures.pending c.new-output.ensures.written c.header.ensures c.in_ok-push_file_line.ensures refl c.parts.ensures.value c.in_ok-show_parts.ensures
+    (cut_longer _ _ c.show_parts.new.output (section_lines v) (segment_lines v ++ all_table_lines t) fault c.in_err-show_sections.ensures))
 
 pub returns-in_err-show_segments : goal.returns-in_err-show_segments
 unfolding show_text
 returns-in_err-show_segments g c =
-    let a = g.W.Write.contents c.args.writer.now in
-    let b = c.args.bytes.now in
     let v = c.args.image.now in
     let t : TablesValue = record { image = v; verdicts = c.args.tables.now.verdicts } in
     let o = c.new-output.result in
-    let p : Output = record { pending = c.push_file_line.new.text; written = c.new-output.result.written } in
-    let first = file_buffered a o p c.header.result v.header c.header.ensures c.in_ok-push_file_line.ensures refl in
-    let second = subst (λ (s : List ℕ). Buffers a (g.W.Write.contents c.show_parts.new.writer) p c.show_parts.new.output s) (parts_text b v c.parts.result.now c.parts.ensures.value) c.in_ok-show_parts.ensures in
+    let p : Output = record { pending = c.push_file_line.new.text; written = o.written } in
     let q = err_from_is_err_and c.from_residual-in_err-show_segments.result c.from_residual-in_err-show_segments.ensures.1 in
     let fault = c.in_err-show_segments.field-0.0 in
-    rw (q.1, q.2) (all_cut a _ o (show_text b t) fault c.new-output.ensures.pending c.new-output.ensures.written
-    (cut_later a a _ o p (file_line v.header) (part_lines b v ++ (section_lines v ++ (segment_lines v ++ all_table_lines t))) fault first
-    (cut_later a _ _ p c.show_parts.new.output (part_lines b v) (section_lines v ++ (segment_lines v ++ all_table_lines t)) fault second
+    rw (q.1, q.2) (parts_cut (g.W.Write.contents c.args.writer.now) _ _ o p c.show_parts.new.output c.args.bytes.now v c.header.result c.parts.result.now _ fault
+    c.new-output.ensures.pending c.new-output.ensures.written c.header.ensures c.in_ok-push_file_line.ensures refl c.parts.ensures.value c.in_ok-show_parts.ensures
     (cut_later _ _ _ c.show_parts.new.output c.show_sections.new.output (section_lines v) (segment_lines v ++ all_table_lines t) fault c.in_ok-show_sections.ensures
-    (cut_longer _ _ c.show_sections.new.output (segment_lines v) (all_table_lines t) fault c.in_err-show_segments.ensures)))))
+    (cut_longer _ _ c.show_sections.new.output (segment_lines v) (all_table_lines t) fault c.in_err-show_segments.ensures)))
 
 -- the tables by the image that they are of
 same_tables : (tables : TablesValue) (v : ImageValue) → tables.image ≡ v → tables ≡ record { image = v; verdicts = tables.verdicts }
@@ -86,23 +87,18 @@ same_tables tables v same = ap (λ (x : ImageValue). let t : TablesValue = recor
 pub returns-in_err-show_tables : goal.returns-in_err-show_tables
 unfolding show_text
 returns-in_err-show_tables g c =
-    let a = g.W.Write.contents c.args.writer.now in
-    let b = c.args.bytes.now in
     let v = c.args.image.now in
     let t : TablesValue = record { image = v; verdicts = c.args.tables.now.verdicts } in
     let o = c.new-output.result in
-    let p : Output = record { pending = c.push_file_line.new.text; written = c.new-output.result.written } in
-    let first = file_buffered a o p c.header.result v.header c.header.ensures c.in_ok-push_file_line.ensures refl in
-    let second = subst (λ (s : List ℕ). Buffers a (g.W.Write.contents c.show_parts.new.writer) p c.show_parts.new.output s) (parts_text b v c.parts.result.now c.parts.ensures.value) c.in_ok-show_parts.ensures in
+    let p : Output = record { pending = c.push_file_line.new.text; written = o.written } in
     let q = err_from_is_err_and c.from_residual-in_err-show_tables.result c.from_residual-in_err-show_tables.ensures.1 in
     let fault = c.in_err-show_tables.field-0.0 in
     let last = subst (λ (s : TablesValue). IsCutShort (g.W.Write.contents c.show_segments.new.writer) (g.W.Write.contents c.show_tables.new.writer) c.show_segments.new.output (all_table_lines s) fault)
     (same_tables c.args.tables.now v c.requires) c.in_err-show_tables.ensures in
-    rw (q.1, q.2) (all_cut a _ o (show_text b t) fault c.new-output.ensures.pending c.new-output.ensures.written
-    (cut_later a a _ o p (file_line v.header) (part_lines b v ++ (section_lines v ++ (segment_lines v ++ all_table_lines t))) fault first
-    (cut_later a _ _ p c.show_parts.new.output (part_lines b v) (section_lines v ++ (segment_lines v ++ all_table_lines t)) fault second
+    rw (q.1, q.2) (parts_cut (g.W.Write.contents c.args.writer.now) _ _ o p c.show_parts.new.output c.args.bytes.now v c.header.result c.parts.result.now _ fault
+    c.new-output.ensures.pending c.new-output.ensures.written c.header.ensures c.in_ok-push_file_line.ensures refl c.parts.ensures.value c.in_ok-show_parts.ensures
     (cut_later _ _ _ c.show_parts.new.output c.show_sections.new.output (section_lines v) (segment_lines v ++ all_table_lines t) fault c.in_ok-show_sections.ensures
-    (cut_later _ _ _ c.show_sections.new.output c.show_segments.new.output (segment_lines v) (all_table_lines t) fault c.in_ok-show_segments.ensures last)))))
+    (cut_later _ _ _ c.show_sections.new.output c.show_segments.new.output (segment_lines v) (all_table_lines t) fault c.in_ok-show_segments.ensures last)))
 
 pub returns : goal.returns
 unfolding show_text

@@ -1,32 +1,26 @@
 -- A mark changes what is known of one name. If its row leads to a large one of this name, that changes (`set_own`), else the row
 -- (`set_small`).
-use Rattle.std.proofs.Common.{◌≡◌, ◌<◌, true, false, List, length, refl, rules, set, sym, ◌∙◌, ap, subst, arith, vec_len}
+use Rattle.std.proofs.Common.{◌≡◌, ◌<◌, true, false, length, refl, rules, set, sym, ◌∙◌, ap, subst, arith}
 use Rattle.std.specs.Prelude.{slice_get}
 use Rattle.std.proofs.lemmas.List.{get_or_default}
 use Rattle.elf_link_names.specs.declared.known_names.Known.{Known}
-use Rattle.elf_link_names.specs.declared.known_table.Large.{Large}
 use Rattle.elf_link_names.specs.declared.known_table.Row.{Row}
 use Rattle.elf_link_names.specs.KnownNames.{marked_known}
 use Rattle.elf_link_names.specs.Tables.{is_of, known_from}
-use Rattle.elf_link_names.proofs.Tables.{length-known_from, own_named, own_within, read_own, read_small, set_own, set_small}
+use Rattle.elf_link_names.proofs.Tables.{has_large, has_row, is_here, length-known_from, own_named, read_own, read_small, set_own, set_small}
 use Rattle.elf_link_names.proofs.known_table.KnownTable.mark.Goals as goal
 
 pub index-requires : goal.index-requires
 index-requires c =
     let t = c.self.inside in
-    let asked = rw (← c.self.view_is) at c.requires in
-    let many = length-known_from t.large.items 0 t.rows.items in
-    let wide : length t.rows.items ≡ vec_len t.rows = search rules in
-    omega arith
+    has_row t.large.items t.rows.items c.args.k _ (rw (← c.self.view_is) at c.requires) (search rules)
 
 pub index_mut-requires : goal.index_mut-requires
 index_mut-requires c =
     let t = c.self.inside in
     let row = c.index.result.now in
-    let own = subst (λ (ls : List Large). is_of c.args.k (slice_get ls row.large) ≡ true) c.deref.ensures.value (sym c.is_own.ensures ∙ c.if-is_own.true) in
-    let within = own_within t.large.items row.large c.args.k own in
-    let wide : length t.large.items ≡ vec_len t.large = search rules in
-    omega arith
+    let own = is_here _ t.large.items row.large c.args.k _ true c.deref.ensures.value c.is_own.ensures c.if-is_own.true in
+    has_large t.large.items row.large c.args.k _ own (search rules)
 
 pub returns-then-is_own : goal.returns-then-is_own
 returns-then-is_own c =
@@ -35,7 +29,7 @@ returns-then-is_own c =
     let l = c.index_mut.result.now in
     let asked = rw (← c.self.view_is) at c.requires in
     let many = length-known_from t.large.items 0 t.rows.items in
-    let own = subst (λ (ls : List Large). is_of c.args.k (slice_get ls row.large) ≡ true) c.deref.ensures.value (sym c.is_own.ensures ∙ c.if-is_own.true) in
+    let own = is_here _ t.large.items row.large c.args.k _ true c.deref.ensures.value c.is_own.ensures c.if-is_own.true in
     let read = read_own t.large.items t.rows.items c.args.k row l (omega arith) c.index.ensures own c.index_mut.ensures.value in
     let named = own_named t.large.items row.large c.args.k l own c.index_mut.ensures.value in
     rw (← c.self.view_is)
@@ -45,10 +39,7 @@ returns-then-is_own c =
 pub index_mut-requires-2 : goal.index_mut-requires-2
 index_mut-requires-2 c =
     let t = c.self.inside in
-    let asked = rw (← c.self.view_is) at c.requires in
-    let many = length-known_from t.large.items 0 t.rows.items in
-    let wide : length t.rows.items ≡ vec_len t.rows = search rules in
-    omega arith
+    has_row t.large.items t.rows.items c.args.k _ (rw (← c.self.view_is) at c.requires) (search rules)
 
 pub returns : goal.returns
 returns c =
@@ -56,7 +47,7 @@ returns c =
     let row = c.index.result.now in
     let asked = rw (← c.self.view_is) at c.requires in
     let many = length-known_from t.large.items 0 t.rows.items in
-    let other = subst (λ (ls : List Large). is_of c.args.k (slice_get ls row.large) ≡ false) c.deref.ensures.value (sym c.is_own.ensures ∙ c.if-is_own.false) in
+    let other = is_here _ t.large.items row.large c.args.k _ false c.deref.ensures.value c.is_own.ensures c.if-is_own.false in
     let within : c.args.k < length t.rows.items = omega arith in
     let same = c.index_mut-2.ensures.value ∙ get_or_default t.rows.items c.args.k c.index_mut-2.result.now row within ∙ sym c.index.ensures in
     let here = c.index_mut-2.result.now in
