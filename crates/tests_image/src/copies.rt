@@ -1,16 +1,18 @@
 //! Files copied whole, as read and edited.
+ghost use Rattle.std.specs.Prelude.{◌≤◌, length};
+
+use crate::image_faults::{Written, written};
 use elf_field::{Order, Rela};
-use elf_image_outline::{CopyFault, Outline, copy_image, scan};
+use elf_image_outline::{CopyFault, NoSection, Outline, copy_image, scan};
 use elf_image_stream::output::{write_padded, write_records, write_zeros};
-use elf_image_stream::{Bytes, WriteFault};
-use std::alloc::{AllocError, Global};
+use elf_image_stream::{Bytes, Fault, WriteFault};
+use std::alloc::Global;
 use std::io;
 use std::io::{ErrorKind, Write};
 use std::process::Abort;
-use std::test::Fail;
 use tests_files::{
-    OnceFailingWriter, PartialSource, caller, empty_object, filled_gap, long_parts, one_section,
-    set, two_of_each,
+    Field, OnceFailingWriter, PartialSource, caller, empty_object, filled_gap, long_parts,
+    one_section, set, two_of_each,
 };
 
 // A writer that knows which bytes are to come.
@@ -55,16 +57,11 @@ impl<'a> ComparingWriter<'a> {
     }
 }
 
-impl Write for ComparingWriter<'_> {
-    fn write(&mut self, buf: &[u8]) -> io::Result<usize> {
-        self.calls = self.calls.saturating_add(1);
-        self.longest = self.longest.max(buf.len());
-        if self.calls == self.failing || self.room == 0 {
-            if self.takes_none {
-                return Ok(0);
-            }
-            return Err(ErrorKind::Other.into());
-        }
+impl ComparingWriter<'_> {
+    /// Takes as many of these bytes as there is room for.
+    fn take(&mut self, buf: &[u8]) -> usize
+        ensures { result ≤ length buf.now }
+    {
         let offered = buf.len().min(self.piece);
         let count = offered.min(self.room).min(self.rest.len());
         let (expected, rest) = self.rest.split_at(count);
@@ -72,7 +69,21 @@ impl Write for ComparingWriter<'_> {
         self.rest = rest;
         self.room -= count;
         self.taken = self.taken.saturating_add(count);
-        Ok(count)
+        count
+    }
+}
+
+impl Write for ComparingWriter<'_> {
+    fn write(&mut self, buf: &[u8]) -> io::Result<usize> {
+        self.calls = self.calls.saturating_add(1);
+        self.longest = self.longest.max(buf.len());
+        if self.calls != self.failing && self.room > 0 {
+            return Ok(self.take(buf));
+        }
+        if self.takes_none {
+            return Ok(0);
+        }
+        Err(ErrorKind::Other.into())
     }
 
     fn flush(&mut self) -> io::Result<()> {
@@ -81,88 +92,138 @@ impl Write for ComparingWriter<'_> {
     }
 }
 
-/// What a copy of this outline comes to, and whether just these bytes are written then.
-fn copied(
-    outline: &Outline,
-    source: &mut PartialSource<'_>,
-    expected: &[u8],
-) -> (Result<(), CopyFault>, bool) {
+// Copies. Each function that owns an outline answers what it saw, or why the file was not scanned.
+
+/// What a copy comes to, and whether just the bytes that were to come are written.
+type Copied = (Result<(), CopyFault>, bool);
+
+fn copied(outline: &Outline, source: &mut PartialSource<'_>, expected: &[u8]) -> Copied {
     let mut writer = ComparingWriter::new(expected);
     let answer = copy_image(outline, source, &mut writer);
     (answer, writer.is_whole())
 }
 
-#[test]
-fn a_filled_gap_is_zeroed(rt: HostRuntime) -> Result<(), Fail> {
-    let file = filled_gap();
-    let mut source = PartialSource::new(&file, 4096);
-    let mut outline = scan(rt.alloc(), &mut source)?;
+/// A copy of a file whose gaps are zeroed.
+fn zeroed_copy(alloc: Global, file: &[u8], expected: &[u8]) -> Result<Copied, Fault> {
+    let mut source = PartialSource::new(file, 4096);
+    let mut outline = scan(alloc, &mut source)?;
     outline.zero_gaps();
-    let copied = copied(&outline, &mut source, &empty_object());
-    assert_eq!(rt; copied, (Ok(()), true));
-    Ok(())
+    Ok(copied(&outline, &mut source, expected))
+}
+
+#[test]
+fn a_filled_gap_is_zeroed(rt: HostRuntime) {
+    let copied = zeroed_copy(rt.alloc(), &filled_gap(), &empty_object());
+    assert_eq!(rt; copied, Ok((Ok(()), true)));
+}
+
+/// A copy of a file whose entry is set, and flags of its section 1: what that edit answers, and the copy.
+fn edited_copy(
+    alloc: Global,
+    file: &[u8],
+    expected: &[u8],
+) -> Result<(Result<(), NoSection>, Copied), Fault> {
+    let mut outline = scan(alloc, &mut Bytes(file))?;
+    outline.set_entry(0x1000);
+    let edited = outline.set_flags(1, 7);
+    Ok((
+        edited,
+        copied(&outline, &mut PartialSource::new(file, 4096), expected),
+    ))
+}
+
+/// The file of one section, so edited.
+fn edited_section() -> [u8; 456] {
+    let mut file = one_section(Order::Little);
+    set(&mut file, Order::Little, &[(24, 8, 0x1000), (208, 8, 7)]);
+    file
+}
+
+#[test]
+fn edits_are_copied(rt: HostRuntime) {
+    let file = one_section(Order::Little);
+    let copied = edited_copy(rt.alloc(), &file, &edited_section());
+    assert_eq!(rt; copied, Ok((Ok(()), (Ok(()), true))));
+}
+
+/// What a copy answers of a file that is scanned and not edited.
+type Answer = Result<Result<(), CopyFault>, Fault>;
+
+fn copy_scanned(
+    alloc: Global,
+    file: &[u8],
+    source: &mut PartialSource<'_>,
+    writer: &mut ComparingWriter<'_>,
+) -> Answer {
+    let outline = scan(alloc, &mut Bytes(file))?;
+    Ok(copy_image(&outline, source, writer))
+}
+
+/// A copy a byte a call: whether the file is written, and the calls of the source, those of the writer and its flushes.
+fn copied_byte_by_byte(alloc: Global, file: &[u8]) -> (Answer, bool, [u64; 3]) {
+    let mut source = PartialSource::new(file, 1);
+    let mut writer = ComparingWriter::new(file);
+    writer.piece = 1;
+    let answer = copy_scanned(alloc, file, &mut source, &mut writer);
+    let calls = [source.calls, writer.calls, writer.flushes];
+    (answer, writer.is_whole(), calls)
 }
 
 /// The header, the tables and both contents come as they are in the file, and so does the gap.
 #[test]
-fn a_file_is_copied_byte_by_byte(rt: HostRuntime) -> Result<(), Fail> {
-    let file = two_of_each(Order::Big);
-    let outline = scan(rt.alloc(), &mut Bytes(&file))?;
-    let mut source = PartialSource::new(&file, 1);
-    let mut writer = ComparingWriter::new(&file);
-    writer.piece = 1;
-    let answer = copy_image(&outline, &mut source, &mut writer);
-    let calls = (source.calls, writer.calls, writer.flushes);
-    assert_eq!(rt;
-        (answer, writer.is_whole(), calls),
-        (Ok(()), true, (4 + 4 + 8, 384, 0))
-    );
-    Ok(())
+fn a_file_is_copied_byte_by_byte(rt: HostRuntime) {
+    let copied = copied_byte_by_byte(rt.alloc(), &two_of_each(Order::Big));
+    assert_eq!(rt; copied, (Ok(Ok(())), true, [4 + 4 + 8, 384, 0]));
+}
+
+/// A copy in few calls: whether the file is written, the calls of the source, and the most bytes of a call of either.
+fn copied_in_blocks(alloc: Global, file: &[u8]) -> (Answer, bool, u64, [usize; 2]) {
+    let mut source = PartialSource::new(file, 10_000);
+    let mut writer = ComparingWriter::new(file);
+    let answer = copy_scanned(alloc, file, &mut source, &mut writer);
+    let longest = [source.longest, writer.longest];
+    (answer, writer.is_whole(), source.calls, longest)
 }
 
 /// Two parts of 9,000 bytes.
 #[test]
-fn long_parts_go_through_one_array(rt: HostRuntime) -> Result<(), Fail> {
-    let file = long_parts();
-    let outline = scan(rt.alloc(), &mut Bytes(&file))?;
-    let mut source = PartialSource::new(&file, 10_000);
-    let mut writer = ComparingWriter::new(&file);
-    let answer = copy_image(&outline, &mut source, &mut writer);
-    let lengths = (source.longest, writer.longest);
-    assert_eq!(rt;
-        (answer, writer.is_whole(), source.calls, lengths),
-        (Ok(()), true, 6, (4096, 4096))
-    );
-    Ok(())
+fn long_parts_go_through_one_array(rt: HostRuntime) {
+    let copied = copied_in_blocks(rt.alloc(), &long_parts());
+    assert_eq!(rt; copied, (Ok(Ok(())), true, 6, [4096; 2]));
 }
 
-#[test]
-fn edits_are_copied(rt: HostRuntime) -> Result<(), Fail> {
-    let file = one_section(Order::Little);
-    let mut outline = scan(rt.alloc(), &mut Bytes(&file))?;
-    outline.set_entry(0x1000);
-    let edited = outline.set_flags(1, 7);
-    let mut expected = file;
-    let edits = [(24, 8, 0x1000), (208, 8, 7)];
-    set(&mut expected, Order::Little, &edits);
-    let copied = copied(&outline, &mut PartialSource::new(&file, 4096), &expected);
-    assert_eq!(rt; (edited, copied), (Ok(()), (Ok(()), true)));
-    Ok(())
+/// The object of a call, with other fields.
+fn caller_with(fields: &[Field]) -> [u8; 616] {
+    let mut file = caller();
+    set(&mut file, Order::Little, fields);
+    file
+}
+
+/// Another content and gap, and the same with other records.
+const CONTENTS: [Field; 2] = [(64, 1, 0x90), (70, 2, 1)];
+
+const CONTENTS_AND_RECORDS: [Field; 5] = [
+    (64, 1, 0x90),
+    (70, 2, 1),
+    (24, 8, 1),
+    (40, 8, 0),
+    (300, 4, 8),
+];
+
+/// What a copy of the object of a call comes to from a source that has these bytes since the scan.
+fn copied_from(alloc: Global, changed: &[u8], expected: &[u8]) -> (Answer, bool) {
+    let mut source = PartialSource::new(changed, 4096);
+    let mut writer = ComparingWriter::new(expected);
+    let answer = copy_scanned(alloc, &caller(), &mut source, &mut writer);
+    (answer, writer.is_whole())
 }
 
 /// A content that changed since the scan goes out as it is, and so does a gap; the records are those that were read.
 #[test]
-fn a_source_that_changed_is_copied(rt: HostRuntime) -> Result<(), Fail> {
-    let file = caller();
-    let outline = scan(rt.alloc(), &mut Bytes(&file))?;
-    let mut expected = file;
-    set(&mut expected, Order::Little, &[(64, 1, 0x90), (70, 2, 1)]);
-    let mut changed = expected;
-    let records = [(24, 8, 1), (40, 8, 0), (300, 4, 8)];
-    set(&mut changed, Order::Little, &records);
-    let copied = copied(&outline, &mut PartialSource::new(&changed, 4096), &expected);
-    assert_eq!(rt; copied, (Ok(()), true));
-    Ok(())
+fn a_source_that_changed_is_copied(rt: HostRuntime) {
+    let changed = caller_with(&CONTENTS_AND_RECORDS);
+    let copied = copied_from(rt.alloc(), &changed, &caller_with(&CONTENTS));
+    assert_eq!(rt; copied, (Ok(Ok(())), true));
 }
 
 // Copies of the object of a call, stopped by a call of the source or of the writer.
@@ -187,76 +248,90 @@ const OUT: [u64; 9] = [0, 64, 70, 72, 96, 168, 181, 225, 232];
 
 /// What a copy answers, and whether exactly so many of the file's first bytes are written.
 fn copy_through(
-    outline: &Outline,
+    alloc: Global,
     file: &[u8],
     source: &mut PartialSource<'_>,
     written: u64,
-) -> (Result<(), CopyFault>, bool) {
+) -> (Answer, bool) {
     let mut writer = ComparingWriter::new(file);
-    let copied = copy_image(outline, source, &mut writer);
-    (copied, writer.agrees && writer.taken as u64 == written)
+    let answer = copy_scanned(alloc, file, source, &mut writer);
+    (answer, writer.agrees && writer.taken as u64 == written)
+}
+
+/// The same where the read of this number fails, or gives no byte.
+fn copy_to_a_read(alloc: Global, failing: u64, gives_none: bool, written: u64) -> (Answer, bool) {
+    let file = caller();
+    let mut source = PartialSource::new(&file, 24);
+    source.failing = failing;
+    source.gives_none = gives_none;
+    copy_through(alloc, &file, &mut source, written)
 }
 
 #[test]
-fn each_failed_read_is_answered(rt: HostRuntime) -> Result<(), Fail> {
-    let file = caller();
-    let outline = scan(rt.alloc(), &mut Bytes(&file))?;
+fn each_failed_read_is_answered(rt: HostRuntime) {
     for k in 0..2 * ASKED.len() {
         let (at, written) = ASKED[k / 2];
-        let mut source = PartialSource::new(&file, 24);
-        source.failing = k as u64 / 2 + 1;
-        source.gives_none = k % 2 == 1;
-        let copied = copy_through(&outline, &file, &mut source, written);
-        assert_eq!(rt; copied, (Err(CopyFault::Read { at, written }), true));
+        let copied = copy_to_a_read(rt.alloc(), k as u64 / 2 + 1, k % 2 == 1, written);
+        assert_eq!(rt; copied, (Ok(Err(CopyFault::Read { at, written })), true));
     }
-    Ok(())
+}
+
+/// What a copy answers whose write of this number fails, or takes no byte; whether the writer has first bytes of the file, and how many.
+fn copy_to_a_write(alloc: Global, failing: u64, takes_none: bool) -> (Answer, bool, u64) {
+    let file = caller();
+    let mut writer = ComparingWriter::new(&file);
+    writer.failing = failing;
+    writer.takes_none = takes_none;
+    let mut source = PartialSource::new(&file, 4096);
+    let answer = copy_scanned(alloc, &file, &mut source, &mut writer);
+    (answer, writer.agrees, writer.taken as u64)
 }
 
 #[test]
-fn each_failed_write_is_answered(rt: HostRuntime) -> Result<(), Fail> {
-    let file = caller();
-    let outline = scan(rt.alloc(), &mut Bytes(&file))?;
+fn each_failed_write_is_answered(rt: HostRuntime) {
     for k in 0..2 * OUT.len() {
         let written = OUT[k / 2];
-        let mut writer = ComparingWriter::new(&file);
-        writer.failing = k as u64 / 2 + 1;
-        writer.takes_none = k % 2 == 1;
-        let copied = copy_image(&outline, &mut PartialSource::new(&file, 4096), &mut writer);
+        let copied = copy_to_a_write(rt.alloc(), k as u64 / 2 + 1, k % 2 == 1);
         assert_eq!(rt;
-            (copied, writer.agrees, writer.taken as u64),
-            (Err(CopyFault::Write { written }), true, written)
+            copied,
+            (Ok(Err(CopyFault::Write { written })), true, written)
         );
     }
-    Ok(())
+}
+
+/// The same of bytes in memory, and a writer that takes so many in all.
+fn copy_to_a_full_writer(
+    alloc: Global,
+    room: usize,
+) -> Result<(Result<(), CopyFault>, bool, usize), Fault> {
+    let file = caller();
+    let outline = scan(alloc, &mut Bytes(&file))?;
+    let mut writer = ComparingWriter::new(&file);
+    writer.room = room;
+    let answer = copy_image(&outline, &mut Bytes(&file), &mut writer);
+    Ok((answer, writer.agrees, writer.taken))
 }
 
 #[test]
-fn a_full_writer_has_the_first_bytes(rt: HostRuntime) -> Result<(), Fail> {
-    let file = caller();
-    let outline = scan(rt.alloc(), &mut Bytes(&file))?;
-    let mut writer = ComparingWriter::new(&file);
-    writer.room = 100;
-    let copied = copy_image(&outline, &mut Bytes(&file), &mut writer);
+fn a_full_writer_has_the_first_bytes(rt: HostRuntime) {
+    let copied = copy_to_a_full_writer(rt.alloc(), 100);
     assert_eq!(rt;
-        (copied, writer.agrees, writer.taken),
-        (Err(CopyFault::Write { written: 100 }), true, 100)
+        copied,
+        Ok((Err(CopyFault::Write { written: 100 }), true, 100))
     );
-    Ok(())
 }
 
 /// The file ends in its symbol table since the scan.
 #[test]
-fn a_source_that_got_shorter_is_told(rt: HostRuntime) -> Result<(), Fail> {
+fn a_source_that_got_shorter_is_told(rt: HostRuntime) {
     let file = caller();
-    let outline = scan(rt.alloc(), &mut Bytes(&file))?;
     let mut source = PartialSource::new(&file[..100], 4096);
-    let copied = copy_through(&outline, &file, &mut source, 96);
+    let copied = copy_through(rt.alloc(), &file, &mut source, 96);
     let fault = CopyFault::Read {
         at: 100,
         written: 96,
     };
-    assert_eq!(rt; copied, (Err(fault), true));
-    Ok(())
+    assert_eq!(rt; copied, (Ok(Err(fault)), true));
 }
 
 // Zeros, padding and records of more than one block, onto a writer of which one call alone fails: exactly what is reported is out, and no
@@ -293,8 +368,19 @@ fn once_failing(alloc: Global, failing: usize) -> OnceFailingWriter {
     OnceFailingWriter::new(alloc, 1000, failing, Some(ErrorKind::Interrupted))
 }
 
-/// These bytes were written, of which `outs[k]` were out before call `k + 1`: where that one failed, no more are out, the answer reports
+/// What is seen of these bytes, of which `outs[k]` were out before call `k + 1`: where that one failed, no more are out, the answer reports
 /// it, and no call came after it; where none did, all are out.
+fn ended<'a>(failing: usize, bytes: &'a [u8], outs: &[usize]) -> Written<'a> {
+    match outs.get(failing.wrapping_sub(1)) {
+        Some(out) => {
+            let written = *out as u64;
+            let first = &bytes[..(*out).min(bytes.len())];
+            (Err(WriteFault { written }), first, [failing, 0], false)
+        }
+        None => (Ok(()), bytes, [outs.len(), 0], false),
+    }
+}
+
 fn assert_ends(
     rt: &impl Abort,
     writer: &OnceFailingWriter,
@@ -302,43 +388,37 @@ fn assert_ends(
     bytes: &[u8],
     outs: &[usize],
 ) {
-    let (ended, out, calls) = match outs.get(writer.failing.wrapping_sub(1)) {
-        Some(out) => {
-            let written = *out as u64;
-            (Err(WriteFault { written }), *out, writer.failing)
-        }
-        None => (Ok(()), bytes.len(), outs.len()),
-    };
-    let counts = (writer.offers.len(), writer.flushes);
-    assert_eq!(rt;
-        (answer, Some(writer.bytes.as_slice()), counts),
-        (ended, bytes.get(..out), (calls, 0))
-    );
+    assert_eq!(rt; written(writer, answer), ended(writer.failing, bytes, outs));
 }
 
 /// Relocations at 0, 1, 2, .. by symbol 1, of type 2, with the addend -1.
-fn relocations(alloc: Global) -> Result<Vec<Rela>, AllocError> {
-    let mut records = Vec::new(alloc);
+fn relocations() -> [Rela; RELOCATIONS] {
+    let first = Rela {
+        r_offset: 0,
+        r_info: 0x1_0000_0002,
+        r_addend: -1,
+    };
+    let mut records = [first; RELOCATIONS];
     for index in 0..RELOCATIONS {
-        records.push(Rela {
-            r_offset: index as u64,
-            r_info: 0x1_0000_0002,
-            r_addend: -1,
-        })?;
+        records[index].r_offset = index as u64;
     }
-    Ok(records)
+    records
 }
 
+/// The bytes of the first one, in big order.
+const RELOCATION: [u8; 24] =
+    *b"\0\0\0\0\0\0\0\0\0\0\0\x01\0\0\0\x02\xff\xff\xff\xff\xff\xff\xff\xff";
+
 /// Their bytes in big order.
-fn relocation_bytes(alloc: Global) -> Result<Vec<u8>, AllocError> {
-    let mut bytes = Vec::new(alloc);
+fn relocation_bytes() -> [u8; 24 * RELOCATIONS] {
+    let mut bytes = [0; 24 * RELOCATIONS];
     for index in 0..RELOCATIONS {
-        bytes.extend_from_slice(&[0, 0, 0, 0, 0, 0])?;
-        bytes.extend_from_slice(&[(index / 256) as u8, (index % 256) as u8])?;
-        bytes.extend_from_slice(&[0, 0, 0, 1, 0, 0, 0, 2])?;
-        bytes.extend_from_slice(&[0xff; 8])?;
+        let record = &mut bytes[24 * index..24 * index + 24];
+        record.copy_from_slice(&RELOCATION);
+        record[6] = (index / 256) as u8;
+        record[7] = (index % 256) as u8;
     }
-    Ok(bytes)
+    bytes
 }
 
 #[test]
@@ -363,13 +443,12 @@ fn a_padded_part_ends_at_a_failed_call(rt: HostRuntime) {
 }
 
 #[test]
-fn records_end_at_a_failed_call(rt: HostRuntime) -> Result<(), AllocError> {
-    let records = relocations(rt.alloc())?;
-    let bytes = relocation_bytes(rt.alloc())?;
+fn records_end_at_a_failed_call(rt: HostRuntime) {
+    let records = relocations();
+    let bytes = relocation_bytes();
     for failing in 0..=RELOCATIONS_OUT.len() {
         let mut writer = once_failing(rt.alloc(), failing);
         let answer = write_records(&mut writer, Order::Big, &records);
         assert_ends(&rt, &writer, answer, &bytes, &RELOCATIONS_OUT);
     }
-    Ok(())
 }

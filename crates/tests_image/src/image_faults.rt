@@ -1,5 +1,5 @@
 //! Readers and writers that move little, fail, or meet a failed allocation.
-ghost use Rattle.std.specs.Prelude.{◌<◌, ◌≤◌};
+ghost use Rattle.std.specs.Prelude.{◌<◌, ◌≤◌, ◌^◌};
 
 use elf_image_stream::{Fault, WriteFault, read_to_end, resume, write_whole};
 use elf_image_type::{Image, parse, write};
@@ -33,17 +33,26 @@ impl Read for Counting {
 
 const TEXT: &[u8] = b"0123456789abcdef0123456789abcdef";
 
-/// Reads so many bytes, or as many as there is memory for: none that was given is lost.
-fn read_all_or_as_many_as_fit(rt: &impl Abort, alloc: Global, whole: usize) {
+/// Whether all that there was is given, or there was no memory for more.
+fn may_end(answer: Result<(), Fault>, left: usize) -> bool {
+    match answer {
+        Ok(()) => left == 0,
+        Err(fault) => fault == Fault::OutOfMemory,
+    }
+}
+
+fn are_sevens(bytes: &[u8]) -> bool {
+    bytes.iter().all(|byte| *byte == 7)
+}
+
+/// Reads so many bytes, or as many as there is memory for: whether it may end so, how many were given or are left, and whether each byte
+/// that was given is kept.
+fn read_all_or_as_many_as_fit(alloc: Global, whole: usize) -> (bool, Option<usize>, bool) {
     let mut reader = Counting { left: whole };
     let mut buf = Vec::new(alloc);
-    let ended = match read_to_end(&mut reader, &mut buf) {
-        Ok(()) => reader.left == 0,
-        Err(fault) => fault == Fault::OutOfMemory,
-    };
+    let answer = read_to_end(&mut reader, &mut buf);
     let given = reader.left.checked_add(buf.len());
-    let kept = buf.iter().all(|byte| *byte == 7);
-    assert_eq!(rt; (ended, given, kept), (true, Some(whole), true));
+    (may_end(answer, reader.left), given, are_sevens(&buf))
 }
 
 // Where an allocation fails, the answer is `OutOfMemory`, and no byte that was given is lost.
@@ -51,7 +60,8 @@ fn read_all_or_as_many_as_fit(rt: &impl Abort, alloc: Global, whole: usize) {
 fn a_refused_growth_loses_no_byte(rt: HostRuntime) {
     // Of the longer file capacity is asked for well ahead.
     for whole in [300_000, 6_000_000] {
-        read_all_or_as_many_as_fit(&rt, rt.alloc(), whole);
+        let read = read_all_or_as_many_as_fit(rt.alloc(), whole);
+        assert_eq!(rt; read, (true, Some(whole), true));
     }
 }
 
@@ -114,26 +124,37 @@ fn reads_all_bytes_however_they_are_cut(rt: HostRuntime) {
     }
 }
 
-/// The answer, and what a writer that takes one byte a call saw, of bytes of which `before` are out, and
-/// then none.
+/// What a call answered that wrote; and of its writer the bytes, how many calls and flushes there were, and whether a call offered no byte.
+pub(crate) type Written<'a> = (Result<(), WriteFault>, &'a [u8], [usize; 2], bool);
+
+pub(crate) fn written(writer: &OnceFailingWriter, answer: Result<(), WriteFault>) -> Written<'_> {
+    let counts = [writer.offers.len(), writer.flushes];
+    (
+        answer,
+        writer.bytes.as_slice(),
+        counts,
+        writer.offers.contains(&0),
+    )
+}
+
+/// A writer took one byte a call of these, and the call after `before` alone failed: that is the answer, and no call came after it.
 fn assert_stopped(
     rt: &impl Abort,
     writer: &OnceFailingWriter,
     answer: Result<(), WriteFault>,
     bytes: &[u8],
     before: usize,
-) {
-    let written = before as u64;
-    let calls = Some(writer.offers.len());
-    let offered = writer.offers.iter().all(|offer| *offer > 0);
-    let seen = (
-        Some(writer.bytes.as_slice()),
-        calls,
-        offered,
-        writer.flushes,
+)
+    requires { before < 2 ^ 63 }
+{
+    let fault = WriteFault {
+        written: before as u64,
+    };
+    let out = &bytes[..before.min(bytes.len())];
+    assert_eq!(rt;
+        written(writer, answer),
+        (Err(fault), out, [before + 1, 0], false)
     );
-    let expected = (bytes.get(..before), before.checked_add(1), true, 0);
-    assert_eq!(rt; (answer, seen), (Err(WriteFault { written }), expected));
 }
 
 /// Writes the text, whose write after `before` bytes alone fails: that is the answer.
@@ -170,25 +191,24 @@ fn assert_image_stops(
     assert_stopped(rt, &writer, answer, bytes, before);
 }
 
-/// Writes an image of 376 bytes, whose write after each number of bytes alone fails in turn; and again, with its gap zeroed.
-fn write_image_once_failing(rt: &impl Abort, alloc: Global, failure: Failure) -> Result<(), Fault> {
-    let file = filled_gap();
-    let mut image = parse(alloc, &file)?;
+/// Writes the image of these 376 bytes, whose write after each number of bytes alone fails in turn, in each way.
+fn assert_image_stops_everywhere(rt: &impl Abort, alloc: Global, image: &Image<'_>, bytes: &[u8]) {
     for before in 0..376 {
-        assert_image_stops(rt, alloc, &image, &file, before, failure);
+        for failure in FAILURES {
+            assert_image_stops(rt, alloc, image, bytes, before, failure);
+        }
     }
-    image.zero_gaps();
-    for before in 0..376 {
-        assert_image_stops(rt, alloc, &image, &empty_object(), before, failure);
-    }
-    Ok(())
 }
 
+// With its gap filled, and zeroed.
 #[test]
 fn an_image_stops_at_a_failed_write(rt: HostRuntime) -> Result<(), Fault> {
-    for failure in FAILURES {
-        write_image_once_failing(&rt, rt.alloc(), failure)?;
-    }
+    let alloc = rt.alloc();
+    let file = filled_gap();
+    let mut image = parse(alloc, &file)?;
+    assert_image_stops_everywhere(&rt, alloc, &image, &file);
+    image.zero_gaps();
+    assert_image_stops_everywhere(&rt, alloc, &image, &empty_object());
     Ok(())
 }
 

@@ -19,62 +19,63 @@ use tests_files::{
 /// headers, and the ends of the section name string table.
 const ASKED: [u64; 5] = [0, 136, 136, 97, 129];
 
-/// The parts of the file of one section: whose each is, where it begins and how long it is.
-const PARTS: [(Owner, u64, u64); 8] = [
-    (Owner::Header, 0, 64),
-    (Owner::Content(1), 64, 1),
-    (Owner::Gap, 65, 7),
-    (Owner::Content(2), 72, 24),
-    (Owner::Content(3), 96, 1),
-    (Owner::Content(4), 97, 33),
-    (Owner::Gap, 130, 6),
-    (Owner::SectionTable, 136, 320),
-];
-
-/// Whether these are the parts of the file of one section.
-pub(crate) fn are_parts(parts: &[Part]) -> bool {
-    parts.len() == PARTS.len()
-        && parts.iter().zip(PARTS.iter()).all(|(part, known)| (part.owner, part.start, part.len)
-            == *known)
+fn part(owner: Owner, start: u64, len: u64) -> Part {
+    Part { owner, start, len }
 }
 
-/// What a scan of a source comes to: whether the parts are those of the file of one section, how many sections, segments and bytes the file
-/// has; and how many calls the scan made.
+/// The parts of the file of one section.
+fn parts_of_one_section() -> [Part; 8] {
+    [
+        part(Owner::Header, 0, 64),
+        part(Owner::Content(1), 64, 1),
+        part(Owner::Gap, 65, 7),
+        part(Owner::Content(2), 72, 24),
+        part(Owner::Content(3), 96, 1),
+        part(Owner::Content(4), 97, 33),
+        part(Owner::Gap, 130, 6),
+        part(Owner::SectionTable, 136, 320),
+    ]
+}
+
+/// Whether these are the parts of the file of one section.
+fn are_parts(parts: &[Part]) -> bool {
+    parts == parts_of_one_section().as_slice()
+}
+
+/// What a scan of a file that gives so many bytes a call comes to: whether the parts are those of the file of one section, how many
+/// sections, segments and bytes the file has; and how many calls the scan made.
 fn scanned(
     alloc: Global,
-    source: &mut PartialSource<'_>,
+    file: &[u8],
+    piece: usize,
 ) -> Result<(bool, [usize; 2], u64, u64), Fault> {
-    let outline = scan(alloc, source)?;
+    let mut source = PartialSource::new(file, piece);
+    let outline = scan(alloc, &mut source)?;
     let counts = [outline.sections().len(), outline.segments().len()];
-    Ok((
-        are_parts(outline.parts()),
-        counts,
-        outline.len(),
-        source.calls,
-    ))
+    let are_known = are_parts(outline.parts());
+    Ok((are_known, counts, outline.len(), source.calls))
 }
 
 // A byte a call, and all in a call: five of them, of which none is for a content. Without a section table; and with empty contents far
 // past the end.
 #[test]
 fn a_scan_reads_no_content(rt: HostRuntime) {
-    let little = one_section(Order::Little);
-    let big = one_section(Order::Big);
-    let segment = one_segment(Order::Little);
-    let empty = empty_contents(Order::Big);
+    let alloc = rt.alloc();
     let scans = [
-        scanned(rt.alloc(), &mut PartialSource::new(&big, 1)),
-        scanned(rt.alloc(), &mut PartialSource::new(&little, 4096)),
-        scanned(rt.alloc(), &mut PartialSource::new(&segment, 4096)),
-        scanned(rt.alloc(), &mut PartialSource::new(&empty, 4096)),
+        scanned(alloc, &one_section(Order::Big), 1),
+        scanned(alloc, &one_section(LITTLE), 4096),
+        scanned(alloc, &one_segment(LITTLE), 4096),
+        scanned(alloc, &empty_contents(Order::Big), 4096),
     ];
-    let expected = [
-        Ok((true, [5, 0], 456, 64 + 64 + 5 * 64 + 2)),
-        Ok((true, [5, 0], 456, 5)),
-        Ok((false, [0, 1], 120, 2)),
-        Ok((false, [3, 0], 256, 3)),
-    ];
-    assert_eq!(rt; scans, expected);
+    assert_eq!(rt;
+        scans,
+        [
+            Ok((true, [5, 0], 456, 64 + 64 + 5 * 64 + 2)),
+            Ok((true, [5, 0], 456, 5)),
+            Ok((false, [0, 1], 120, 2)),
+            Ok((false, [3, 0], 256, 3))
+        ]
+    );
 }
 
 // Each call fails in turn, and then gives nothing.
@@ -175,43 +176,46 @@ fn told(alloc: Global, file: &[u8]) -> Result<Told, Fault> {
     Ok(told_by(&image))
 }
 
+/// Of the file of one section, and of that of two segments and sections.
+const TOLD: [Result<Told, Fault>; 2] = [
+    Ok((
+        (LITTLE, true),
+        [456, 5, 0, 136, 4],
+        [Some((1, 64, 1, 0, 200)), Some((33, 97, 33, 0, 392)), None],
+        [None; 2],
+    )),
+    Ok((
+        (Order::Big, false),
+        [384, 3, 2, 192, 0],
+        [Some((4, 176, 4, 0x10b0, 256)), None, None],
+        [Some((0x1000, 180, 180)), Some((0x20b8, 8, 16))],
+    )),
+];
+
 #[test]
 fn tells_the_header_sections_and_segments_of_a_file(rt: HostRuntime) {
     let found = [
         told(rt.alloc(), &one_section(LITTLE)),
         told(rt.alloc(), &two_of_each(Order::Big)),
     ];
-    let text = Some((1, 64, 1, 0, 200));
-    let names = Some((33, 97, 33, 0, 392));
-    let first = Some((4, 176, 4, 0x10b0, 256));
-    let segments = [Some((0x1000, 180, 180)), Some((0x20b8, 8, 16))];
-    let expected = [
-        Ok((
-            (LITTLE, true),
-            [456, 5, 0, 136, 4],
-            [text, names, None],
-            [None; 2],
-        )),
-        Ok((
-            (Order::Big, false),
-            [384, 3, 2, 192, 0],
-            [first, None, None],
-            segments,
-        )),
-    ];
-    assert_eq!(rt; found, expected);
+    assert_eq!(rt; found, TOLD);
 }
 
-/// The name and the content of section 1. They outlive the image that reported them.
+/// The name and the content of section 1.
+fn first_texts<'a>(image: &Image<'a>) -> Option<(&'a [u8], &'a [u8])> {
+    if image.section_count() < 2 {
+        return None;
+    }
+    Some((image.name(1), image.content(1)))
+}
+
+/// The same of a file. They outlive the image that reported them.
 fn name_and_content<'a>(
     alloc: Global,
     file: &'a [u8],
 ) -> Result<Option<(&'a [u8], &'a [u8])>, Fault> {
     let image = parse(alloc, file)?;
-    if image.section_count() < 2 {
-        return Ok(None);
-    }
-    Ok(Some((image.name(1), image.content(1))))
+    Ok(first_texts(&image))
 }
 
 #[test]
@@ -253,13 +257,19 @@ fn sets_the_entry_of_what_a_reader_gives(rt: HostRuntime) -> Result<(), Fault> {
 
 #[test]
 fn writes_back_what_it_read(rt: HostRuntime) -> Result<(), Fault> {
-    assert_kept(&rt, rt.alloc(), &empty_object())?;
-    assert_kept(&rt, rt.alloc(), &one_section(LITTLE))?;
-    assert_kept(&rt, rt.alloc(), &one_section(Order::Big))?;
-    assert_kept(&rt, rt.alloc(), &empty_contents(LITTLE))?;
-    assert_kept(&rt, rt.alloc(), &two_of_each(LITTLE))?;
-    assert_kept(&rt, rt.alloc(), &two_of_each(Order::Big))?;
-    assert_kept(&rt, rt.alloc(), &one_segment(LITTLE))
+    let files: [&[u8]; 7] = [
+        &empty_object(),
+        &one_section(LITTLE),
+        &one_section(Order::Big),
+        &empty_contents(LITTLE),
+        &two_of_each(LITTLE),
+        &two_of_each(Order::Big),
+        &one_segment(LITTLE),
+    ];
+    for file in files {
+        assert_kept(&rt, rt.alloc(), file)?;
+    }
+    Ok(())
 }
 
 /// The image is written as the file, and with its gap zeroed as the empty object.
@@ -287,21 +297,27 @@ fn refusals(image: &mut Image<'_>) -> [Result<(), ReplaceFault>; 4] {
     ]
 }
 
+const REFUSALS: [Result<(), ReplaceFault>; 4] = [
+    Err(ReplaceFault::NoSection),
+    Err(ReplaceFault::NoSection),
+    Err(ReplaceFault::WrongLength),
+    Err(ReplaceFault::NameTable),
+];
+
+/// That file with another byte in its section.
+fn with_another_byte() -> [u8; 456] {
+    let mut file = one_section(LITTLE);
+    file[64] = 0x90;
+    file
+}
+
 /// They change nothing; another byte of its section is there.
 fn assert_replaces(rt: &impl Abort, alloc: Global, image: &mut Image<'_>, file: &[u8]) {
-    let expected = [
-        Err(ReplaceFault::NoSection),
-        Err(ReplaceFault::NoSection),
-        Err(ReplaceFault::WrongLength),
-        Err(ReplaceFault::NameTable),
-    ];
-    let refused = refusals(image) == expected;
+    let refused = refusals(image);
     assert_written(rt, alloc, image, file);
-    let mut want = one_section(LITTLE);
-    want[64] = 0x90;
-    let replaced = image.replace(1, &[0x90]).is_ok();
-    assert_written(rt, alloc, image, &want);
-    assert_eq!(rt; (refused, replaced), (true, true));
+    let replaced = image.replace(1, &[0x90]);
+    assert_written(rt, alloc, image, &with_another_byte());
+    assert_eq!(rt; (refused, replaced), (REFUSALS, Ok(())));
 }
 
 #[test]
@@ -390,11 +406,7 @@ fn loaded_whole() -> [u8; 384] {
 
 /// What an image loads at these addresses.
 fn bytes_at(image: &Image<'_>, addresses: [u64; 6]) -> [Option<u8>; 6] {
-    let mut bytes = [None; 6];
-    for (byte, address) in bytes.iter_mut().zip(addresses) {
-        *byte = image.load(address);
-    }
-    bytes
+    addresses.map(|address| image.load(address))
 }
 
 /// What the image of a file does.
@@ -428,17 +440,36 @@ fn loads_each_part_of_a_file(rt: HostRuntime) {
         loaded(rt.alloc(), &file, parts),
         loaded_of_edited(rt.alloc(), &file, edits),
     ];
-    let expected = [
-        Ok([b'E', 1, b't', b'g', 6, 0].map(Some)),
-        Ok([0x34, 1, b'T', 0, 7, b'd'].map(Some)),
-    ];
-    assert_eq!(rt; told, expected);
+    assert_eq!(rt;
+        told,
+        [
+            Ok([
+                Some(b'E'),
+                Some(1),
+                Some(b't'),
+                Some(b'g'),
+                Some(6),
+                Some(0)
+            ]),
+            Ok([
+                Some(0x34),
+                Some(1),
+                Some(b'T'),
+                Some(0),
+                Some(7),
+                Some(b'd')
+            ])
+        ]
+    );
 }
+
+/// The last page of addresses.
+const LAST: u64 = u64::MAX - 0xfff;
 
 /// The file of one segment, which goes on after the largest address.
 fn one_segment_at_the_end() -> [u8; 120] {
     let mut file = one_segment(Order::Little);
-    let fields = [(80, 8, u64::MAX - 0xfff), (104, 8, u64::MAX)];
+    let fields = [(80, 8, LAST), (104, 8, u64::MAX)];
     set(&mut file, Order::Little, &fields);
     file
 }
@@ -471,34 +502,36 @@ fn data_and_commons() -> [u8; 180] {
     file
 }
 
+/// Fields of two segments that share addresses, and of a first one that is not loadable.
+const SHARED: [Field; 3] = [(104, 8, 0x200), (136, 8, 0x10b8), (160, 8, 0x200)];
+
+const NOT_LOADED: [Field; 1] = [(64, 4, 4)];
+
 // The code of an executable; two segments that have an address, of which the first one has no bytes in the file for it; one of another
 // type, which loads nothing; the last address of one that goes on after it; and commons, which are 0.
 #[test]
 fn loads_by_segments(rt: HostRuntime) {
+    let alloc = rt.alloc();
     let code = [0xfff, 0x1000, 0x1001, 0x1006, 0x1007, u64::MAX];
     let shared = [0x10b3, 0x10b8, 0x11ff, 0x1200, 0x12b7, 0x12b8];
-    let both = [(104, 8, 0x200), (136, 8, 0x10b8), (160, 8, 0x200)];
     let second = [0x1000, 0x10b0, 0x20b8, 0x20bf, 0x20c0, 0x20c8];
-    let start = u64::MAX - 0xfff;
+    let last = [0, 0xfff, LAST - 1, LAST, LAST + 0x77, u64::MAX];
     let commons = [0x1fff, 0x2000, 0x2003, 0x2004, 0x3007, 0x3008];
-    let last = [0, 0xfff, start - 1, start, start + 0x77, u64::MAX];
     let told = [
-        loaded(rt.alloc(), &executable_of_a_call(), code),
-        loaded(rt.alloc(), &two_of_each_with(Order::Little, &both), shared),
-        loaded(
-            rt.alloc(),
-            &two_of_each_with(Order::Little, &[(64, 4, 4)]),
-            second,
-        ),
-        loaded(rt.alloc(), &one_segment_at_the_end(), last),
-        loaded(rt.alloc(), &data_and_commons(), commons),
+        loaded(alloc, &executable_of_a_call(), code),
+        loaded(alloc, &two_of_each_with(LITTLE, &SHARED), shared),
+        loaded(alloc, &two_of_each_with(LITTLE, &NOT_LOADED), second),
+        loaded(alloc, &one_segment_at_the_end(), last),
+        loaded(alloc, &data_and_commons(), commons),
     ];
-    let bytes = [
-        [None, Some(0xe8), Some(1), Some(0xc3), None, None],
-        [Some(b't'), Some(0), Some(0), Some(0), Some(0), None],
-        [None, None, Some(b'd'), Some(b'a'), Some(0), None],
-        [None, None, None, Some(0x7f), Some(0), Some(0)],
-        [None, Some(1), Some(0), None, Some(0), None],
-    ];
-    assert_eq!(rt; told, bytes.map(Ok));
+    assert_eq!(rt;
+        told,
+        [
+            Ok([None, Some(0xe8), Some(1), Some(0xc3), None, None]),
+            Ok([Some(b't'), Some(0), Some(0), Some(0), Some(0), None]),
+            Ok([None, None, Some(b'd'), Some(b'a'), Some(0), None]),
+            Ok([None, None, None, Some(0x7f), Some(0), Some(0)]),
+            Ok([None, Some(1), Some(0), None, Some(0), None])
+        ]
+    );
 }

@@ -1,5 +1,8 @@
 //! Records and whole files that are read.
+ghost use Rattle.std.specs.Prelude.{◌≤◌, length};
+
 use elf_field::{Order, Rel};
+use elf_image_rules::TableEnds;
 use elf_image_stream::{
     Bytes, Failed, Failures, ReadFault, RecordsFault, Seeking, Source, read_ends, read_exactly,
     read_record, read_records,
@@ -7,7 +10,6 @@ use elf_image_stream::{
 use std::alloc::Global;
 use std::io::Cursor;
 use std::process::Abort;
-use std::test::Fail;
 use tests_files::PartialSource;
 
 // Records of a source.
@@ -16,66 +18,76 @@ use tests_files::PartialSource;
 const COUNT: usize = 600;
 
 /// A table after 3 other bytes: relocation `i` has offset `i`, and zeros else.
-fn table(alloc: Global) -> Result<Vec<u8>, Fail> {
-    let mut bytes = Vec::new(alloc);
-    bytes.extend_from_slice(&[0; 3])?;
+fn table() -> [u8; 3 + 16 * COUNT] {
+    let mut bytes = [0; 3 + 16 * COUNT];
     for i in 0..COUNT {
-        bytes.extend_from_slice(&(i as u64).to_le_bytes())?;
-        bytes.extend_from_slice(&[0; 8])?;
+        let start = 3 + 16 * i;
+        bytes[start..start + 8].copy_from_slice(&(i as u64).to_le_bytes());
     }
-    Ok(bytes)
+    bytes
 }
 
-/// Whether the offsets are 0, 1 and so on.
-fn ascend(relocations: &[Rel]) -> bool {
-    relocations
-        .iter()
-        .enumerate()
-        .all(|(i, relocation)| relocation.r_offset == i as u64)
+/// The record at this offset.
+fn record(bytes: &[u8], at: u64) -> Result<Rel, ReadFault>
+    requires { at ≤ 9600 }
+{
+    read_record(&mut Bytes(bytes), Order::Little, at)
 }
 
 #[test]
-fn a_record_is_read(rt: HostRuntime) -> Result<(), Fail> {
-    let bytes = table(rt.alloc())?;
-    let relocation: Result<Rel, _> = read_record(&mut Bytes(&bytes), Order::Little, 3 + 16 * 5);
-    assert_eq!(rt; relocation.map(|it| it.r_offset), Ok(5));
-    Ok(())
+fn a_record_is_read(rt: HostRuntime) {
+    let relocation = Rel {
+        r_offset: 5,
+        r_info: 0,
+    };
+    assert_eq!(rt; record(&table(), 3 + 16 * 5), Ok(relocation));
+}
+
+/// Whether the offsets are 0, 1 and so on, of the whole table.
+fn is_whole(relocations: &[Rel]) -> bool {
+    for (i, relocation) in relocations.iter().enumerate() {
+        if relocation.r_offset != i as u64 {
+            return false;
+        }
+    }
+    relocations.len() == COUNT
 }
 
 /// Whether the table is read whole by a source that gives so many bytes a call, and in how many calls.
-fn table_read(alloc: Global, bytes: &[u8], piece: usize) -> Result<(bool, u64), Fail> {
+fn table_read(alloc: Global, bytes: &[u8], piece: usize) -> Result<(bool, u64), RecordsFault> {
     let mut source = PartialSource::new(bytes, piece);
     let relocations = read_records(alloc, &mut source, Order::Little, 3, COUNT)?;
-    let is_whole = relocations.len() == COUNT && ascend(&relocations);
-    Ok((is_whole, source.calls))
+    Ok((is_whole(&relocations), source.calls))
 }
 
 #[test]
-fn a_table_is_read_in_three_calls_or_a_byte_a_call(rt: HostRuntime) -> Result<(), Fail> {
-    let bytes = table(rt.alloc())?;
+fn a_table_is_read_in_three_calls_or_a_byte_a_call(rt: HostRuntime) {
+    let bytes = table();
     let reads = [
-        table_read(rt.alloc(), &bytes, 4096)?,
-        table_read(rt.alloc(), &bytes, 1)?,
+        table_read(rt.alloc(), &bytes, 4096),
+        table_read(rt.alloc(), &bytes, 1),
     ];
-    assert_eq!(rt; reads, [(true, 3), (true, 16 * COUNT as u64)]);
-    Ok(())
+    assert_eq!(rt; reads, [Ok((true, 3)), Ok((true, 16 * COUNT as u64))]);
 }
 
-#[test]
-fn a_fault_is_told_with_its_offset(rt: HostRuntime) -> Result<(), Fail> {
-    let bytes = table(rt.alloc())?;
-    let mut source = PartialSource::new(&bytes, 4096);
+/// Why the table is not read whose second call fails, and how many calls there were.
+fn table_fault(alloc: Global, bytes: &[u8]) -> (Option<RecordsFault>, u64) {
+    let mut source = PartialSource::new(bytes, 4096);
     source.failing = 2;
     let relocations: Result<Vec<Rel>, _> = read_records(
-        rt.alloc(),
+        alloc,
         &mut source,
         Order::Little,
         3,
         COUNT,
     );
-    let is_told = matches!(relocations, Err(RecordsFault::Io { at: 4099 }));
-    assert_eq!(rt; (is_told, source.calls), (true, 2));
-    Ok(())
+    (relocations.err(), source.calls)
+}
+
+#[test]
+fn a_fault_is_told_with_its_offset(rt: HostRuntime) {
+    let fault = RecordsFault::Io { at: 4099 };
+    assert_eq!(rt; table_fault(rt.alloc(), &table()), (Some(fault), 2));
 }
 
 // Whole reads.
@@ -87,6 +99,14 @@ fn given(at: u64) -> (Result<usize, Failed>, [u8; 3]) {
     (answer, buf)
 }
 
+/// What is given at 1, at 4, at 5 and at the last offset.
+const GIVEN: [(Result<usize, Failed>, [u8; 3]); 4] = [
+    (Ok(3), *b"bcd"),
+    (Ok(1), *b"e\0\0"),
+    (Ok(0), [0; 3]),
+    (Ok(0), [0; 3]),
+];
+
 // Bytes in memory, and what seeks.
 #[test]
 fn bytes_are_read_at_any_offset(rt: HostRuntime) {
@@ -94,22 +114,14 @@ fn bytes_are_read_at_any_offset(rt: HostRuntime) {
     let mut end = [0; 2];
     let mut front = [0; 2];
     let answers = [file.read_at(3, &mut end), file.read_at(0, &mut front)];
+    let given = [given(1), given(4), given(5), given(u64::MAX)];
     assert_eq!(rt;
         (
             [Bytes(b"abcde").length(), file.length()],
-            [given(1), given(4), given(5), given(u64::MAX)],
+            given,
             (answers, end, front)
         ),
-        (
-            [Ok(5); 2],
-            [
-                (Ok(3), *b"bcd"),
-                (Ok(1), *b"e\0\0"),
-                (Ok(0), [0; 3]),
-                (Ok(0), [0; 3])
-            ],
-            ([Ok(2); 2], *b"de", *b"ab")
-        )
+        ([Ok(5); 2], GIVEN, ([Ok(2); 2], [b'd', b'e'], [b'a', b'b']))
     );
 }
 
@@ -147,24 +159,43 @@ fn a_failed_call_is_not_tried_again(rt: HostRuntime) {
 }
 
 /// The ends of so many bytes from this offset on, and how many calls they took.
-fn ends(at: u32, len: u32) -> (Result<(u64, u8, u8), ReadFault>, u64) {
+fn ends(at: u32, len: u32) -> (Result<TableEnds, ReadFault>, u64) {
     let mut source = PartialSource::new(b"abcde", 8);
-    let ends = read_ends(&mut source, u64::from(at), u64::from(len)).map(|ends| (
-        ends.len, ends.first, ends.last,
-    ));
+    let ends = read_ends(&mut source, u64::from(at), u64::from(len));
     (ends, source.calls)
 }
 
+/// Those of three tables.
+const ENDS: [(Result<TableEnds, ReadFault>, u64); 3] = [
+    (
+        Ok(TableEnds {
+            len: 3,
+            first: b'b',
+            last: b'd',
+        }),
+        2,
+    ),
+    (
+        Ok(TableEnds {
+            len: 1,
+            first: b'e',
+            last: b'e',
+        }),
+        1,
+    ),
+    (
+        Ok(TableEnds {
+            len: 0,
+            first: 0,
+            last: 0,
+        }),
+        0,
+    ),
+];
+
 #[test]
 fn the_ends_of_a_table_are_two_bytes(rt: HostRuntime) {
-    assert_eq!(rt;
-        [ends(1, 3), ends(4, 1), ends(9, 0)],
-        [
-            (Ok((3, b'b', b'd')), 2),
-            (Ok((1, b'e', b'e')), 1),
-            (Ok((0, 0, 0)), 0)
-        ]
-    );
+    assert_eq!(rt; [ends(1, 3), ends(4, 1), ends(9, 0)], ENDS);
 }
 
 #[test]
