@@ -3,7 +3,7 @@ use crate::verdicts::{Row, Table, assert_breaks};
 use elf_field::abi::*;
 use elf_field::{Dyn, Order};
 use elf_image_stream::Fault;
-use elf_image_type::parse;
+use elf_image_type::{Image, parse};
 use elf_table_all::{Dynamic, Strings, rules};
 use std::alloc::Global;
 use tests_files::{Field, set, set_header};
@@ -43,19 +43,29 @@ fn names_one_library(dynamic: &Dynamic<'_>) -> bool {
     dynamic.len() == 1 && dynamic.entry(0) == library && dynamic.iter().count() == 1
 }
 
-/// The same of a file's section 1; and the library that its first entry names, which outlives the image.
-fn told(alloc: Global, file: &[u8]) -> Result<(bool, Option<&[u8]>), Fault> {
-    let image = parse(alloc, file)?;
+/// The library that the first entry names.
+fn first_library<'a>(dynamic: &Dynamic<'a>, strings: &Strings<'a>) -> Option<&'a [u8]> {
+    let entry = dynamic.iter().next()?;
+    strings.get(entry.d_un)
+}
+
+/// Both of the image's section 1.
+fn told_by<'a>(image: &Image<'a>) -> Result<(bool, Option<&'a [u8]>), Fault> {
     if image.section_count() < 3 {
         return Ok((false, None));
     }
-    let dynamic = Dynamic::new(&image, 1)?;
-    let strings = Strings::new(&image, 2)?;
-    let name = match dynamic.iter().next() {
-        Some(entry) => strings.get(entry.d_un),
-        None => None,
-    };
-    Ok((names_one_library(&dynamic), name))
+    let dynamic = Dynamic::new(image, 1)?;
+    let strings = Strings::new(image, 2)?;
+    Ok((
+        names_one_library(&dynamic),
+        first_library(&dynamic, &strings),
+    ))
+}
+
+/// The same of a file. The library's name outlives the image.
+fn told(alloc: Global, file: &[u8]) -> Result<(bool, Option<&[u8]>), Fault> {
+    let image = parse(alloc, file)?;
+    told_by(&image)
 }
 
 #[test]
@@ -65,7 +75,7 @@ fn tells_the_entries_before_the_end(rt: HostRuntime) {
     assert_eq!(rt; told, Ok((true, Some(b"libc".as_slice()))));
 }
 
-const ROWS: [Row; 8] = [
+const ROWS: &[Row] = &[
     (
         &[(DYNAMIC_HEADER + SH_TYPE_AT, 4, 1)],
         rules::WRONG_TABLE_TYPE,
@@ -102,9 +112,9 @@ const ROWS: [Row; 8] = [
 
 #[test]
 fn each_rule_is_answered_where_it_is_broken(rt: HostRuntime) {
-    for (fields, rule, at) in ROWS {
+    for row in ROWS {
         let mut file = dynamic();
-        set(&mut file, Order::Little, fields);
-        assert_breaks(&rt, rt.alloc(), &file, 1, Table::Dynamic, rule, at);
+        set(&mut file, Order::Little, row.0);
+        assert_breaks(&rt, rt.alloc(), &file, 1, Table::Dynamic, row);
     }
 }

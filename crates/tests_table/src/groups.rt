@@ -3,7 +3,7 @@ use crate::verdicts::{Row, Table, assert_breaks};
 use elf_field::Order;
 use elf_field::abi::*;
 use elf_image_stream::Fault;
-use elf_image_type::parse;
+use elf_image_type::{Image, parse};
 use elf_table_all::{Group, Symbols, Tables, rules};
 use std::alloc::Global;
 use tests_files::{Field, set, set_header};
@@ -69,39 +69,54 @@ fn has_one_member(group: &Group<'_>) -> bool {
         && group.iter().count() == 1
 }
 
-/// The same of a file's section 1; and the name of the group, which is that of its signature. It outlives the image.
-fn told(alloc: Global, file: &[u8]) -> Result<(bool, Option<&[u8]>), Fault> {
-    let image = parse(alloc, file)?;
+/// The name of the group, which is that of its signature.
+fn name_of<'a>(group: &Group<'a>, symbols: &Symbols<'a>) -> Option<&'a [u8]> {
+    let signature = group.signature() as usize;
+    if signature >= symbols.len() {
+        return None;
+    }
+    Some(symbols.entry(signature).name)
+}
+
+/// Both of the image's section 1.
+fn told_by<'a>(alloc: Global, image: &Image<'a>) -> Result<(bool, Option<&'a [u8]>), Fault> {
     if image.section_count() < 4 {
         return Ok((false, None));
     }
-    let group = Group::new(alloc, &image, 1)?;
-    let symbols = Symbols::new(&image, 3)?;
-    let signature = group.signature() as usize;
-    if signature >= symbols.len() {
-        return Ok((false, None));
-    }
-    Ok((has_one_member(&group), Some(symbols.entry(signature).name)))
+    let group = Group::new(alloc, image, 1)?;
+    let symbols = Symbols::new(image, 3)?;
+    Ok((has_one_member(&group), name_of(&group, &symbols)))
 }
 
-/// Whether section 1 of the file is rejected when all tables are validated.
-fn is_refused_with_the_other_tables(alloc: Global, file: &[u8]) -> Result<bool, Fault> {
+/// The same of a file. The group's name outlives the image.
+fn told(alloc: Global, file: &[u8]) -> Result<(bool, Option<&[u8]>), Fault> {
     let image = parse(alloc, file)?;
+    told_by(alloc, &image)
+}
+
+/// Whether section 1 of the image is rejected when all tables are validated.
+fn is_refused(alloc: Global, image: &Image<'_>) -> Result<bool, Fault> {
     if image.section_count() < 2 {
         return Ok(false);
     }
-    let tables = Tables::new(alloc, &image)?;
+    let tables = Tables::new(alloc, image)?;
     Ok(tables.verdict(1).is_err())
 }
 
-// The names of the signatures are cut in the second file: then the group is refused beside the other tables too.
+/// The same of the file, whose names of the signatures are cut.
+fn is_refused_without_names(alloc: Global) -> Result<bool, Fault> {
+    let mut file = group();
+    file[424] = 2;
+    let image = parse(alloc, &file)?;
+    is_refused(alloc, &image)
+}
+
+// Where the names of the signatures are cut, the group is refused beside the other tables too.
 #[test]
 fn tells_a_group_its_name_and_its_members(rt: HostRuntime) {
     let file = group();
-    let mut cut = file;
-    cut[424] = 2;
     let told = told(rt.alloc(), &file);
-    let refused = is_refused_with_the_other_tables(rt.alloc(), &cut);
+    let refused = is_refused_without_names(rt.alloc());
     assert_eq!(rt;
         (told, refused),
         (Ok((true, Some(b"f".as_slice()))), Ok(true))
@@ -114,7 +129,7 @@ const SIZE_AT: u64 = GROUP_HEADER + SH_SIZE_AT;
 
 const INFO_AT: u64 = GROUP_HEADER + SH_INFO_AT;
 
-const ROWS: [Row; 14] = [
+const ROWS: &[Row] = &[
     (&[(TYPE_AT, 4, 1)], rules::WRONG_TABLE_TYPE, TYPE_AT),
     (&[(424, 1, 2)], rules::UNCLOSED_STRING_TABLE, 129),
     (
@@ -151,9 +166,9 @@ const ROWS: [Row; 14] = [
 
 #[test]
 fn each_rule_is_answered_where_it_is_broken(rt: HostRuntime) {
-    for (fields, rule, at) in ROWS {
+    for row in ROWS {
         let mut file = group();
-        set(&mut file, Order::Little, fields);
-        assert_breaks(&rt, rt.alloc(), &file, 1, Table::Group, rule, at);
+        set(&mut file, Order::Little, row.0);
+        assert_breaks(&rt, rt.alloc(), &file, 1, Table::Group, row);
     }
 }

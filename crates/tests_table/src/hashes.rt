@@ -1,9 +1,11 @@
 //! Rules 40, 42 to 45 and 65 to 69: hash tables, of three names.
+ghost use Rattle.std.specs.Prelude.{◌<◌, length};
+
 use crate::verdicts::{Row, Table, assert_breaks};
 use elf_field::Order;
 use elf_field::abi::*;
 use elf_image_stream::Fault;
-use elf_image_type::parse;
+use elf_image_type::{Image, parse};
 use elf_table_all::{Hash, HashFault, build_hash, elf_hash, rules};
 use std::alloc::Global;
 use tests_files::{Field, set, set_header};
@@ -82,14 +84,19 @@ fn has_words(hash: &Hash<'_>) -> bool {
         && hash.iter().count() == 8
 }
 
-/// Both of a file's section 1.
-fn told(alloc: Global, file: &[u8]) -> Result<[bool; 2], Fault> {
-    let image = parse(alloc, file)?;
+/// Both of the image's section 1.
+fn told_by(alloc: Global, image: &Image<'_>) -> Result<[bool; 2], Fault> {
     if image.section_count() < 2 {
         return Ok([false; 2]);
     }
-    let hash = Hash::new(alloc, &image, 1)?;
+    let hash = Hash::new(alloc, image, 1)?;
     Ok([finds_each_name(&hash), has_words(&hash)])
+}
+
+/// The same of a file.
+fn told(alloc: Global, file: &[u8]) -> Result<[bool; 2], Fault> {
+    let image = parse(alloc, file)?;
+    told_by(alloc, &image)
 }
 
 #[test]
@@ -108,7 +115,7 @@ fn hashes_and_finds_each_name(rt: HostRuntime) {
 
 const SIZE_AT: u64 = HASH_HEADER + SH_SIZE_AT;
 
-const ROWS: [Row; 14] = [
+const ROWS: &[Row] = &[
     (
         &[(HASH_HEADER + SH_TYPE_AT, 4, 1)],
         rules::WRONG_TABLE_TYPE,
@@ -152,38 +159,47 @@ const ROWS: [Row; 14] = [
 
 #[test]
 fn each_rule_is_answered_where_it_is_broken(rt: HostRuntime) {
-    for (fields, rule, at) in ROWS {
+    for row in ROWS {
         let mut file = hash();
-        set(&mut file, Order::Little, fields);
-        assert_breaks(&rt, rt.alloc(), &file, 1, Table::Hash, rule, at);
+        set(&mut file, Order::Little, row.0);
+        assert_breaks(&rt, rt.alloc(), &file, 1, Table::Hash, row);
     }
 }
 
-/// Whether these words are built of four names, and these of none.
-fn are_built(alloc: Global) -> Result<[bool; 2], HashFault> {
-    let names: [&[u8]; 4] = [b"", b"printf", b"exit", b"a"];
-    let words = build_hash(alloc, &names, 2)?;
-    let none: [&[u8]; 1] = [b""];
-    let empty = build_hash(alloc, &none, 1)?;
-    Ok([
-        words.as_slice() == [2, 4, 1, 3, 0, 2, 0, 0].as_slice(),
-        empty.as_slice() == [1, 1, 0, 0].as_slice(),
-    ])
+const NAMES: &[&[u8]] = &[b"", b"printf", b"exit", b"a"];
+
+const NO_NAMES: &[&[u8]] = &[b""];
+
+/// Whether these words are built of the names, in so many buckets.
+fn are_built(
+    alloc: Global,
+    names: &[&[u8]],
+    buckets: u32,
+    expected: &[u32],
+) -> Result<bool, HashFault>
+    requires { 0 < length names.now }
+{
+    let words = build_hash(alloc, names, buckets)?;
+    Ok(words.as_slice() == expected)
 }
 
 // None without a bucket, or of too many.
 #[test]
 fn builds_a_hash_table(rt: HostRuntime) {
-    let none: [&[u8]; 1] = [b""];
-    let faults = [
-        build_hash(rt.alloc(), &none, 0).err(),
-        build_hash(rt.alloc(), &none, 0x0100_0001).err(),
+    let alloc = rt.alloc();
+    let built = [
+        are_built(alloc, NAMES, 2, &[2, 4, 1, 3, 0, 2, 0, 0]),
+        are_built(alloc, NO_NAMES, 1, &[1, 1, 0, 0]),
+        are_built(alloc, NO_NAMES, 0, &[]),
+        are_built(alloc, NO_NAMES, 0x0100_0001, &[]),
     ];
     assert_eq!(rt;
-        (are_built(rt.alloc()), faults),
-        (
-            Ok([true; 2]),
-            [Some(HashFault::NoBuckets), Some(HashFault::TooMany)]
-        )
+        built,
+        [
+            Ok(true),
+            Ok(true),
+            Err(HashFault::NoBuckets),
+            Err(HashFault::TooMany)
+        ]
     );
 }

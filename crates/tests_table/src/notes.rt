@@ -3,7 +3,7 @@ use crate::verdicts::{Row, Table, assert_breaks};
 use elf_field::Order;
 use elf_field::abi::*;
 use elf_image_stream::Fault;
-use elf_image_type::parse;
+use elf_image_type::{Image, parse};
 use elf_table_all::{Note, Notes, rules};
 use std::alloc::Global;
 use tests_files::{Field, set, set_header};
@@ -38,18 +38,23 @@ fn note() -> [u8; 216] {
     file
 }
 
-/// The first two notes of a file's section 1. They outlive the image.
+/// The first two notes of the image's section 1.
+fn notes_of<'a>(image: &Image<'a>) -> Result<(Option<Note<'a>>, Option<Note<'a>>), Fault> {
+    if image.section_count() < 2 {
+        return Ok((None, None));
+    }
+    let mut notes = Notes::new(image, 1)?.iter();
+    let first = notes.next();
+    Ok((first, notes.next()))
+}
+
+/// The same of a file. They outlive the image.
 fn notes_told<'a>(
     alloc: Global,
     file: &'a [u8],
 ) -> Result<(Option<Note<'a>>, Option<Note<'a>>), Fault> {
     let image = parse(alloc, file)?;
-    if image.section_count() < 2 {
-        return Ok((None, None));
-    }
-    let mut notes = Notes::new(&image, 1)?.iter();
-    let first = notes.next();
-    Ok((first, notes.next()))
+    notes_of(&image)
 }
 
 #[test]
@@ -64,7 +69,7 @@ fn tells_each_note_and_notes_outlive_the_image(rt: HostRuntime) {
     assert_eq!(rt; told, Ok((Some(note), None)));
 }
 
-const ROWS: [Row; 6] = [
+const ROWS: &[Row] = &[
     (
         &[(NOTES_HEADER + SH_TYPE_AT, 4, 1)],
         rules::WRONG_TABLE_TYPE,
@@ -95,9 +100,9 @@ const ROWS: [Row; 6] = [
 
 #[test]
 fn each_rule_is_answered_where_it_is_broken(rt: HostRuntime) {
-    for (fields, rule, at) in ROWS {
+    for row in ROWS {
         let mut file = note();
-        set(&mut file, Order::Little, fields);
-        assert_breaks(&rt, rt.alloc(), &file, 1, Table::Notes, rule, at);
+        set(&mut file, Order::Little, row.0);
+        assert_breaks(&rt, rt.alloc(), &file, 1, Table::Notes, row);
     }
 }

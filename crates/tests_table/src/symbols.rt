@@ -1,5 +1,5 @@
 //! Rules 40 to 54: symbol tables and relocations, of an object of a call, and of a file that has every part of a symbol table.
-use crate::verdicts::{Row, Table, assert_breaks, verdict_of};
+use crate::verdicts::{Row, Table, assert_breaks, fault_in};
 use elf_field::Order;
 use elf_field::abi::*;
 use elf_image_stream::Fault;
@@ -145,51 +145,66 @@ fn told(alloc: Global, file: &[u8]) -> Result<[bool; 3], Fault> {
     are_of_the_call(&image)
 }
 
-/// Whether sections 0 and 3 of the file are accepted when all tables are validated; None if they are not there.
-fn are_kept_with_the_other_tables(alloc: Global, file: &[u8]) -> Result<Option<[bool; 2]>, Fault> {
-    let image = parse(alloc, file)?;
+/// Whether sections 0 and 3 of the image are accepted when all tables are validated; None if they are not there.
+fn are_kept(alloc: Global, image: &Image<'_>) -> Result<Option<[bool; 2]>, Fault> {
     if image.section_count() < 4 {
         return Ok(None);
     }
-    let tables = Tables::new(alloc, &image)?;
+    let tables = Tables::new(alloc, image)?;
     Ok(Some([tables.verdict(0).is_ok(), tables.verdict(3).is_ok()]))
 }
+
+/// The same of a file.
+fn are_kept_with_the_other_tables(alloc: Global, file: &[u8]) -> Result<Option<[bool; 2]>, Fault> {
+    let image = parse(alloc, file)?;
+    are_kept(alloc, &image)
+}
+
+/// Its string table, section 4, is no symbol table.
+const OTHER_TYPE: Fault = Fault::Rule {
+    rule: rules::WRONG_TABLE_TYPE,
+    at: SYMBOLS_OF_RELOCS + SHDR_SIZE + SH_TYPE_AT,
+};
 
 #[test]
 fn tells_each_relocation_symbol_and_string(rt: HostRuntime) {
     let file = caller();
     let told = told(rt.alloc(), &file);
     let kept = are_kept_with_the_other_tables(rt.alloc(), &file);
-    let of_other_type = verdict_of(rt.alloc(), &file, 4, Table::Symbols).is_err();
+    let fault = fault_in(rt.alloc(), &file, 4, Table::Symbols);
     assert_eq!(rt;
-        (told, kept, of_other_type),
-        (Ok([true; 3]), Ok(Some([true; 2])), true)
+        (told, kept, fault),
+        (Ok([true; 3]), Ok(Some([true; 2])), Ok(Some(OTHER_TYPE)))
     );
 }
 
-/// The name of symbol 2, and the string at 1. What a table reports lives as long as the file's bytes: longer than the image and the table.
-fn names_told(alloc: Global, file: &[u8]) -> Result<(&[u8], Option<&[u8]>), Fault> {
-    let image = parse(alloc, file)?;
+/// The name of symbol 2, and the string at 1. What a table reports lives as long as the file's bytes: longer than the table.
+fn names_of<'a>(image: &Image<'a>) -> Result<(&'a [u8], Option<&'a [u8]>), Fault> {
     if image.section_count() < 3 {
         return Ok((&[], None));
     }
-    let symbols = Symbols::new(&image, 1)?;
-    let strings = Strings::new(&image, 2)?;
+    let symbols = Symbols::new(image, 1)?;
+    let strings = Strings::new(image, 2)?;
     if symbols.len() < 3 {
         return Ok((&[], None));
     }
     Ok((symbols.entry(2).name, strings.get(1)))
 }
 
+/// The same of a file. They live longer than the image.
+fn names_told(alloc: Global, file: &[u8]) -> Result<(&[u8], Option<&[u8]>), Fault> {
+    let image = parse(alloc, file)?;
+    names_of(&image)
+}
+
 #[test]
 fn names_outlive_the_image(rt: HostRuntime) {
     let file = symbols(Order::Little);
-    let big = symbols(Order::Big);
     let names = names_told(rt.alloc(), &file);
-    let verdict = verdict_of(rt.alloc(), &big, 1, Table::Symbols);
+    let fault = fault_in(rt.alloc(), &symbols(Order::Big), 1, Table::Symbols);
     assert_eq!(rt;
-        (names, verdict),
-        (Ok((b"b".as_slice(), Some(b"ab".as_slice()))), Ok(()))
+        (names, fault),
+        (Ok((b"b".as_slice(), Some(b"ab".as_slice()))), Ok(None))
     );
 }
 
@@ -215,7 +230,7 @@ const WORD_SIZE_AT: u64 = INDEX_TABLE_HEADER + SH_ENTSIZE_AT;
 const LAST_LINK_AT: u64 = LAST_HEADER + SH_LINK_AT;
 
 /// Of the symbol table.
-const ROWS: [Row; 22] = [
+const ROWS: &[Row] = &[
     (&[(TYPE_AT, 4, 1)], rules::WRONG_TABLE_TYPE, TYPE_AT),
     (
         &[(136, 1, 1), (139, 1, 1)],
@@ -321,7 +336,7 @@ const ROWS: [Row; 22] = [
 ];
 
 /// Of the relocations of the call.
-const RELOCS_ROWS: [Row; 7] = [
+const RELOCS_ROWS: &[Row] = &[
     (
         &[(RELOCS_HEADER + SH_TYPE_AT, 4, 2)],
         rules::WRONG_TABLE_TYPE,
@@ -356,17 +371,16 @@ const RELOCS_ROWS: [Row; 7] = [
     ),
 ];
 
-/// The symbol table of the file with these fields breaks its rule first, in this byte order.
+/// The symbol table of the file with the row's fields breaks the row's rule first, in this byte order.
 fn assert_symbols_break(rt: &impl Abort, alloc: Global, order: Order, row: &Row) {
-    let (fields, rule, at) = *row;
     let mut file = symbols(order);
-    set(&mut file, order, fields);
-    assert_breaks(rt, alloc, &file, 1, Table::Symbols, rule, at);
+    set(&mut file, order, row.0);
+    assert_breaks(rt, alloc, &file, 1, Table::Symbols, row);
 }
 
 #[test]
 fn each_rule_is_answered_where_it_is_broken(rt: HostRuntime) {
-    for row in &ROWS {
+    for row in ROWS {
         assert_symbols_break(&rt, rt.alloc(), Order::Little, row);
         assert_symbols_break(&rt, rt.alloc(), Order::Big, row);
     }
@@ -374,21 +388,31 @@ fn each_rule_is_answered_where_it_is_broken(rt: HostRuntime) {
 
 #[test]
 fn each_rule_of_relocations_is_answered_where_it_is_broken(rt: HostRuntime) {
-    for (fields, rule, at) in RELOCS_ROWS {
+    for row in RELOCS_ROWS {
         let mut file = caller();
-        set(&mut file, Order::Little, fields);
-        assert_breaks(&rt, rt.alloc(), &file, 2, Table::Relocs, rule, at);
+        set(&mut file, Order::Little, row.0);
+        assert_breaks(&rt, rt.alloc(), &file, 2, Table::Relocs, row);
     }
 }
 
+/// Of its string table, section 2, and of the index table, section 3, which is no string table.
+const STRINGS_ROWS: &[(usize, Row)] = &[
+    (2, (&[(139, 1, 1)], rules::UNCLOSED_STRING_TABLE, 139)),
+    (
+        3,
+        (
+            &[],
+            rules::WRONG_TABLE_TYPE,
+            INDEX_TABLE_HEADER + SH_TYPE_AT,
+        ),
+    ),
+];
+
 #[test]
 fn each_rule_of_strings_is_answered_where_it_is_broken(rt: HostRuntime) {
-    let mut file = symbols(Order::Big);
-    // The index table is no string table.
-    let at = INDEX_TABLE_HEADER + SH_TYPE_AT;
-    let rule = rules::WRONG_TABLE_TYPE;
-    assert_breaks(&rt, rt.alloc(), &file, 3, Table::Strings, rule, at);
-    file[139] = 1;
-    let rule = rules::UNCLOSED_STRING_TABLE;
-    assert_breaks(&rt, rt.alloc(), &file, 2, Table::Strings, rule, 139);
+    for (index, row) in STRINGS_ROWS {
+        let mut file = symbols(Order::Big);
+        set(&mut file, Order::Big, row.0);
+        assert_breaks(&rt, rt.alloc(), &file, *index, Table::Strings, row);
+    }
 }

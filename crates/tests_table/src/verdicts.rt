@@ -34,33 +34,30 @@ fn fault_of(alloc: Global, image: &Image<'_>, index: usize, table: Table) -> Opt
     }
 }
 
-/// Whether section `index` of the file is such a table; a section that is not there is one.
-pub(crate) fn verdict_of(
+/// The same of a section of a file.
+pub(crate) fn fault_in(
     alloc: Global,
     file: &[u8],
     index: usize,
     table: Table,
-) -> Result<(), Fault> {
+) -> Result<Option<Fault>, Fault> {
     let image = parse(alloc, file)?;
-    match fault_of(alloc, &image, index, table) {
-        Some(fault) => Err(fault),
-        None => Ok(()),
-    }
+    Ok(fault_of(alloc, &image, index, table))
 }
 
 /// Fields that are changed in a file, the rule that a table of it breaks then first, and where.
 pub(crate) type Row = (&'static [Field], u16, u64);
 
-/// Section `index` of the file is no such table: it breaks this rule first, at this offset.
+/// Section `index` of the file is no such table: it breaks the row's rule first, at the row's offset.
 pub(crate) fn assert_breaks(
     rt: &impl Abort,
     alloc: Global,
     file: &[u8],
     index: usize,
     table: Table,
-    rule: u16,
-    at: u64,
+    row: &Row,
 ) {
-    let verdict = verdict_of(alloc, file, index, table);
-    assert_eq!(rt; verdict, Err(Fault::Rule { rule, at }));
+    let (_, rule, at) = *row;
+    let fault = fault_in(alloc, file, index, table);
+    assert_eq!(rt; fault, Ok(Some(Fault::Rule { rule, at })));
 }
