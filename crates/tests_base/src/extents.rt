@@ -2,13 +2,13 @@
 ghost use Rattle.std.specs.Prelude.{◌≤◌, ◌+◌, ◌↔◌, IsTrue, ◌<◌, length};
 ghost use Rattle.std.specs.List.{All, AllAdjacentBelow};
 
+use crate::asserts::assert_same;
 use elf_extent::{
     Counted, Extent, OutOfMemory, Piece, PlaceFault, account, first_double, next_place, place,
     sweep,
 };
 use std::alloc::Global;
 use std::process::Abort;
-use std::test::Fail;
 
 // Extents for the tests.
 
@@ -57,21 +57,21 @@ fn checked_account(
     Ok(Some(pieces))
 }
 
-fn check_account(
-    rt: &impl Abort,
+// Whether the account has these pieces.
+fn is_account(
     alloc: Global,
     extents: &[Extent],
     total: u64,
     expected: &[Piece],
-) -> Result<(), OutOfMemory> {
-    let pieces = checked_account(alloc, extents, total)?;
-    assert!(rt; matches!(&pieces, Some(found) if found.as_slice() == expected));
-    Ok(())
+) -> Result<bool, OutOfMemory> {
+    match checked_account(alloc, extents, total)? {
+        Some(pieces) => Ok(pieces.as_slice() == expected),
+        None => Ok(false),
+    }
 }
 
 #[test]
-fn accounts_for_every_offset(rt: HostRuntime) -> Result<(), OutOfMemory> {
-    let alloc = rt.alloc();
+fn accounts_for_every_offset(rt: HostRuntime) {
     let extents = [extent(4, 2), extent(0, 0), extent(1, 1)];
     let pieces = [
         piece(None, 0, 1),
@@ -80,9 +80,12 @@ fn accounts_for_every_offset(rt: HostRuntime) -> Result<(), OutOfMemory> {
         piece(Some(0), 4, 2),
         piece(None, 6, 2),
     ];
-    check_account(&rt, alloc, &extents, 8, &pieces)?;
-    check_account(&rt, alloc, &[], 0, &[])?;
-    check_account(&rt, alloc, &[], 3, &[piece(None, 0, 3)])
+    let accounts = [
+        is_account(rt.alloc(), &extents, 8, &pieces),
+        is_account(rt.alloc(), &[], 0, &[]),
+        is_account(rt.alloc(), &[], 3, &[piece(None, 0, 3)]),
+    ];
+    assert_same(&rt, accounts, [Ok(true); 3]);
 }
 
 // How many pieces the account has.
@@ -97,33 +100,39 @@ fn piece_count(
     }
 }
 
+// The same of a million extents.
+fn piece_count_of_a_million(alloc: Global) -> Result<Option<usize>, OutOfMemory> {
+    let extents = every_other(alloc, 1_000_000)?;
+    piece_count(alloc, &extents, 2_000_000)
+}
+
 // A million extents are accounted for in seconds.
 #[test]
-fn many_extents_take_no_quadratic_time(rt: HostRuntime) -> Result<(), OutOfMemory> {
-    let alloc = rt.alloc();
-    let extents = every_other(alloc, 1_000_000)?;
-    let count = piece_count(alloc, &extents, 2_000_000)?;
-    assert_eq!(rt; count, Some(2_000_000));
-    Ok(())
+fn many_extents_take_no_quadratic_time(rt: HostRuntime) {
+    assert_same(
+        &rt,
+        piece_count_of_a_million(rt.alloc()),
+        Ok(Some(2_000_000)),
+    );
 }
 
 // The lowest byte that two of a list of extents hold.
 
 // Extents that end past a u64 are counted over whole numbers.
 #[test]
-fn finds_the_lowest_double(rt: HostRuntime) -> Result<(), OutOfMemory> {
+fn finds_the_lowest_double(rt: HostRuntime) {
     let several = [extent(10, 5), extent(0, 3), extent(2, 9), extent(14, 1)];
     let equal = [extent(5, 0), extent(5, 2), extent(5, 2)];
     let touching = [extent(5, 0), extent(4, 3)];
     let past = [extent(u64::MAX, 1), extent(u64::MAX - 1, u64::MAX)];
     let doubles = [
-        first_double(rt.alloc(), &several)?,
-        first_double(rt.alloc(), &equal)?,
-        first_double(rt.alloc(), &touching)?,
-        first_double(rt.alloc(), &past)?,
+        first_double(rt.alloc(), &several),
+        first_double(rt.alloc(), &equal),
+        first_double(rt.alloc(), &touching),
+        first_double(rt.alloc(), &past),
     ];
-    assert_eq!(rt; doubles, [Some(2), Some(5), None, Some(u64::MAX)]);
-    Ok(())
+    let expected = [Ok(Some(2)), Ok(Some(5)), Ok(None), Ok(Some(u64::MAX))];
+    assert_same(&rt, doubles, expected);
 }
 
 // How many of the extents hold this offset.
@@ -184,10 +193,9 @@ fn pairwise_double(extents: &[Extent]) -> Option<u64> {
     lowest
 }
 
-fn check_double(rt: &impl Abort, alloc: Global, extents: &[Extent]) -> Result<(), OutOfMemory> {
-    let expected = [counted_double(extents), pairwise_double(extents)];
-    assert_eq!(rt; expected, [first_double(alloc, extents)?; 2]);
-    Ok(())
+fn check_double(rt: &impl Abort, alloc: Global, extents: &[Extent]) {
+    let expected = [Ok(counted_double(extents)), Ok(pairwise_double(extents))];
+    assert_same(rt, expected, [first_double(alloc, extents); 2]);
 }
 
 // Each extent with start and len from 0 to 5 has a number below 36; so has, in each run of 36, each greater number.
@@ -197,44 +205,42 @@ fn numbered(n: u64) -> Extent {
 
 // All lists of at most one of these extents.
 #[test]
-fn agrees_with_other_searches_on_one_extent(rt: HostRuntime) -> Result<(), OutOfMemory> {
-    let alloc = rt.alloc();
-    check_double(&rt, alloc, &[])?;
+fn agrees_with_other_searches_on_one_extent(rt: HostRuntime) {
+    check_double(&rt, rt.alloc(), &[]);
     for n in 0..36 {
-        check_double(&rt, alloc, &[numbered(n)])?;
+        check_double(&rt, rt.alloc(), &[numbered(n)]);
     }
-    Ok(())
 }
 
 #[test]
-fn agrees_with_other_searches_on_two_extents(rt: HostRuntime) -> Result<(), OutOfMemory> {
-    let alloc = rt.alloc();
+fn agrees_with_other_searches_on_two_extents(rt: HostRuntime) {
     for n in 0..36 * 36 {
-        check_double(&rt, alloc, &[numbered(n / 36), numbered(n)])?;
+        check_double(&rt, rt.alloc(), &[numbered(n / 36), numbered(n)]);
     }
-    Ok(())
 }
 
 #[test]
-fn agrees_with_other_searches_on_three_extents(rt: HostRuntime) -> Result<(), OutOfMemory> {
-    let alloc = rt.alloc();
+fn agrees_with_other_searches_on_three_extents(rt: HostRuntime) {
     for n in 0..36 * 36 * 36 {
         let extents = [numbered(n / (36 * 36)), numbered(n / 36), numbered(n)];
-        check_double(&rt, alloc, &extents)?;
+        check_double(&rt, rt.alloc(), &extents);
     }
-    Ok(())
 }
 
-// A million extents, rising and then falling, are searched in seconds.
-#[test]
-fn many_overlaps_take_no_quadratic_time(rt: HostRuntime) -> Result<(), OutOfMemory> {
-    let alloc = rt.alloc();
+// What is found in a million extents, rising and then falling.
+fn doubles_of_a_million(
+    alloc: Global,
+) -> Result<[Result<Option<u64>, OutOfMemory>; 2], OutOfMemory> {
     let mut extents = every_other(alloc, 1_000_000)?;
-    let rising = first_double(alloc, &extents)?;
+    let rising = first_double(alloc, &extents);
     extents.reverse();
-    let falling = first_double(alloc, &extents)?;
-    assert_eq!(rt; (rising, falling), (None, None));
-    Ok(())
+    Ok([rising, first_double(alloc, &extents)])
+}
+
+// A million extents are searched in seconds.
+#[test]
+fn many_overlaps_take_no_quadratic_time(rt: HostRuntime) {
+    assert_same(&rt, doubles_of_a_million(rt.alloc()), Ok([Ok(None); 2]));
 }
 
 // Least places, and the example of the root of elf_extent.
@@ -259,35 +265,34 @@ fn finds_the_next_place(rt: HostRuntime) {
         Some(u64::MAX),
         None,
     ];
-    assert_eq!(rt; places, expected);
+    assert_same(&rt, places, expected);
 }
 
-// Why the parts have no places, if they have none.
-fn place_fault(alloc: Global, parts: &[(u64, u64)], from: u64) -> Option<PlaceFault> {
-    place(alloc, parts, from).err()
+// The parts have these places, or none for this reason.
+fn check_places(
+    rt: &impl Abort,
+    alloc: Global,
+    parts: &[(u64, u64)],
+    from: u64,
+    expected: Result<&[u64], PlaceFault>,
+) {
+    match place(alloc, parts, from) {
+        Ok(places) => assert_same(rt, Ok(places.as_slice()), expected),
+        Err(fault) => assert_same(rt, Err(fault), expected),
+    }
 }
 
 // The first two are the example of the root of elf_extent.
 #[test]
-fn places_parts(rt: HostRuntime) -> Result<(), Fail> {
+fn places_parts(rt: HostRuntime) {
     let alloc = rt.alloc();
-    let double = first_double(alloc, &[extent(0, 4), extent(2, 4)])?;
-    let pair = place(alloc, &[(1, 1), (8, 8)], 64)?;
-    let three = place(alloc, &[(1, 4), (0, 8), (3, 2)], 5)?;
-    let last = u64::MAX - 1;
-    let faults = [
-        place_fault(alloc, &[(1, 1), (1, 2)], last),
-        place_fault(alloc, &[(1, 1), (2, 1)], last),
-    ];
-    assert_eq!(rt;
-        (double, [pair.as_slice(), three.as_slice()], faults),
-        (
-            Some(2),
-            [[64, 72].as_slice(), [8, 16, 16].as_slice()],
-            [Some(PlaceFault::Overflow { index: 1 }); 2]
-        )
-    );
-    Ok(())
+    let double = first_double(alloc, &[extent(0, 4), extent(2, 4)]);
+    assert_same(&rt, double, Ok(Some(2)));
+    check_places(&rt, alloc, &[(1, 1), (8, 8)], 64, Ok(&[64, 72]));
+    check_places(&rt, alloc, &[(1, 4), (0, 8), (3, 2)], 5, Ok(&[8, 16, 16]));
+    let overflow = Err(PlaceFault::Overflow { index: 1 });
+    check_places(&rt, alloc, &[(1, 1), (1, 2)], u64::MAX - 1, overflow);
+    check_places(&rt, alloc, &[(1, 1), (2, 1)], u64::MAX - 1, overflow);
 }
 
 // Sweeps, and how often they look.
@@ -330,13 +335,14 @@ fn looks_up_to_the_first_shared_byte(rt: HostRuntime) {
         extent(u64::MAX, 1),
         extent(u64::MAX, u64::MAX),
     ];
-    assert_eq!(rt;
+    assert_same(
+        &rt,
         [swept(&shared), swept(&touching), swept(&last), swept(&[])],
         [
             Some((Some(2), 2)),
             Some((None, 2)),
             Some((Some(u64::MAX), 4)),
-            Some((None, 0))
-        ]
+            Some((None, 0)),
+        ],
     );
 }

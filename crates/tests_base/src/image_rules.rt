@@ -1,5 +1,6 @@
 //! Two calls of elf_image_rules. A file that breaks each of its rules is in `cases/image_rules.txt`, except rule 1, which takes a file of
 //! more than 2^30 bytes: `tools/test explain` has one.
+use crate::asserts::assert_same;
 use elf_field::Order;
 use elf_image_rules::{Broken, judge_by_sorting, rules, verdict};
 use std::alloc::Global;
@@ -18,17 +19,13 @@ fn judged_at(alloc: Global, offset: u64) -> (Option<Broken<u64>>, Option<(u16, u
 #[test]
 fn judges_contents_out_of_order(rt: HostRuntime) {
     let shared = rules::SHARED_BYTE;
-    assert_eq!(rt;
-        (
-            [judged_at(rt.alloc(), 130), judged_at(rt.alloc(), 96)],
-            verdict(&[0x7f, 0x45])
-        ),
-        (
-            [
-                (None, None),
-                (Some(Broken::new(shared, 96)), Some((shared, 96)))
-            ],
-            Some((rules::TOO_SHORT, 2))
-        )
+    assert_same(
+        &rt,
+        [judged_at(rt.alloc(), 130), judged_at(rt.alloc(), 96)],
+        [
+            (None, None),
+            (Some(Broken::new(shared, 96)), Some((shared, 96))),
+        ],
     );
+    assert_same(&rt, verdict(&[0x7f, 0x45]), Some((rules::TOO_SHORT, 2)));
 }

@@ -1,6 +1,7 @@
 //! The records of elf_field.
 ghost use Rattle.std.specs.Prelude.{◌≤◌};
 
+use crate::asserts::assert_same;
 use elf_field::{Dyn, Ehdr, Order, Phdr, Record, Rel, Rela, Shdr, Sym, abi, get_at};
 use std::fmt::Debug;
 use std::process::Abort;
@@ -48,16 +49,28 @@ fn first_wrong(order: Order, fields: &[(u64, u64, u64)]) -> Option<u64> {
     None
 }
 
+// What the record is written as, and zeros.
+fn written<T: Record>(order: Order, record: &T) -> [u8; 64]
+    requires { T.SIZE ≤ 64 }
+{
+    let mut bytes = [0; 64];
+    record.fits();
+    record.put(order, &mut bytes[..T::SIZE]);
+    bytes
+}
+
 // The record at the start of the ruler, read through the bound. `get` reads the same one, and `put` writes the same bytes.
 fn through_bound<T: Record + Copy + PartialEq + Debug>(rt: &impl Abort, order: Order) -> T
     requires { T.SIZE ≤ 64 }
 {
     let bytes = &RULER[..T::SIZE];
     let record: T = get_at(order, RULER, 0);
-    let mut copy = [0; 64];
-    record.fits();
-    record.put(order, &mut copy[..T::SIZE]);
-    assert_eq!(rt; (T::get(order, bytes), &copy[..T::SIZE]), (record, bytes));
+    let copy = written(order, &record);
+    assert_same(
+        rt,
+        (T::get(order, bytes), &copy[..T::SIZE]),
+        (record, bytes),
+    );
     record
 }
 
@@ -70,9 +83,10 @@ fn writes_and_reads_an_entry(rt: HostRuntime) {
     };
     let mut bytes = [0; 16];
     entry.put(Order::Big, &mut bytes);
-    assert_eq!(rt;
+    assert_same(
+        &rt,
         (bytes, Dyn::get(Order::Big, &bytes)),
-        ([0, 0, 0, 0, 0, 0, 0, 1, 0, 0, 0, 0, 0, 0, 0, 7], entry)
+        ([0, 0, 0, 0, 0, 0, 0, 1, 0, 0, 0, 0, 0, 0, 0, 7], entry),
     );
 }
 
@@ -83,9 +97,10 @@ fn assert_header(rt: &impl Abort, order: Order, bytes: &[u8; 64]) {
     header.put(order, &mut copy);
     let kind = (header.e_type, header.e_machine, header.e_version);
     let sizes = (header.e_shoff, header.e_ehsize, header.e_shentsize);
-    assert_eq!(rt;
+    assert_same(
+        rt,
         (header.e_ident.as_slice(), kind, sizes, copy.as_slice()),
-        (&bytes[..16], (1, 62, 1), (0, 64, 0), bytes.as_slice())
+        (&bytes[..16], (1, 62, 1), (0, 64, 0), bytes.as_slice()),
     );
 }
 
@@ -101,9 +116,10 @@ fn assert_relocation(rt: &impl Abort, order: Order, bytes: &[u8; 24]) {
     let mut copy = [0; 24];
     rela.put(order, &mut copy);
     let info = (rela.symbol(), rela.relocation_type());
-    assert_eq!(rt;
+    assert_same(
+        rt,
         (rela.r_offset, info, rela.r_addend, copy.as_slice()),
-        (1, (1, 2), -4, bytes.as_slice())
+        (1, (1, 2), -4, bytes.as_slice()),
     );
 }
 
@@ -129,111 +145,127 @@ fn parts_of_info(rt: HostRuntime) {
     };
     let of_symbol = (sym.binding(), sym.symbol_type());
     let of_relocation = (rel.symbol(), rel.relocation_type());
-    assert_eq!(rt; (of_symbol, of_relocation), ((1, 2), (7, 0x8000_0009)));
+    assert_same(&rt, (of_symbol, of_relocation), ((1, 2), (7, 0x8000_0009)));
 }
 
-/// The fields of a header.
-fn header_fields(record: &Ehdr) -> [(u64, u64, u64); 13] {
-    [
-        (u64::from(record.e_type), 16, 2),
-        (u64::from(record.e_machine), 18, 2),
-        (u64::from(record.e_version), 20, 4),
-        (record.e_entry, 24, 8),
-        (record.e_phoff, 32, 8),
-        (record.e_shoff, 40, 8),
-        (u64::from(record.e_flags), 48, 4),
-        (u64::from(record.e_ehsize), 52, 2),
-        (u64::from(record.e_phentsize), 54, 2),
-        (u64::from(record.e_phnum), 56, 2),
-        (u64::from(record.e_shentsize), 58, 2),
-        (u64::from(record.e_shnum), 60, 2),
-        (u64::from(record.e_shstrndx), 62, 2),
-    ]
+/// The first field of a header that isn't where the ruler says. It begins with its 16 bytes of `e_ident`.
+fn wrong_in_header(rt: &impl Abort, order: Order) -> Option<u64> {
+    let record: Ehdr = through_bound(rt, order);
+    assert_same(rt, record.e_ident.as_slice(), &RULER[..16]);
+    first_wrong(
+        order,
+        &[
+            (u64::from(record.e_type), 16, 2),
+            (u64::from(record.e_machine), 18, 2),
+            (u64::from(record.e_version), 20, 4),
+            (record.e_entry, 24, 8),
+            (record.e_phoff, 32, 8),
+            (record.e_shoff, 40, 8),
+            (u64::from(record.e_flags), 48, 4),
+            (u64::from(record.e_ehsize), 52, 2),
+            (u64::from(record.e_phentsize), 54, 2),
+            (u64::from(record.e_phnum), 56, 2),
+            (u64::from(record.e_shentsize), 58, 2),
+            (u64::from(record.e_shnum), 60, 2),
+            (u64::from(record.e_shstrndx), 62, 2),
+        ],
+    )
 }
 
-/// The fields of a section header.
-fn section_fields(record: &Shdr) -> [(u64, u64, u64); 10] {
-    [
-        (u64::from(record.sh_name), 0, 4),
-        (u64::from(record.sh_type), 4, 4),
-        (record.sh_flags, 8, 8),
-        (record.sh_addr, 16, 8),
-        (record.sh_offset, 24, 8),
-        (record.sh_size, 32, 8),
-        (u64::from(record.sh_link), 40, 4),
-        (u64::from(record.sh_info), 44, 4),
-        (record.sh_addralign, 48, 8),
-        (record.sh_entsize, 56, 8),
-    ]
+/// The first field of a section header that isn't where the ruler says.
+fn wrong_in_section(rt: &impl Abort, order: Order) -> Option<u64> {
+    let record: Shdr = through_bound(rt, order);
+    first_wrong(
+        order,
+        &[
+            (u64::from(record.sh_name), 0, 4),
+            (u64::from(record.sh_type), 4, 4),
+            (record.sh_flags, 8, 8),
+            (record.sh_addr, 16, 8),
+            (record.sh_offset, 24, 8),
+            (record.sh_size, 32, 8),
+            (u64::from(record.sh_link), 40, 4),
+            (u64::from(record.sh_info), 44, 4),
+            (record.sh_addralign, 48, 8),
+            (record.sh_entsize, 56, 8),
+        ],
+    )
 }
 
-/// The fields of a program header.
-fn segment_fields(record: &Phdr) -> [(u64, u64, u64); 8] {
-    [
-        (u64::from(record.p_type), 0, 4),
-        (u64::from(record.p_flags), 4, 4),
-        (record.p_offset, 8, 8),
-        (record.p_vaddr, 16, 8),
-        (record.p_paddr, 24, 8),
-        (record.p_filesz, 32, 8),
-        (record.p_memsz, 40, 8),
-        (record.p_align, 48, 8),
-    ]
+/// The first field of a program header that isn't where the ruler says.
+fn wrong_in_segment(rt: &impl Abort, order: Order) -> Option<u64> {
+    let record: Phdr = through_bound(rt, order);
+    first_wrong(
+        order,
+        &[
+            (u64::from(record.p_type), 0, 4),
+            (u64::from(record.p_flags), 4, 4),
+            (record.p_offset, 8, 8),
+            (record.p_vaddr, 16, 8),
+            (record.p_paddr, 24, 8),
+            (record.p_filesz, 32, 8),
+            (record.p_memsz, 40, 8),
+            (record.p_align, 48, 8),
+        ],
+    )
 }
 
-/// The fields of a symbol.
-fn symbol_fields(record: &Sym) -> [(u64, u64, u64); 6] {
-    [
-        (u64::from(record.st_name), 0, 4),
-        (u64::from(record.st_info), 4, 1),
-        (u64::from(record.st_other), 5, 1),
-        (u64::from(record.st_shndx), 6, 2),
-        (record.st_value, 8, 8),
-        (record.st_size, 16, 8),
-    ]
+/// The first field of a symbol that isn't where the ruler says.
+fn wrong_in_symbol(rt: &impl Abort, order: Order) -> Option<u64> {
+    let record: Sym = through_bound(rt, order);
+    first_wrong(
+        order,
+        &[
+            (u64::from(record.st_name), 0, 4),
+            (u64::from(record.st_info), 4, 1),
+            (u64::from(record.st_other), 5, 1),
+            (u64::from(record.st_shndx), 6, 2),
+            (record.st_value, 8, 8),
+            (record.st_size, 16, 8),
+        ],
+    )
 }
 
-/// The fields of a relocation.
-fn rel_fields(record: &Rel) -> [(u64, u64, u64); 2] {
-    [(record.r_offset, 0, 8), (record.r_info, 8, 8)]
+/// The first field of a relocation that isn't where the ruler says.
+fn wrong_in_rel(rt: &impl Abort, order: Order) -> Option<u64> {
+    let record: Rel = through_bound(rt, order);
+    first_wrong(order, &[(record.r_offset, 0, 8), (record.r_info, 8, 8)])
 }
 
-/// The fields of a relocation with an addend.
-fn rela_fields(record: &Rela) -> [(u64, u64, u64); 3] {
-    [
-        (record.r_offset, 0, 8),
-        (record.r_info, 8, 8),
-        (record.r_addend.cast_unsigned(), 16, 8),
-    ]
+/// The first field of a relocation with an addend that isn't where the ruler says.
+fn wrong_in_rela(rt: &impl Abort, order: Order) -> Option<u64> {
+    let record: Rela = through_bound(rt, order);
+    first_wrong(
+        order,
+        &[
+            (record.r_offset, 0, 8),
+            (record.r_info, 8, 8),
+            (record.r_addend.cast_unsigned(), 16, 8),
+        ],
+    )
 }
 
-/// The fields of an entry of the dynamic array.
-fn entry_fields(record: &Dyn) -> [(u64, u64, u64); 2] {
-    [(record.d_tag.cast_unsigned(), 0, 8), (record.d_un, 8, 8)]
+/// The first field of an entry of the dynamic array that isn't where the ruler says.
+fn wrong_in_entry(rt: &impl Abort, order: Order) -> Option<u64> {
+    let record: Dyn = through_bound(rt, order);
+    first_wrong(
+        order,
+        &[(record.d_tag.cast_unsigned(), 0, 8), (record.d_un, 8, 8)],
+    )
 }
 
-/// Each record has its fields where the ruler says, and a header begins with its 16 bytes of `e_ident`.
+/// Each record has its fields where the ruler says.
 fn assert_layouts(rt: &impl Abort, order: Order) {
-    let header: Ehdr = through_bound(rt, order);
-    let section: Shdr = through_bound(rt, order);
-    let segment: Phdr = through_bound(rt, order);
-    let symbol: Sym = through_bound(rt, order);
-    let rel: Rel = through_bound(rt, order);
-    let rela: Rela = through_bound(rt, order);
-    let entry: Dyn = through_bound(rt, order);
     let wrong = [
-        first_wrong(order, &header_fields(&header)),
-        first_wrong(order, &section_fields(&section)),
-        first_wrong(order, &segment_fields(&segment)),
-        first_wrong(order, &symbol_fields(&symbol)),
-        first_wrong(order, &rel_fields(&rel)),
-        first_wrong(order, &rela_fields(&rela)),
-        first_wrong(order, &entry_fields(&entry)),
+        wrong_in_header(rt, order),
+        wrong_in_section(rt, order),
+        wrong_in_segment(rt, order),
+        wrong_in_symbol(rt, order),
+        wrong_in_rel(rt, order),
+        wrong_in_rela(rt, order),
+        wrong_in_entry(rt, order),
     ];
-    assert_eq!(rt;
-        (header.e_ident.as_slice(), wrong),
-        (&RULER[..16], [None; 7])
-    );
+    assert_same(rt, wrong, [None; 7]);
 }
 
 #[test]
@@ -246,5 +278,5 @@ fn each_record_has_its_fields_where_the_ruler_says(rt: HostRuntime) {
 fn words(rt: HostRuntime) {
     let word: u32 = through_bound(&rt, Order::Little);
     let other = get_at::<u32>(Order::Big, RULER, 5);
-    assert_eq!(rt; (word, other), (0x0302_0100, 0x0506_0708));
+    assert_same(&rt, (word, other), (0x0302_0100, 0x0506_0708));
 }

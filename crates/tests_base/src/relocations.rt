@@ -1,7 +1,7 @@
 //! The numbers and fields of elf_link_field.
+use crate::asserts::assert_same;
 use elf_field::Order;
 use elf_link_field::{Form, Range, RelocRule, Width, addend_in, mark, patch, rule_of};
-use std::process::Abort;
 
 // The example of the root of elf_link_field: a call of what is at 0x1006, in code at 0x1000.
 #[test]
@@ -16,7 +16,7 @@ fn a_call(rt: HostRuntime) {
     let admitted = rule.range.admits(rule.width, number);
     let mut code = [0xe8, 0, 0, 0, 0];
     patch(Order::Little, &mut code, 1, rule.width, number);
-    assert_eq!(rt; (number, admitted, code), (1, true, [0xe8, 1, 0, 0, 0]));
+    assert_same(&rt, (number, admitted, code), (1, true, [0xe8, 1, 0, 0, 0]));
 }
 
 /// The number in a field of four bytes that are fc ff ff ff.
@@ -50,7 +50,7 @@ fn numbers_and_addends(rt: HostRuntime) {
         -50_331_649,
         4_244_635_647,
     ];
-    assert_eq!(rt; numbers, expected);
+    assert_same(&rt, numbers, expected);
 }
 
 /// What fields of this width admit at the borders of the signed numbers, at those of the unsigned ones, and
@@ -96,7 +96,7 @@ fn borders_of_what_a_field_admits(rt: HostRuntime) {
         ),
     ];
     let inside = [false, true, true, false];
-    assert_eq!(rt; borders, [(inside, inside, [true, true]); 4]);
+    assert_same(&rt, borders, [(inside, inside, [true, true]); 4]);
 }
 
 /// Ten bytes, with this number patched into those from the second on.
@@ -125,7 +125,7 @@ fn fields_in_both_orders(rt: HostRuntime) {
         [9, 0, 0, 0x20, 4, 9, 9, 9, 9, 9],
         [9, 0, 0, 0, 0, 0, 0, 0, 0, 9],
     ];
-    assert_eq!(rt; fields, expected);
+    assert_same(&rt, fields, expected);
 }
 
 /// A rule of this kind and form.
@@ -149,12 +149,10 @@ fn marks_and_rules(rt: HostRuntime) {
     ];
     let rules = [rule(1, Form::Abs), rule(2, Form::Pc), rule(2, Form::None)];
     let found = [rule_of(&rules, 2), rule_of(&rules, 3)];
-    assert_eq!(rt;
+    let pc = Some(rule(2, Form::Pc));
+    assert_same(
+        &rt,
         (answers, marks, found),
-        (
-            [false, false, true],
-            [true; 8],
-            [Some(rule(2, Form::Pc)), None]
-        )
+        ([false, false, true], [true; 8], [pc, None]),
     );
 }
