@@ -1,11 +1,10 @@
 //! Two COMDAT groups of one signature, linked by a hasher that spreads no keys: no clause names the hasher.
+use crate::asserts::assert_same;
 use elf_field::Order;
-use elf_link_map::{Binding, LinkMap, Options, map};
-use elf_object_type::{Body, Info, Object, ObjectFault, Place, Section};
-use std::alloc::Global;
+use elf_link_map::{Binding, LinkFault, LinkMap, Options, map};
+use elf_object_type::{Body, Object, ObjectFault, Place, Section};
+use std::alloc::{AllocError, Global};
 use std::hash::{BuildHasher, Hasher};
-use std::process::Abort;
-use std::test::Fail;
 use tests_files::{GLOBAL, list, object, section, symbol};
 
 /// A hasher that gives 0 for every key, so that all keys meet.
@@ -36,57 +35,64 @@ impl BuildHasher for Flat {
     }
 }
 
-/// A group of one function, and that function.
-fn file(alloc: Global) -> Result<Object<'static>, ObjectFault> {
-    let members = list(alloc, [1])?;
-    let group = Section {
-        entsize: 4,
-        info: Info::Number(0),
-        ..section(
-            b".group",
-            0,
-            4,
-            Body::Group {
-                comdat: true,
-                signature: 0,
-                members,
-            },
-        )
+/// A group of one function.
+fn group(alloc: Global) -> Result<Section<'static>, AllocError> {
+    let body = Body::Group {
+        comdat: true,
+        signature: 0,
+        members: list(alloc, [1])?,
     };
-    let text = section(b".text.f", 0x206, 1, Body::Bits(1, b"\xc3"));
-    let symbols = list(alloc, [symbol(b"f", GLOBAL, Place::In(1), 0)])?;
-    object(alloc, Order::Little, list(alloc, [group, text])?, symbols)
+    Ok(Section {
+        entsize: 4,
+        ..section(b".group", 0, 4, body)
+    })
 }
 
-/// The link map of two such files.
-fn linked(alloc: Global) -> Result<LinkMap<'static>, Fail> {
-    let objects = [file(alloc)?, file(alloc)?];
+/// The group, and that function.
+fn sections(alloc: Global) -> Result<Vec<Section<'static>>, AllocError> {
+    let group = group(alloc)?;
+    let text = section(b".text.f", 0x206, 1, Body::Bits(1, b"\xc3"));
+    list(alloc, [group, text])
+}
+
+fn file(alloc: Global) -> Result<Object<'static>, ObjectFault> {
+    let sections = sections(alloc)?;
+    let symbols = list(alloc, [symbol(b"f", GLOBAL, Place::In(1), 0)])?;
+    object(alloc, Order::Little, sections, symbols)
+}
+
+/// How many outputs a link map has, whether the functions are discarded, where they are, and what their name is bound to.
+type Kept = (usize, [bool; 2], [Option<u64>; 2], Option<Binding>);
+
+fn kept_in(link: &LinkMap<'_>) -> Kept {
+    (
+        link.outputs().len(),
+        [link.discarded(0, 1), link.discarded(1, 1)],
+        [link.address(0, 1), link.address(1, 1)],
+        link.binding(b"f"),
+    )
+}
+
+/// The same of the link map of these files.
+fn kept_of(alloc: Global, objects: &[Object<'_>]) -> Result<Kept, LinkFault> {
     let options = Options {
         base: 0x1000,
         page: 1,
         entry: None,
     };
-    Ok(map(alloc, &objects, &options, Flat { state: 0 })?)
+    let link = map(alloc, objects, &options, Flat { state: 0 })?;
+    Ok(kept_in(&link))
 }
 
-fn assert_kept(rt: &impl Abort, link: &LinkMap<'_>) {
-    let discarded = [link.discarded(0, 1), link.discarded(1, 1)];
-    let addresses = [link.address(0, 1), link.address(1, 1)];
-    let binding = Binding::Strong { file: 0, symbol: 0 };
-    assert_eq!(rt;
-        (
-            link.outputs().len(),
-            discarded,
-            addresses,
-            link.binding(b"f")
-        ),
-        (1, [false, true], [Some(0x1000), None], Some(binding))
-    );
+/// The same of two files.
+fn kept(alloc: Global) -> Result<Result<Kept, LinkFault>, ObjectFault> {
+    let objects = [file(alloc)?, file(alloc)?];
+    Ok(kept_of(alloc, &objects))
 }
 
 #[test]
-fn keeps_the_first_group_alone(rt: HostRuntime) -> Result<(), Fail> {
-    let link = linked(rt.alloc())?;
-    assert_kept(&rt, &link);
-    Ok(())
+fn keeps_the_first_group_alone(rt: HostRuntime) {
+    let binding = Binding::Strong { file: 0, symbol: 0 };
+    let expected = (1, [false, true], [Some(0x1000), None], Some(binding));
+    assert_same(&rt, kept(rt.alloc()), Ok(Ok(expected)));
 }

@@ -1,11 +1,11 @@
 //! A link by a hasher that spreads no keys is the same as by one that does: no clause names the hasher.
+use crate::asserts::assert_same;
 use crate::groups::Flat;
 use crate::parts::{WEAK, data, mapped_by};
 use elf_field::Order;
-use elf_link_map::{Binding, LinkMap, Options, map};
+use elf_link_map::{Binding, LinkFault, LinkMap, Options, map};
 use elf_object_type::{Object, ObjectFault, Place};
 use std::alloc::Global;
-use std::test::Fail;
 use tests_files::{GLOBAL, list, object, symbol};
 
 /// Outputs of three names, at multiples of 16.
@@ -43,26 +43,35 @@ fn told(link: &LinkMap<'_>) -> Told {
     (addresses, bindings, link.outputs().len())
 }
 
-/// What the two hashers' maps say about two files that share an output and a name.
-fn both_told(alloc: Global) -> Result<[Told; 2], Fail> {
-    let objects = [
+/// Two files that share an output and a name.
+fn files(alloc: Global) -> Result<[Object<'static>; 2], ObjectFault> {
+    Ok([
         file(alloc, [b"a", b"b"], [b"f", b"g"])?,
         file(alloc, [b"b", b"c"], [b"h", b"f"])?,
-    ];
-    let spread = mapped_by(alloc, &objects, &OPTIONS)?;
-    let flat = map(alloc, &objects, &OPTIONS, Flat { state: 0 })?;
+    ])
+}
+
+/// What the two hashers' maps say of these objects.
+fn told_by_both(alloc: Global, objects: &[Object<'_>]) -> Result<[Told; 2], LinkFault> {
+    let spread = mapped_by(alloc, objects, &OPTIONS)?;
+    let flat = map(alloc, objects, &OPTIONS, Flat { state: 0 })?;
     Ok([told(&spread), told(&flat)])
 }
 
+/// What they say of the two files.
+fn both_told(alloc: Global) -> Result<Result<[Told; 2], LinkFault>, ObjectFault> {
+    let objects = files(alloc)?;
+    Ok(told_by_both(alloc, &objects))
+}
+
 #[test]
-fn the_same_by_a_flat_hasher(rt: HostRuntime) -> Result<(), Fail> {
+fn the_same_by_a_flat_hasher(rt: HostRuntime) {
     let addresses = [Some(0x1000), Some(0x1010), Some(0x1011), Some(0x1020)];
     let bindings = [
         Some(Binding::Strong { file: 0, symbol: 0 }),
         Some(Binding::Weak { file: 0, symbol: 1 }),
         Some(Binding::Strong { file: 1, symbol: 0 }),
     ];
-    let both = both_told(rt.alloc())?;
-    assert_eq!(rt; both, [(addresses, bindings, 3); 2]);
-    Ok(())
+    let told = (addresses, bindings, 3);
+    assert_same(&rt, both_told(rt.alloc()), Ok(Ok([told; 2])));
 }

@@ -1,17 +1,20 @@
 //! The large link: where its outputs and sections are, what its names are bound to, and its fields.
+ghost use Rattle.elf_link_relocate.specs.Linked.{IsMapButOptions};
+
+use crate::asserts::assert_same;
 use crate::large_files::{
     FILES, LINKS, LONG, OUTPUTS, SECTIONS, address_of, digits, files, long_name, name_of,
     short_name,
 };
-use crate::parts::{mapped, push_number, rule};
+use crate::parts::{entry_of, mapped, rule};
 use elf_field::Order;
-use elf_link_field::{Form, Range, Width};
+use elf_link_field::{Form, Range, RelocRule, Width};
 use elf_link_map::{Binding, LinkFault, LinkMap, Named, Output};
 use elf_link_relocate::{Linked, relocate};
 use elf_object_type::Object;
-use std::alloc::{AllocError, Global};
+use std::alloc::Global;
 use std::test::Fail;
-use tests_files::list;
+use tests_files::set;
 
 /// How many sections go to an output, and their bytes: 264 is six times 40 and 24.
 fn size_of(output: u16) -> (usize, u64) {
@@ -92,77 +95,89 @@ fn first_wrong_name(link: &LinkMap<'_>, digits: &[u8]) -> Option<u16> {
 /// which is -1. The second one holds its addend alone. The third one is of symbol 16, 16 bytes after the start of section 0. The last two
 /// are of the name that file 0 defines at the start of its section 0: the one counts from itself, four bytes after the start of its
 /// section, and adds -4; the other one adds 1.
-fn wanted(alloc: Global, order: Order, base: u64, file: u8) -> Result<Vec<u8>, AllocError> {
+fn wanted(order: Order, base: u64, file: u8) -> [u8; 16] {
     let zeroth = address_of(base, 4 * file as u16);
     let own = address_of(base, 4 * file as u16 + 1);
     let first = address_of(base, 0);
-    let mut bytes = list(alloc, [0xff, file.wrapping_add(100)])?;
-    push_number(order, zeroth.wrapping_add(16), 2, &mut bytes)?;
-    push_number(
-        order,
-        first.wrapping_sub(own).wrapping_sub(8),
-        4,
-        &mut bytes,
-    )?;
-    push_number(order, first.wrapping_add(1), 8, &mut bytes)?;
-    Ok(bytes)
+    let fields = [
+        (0, 1, 0xff),
+        (1, 1, 100 + file as u64),
+        (2, 2, zeroth.wrapping_add(16)),
+        (4, 4, first.wrapping_sub(own).wrapping_sub(8)),
+        (8, 8, first.wrapping_add(1)),
+    ];
+    let mut bytes = [0; 16];
+    set(&mut bytes, order, &fields);
+    bytes
 }
 
 /// The first file whose fields do not hold their numbers.
-fn first_wrong_file(
-    alloc: Global,
-    linked: &Linked<'_, '_>,
-    order: Order,
-    base: u64,
-) -> Result<Option<u8>, AllocError> {
+fn first_wrong_file(linked: &Linked<'_, '_>, order: Order, base: u64) -> Option<u8> {
     for file in 0..FILES {
-        let bytes = wanted(alloc, order, base, file)?;
+        let bytes = wanted(order, base, file);
         if linked.bytes(file as usize, 1) != Some(bytes.as_slice()) {
-            return Ok(Some(file));
+            return Some(file);
         }
     }
-    Ok(None)
+    None
 }
 
-/// Of a large link: how many outputs it has, and the first wrong one; the first section that is elsewhere; how many names it has, and the
-/// first one that is bound otherwise; and the first file whose fields do not hold their numbers.
-type Told = (
-    (usize, Option<u16>),
-    Option<u16>,
-    (usize, Option<u16>),
-    Option<u8>,
-);
+/// Of the map of a large link: how many outputs it has, and the first wrong one; the first section that is elsewhere; and how many names
+/// it has, and the first one that is bound otherwise.
+type Mapped = ((usize, Option<u16>), Option<u16>, (usize, Option<u16>));
 
-/// What the link of these objects, the files of the large link, reports.
+/// What the map reports.
+fn map_told(link: &LinkMap<'_>, digits: &[u8], base: u64) -> Mapped {
+    let output = first_wrong_output(link, digits, base);
+    let name = first_wrong_name(link, digits);
+    (
+        (link.outputs().len(), output),
+        first_wrong_section(link, base),
+        (link.names().len(), name),
+    )
+}
+
+/// The rules of the five kinds of fields.
+fn rules() -> [RelocRule; 5] {
+    [
+        rule(1, Form::Pc, Width::W1, Range::Signed),
+        rule(2, Form::Abs, Width::W1, Range::Unsigned),
+        rule(3, Form::Abs, Width::W2, Range::Wrap),
+        rule(4, Form::Pc, Width::W4, Range::Signed),
+        rule(5, Form::Abs, Width::W8, Range::Unsigned),
+    ]
+}
+
+/// The first file whose fields do not hold their numbers, in the link with this map.
+fn fields_told<'m, 'a>(
+    alloc: Global,
+    link: &'m LinkMap<'a>,
+    objects: &'m [Object<'a>],
+    order: Order,
+    base: u64,
+) -> Result<Option<u8>, LinkFault>
+    requires { IsMapButOptions objects.now link.now }
+{
+    let rules = rules();
+    let linked = relocate(alloc, link, objects, &rules)?;
+    Ok(first_wrong_file(&linked, order, base))
+}
+
+/// What the link of these objects, the files of the large link, reports: its map, and that file.
 fn told_of(
     alloc: Global,
     objects: &[Object<'_>],
     digits: &[u8],
     order: Order,
     base: u64,
-) -> Result<Told, LinkFault> {
-    let rules = [
-        rule(1, Form::Pc, Width::W1, Range::Signed),
-        rule(2, Form::Abs, Width::W1, Range::Unsigned),
-        rule(3, Form::Abs, Width::W2, Range::Wrap),
-        rule(4, Form::Pc, Width::W4, Range::Signed),
-        rule(5, Form::Abs, Width::W8, Range::Unsigned),
-    ];
+) -> Result<(Mapped, Option<u8>), LinkFault> {
     let link = mapped(alloc, objects, base, None)?;
-    let linked = relocate(alloc, &link, objects, &rules)?;
-    let field = first_wrong_file(alloc, &linked, order, base)?;
-    let output = first_wrong_output(&link, digits, base);
-    let name = first_wrong_name(&link, digits);
-    Ok((
-        (link.outputs().len(), output),
-        first_wrong_section(&link, base),
-        (link.names().len(), name),
-        field,
-    ))
+    let file = fields_told(alloc, &link, objects, order, base)?;
+    Ok((map_told(&link, digits, base), file))
 }
 
 /// The same of the large link in this order, from this address on.
-fn told(alloc: Global, order: Order, base: u64) -> Result<Told, Fail> {
+fn told(alloc: Global, order: Order, base: u64) -> Result<(Mapped, Option<u8>), Fail> {
     let digits = digits(alloc)?;
     let objects = files(alloc, digits.as_bytes(), order)?;
     Ok(told_of(alloc, &objects, digits.as_bytes(), order, base)?)
@@ -170,9 +185,9 @@ fn told(alloc: Global, order: Order, base: u64) -> Result<Told, Fail> {
 
 #[test]
 fn everything_stands_where_it_has_to(rt: HostRuntime) -> Result<(), Fail> {
-    for (order, base) in LINKS {
-        let told = told(rt.alloc(), order, base)?;
-        assert_eq!(rt; told, ((40, None), None, (1_122, None), None));
+    for (order, base) in &LINKS {
+        let told = told(rt.alloc(), *order, *base)?;
+        assert_same(&rt, told, (((40, None), None, (1_122, None)), None));
     }
     Ok(())
 }
@@ -181,23 +196,24 @@ fn everything_stands_where_it_has_to(rt: HostRuntime) -> Result<(), Fail> {
 fn entry_at(alloc: Global, file: u8) -> Result<u64, Fail> {
     let digits = digits(alloc)?;
     let objects = files(alloc, digits.as_bytes(), Order::Big)?;
-    let entry = Some(long_name(digits.as_bytes(), file));
-    let link = mapped(alloc, &objects, 0x8000_0000_0000_0000, entry)?;
-    Ok(link.entry())
+    let name = long_name(digits.as_bytes(), file);
+    Ok(entry_of(alloc, &objects, 0x8000_0000_0000_0000, name)?)
 }
 
-// Symbol 16 of file f has the value 16 in its section 0, which is number 4 f: in output 20, 24, 28 or 0, after one or six others.
+/// Files, and where the program begins at their long names. Symbol 16 of file f has the value 16 in its section 0, which is number 4 f: in
+/// output 20, 24, 28 or 0, after one or six others.
+const ENTRIES: [(u8, u64); 4] = [
+    (15, 0x8000_0000_0001_4020),
+    (16, 0x8000_0000_0001_8020),
+    (17, 0x8000_0000_0001_c020),
+    (60, 0x8000_0000_0000_0070),
+];
+
 #[test]
 fn begins_at_long_names_that_are_bound_weakly(rt: HostRuntime) -> Result<(), Fail> {
-    let rows = [
-        (15, 0x8000_0000_0001_4020),
-        (16, 0x8000_0000_0001_8020),
-        (17, 0x8000_0000_0001_c020),
-        (60, 0x8000_0000_0000_0070),
-    ];
-    for (file, want) in rows {
-        let entry = entry_at(rt.alloc(), file)?;
-        assert_eq!(rt; entry, want);
+    for (file, want) in &ENTRIES {
+        let entry = entry_at(rt.alloc(), *file)?;
+        assert_same(&rt, entry, *want);
     }
     Ok(())
 }

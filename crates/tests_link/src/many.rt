@@ -1,15 +1,15 @@
 //! Links of many names and many addends.
 ghost use Rattle.std.specs.Prelude.{◌<◌};
 
-use crate::parts::{data, holds, mapped, push_number, rule};
+use crate::asserts::assert_same;
+use crate::parts::{data, mapped, relocated_bytes, rule};
 use elf_field::Order;
-use elf_link_field::{Form, Range, Width};
+use elf_link_field::{Form, Range, RelocRule, Width};
 use elf_link_map::{Binding, LinkFault, LinkMap};
-use elf_link_relocate::relocate;
 use elf_object_type::{Body, Object, ObjectFault, Place, Relocation, Section, Symbol};
 use std::alloc::{AllocError, Global};
 use std::test::Fail;
-use tests_files::{DIGITS, GLOBAL, list, numbered, object, section, symbol};
+use tests_files::{DIGITS, GLOBAL, list, numbered, object, section, set, symbol};
 
 // Forty thousand fields of one, two, four and eight bytes, whose addends are in them.
 
@@ -22,20 +22,25 @@ const SIZE: u64 = 15;
 /// The value of the symbol.
 const VALUE: u64 = 50;
 
-/// Adds the number of a group, in one, two, four and eight bytes.
-fn push_group(order: Order, number: u64, bytes: &mut Vec<u8>) -> Result<(), AllocError> {
-    push_number(order, number, 1, bytes)?;
-    push_number(order, number, 2, bytes)?;
-    push_number(order, number, 4, bytes)?;
-    push_number(order, number, 8, bytes)
+/// The number of a group, in one, two, four and eight bytes.
+fn group(order: Order, number: u64) -> [u8; 15] {
+    let fields = [
+        (0, 1, number),
+        (1, 2, number),
+        (3, 4, number),
+        (7, 8, number),
+    ];
+    let mut bytes = [0; 15];
+    set(&mut bytes, order, &fields);
+    bytes
 }
 
 /// The bytes of all groups, where the addends of each are a number from 0 down to -99, and this is added to them.
 fn groups(alloc: Global, order: Order, value: u64) -> Result<Vec<u8>, AllocError> {
     let mut bytes = Vec::new(alloc);
-    for group in 0..GROUPS {
-        let addend = 0_u64.wrapping_sub(group as u64 % 100);
-        push_group(order, value.wrapping_add(addend), &mut bytes)?;
+    for position in 0..GROUPS {
+        let addend = 0_u64.wrapping_sub(position as u64 % 100);
+        bytes.extend_from_slice(&group(order, value.wrapping_add(addend)))?;
     }
     Ok(bytes)
 }
@@ -84,34 +89,37 @@ fn file(alloc: Global, order: Order, content: &[u8]) -> Result<Object<'_>, Objec
     object(alloc, order, sections, symbols)
 }
 
-/// Whether the link of these objects leaves these bytes in section 0 of the first one.
-fn leaves(alloc: Global, objects: &[Object<'_>], bytes: &[u8]) -> Result<bool, LinkFault> {
-    let rules = [
+/// The rules of the four kinds of fields.
+fn rules() -> [RelocRule; 4] {
+    [
         rule(1, Form::Abs, Width::W1, Range::Signed),
         rule(2, Form::Abs, Width::W2, Range::Signed),
         rule(3, Form::Abs, Width::W4, Range::Signed),
         rule(4, Form::Abs, Width::W8, Range::Signed),
-    ];
-    let map = mapped(alloc, objects, 0x1000, None)?;
-    let linked = relocate(alloc, &map, objects, &rules)?;
-    Ok(holds(&linked, bytes))
+    ]
+}
+
+/// Whether the link of these objects leaves these bytes in section 0 of the first one.
+fn leaves(alloc: Global, objects: &[Object<'_>], bytes: &[u8]) -> Result<bool, LinkFault> {
+    let relocated = relocated_bytes(alloc, objects, &rules())?;
+    Ok(relocated.as_slice() == bytes)
 }
 
 /// Whether each field holds the symbol's value and the addend that was in it.
-fn holds_sums(alloc: Global, order: Order) -> Result<bool, Fail> {
+fn holds_sums(alloc: Global, order: Order) -> Result<Result<bool, LinkFault>, ObjectFault> {
     let content = groups(alloc, order, 0)?;
     let wanted = groups(alloc, order, VALUE)?;
     let objects = [file(alloc, order, &content)?];
-    Ok(leaves(alloc, &objects, &wanted)?)
+    Ok(leaves(alloc, &objects, &wanted))
 }
 
 #[test]
-fn forty_thousand_addends_in_their_fields(rt: HostRuntime) -> Result<(), Fail> {
-    for order in [Order::Little, Order::Big] {
-        let holds = holds_sums(rt.alloc(), order)?;
-        assert!(rt; holds);
-    }
-    Ok(())
+fn forty_thousand_addends_in_their_fields(rt: HostRuntime) {
+    let held = [
+        holds_sums(rt.alloc(), Order::Little),
+        holds_sums(rt.alloc(), Order::Big),
+    ];
+    assert_same(&rt, held, [Ok(Ok(true)); 2]);
 }
 
 // An object of a million symbols, each of a name of its own.
@@ -149,14 +157,16 @@ fn first_wrong(link: &LinkMap<'_>) -> Option<usize> {
     None
 }
 
-/// How many names the link has, the first one that is bound otherwise, and the bindings of the last one and of none.
-fn told(link: &LinkMap<'_>) -> (usize, Option<usize>, [Option<Binding>; 2]) {
+/// How many names a link has, the first one that is bound otherwise, and the bindings of the last one and of none.
+type Told = (usize, Option<usize>, [Option<Binding>; 2]);
+
+fn told(link: &LinkMap<'_>) -> Told {
     let bindings = [link.binding(b"0999999"), link.binding(b"1000000")];
     (link.names().len(), first_wrong(link), bindings)
 }
 
 /// The same of the link of all symbols.
-fn told_of_all(alloc: Global) -> Result<(usize, Option<usize>, [Option<Binding>; 2]), Fail> {
+fn told_of_all(alloc: Global) -> Result<Told, Fail> {
     let names = numbered(alloc, COUNT)?;
     let link = linked(alloc, names.as_bytes())?;
     Ok(told(&link))
@@ -169,6 +179,6 @@ fn a_million_names(rt: HostRuntime) -> Result<(), Fail> {
         symbol: 999_999,
     };
     let told = told_of_all(rt.alloc())?;
-    assert_eq!(rt; told, (COUNT, None, [Some(last), None]));
+    assert_same(&rt, told, (COUNT, None, [Some(last), None]));
     Ok(())
 }

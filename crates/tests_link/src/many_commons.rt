@@ -1,9 +1,10 @@
 //! Five thousand commons, each of which has an entry in each of forty files.
 ghost use Rattle.std.specs.Prelude.{◌<◌};
 
+use crate::asserts::assert_same;
 use crate::parts::mapped;
 use elf_field::Order;
-use elf_link_map::LinkMap;
+use elf_link_map::{LinkFault, LinkMap};
 use elf_object_type::{Object, Place, Symbol};
 use std::alloc::{AllocError, Global};
 use std::test::Fail;
@@ -68,17 +69,22 @@ fn first_wrong(link: &LinkMap<'_>) -> Option<u64> {
     None
 }
 
-/// How many commons the link has, and the first one that is wrong.
+/// How many commons the link of these objects has, and the first one that is wrong.
+fn outcome_of(alloc: Global, objects: &[Object<'_>]) -> Result<(usize, Option<u64>), LinkFault> {
+    let link = mapped(alloc, objects, BASE, None)?;
+    Ok((link.commons().len(), first_wrong(&link)))
+}
+
+/// The same of the link of the files.
 fn outcome(alloc: Global) -> Result<(usize, Option<u64>), Fail> {
     let names = numbered(alloc, NAMES as usize)?;
     let objects = files(alloc, names.as_bytes())?;
-    let link = mapped(alloc, &objects, BASE, None)?;
-    Ok((link.commons().len(), first_wrong(&link)))
+    Ok(outcome_of(alloc, &objects)?)
 }
 
 #[test]
 fn five_thousand_commons_of_forty_files(rt: HostRuntime) -> Result<(), Fail> {
     let found = outcome(rt.alloc())?;
-    assert_eq!(rt; found, (5_000, None));
+    assert_same(&rt, found, (5_000, None));
     Ok(())
 }

@@ -1,14 +1,13 @@
 //! A million fields of one byte, side by side.
 ghost use Rattle.std.specs.Prelude.{◌<◌};
 
-use crate::parts::{data, mapped, rule};
+use crate::asserts::assert_same;
+use crate::parts::{data, relocated_bytes, rule};
 use elf_field::Order;
 use elf_link_field::{Form, Range, Width};
 use elf_link_map::LinkFault;
-use elf_link_relocate::{Linked, relocate};
 use elf_object_type::{Object, ObjectFault, Place, Relocation};
 use std::alloc::{AllocError, Global};
-use std::test::Fail;
 use tests_files::{GLOBAL, list, object, relocs, symbol};
 
 const COUNT: usize = 1_000_000;
@@ -58,38 +57,28 @@ fn first_wrong(bytes: &[u8]) -> Option<usize> {
     None
 }
 
-/// How many bytes the section has, and the first wrong one.
-fn outcome(linked: &Linked<'_, '_>) -> Option<(usize, Option<usize>)> {
-    let bytes = linked.bytes(0, 0)?;
-    Some((bytes.len(), first_wrong(bytes)))
-}
+/// How many bytes a section has, and the first wrong one.
+type Outcome = (usize, Option<usize>);
 
-/// The same of the link of these objects.
-fn outcome_of(
-    alloc: Global,
-    objects: &[Object<'_>],
-) -> Result<Option<(usize, Option<usize>)>, LinkFault> {
+/// Those of the section in the link of these objects.
+fn outcome_of(alloc: Global, objects: &[Object<'_>]) -> Result<Outcome, LinkFault> {
     let rules = [rule(1, Form::Abs, Width::W1, Range::Unsigned)];
-    let map = mapped(alloc, objects, 0x1000, None)?;
-    let linked = relocate(alloc, &map, objects, &rules)?;
-    Ok(outcome(&linked))
+    let bytes = relocated_bytes(alloc, objects, &rules)?;
+    Ok((bytes.len(), first_wrong(&bytes)))
 }
 
 /// The same of the link of such a file.
-fn outcome_by(alloc: Global, step: usize) -> Result<Option<(usize, Option<usize>)>, Fail>
+fn outcome_by(alloc: Global, step: usize) -> Result<Result<Outcome, LinkFault>, ObjectFault>
     requires { step < 10000 }
 {
     let content = vec![in alloc; 0; COUNT]?;
     let objects = [file(alloc, &content, step)?];
-    Ok(outcome_of(alloc, &objects)?)
+    Ok(outcome_of(alloc, &objects))
 }
 
 // 7,919 and a million have no common divisor, so each byte has one entry.
 #[test]
-fn a_million_fields_in_two_orders(rt: HostRuntime) -> Result<(), Fail> {
-    let ascending = outcome_by(rt.alloc(), 1)?;
-    let scattered = outcome_by(rt.alloc(), 7_919)?;
-    let right = Some((COUNT, None));
-    assert_eq!(rt; (ascending, scattered), (right, right));
-    Ok(())
+fn a_million_fields_in_two_orders(rt: HostRuntime) {
+    let found = [outcome_by(rt.alloc(), 1), outcome_by(rt.alloc(), 7_919)];
+    assert_same(&rt, found, [Ok(Ok((COUNT, None))); 2]);
 }

@@ -1,14 +1,13 @@
 //! Parts of objects, link maps and relocation rules.
-ghost use Rattle.std.specs.Prelude.{◌≤◌, IfOk, None, OnOk};
+ghost use Rattle.std.specs.Prelude.{IfOk, None, OnOk};
 ghost use Rattle.elf_link_map.specs.LinkMap.{FirstOfLink, IsLinkMap};
-ghost use Rattle.elf_link_relocate.specs.Linked.{IsMapOfSome};
+ghost use Rattle.elf_link_relocate.specs.Linked.{IsMapButOptions, IsMapOfSome};
 
-use elf_field::Order;
 use elf_link_field::{Form, Range, RelocRule, Width};
 use elf_link_map::{LinkFault, LinkMap, Options, map};
-use elf_link_relocate::Linked;
+use elf_link_relocate::relocate;
 use elf_object_type::{Body, Object, Section};
-use std::alloc::{AllocError, Global};
+use std::alloc::Global;
 use std::hash::{BuildHasherDefault, DefaultHasher};
 use tests_files::section;
 
@@ -20,22 +19,6 @@ pub(crate) fn data<'a>(name: &'a [u8], content: &'a [u8]) -> Section<'a> {
     section(name, 3, 1, Body::Bits(1, content))
 }
 
-/// Adds the lowest bytes of a number, this many, in this order.
-pub(crate) fn push_number(
-    order: Order,
-    number: u64,
-    count: usize,
-    bytes: &mut Vec<u8>,
-) -> Result<(), AllocError>
-    requires { count ≤ 8 }
-{
-    match order {
-        Order::Little => bytes.extend_from_slice(&number.to_le_bytes()[..count])?,
-        Order::Big => bytes.extend_from_slice(&number.to_be_bytes()[8 - count..])?,
-    }
-    Ok(())
-}
-
 /// The rule of a kind.
 pub(crate) fn rule(kind: u32, form: Form, width: Width, range: Range) -> RelocRule {
     RelocRule {
@@ -44,11 +27,6 @@ pub(crate) fn rule(kind: u32, form: Form, width: Width, range: Range) -> RelocRu
         width,
         range,
     }
-}
-
-/// Whether section 0 of the first file has these bytes.
-pub(crate) fn holds(linked: &Linked<'_, '_>, bytes: &[u8]) -> bool {
-    linked.bytes(0, 0) == Some(bytes)
 }
 
 /// The link map of these objects.
@@ -84,4 +62,37 @@ pub(crate) fn mapped<'a>(
         entry,
     };
     mapped_by(alloc, objects, &options)
+}
+
+/// The bytes of section 0 of the first file in the link of these objects; none if they have no such section.
+pub(crate) fn relocated_bytes(
+    alloc: Global,
+    objects: &[Object<'_>],
+    rules: &[RelocRule],
+) -> Result<Vec<u8>, LinkFault> {
+    let map = mapped(alloc, objects, 0x1000, None)?;
+    relocated_by(alloc, &map, objects, rules)
+}
+
+/// The same by their link map.
+fn relocated_by<'m, 'a>(
+    alloc: Global,
+    map: &'m LinkMap<'a>,
+    objects: &'m [Object<'a>],
+    rules: &'m [RelocRule],
+) -> Result<Vec<u8>, LinkFault>
+    requires { IsMapButOptions objects.now map.now }
+{
+    let linked = relocate(alloc, map, objects, rules)?;
+    Ok(Vec::from_slice(alloc, linked.bytes(0, 0).unwrap_or(b""))?)
+}
+
+/// Where the program of these objects begins that is linked from this address on, with this name as its entry.
+pub(crate) fn entry_of(
+    alloc: Global,
+    objects: &[Object<'_>],
+    base: u64,
+    name: &[u8],
+) -> Result<u64, LinkFault> {
+    Ok(mapped(alloc, objects, base, Some(name))?.entry())
 }

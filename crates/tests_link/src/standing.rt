@@ -8,6 +8,7 @@ ghost use Rattle.elf_link_relocate.specs.Linked.{IsLinked, LinkedValue, IsMapBut
 ghost use Rattle.elf_link_relocate.specs.Fields.{applied_entry_rules};
 ghost use Rattle.elf_object_type.specs.Object.{ObjectValue};
 
+use crate::asserts::assert_same;
 use crate::parts::mapped_by;
 use elf_field::Order;
 use elf_link_map::{LinkFault, LinkMap, Options, are_paged, outputs_stand, prove_objects};
@@ -16,7 +17,6 @@ use elf_link_relocate::{
 };
 use elf_object_type::{Body, Object, ObjectFault};
 use std::alloc::{AllocError, Global};
-use std::test::Fail;
 use tests_files::{list, object, section};
 
 // What the laws say about the memory of a link, when they are put together.
@@ -85,6 +85,20 @@ fn gaps(
     Ok(gaps)
 }
 
+/// Whether they are these numbers.
+fn are_gaps(
+    alloc: Global,
+    objects: &[Object<'_>],
+    options: &Options<'_>,
+    link: &LinkMap<'_>,
+    expected: &[u64],
+) -> Result<bool, AllocError>
+    requires { IsLinkMap options.now objects.now link.now }
+{
+    let gaps = gaps(alloc, objects, options, link)?;
+    Ok(gaps.as_slice() == expected)
+}
+
 /// How many pages lie below each output.
 fn pages_below(
     alloc: Global,
@@ -109,6 +123,21 @@ fn pages_below(
     Ok(pages)
 }
 
+/// Whether they are these numbers.
+fn are_pages_below(
+    alloc: Global,
+    objects: &[Object<'_>],
+    options: &Options<'_>,
+    link: &LinkMap<'_>,
+    expected: &[u64],
+) -> Result<bool, AllocError>
+    requires map { IsLinkMap options.now objects.now link.now }
+    requires sound { FirstOfLink options.now objects.now None }
+{
+    let pages = pages_below(alloc, objects, options, link)?;
+    Ok(pages.as_slice() == expected)
+}
+
 /// Code, data, and memory without bits.
 fn three_kinds(alloc: Global) -> Result<Object<'static>, ObjectFault> {
     let sections = list(
@@ -122,28 +151,30 @@ fn three_kinds(alloc: Global) -> Result<Object<'static>, ObjectFault> {
     object(alloc, Order::Little, sections, Vec::new(alloc))
 }
 
-/// Whether the outputs of these objects are so.
-fn stand(alloc: Global, objects: &[Object<'_>]) -> Result<bool, LinkFault> {
+/// Whether the bytes between outputs, and the pages below them, are as wanted.
+type Stands = [Result<bool, AllocError>; 2];
+
+/// That of the outputs of these objects.
+fn stand(alloc: Global, objects: &[Object<'_>]) -> Result<Stands, LinkFault> {
     let options = Options {
         base: 0x1000,
         page: 0x1000,
         entry: None,
     };
     let link = mapped_by(alloc, objects, &options)?;
-    let between = gaps(alloc, objects, &options, &link)?;
-    let below = pages_below(alloc, objects, &options, &link)?;
-    Ok(between.as_slice() == [0xffa, 0xfff].as_slice() && below.as_slice() == [1, 2, 3].as_slice())
+    Ok([
+        are_gaps(alloc, objects, &options, &link, &[0xffa, 0xfff]),
+        are_pages_below(alloc, objects, &options, &link, &[1, 2, 3]),
+    ])
 }
 
 /// The same of the three kinds.
-fn three_kinds_stand(alloc: Global) -> Result<bool, Fail> {
+fn three_kinds_stand(alloc: Global) -> Result<Result<Stands, LinkFault>, ObjectFault> {
     let objects = [three_kinds(alloc)?];
-    Ok(stand(alloc, &objects)?)
+    Ok(stand(alloc, &objects))
 }
 
 #[test]
-fn outputs_stand_at_pages(rt: HostRuntime) -> Result<(), Fail> {
-    let stand = three_kinds_stand(rt.alloc())?;
-    assert!(rt; stand);
-    Ok(())
+fn outputs_stand_at_pages(rt: HostRuntime) {
+    assert_same(&rt, three_kinds_stand(rt.alloc()), Ok(Ok([Ok(true); 2])));
 }
