@@ -1,5 +1,6 @@
 //! Objects read from a file of a group with one member, a section beside it, relocations and a symbol table. Each of rules 70 to 79 broken
 //! in it is in `cases/worked.txt`, under the rule's name.
+use crate::asserts::assert_same;
 use elf_field::Order;
 use elf_field::abi::*;
 use elf_image_stream::Fault;
@@ -167,7 +168,7 @@ fn tells_the_sections_and_the_symbols_but_symbol_0(rt: HostRuntime) {
         told(rt.alloc(), &object(Order::Little)),
         told(rt.alloc(), &object(Order::Big)),
     ];
-    assert_eq!(rt; told, [Ok((62, true, true)); 2]);
+    assert_same(&rt, told, [Ok((62, true, true)); 2]);
 }
 
 /// The fields that make section 3 a group too: the word at 72 is its flags, and that at 76 its member.
@@ -197,5 +198,5 @@ fn reads_two_groups(rt: HostRuntime) {
         at: 68,
     };
     let verdict = verdict_of(rt.alloc(), &file);
-    assert_eq!(rt; (sound, verdict), (Ok(()), Err(broken)));
+    assert_same(&rt, [sound, verdict], [Ok(()), Err(broken)]);
 }

@@ -1,71 +1,72 @@
 //! Where the parts of an object are in its file.
+use crate::asserts::assert_same;
 use elf_field::Order;
-use elf_object_type::{Body, Object};
+use elf_object_type::{Body, Object, ObjectFault, Section};
 use elf_object_writer::{LayoutFault, lay_out};
-use std::alloc::Global;
-use std::test::Fail;
+use std::alloc::{AllocError, Global};
 use tests_files::{object, section};
 
-// An object of so many sections with these contents, all of one name, flags and alignment, without symbols.
-fn object_of<'a>(
-    alloc: Global,
-    count: usize,
-    name: &'a [u8],
-    content: &'a [u8],
-    align: u64,
-) -> Result<Object<'a>, Fail> {
-    let mut sections = Vec::new(alloc);
-    for _ in 0..count {
-        sections.push(section(name, 6, align, Body::Bits(1, content)))?;
-    }
-    Ok(object(alloc, Order::Little, sections, Vec::new(alloc))?)
+/// Of a layout how many sections its file has, how long it is, and where its section header table is.
+type Numbers = (usize, u64, u64);
+
+/// Those of the layout of this object.
+fn numbers_of(alloc: Global, object: &Object<'_>) -> Result<Numbers, LayoutFault> {
+    let layout = lay_out(alloc, object)?;
+    Ok((layout.section_count(), layout.length(), layout.table()))
 }
 
-/// Of the layout of such an object how many sections its file has, how long it is, and where its section header table is.
+/// Those of an object of these sections, without symbols.
+fn numbers_with(
+    alloc: Global,
+    sections: Vec<Section<'_>>,
+) -> Result<Result<Numbers, LayoutFault>, ObjectFault> {
+    let object = object(alloc, Order::Little, sections, Vec::new(alloc))?;
+    Ok(numbers_of(alloc, &object))
+}
+
+/// Those of an object of so many sections with these contents, all of one name, flags and alignment.
 fn numbers(
     alloc: Global,
     count: usize,
     name: &[u8],
     content: &[u8],
     align: u64,
-) -> Result<Result<(usize, u64, u64), LayoutFault>, Fail> {
-    let object = object_of(alloc, count, name, content, align)?;
-    Ok(lay_out(alloc, &object).map(|layout| (
-        layout.section_count(),
-        layout.length(),
-        layout.table(),
-    )))
+) -> Result<Result<Numbers, LayoutFault>, ObjectFault> {
+    let mut sections = Vec::new(alloc);
+    for _ in 0..count {
+        sections.push(section(name, 6, align, Body::Bits(1, content)))?;
+    }
+    numbers_with(alloc, sections)
 }
 
 // Of no section and of one. Around the first reserved index a section more takes a section header more, and nothing else. An empty content
 // is placed too, and may make the layout too long.
 #[test]
-fn sections_are_laid_out(rt: HostRuntime) -> Result<(), Fail> {
+fn sections_are_laid_out(rt: HostRuntime) {
     let found = [
-        numbers(rt.alloc(), 0, b"", b"", 0)?,
-        numbers(rt.alloc(), 1, b".text", b"\xc3", 16)?,
-        numbers(rt.alloc(), 65_275, b"", b"", 1)?,
-        numbers(rt.alloc(), 65_276, b"", b"", 1)?,
-        numbers(rt.alloc(), 65_277, b"", b"", 1)?,
-        numbers(rt.alloc(), 1, b"", b"", 1 << 30)?,
-        numbers(rt.alloc(), 2, b"", b"\0", 1 << 63)?,
+        numbers(rt.alloc(), 0, b"", b"", 0),
+        numbers(rt.alloc(), 1, b".text", b"\xc3", 16),
+        numbers(rt.alloc(), 65_275, b"", b"", 1),
+        numbers(rt.alloc(), 65_276, b"", b"", 1),
+        numbers(rt.alloc(), 65_277, b"", b"", 1),
+        numbers(rt.alloc(), 1, b"", b"", 1 << 30),
+        numbers(rt.alloc(), 2, b"", b"\0", 1 << 63),
     ];
     let expected = [
-        Ok((4, 376, 120)),
-        Ok((5, 456, 136)),
-        Ok((65_279, 4_177_976, 120)),
-        Ok((65_280, 4_178_040, 120)),
-        Ok((65_281, 4_178_104, 120)),
-        Err(LayoutFault::TooLong),
-        Err(LayoutFault::TooLong),
+        Ok(Ok((4, 376, 120))),
+        Ok(Ok((5, 456, 136))),
+        Ok(Ok((65_279, 4_177_976, 120))),
+        Ok(Ok((65_280, 4_178_040, 120))),
+        Ok(Ok((65_281, 4_178_104, 120))),
+        Ok(Err(LayoutFault::TooLong)),
+        Ok(Err(LayoutFault::TooLong)),
     ];
-    assert_eq!(rt; found, expected);
-    Ok(())
+    assert_same(&rt, found, expected);
 }
 
-/// The length of the layout of sections of one byte with the alignments 2^29, 2^28 and so on, so that each ends a half of what is left of
-/// 2^30 bytes; the last of them is aligned to 4,096 and has so many bytes. One of them is `.text`, and one is `.rela.text`.
-fn length(alloc: Global, last: &[u8]) -> Result<Result<u64, LayoutFault>, Fail> {
+/// Sections of one byte with the alignments 2^29, 2^28 and so on, so that each ends a half of what is left of 2^30 bytes; the last of them is
+/// aligned to 4,096 and has these bytes. One of them is `.text`, and one is `.rela.text`.
+fn halves(alloc: Global, last: &[u8]) -> Result<Vec<Section<'_>>, AllocError> {
     let mut sections = Vec::new(alloc);
     let mut align = 1 << 29;
     for k in 0..18 {
@@ -78,20 +79,29 @@ fn length(alloc: Global, last: &[u8]) -> Result<Result<u64, LayoutFault>, Fail> 
         sections.push(section(name, 6, align, Body::Bits(1, content)))?;
         align /= 2;
     }
-    let object = object(alloc, Order::Little, sections, Vec::new(alloc))?;
-    Ok(lay_out(alloc, &object).map(|layout| layout.length()))
+    Ok(sections)
+}
+
+/// The numbers of the layout of these.
+fn numbers_of_halves(
+    alloc: Global,
+    last: &[u8],
+) -> Result<Result<Numbers, LayoutFault>, ObjectFault> {
+    let sections = halves(alloc, last)?;
+    numbers_with(alloc, sections)
 }
 
 // At 2^30 - 4,096 the last content begins, and after it are 24 + 1 + 38 bytes and 22 section headers: 38, and not 44, since `.text` is
 // within `.rela.text`.
 #[test]
-fn shared_names_count_once(rt: HostRuntime) -> Result<(), Fail> {
+fn shared_names_count_once(rt: HostRuntime) {
     let content = [0; 2625];
-    let longest = length(rt.alloc(), &content[..2624])?;
-    let too_long = length(rt.alloc(), &content)?;
-    assert_eq!(rt;
-        (longest, too_long),
-        (Ok(1 << 30), Err(LayoutFault::TooLong))
+    let longest = numbers_of_halves(rt.alloc(), &content[..2624]);
+    let too_long = numbers_of_halves(rt.alloc(), &content);
+    let numbers = (22, 1 << 30, (1 << 30) - 22 * 64);
+    assert_same(
+        &rt,
+        [longest, too_long],
+        [Ok(Ok(numbers)), Ok(Err(LayoutFault::TooLong))],
     );
-    Ok(())
 }

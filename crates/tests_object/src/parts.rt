@@ -1,4 +1,5 @@
 //! Rules 1 to 5 and 7 to 9 of objects: made from three sections and two symbols.
+use crate::asserts::assert_same;
 use elf_field::Order;
 use elf_object_type::{Body, ObjectFault, Place, Relocation, Section, Symbol, rules};
 use std::alloc::{AllocError, Global};
@@ -86,6 +87,15 @@ fn judged_with(
     fault_of(alloc, sections, symbols(alloc)?)
 }
 
+/// That of the three sections, with one in the middle whose name has a zero.
+fn judged_named(alloc: Global) -> Result<(), ObjectFault> {
+    let named = Section {
+        name: b"a\0",
+        ..bits(6)
+    };
+    judged_with(alloc, 1, named)
+}
+
 fn in_section(rule: u16, position: usize) -> Result<(), ObjectFault> {
     Err(ObjectFault::Section { rule, position })
 }
@@ -120,15 +130,11 @@ fn judged_relocs(
 #[test]
 fn each_rule_of_sections_is_answered_at_its_section(rt: HostRuntime) {
     let alloc = rt.alloc();
-    let named = Section {
-        name: b"a\0",
-        ..bits(6)
-    };
     let judged = [
         judged(alloc, true, 24),
         judged(alloc, false, 16),
         fault_of(alloc, Vec::new(alloc), Vec::new(alloc)),
-        judged_with(alloc, 1, named),
+        judged_named(alloc),
         judged_with(alloc, 0, section(6, 0, Body::Bits(11, b""))),
         judged_at(alloc, 3, 0),
         judged_at(alloc, 8, 4),
@@ -152,7 +158,7 @@ fn each_rule_of_sections_is_answered_at_its_section(rt: HostRuntime) {
         in_section(rules::WRONG_FIELD, 2),
         in_section(rules::WRONG_FIELD, 2),
     ];
-    assert_eq!(rt; judged, expected);
+    assert_same(&rt, judged, expected);
 }
 
 /// The fault of an object of these two symbols.
@@ -188,7 +194,7 @@ fn each_rule_of_symbols_is_answered_at_its_symbol(rt: HostRuntime) {
         at_symbol(rules::WRONG_PLACE, 0),
         at_symbol(rules::MISPLACED_LOCAL, 1),
     ];
-    assert_eq!(rt; judged, expected);
+    assert_same(&rt, judged, expected);
 }
 
 // Rule 6 of objects: groups of two sections.
@@ -234,15 +240,12 @@ fn wrong_members_are_answered_at_the_group(rt: HostRuntime) {
         judged_group(rt.alloc(), [1, 2], 2),
         judged_twice(rt.alloc()),
     ];
-    let past = Err(ObjectFault::Section {
-        rule: rules::WRONG_POSITION,
-        position: 0,
-    });
-    let rule = rules::WRONG_MEMBERSHIP;
-    let first = Err(ObjectFault::Section { rule, position: 0 });
-    let second = Err(ObjectFault::Section { rule, position: 1 });
-    assert_eq!(rt;
+    let past = in_section(rules::WRONG_POSITION, 0);
+    let first = in_section(rules::WRONG_MEMBERSHIP, 0);
+    let second = in_section(rules::WRONG_MEMBERSHIP, 1);
+    assert_same(
+        &rt,
         judged_of_group,
-        [Ok(()), past, first, first, first, second]
+        [Ok(()), past, first, first, first, second],
     );
 }

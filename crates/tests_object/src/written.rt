@@ -1,16 +1,19 @@
 //! Objects as they are written, byte by byte: what is in their files is given field by field. An empty object, and one of a group, are in
 //! `cases/worked.txt`.
+use crate::asserts::assert_same;
 use elf_field::Order;
 use elf_object_file::write_object;
-use elf_object_type::{Body, Info, Object, ObjectParts, Place, Relocation, Section, Symbol};
+use elf_object_type::{
+    Body, Info, Object, ObjectFault, ObjectParts, Place, Relocation, Section, Symbol,
+};
 use elf_object_writer::ObjectWriteFault;
 use std::alloc::{AllocError, Global};
 use std::io::ErrorKind;
 use std::process::Abort;
 use std::test::Fail;
 use tests_files::{
-    Counter, DIGITS, Field, OnceFailingWriter, numbered, object, one_section, section, set,
-    set_header, symbol,
+    Counter, DIGITS, Failure, Field, OnceFailingWriter, list, numbered, object, one_section,
+    section, set, set_header, symbol,
 };
 
 /// A global function of one byte.
@@ -21,116 +24,79 @@ fn function<'a>(name: &'a [u8], place: Place) -> Symbol<'a> {
     }
 }
 
-/// The header's fields about the section header table.
-pub(crate) fn set_table(file: &mut [u8], order: Order, table: u64, count: u64, names: u64) {
-    let fields = [(40, 8, table), (58, 2, 64), (60, 2, count), (62, 2, names)];
-    set_header(file, order, &fields);
+/// A section of one byte of code.
+fn text(align: u64) -> Section<'static> {
+    section(b".text", 6, align, Body::Bits(1, b"\xc3"))
 }
 
-/// A section header: its name, type, flags, offset, size, link, info, alignment and size of entries.
-pub(crate) fn set_section(file: &mut [u8], order: Order, at: u32, fields: [u64; 9]) {
-    let at = at as u64;
-    let [
-        name,
-        section_type,
-        flags,
-        offset,
-        size,
-        link,
-        info,
-        align,
-        entsize,
-    ] = fields;
-    let fields: [Field; 9] = [
-        (at, 4, name),
-        (at + 4, 4, section_type),
-        (at + 8, 8, flags),
-        (at + 24, 8, offset),
-        (at + 32, 8, size),
-        (at + 40, 4, link),
-        (at + 44, 4, info),
-        (at + 48, 8, align),
-        (at + 56, 8, entsize),
-    ];
-    set(file, order, &fields);
+fn text_object(alloc: Global, order: Order) -> Result<Object<'static>, ObjectFault> {
+    let sections = list(alloc, [text(16)])?;
+    object(alloc, order, sections, Vec::new(alloc))
 }
 
-pub(crate) fn set_bytes(file: &mut [u8], at: u64, bytes: &[u8]) {
-    let mut at = at;
-    for byte in bytes {
-        set(file, Order::Little, &[(at, 1, *byte as u64)]);
-        at = at.saturating_add(1);
+// All fields of the header, links, places of symbols, and relocations without addends.
+
+/// A section without bytes, and with a link to another one.
+fn space() -> Section<'static> {
+    Section {
+        addr: 0x1000,
+        link: Some(1),
+        ..section(b"a", 3, 0x1000, Body::NoBits(0x123456789))
     }
 }
 
-/// The file of an object.
-fn written(alloc: Global, object: &Object<'_>) -> Result<Vec<u8>, Fail> {
-    let mut bytes = Vec::new(alloc);
-    write_object(alloc, object, &mut bytes)?;
-    Ok(bytes)
+fn bits() -> Section<'static> {
+    Section {
+        info: Info::Section(0),
+        entsize: 8,
+        ..section(b"b", 0x40, 0, Body::Bits(7, b"123"))
+    }
 }
 
-// ---- one section
-
-pub(crate) fn text_object(alloc: Global, order: Order) -> Result<Object<'static>, Fail> {
-    let text = section(b".text", 6, 16, Body::Bits(1, b"\xc3"));
-    Ok(object(alloc, order, vec![in alloc; text]?, Vec::new(alloc))?)
-}
-
-// ---- all fields of the header, links, places of symbols, and relocations without addends
-
-/// Sections without bytes and with a link to another one, and relocations.
-fn many_sections(alloc: Global) -> Result<Vec<Section<'static>>, AllocError> {
+fn relocs(alloc: Global) -> Result<Section<'static>, AllocError> {
     let entry = Relocation {
         offset: 0x10,
         symbol: None,
         kind: 7,
         addend: 0,
     };
-    let relocs = Body::Relocs {
+    let body = Body::Relocs {
         rela: false,
         target: 1,
-        entries: vec![in alloc; entry]?.into(),
+        entries: list(alloc, [entry])?.into(),
     };
-    let space = Section {
-        addr: 0x1000,
-        link: Some(1),
-        ..section(b"a", 3, 0x1000, Body::NoBits(0x123456789))
-    };
-    let bits = Section {
-        info: Info::Section(0),
-        entsize: 8,
-        ..section(b"b", 0x40, 0, Body::Bits(7, b"123"))
-    };
-    let relocs = Section {
+    Ok(Section {
         entsize: 16,
-        ..section(b"a", 0, 8, relocs)
-    };
-    Ok(vec![in alloc; space, bits, relocs]?)
+        ..section(b"a", 0, 8, body)
+    })
+}
+
+fn many_sections(alloc: Global) -> Result<Vec<Section<'static>>, AllocError> {
+    let relocs = relocs(alloc)?;
+    list(alloc, [space(), bits(), relocs])
 }
 
 /// A symbol of each place.
 fn many_symbols(alloc: Global) -> Result<Vec<Symbol<'static>>, AllocError> {
-    Ok(vec![in alloc;
-        Symbol {
-            info: 3,
-            other: 2,
-            ..function(b"", Place::In(0))
-        },
-        Symbol {
-            value: 5,
-            ..function(b"b", Place::Abs)
-        },
-        Symbol {
-            value: 16,
-            size: 0x87654321,
-            ..function(b"ab", Place::Common)
-        },
-        function(b"b", Place::Undef),
-    ]?)
+    let local = Symbol {
+        info: 3,
+        other: 2,
+        ..function(b"", Place::In(0))
+    };
+    let number = Symbol {
+        value: 5,
+        ..function(b"b", Place::Abs)
+    };
+    let common = Symbol {
+        value: 16,
+        size: 0x87654321,
+        ..function(b"ab", Place::Common)
+    };
+    let undefined = function(b"b", Place::Undef);
+    list(alloc, [local, number, common, undefined])
 }
 
-fn many_fields(alloc: Global, order: Order) -> Result<Object<'static>, Fail> {
+fn many_fields(alloc: Global, order: Order) -> Result<Object<'static>, ObjectFault> {
     let parts = ObjectParts {
         order,
         osabi: 3,
@@ -140,11 +106,24 @@ fn many_fields(alloc: Global, order: Order) -> Result<Object<'static>, Fail> {
         sections: many_sections(alloc)?,
         symbols: many_symbols(alloc)?,
     };
-    Ok(Object::new(alloc, parts)?)
+    Object::new(alloc, parts)
 }
 
-/// The symbol table of its file, after the symbol of index 0.
-const MANY_SYMBOLS: [Field; 17] = [
+/// The header's fields of its file, the bytes of section `b`, the relocation, and the symbol table after the symbol of index 0.
+const MANY_FIELDS: [Field; 30] = [
+    (7, 1, 3),
+    (8, 1, 4),
+    (18, 2, 0x1234),
+    (40, 8, 248),
+    (48, 4, 0x89abcdef),
+    (58, 2, 64),
+    (60, 2, 7),
+    (62, 2, 6),
+    (64, 1, 0x31),
+    (65, 1, 0x32),
+    (66, 1, 0x33),
+    (72, 8, 0x10),
+    (80, 8, 7),
     (116, 1, 3),
     (117, 1, 2),
     (118, 2, 1),
@@ -164,70 +143,125 @@ const MANY_SYMBOLS: [Field; 17] = [
     (200, 8, 1),
 ];
 
+/// Its section header table after section header 0. Each has the name, the type, the flags, the address, the offset, the size, the link, the
+/// info, the alignment and the size of entries.
+const MANY_HEADERS: [[u64; 10]; 6] = [
+    [1, 8, 3, 0x1000, 64, 0x123456789, 2, 0, 0x1000, 0],
+    [9, 7, 0x40, 0, 64, 3, 0, 1, 0, 8],
+    [1, 9, 0, 0, 72, 16, 4, 2, 8, 16],
+    [3, 2, 0, 0, 88, 120, 5, 2, 8, 24],
+    [11, 3, 0, 0, 208, 4, 0, 0, 1, 0],
+    [19, 3, 0, 0, 212, 29, 0, 0, 1, 0],
+];
+
+/// Where these fields are in a section header, and how wide.
+const PLACES: [(u64, usize); 10] = [
+    (0, 4),
+    (4, 4),
+    (8, 8),
+    (16, 8),
+    (24, 8),
+    (32, 8),
+    (40, 4),
+    (44, 4),
+    (48, 8),
+    (56, 8),
+];
+
+/// Writes a section header.
+fn set_section(file: &mut [u8], order: Order, at: u64, fields: &[u64; 10]) {
+    for k in 0..10 {
+        let (behind, width) = PLACES[k];
+        set(file, order, &[(at.wrapping_add(behind), width, fields[k])]);
+    }
+}
+
 fn many_fields_file(order: Order) -> [u8; 696] {
     let mut file = [0; 696];
-    set_table(&mut file, order, 248, 7, 6);
-    let header = [(7, 1, 3), (8, 1, 4), (18, 2, 0x1234), (48, 4, 0x89abcdef)];
-    set(&mut file, order, &header);
-    set_bytes(&mut file, 64, b"123");
-    set(&mut file, order, &[(72, 8, 0x10), (80, 8, 7)]);
-    set(&mut file, order, &MANY_SYMBOLS);
+    set_header(&mut file, order, &MANY_FIELDS);
     // The symbols `b` end with `ab`, and the section `b` with `.symtab`.
-    set_bytes(&mut file, 208, b"\0ab\0");
-    set_bytes(&mut file, 212, b"\0a\0.symtab\0.strtab\0.shstrtab\0");
-    let space = [1, 8, 3, 64, 0x123456789, 2, 0, 0x1000, 0];
-    set_section(&mut file, order, 312, space);
-    set(&mut file, order, &[(328, 8, 0x1000)]);
-    set_section(&mut file, order, 376, [9, 7, 0x40, 64, 3, 0, 1, 0, 8]);
-    set_section(&mut file, order, 440, [1, 9, 0, 72, 16, 4, 2, 8, 16]);
-    set_section(&mut file, order, 504, [3, 2, 0, 88, 120, 5, 2, 8, 24]);
-    set_section(&mut file, order, 568, [11, 3, 0, 208, 4, 0, 0, 1, 0]);
-    set_section(&mut file, order, 632, [19, 3, 0, 212, 29, 0, 0, 1, 0]);
+    file[208..241].copy_from_slice(b"\0ab\0\0a\0.symtab\0.strtab\0.shstrtab\0");
+    let mut at = 312;
+    for fields in &MANY_HEADERS {
+        set_section(&mut file, order, at, fields);
+        at = at.wrapping_add(64);
+    }
     file
 }
 
-/// Whether both objects are written as their files.
-fn are_written(alloc: Global, order: Order) -> Result<[bool; 2], Fail> {
-    let text = written(alloc, &text_object(alloc, order)?)?;
-    let many = written(alloc, &many_fields(alloc, order)?)?;
-    Ok([
-        text.as_slice() == one_section(order).as_slice(),
-        many.as_slice() == many_fields_file(order).as_slice(),
-    ])
+/// Whether an object is written as this file.
+fn is_written(alloc: Global, object: &Object<'_>, file: &[u8]) -> Result<bool, ObjectWriteFault> {
+    let mut bytes = Vec::new(alloc);
+    write_object(alloc, object, &mut bytes)?;
+    Ok(bytes.as_slice() == file)
+}
+
+/// Whether the object of one section is.
+fn text_is_written(
+    alloc: Global,
+    order: Order,
+) -> Result<Result<bool, ObjectWriteFault>, ObjectFault> {
+    let object = text_object(alloc, order)?;
+    Ok(is_written(alloc, &object, &one_section(order)))
+}
+
+/// Whether that of many fields is.
+fn many_are_written(
+    alloc: Global,
+    order: Order,
+) -> Result<Result<bool, ObjectWriteFault>, ObjectFault> {
+    let object = many_fields(alloc, order)?;
+    Ok(is_written(alloc, &object, &many_fields_file(order)))
 }
 
 #[test]
-fn objects_are_written_in_both_orders(rt: HostRuntime) -> Result<(), Fail> {
+fn objects_are_written_in_both_orders(rt: HostRuntime) {
     let found = [
-        are_written(rt.alloc(), Order::Little)?,
-        are_written(rt.alloc(), Order::Big)?,
+        text_is_written(rt.alloc(), Order::Little),
+        text_is_written(rt.alloc(), Order::Big),
+        many_are_written(rt.alloc(), Order::Little),
+        many_are_written(rt.alloc(), Order::Big),
     ];
-    assert_eq!(rt; found, [[true; 2]; 2]);
-    Ok(())
+    assert_same(&rt, found, [Ok(Ok(true)); 4]);
 }
 
 // Objects onto writers that take little or fail, and objects that are not written.
 
-/// Writes the object to a writer that takes so many bytes a call, and whose call of this number, after so many bytes, alone fails, or takes
-/// nothing: that is the answer, and no call comes after it.
+/// Writes the object of one section to a writer whose call of number `failing`, after so many bytes, alone fails: that is the answer, and no
+/// call comes after it.
 fn assert_stopped(
     rt: &impl Abort,
     alloc: Global,
     object: &Object<'_>,
-    piece: usize,
-    failing: usize,
+    writer: &mut OnceFailingWriter,
     out: u16,
-    failure: Option<ErrorKind>,
 ) {
-    let mut writer = OnceFailingWriter::new(alloc, piece, failing, failure);
-    let answer = write_object(alloc, object, &mut writer);
+    let answer = write_object(alloc, object, writer);
     let written = u64::from(out);
     let file = one_section(Order::Little);
     let is_out = Some(writer.bytes.as_slice()) == file.get(..out as usize);
-    assert_eq!(rt;
+    assert_same(
+        rt,
         (answer, is_out, (writer.offers.len(), writer.flushes)),
-        (Err(ObjectWriteFault::Io { written }), true, (failing, 0))
+        (
+            Err(ObjectWriteFault::Io { written }),
+            true,
+            (writer.failing, 0),
+        ),
     );
+}
+
+/// The same of a writer that takes a byte a call, and fails so after so many bytes.
+fn assert_stopped_after(
+    rt: &impl Abort,
+    alloc: Global,
+    object: &Object<'_>,
+    out: u16,
+    failure: Failure,
+) {
+    let failing = out as usize + 1;
+    let mut writer = OnceFailingWriter::new(alloc, 1, failing, failure);
+    assert_stopped(rt, alloc, object, &mut writer, out);
 }
 
 #[test]
@@ -235,81 +269,115 @@ fn a_write_that_fails_is_not_tried_again(rt: HostRuntime) -> Result<(), Fail> {
     let alloc = rt.alloc();
     let object = text_object(alloc, Order::Little)?;
     for out in 0..456 {
-        let failing = out as usize + 1;
-        let interrupted = Some(ErrorKind::Interrupted);
-        assert_stopped(&rt, alloc, &object, 1, failing, out, Some(ErrorKind::Other));
-        assert_stopped(&rt, alloc, &object, 1, failing, out, interrupted);
-        assert_stopped(&rt, alloc, &object, 1, failing, out, None);
+        assert_stopped_after(&rt, alloc, &object, out, Some(ErrorKind::Other));
+        assert_stopped_after(&rt, alloc, &object, out, Some(ErrorKind::Interrupted));
+        assert_stopped_after(&rt, alloc, &object, out, None);
     }
     Ok(())
 }
 
-// The calls of a writer that takes all that it is offered: the header; the contents, which are short, with the zeros between them; zeros and
-// the section header table.
+/// The same of call number `failing` of a writer that takes all that it is offered.
+fn assert_stopped_at(
+    rt: &impl Abort,
+    alloc: Global,
+    object: &Object<'_>,
+    failing: usize,
+    out: u16,
+) {
+    let other = Some(ErrorKind::Other);
+    let mut writer = OnceFailingWriter::new(alloc, usize::MAX, failing, other);
+    assert_stopped(rt, alloc, object, &mut writer, out);
+}
+
+// Its calls: the header; the contents, which are short, with the zeros between them; zeros and the section header table.
 #[test]
 fn each_call_fails_alone(rt: HostRuntime) -> Result<(), Fail> {
     let alloc = rt.alloc();
     let object = text_object(alloc, Order::Little)?;
-    for (call, out) in [0, 64, 130, 136].iter().enumerate() {
-        let failing = call.saturating_add(1);
-        let failure = Some(ErrorKind::Other);
-        assert_stopped(&rt, alloc, &object, usize::MAX, failing, *out, failure);
-    }
+    assert_stopped_at(&rt, alloc, &object, 1, 0);
+    assert_stopped_at(&rt, alloc, &object, 2, 64);
+    assert_stopped_at(&rt, alloc, &object, 3, 130);
+    assert_stopped_at(&rt, alloc, &object, 4, 136);
     Ok(())
+}
+
+/// So many sections with empty names, this alignment and these contents.
+fn equal_sections(
+    alloc: Global,
+    count: usize,
+    align: u64,
+    content: &'static [u8],
+) -> Result<Vec<Section<'static>>, AllocError> {
+    let mut sections = Vec::new(alloc);
+    for _ in 0..count {
+        sections.push(section(b"", 0, align, Body::Bits(1, content)))?;
+    }
+    Ok(sections)
+}
+
+/// How many calls a writer gets that takes all of an object.
+fn call_count(alloc: Global, object: &Object<'_>) -> Result<usize, ObjectWriteFault> {
+    let mut writer = OnceFailingWriter::new(alloc, usize::MAX, 0, None);
+    write_object(alloc, object, &mut writer)?;
+    Ok(writer.offers.len())
+}
+
+/// How many it gets of one of a thousand contents of a byte.
+fn call_count_of_a_thousand(alloc: Global) -> Result<usize, Fail> {
+    let sections = equal_sections(alloc, 1000, 16, b"\xc3")?;
+    let object = object(alloc, Order::Little, sections, Vec::new(alloc))?;
+    Ok(call_count(alloc, &object)?)
 }
 
 // A thousand contents of a byte, and the three tables behind them, take one call beside that of the header, that of the zeros before the
 // section header table, and one for each 64 section headers.
 #[test]
 fn short_contents_go_out_together(rt: HostRuntime) -> Result<(), Fail> {
-    let alloc = rt.alloc();
-    let mut sections = Vec::new(alloc);
-    for _ in 0..1000 {
-        sections.push(section(b"", 0, 16, Body::Bits(1, b"\xc3")))?;
-    }
-    let object = object(alloc, Order::Little, sections, Vec::new(alloc))?;
-    let mut writer = OnceFailingWriter::new(alloc, usize::MAX, 0, None);
-    write_object(alloc, &object, &mut writer)?;
-    assert!(rt; writer.offers.len() <= 19);
+    let calls = call_count_of_a_thousand(rt.alloc())?;
+    assert!(rt; calls <= 19);
     Ok(())
 }
 
 /// What a write of an object of this alignment comes to, and how many bytes are written.
-fn outcome(alloc: Global, align: u64) -> Result<(Result<(), ObjectWriteFault>, u64), Fail> {
-    let bits = section(b".text", 6, align, Body::Bits(1, b"\xc3"));
-    let object = object(alloc, Order::Little, vec![in alloc; bits]?, Vec::new(alloc))?;
+fn outcome(alloc: Global, align: u64) -> Result<(Result<(), ObjectWriteFault>, u64), ObjectFault> {
+    let sections = list(alloc, [text(align)])?;
+    let object = object(alloc, Order::Little, sections, Vec::new(alloc))?;
     let mut writer = Counter { taken: 0, last: 0 };
     let answer = write_object(alloc, &object, &mut writer);
     Ok((answer, writer.taken))
 }
 
+/// Alignments, and what a write of their objects comes to.
+const OUTCOMES: [(u64, (Result<(), ObjectWriteFault>, u64)); 2] = [
+    (1 << 20, (Ok(()), 1_048_968)),
+    (1 << 30, (Err(ObjectWriteFault::TooLong), 0)),
+];
+
 // An object that is too long is not written, nor is one for which an allocation fails.
 #[test]
 fn nothing_is_written_of_what_is_refused(rt: HostRuntime) -> Result<(), Fail> {
-    let rows = [
-        (1 << 20, (Ok(()), 1_048_968)),
-        (1 << 30, (Err(ObjectWriteFault::TooLong), 0)),
-    ];
     let refused = (Err(ObjectWriteFault::OutOfMemory), 0);
-    for (align, expected) in rows {
-        let found = outcome(rt.alloc(), align)?;
-        assert!(rt; found == expected || found == refused);
+    for (align, expected) in &OUTCOMES {
+        let found = outcome(rt.alloc(), *align)?;
+        assert!(rt; found == *expected || found == refused);
     }
     Ok(())
 }
 
 // Objects around the first reserved section index, 0xff00, as they are written.
 
-/// The file of an object of so many sections with empty names and contents, and of these symbols.
-fn file_of(alloc: Global, count: usize, symbols: Vec<Symbol<'static>>) -> Result<Vec<u8>, Fail> {
-    let mut sections = Vec::new(alloc);
-    for _ in 0..count {
-        sections.push(section(b"", 0, 1, Body::Bits(1, b"")))?;
-    }
-    let object = object(alloc, Order::Little, sections, symbols)?;
+/// The file of an object.
+fn written(alloc: Global, object: &Object<'_>) -> Result<Vec<u8>, ObjectWriteFault> {
     let mut bytes = Vec::new(alloc);
-    write_object(alloc, &object, &mut bytes)?;
+    write_object(alloc, object, &mut bytes)?;
     Ok(bytes)
+}
+
+/// That of an object of so many sections with empty names and contents, and of these symbols.
+fn file_of(alloc: Global, count: usize, symbols: Vec<Symbol<'static>>) -> Result<Vec<u8>, Fail> {
+    let sections = equal_sections(alloc, count, 1, b"")?;
+    let object = object(alloc, Order::Little, sections, symbols)?;
+    Ok(written(alloc, &object)?)
 }
 
 /// The number at an offset in a file, least significant byte first.
@@ -327,10 +395,12 @@ fn number(file: &[u8], at: usize, width: u32) -> u64 {
 
 /// Whether a file is so long and has these numbers, each given by its offset, its width and its value.
 fn has_fields(file: &[u8], length: usize, fields: &[(usize, u32, u64)]) -> bool {
+    for (at, width, value) in fields {
+        if number(file, *at, *width) != *value {
+            return false;
+        }
+    }
     file.len() == length
-        && fields
-            .iter()
-            .all(|(at, width, value)| number(file, *at, *width) == *value)
 }
 
 /// Whether the file of so many sections is so long, and has these numbers for its count of section headers and the index of its name table,
@@ -348,21 +418,25 @@ fn counts(alloc: Global, count: usize, length: usize, numbers: [u64; 4]) -> Resu
     Ok(has_fields(&file, length, &fields))
 }
 
-// Section header 0 holds a count or an index that is a reserved one.
+/// How many sections there are, how long the file is, and its numbers. Section header 0 holds a count or an index that is a reserved one.
+const COUNTS: [(usize, usize, [u64; 4]); 3] = [
+    (65_275, 4_177_976, [0xfeff, 0xfefe, 0, 0]),
+    (65_276, 4_178_040, [0, 0xfeff, 65_280, 0]),
+    (65_277, 4_178_104, [0, 0xffff, 65_281, 65_280]),
+];
+
 #[test]
 fn counts_that_the_header_cannot_hold(rt: HostRuntime) -> Result<(), Fail> {
-    let found = [
-        counts(rt.alloc(), 65_275, 4_177_976, [0xfeff, 0xfefe, 0, 0])?,
-        counts(rt.alloc(), 65_276, 4_178_040, [0, 0xfeff, 65_280, 0])?,
-        counts(rt.alloc(), 65_277, 4_178_104, [0, 0xffff, 65_281, 65_280])?,
-    ];
-    assert_eq!(rt; found, [true; 3]);
+    for (count, length, numbers) in &COUNTS {
+        let has_numbers = counts(rt.alloc(), *count, *length, *numbers)?;
+        assert_same(&rt, (*count, has_numbers), (*count, true));
+    }
     Ok(())
 }
 
 /// The file of 65,280 sections and of a symbol in the section of this position.
 fn file_of_symbol_in(alloc: Global, position: usize) -> Result<Vec<u8>, Fail> {
-    let symbols = vec![in alloc; function(b"f", Place::In(position))]?;
+    let symbols = list(alloc, [function(b"f", Place::In(position))])?;
     file_of(alloc, 65_280, symbols)
 }
 
@@ -378,9 +452,10 @@ fn a_symbol_below_the_reserved_indexes(rt: HostRuntime) -> Result<(), Fail> {
         (symbols + 64 + 4, 4, 3),
     ];
     let names = b"\0f\0\0.symtab\0.strtab\0.shstrtab\0".as_slice();
-    assert_eq!(rt;
+    assert_same(
+        &rt,
         (has_fields(&file, 4_178_320, &fields), file.get(112..142)),
-        (true, Some(names))
+        (true, Some(names)),
     );
     Ok(())
 }
@@ -405,9 +480,10 @@ fn a_symbol_among_the_reserved_indexes(rt: HostRuntime) -> Result<(), Fail> {
         (index_table + 56, 8, 4),
     ];
     let names = b"\0f\0\0.symtab\0.symtab_shndx\0.strtab\0.shstrtab\0".as_slice();
-    assert_eq!(rt;
+    assert_same(
+        &rt,
         (has_fields(&file, 4_178_408, &fields), file.get(120..164)),
-        (true, Some(names))
+        (true, Some(names)),
     );
     Ok(())
 }
@@ -428,9 +504,7 @@ fn symbols<'a>(alloc: Global, names: &'a [u8]) -> Result<Vec<Symbol<'a>>, AllocE
 fn file(alloc: Global, names: &[u8]) -> Result<Vec<u8>, Fail> {
     let symbols = symbols(alloc, names)?;
     let object = object(alloc, Order::Little, Vec::new(alloc), symbols)?;
-    let mut bytes = Vec::new(alloc);
-    write_object(alloc, &object, &mut bytes)?;
-    Ok(bytes)
+    Ok(written(alloc, &object)?)
 }
 
 /// That of all names.
@@ -446,13 +520,14 @@ fn a_million_symbols(rt: HostRuntime) -> Result<(), Fail> {
     let length = 64 + 24 * 1_000_001 + 8_000_001 + 27 + 4 + 4 * 64;
     // The last symbol's name is at 7,999,993 in the string table, and its eight bytes are the last ones there.
     let place = [0xf9, 0x11, 0x7a, 0].as_slice();
-    assert_eq!(rt;
+    assert_same(
+        &rt,
         (
             file.len(),
             file.get(24_000_064..24_000_068),
-            file.get(32_000_081..32_000_089)
+            file.get(32_000_081..32_000_089),
         ),
-        (length, Some(place), Some(b"0999999\0".as_slice()))
+        (length, Some(place), Some(b"0999999\0".as_slice())),
     );
     Ok(())
 }
