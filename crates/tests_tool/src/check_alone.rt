@@ -5,7 +5,7 @@ ghost use Rattle.elf_tool_check.specs.Ending.{AsksFor};
 ghost use Rattle.elf_tool_words.specs.Words.{IsAskedBy};
 ghost use Rattle.elf_tool_words.specs.declared.words.Request.TheVariants.{Check};
 
-use crate::program::{HEADER, LimitedWriter, OneFile, Outcome, ROOM, assert_ran};
+use crate::program::{LimitedWriter, OneFile, Outcome, ROOM, assert_fits, assert_ran};
 use elf_tool_check::run_check;
 use std::alloc::Global;
 
@@ -16,45 +16,44 @@ pub fn takes_the_same_file()
 
 /// What it comes to where `a.o` is a header.
 fn run_on(alloc: Global, words: &[&str]) -> Outcome {
-    let mut files = OneFile {
-        bytes: HEADER,
-        piece: 7,
-        failure: None,
-    };
+    let mut files = OneFile::header(7);
     let mut out = LimitedWriter::new(ROOM, None);
     let mut err = LimitedWriter::new(ROOM, None);
     let status = run_check(alloc, words, &mut files, &mut out, &mut err);
     Outcome { status, out, err }
 }
 
+const OTHER_WORDS: &[&[&str]] = &[
+    &[],
+    &["elfmap"],
+    &["elfmap", "check"],
+    &["elfmap", "check", "-x"],
+    &["elfmap", "check", "--"],
+    &["elfmap", "check", "a.o", "b.o"],
+    &["elfmap", "check", "--seek", "a.o"],
+    &["elfmap", "show", "a.o"],
+    &["elfmap", "rewrite", "--", "a.o"],
+    &["elfmap", "map", "--base", "0", "--page", "1", "a.o"],
+];
+
 #[test]
 fn other_words_are_wrong_usage(rt: HostRuntime) {
-    let rows: [&[&str]; 10] = [
-        &[],
-        &["elfmap"],
-        &["elfmap", "check"],
-        &["elfmap", "check", "-x"],
-        &["elfmap", "check", "--"],
-        &["elfmap", "check", "a.o", "b.o"],
-        &["elfmap", "check", "--seek", "a.o"],
-        &["elfmap", "show", "a.o"],
-        &["elfmap", "rewrite", "--", "a.o"],
-        &["elfmap", "map", "--base", "0", "--page", "1", "a.o"],
-    ];
-    for words in rows {
+    for &words in OTHER_WORDS {
         let told = "this program has the command check FILE alone\n";
         assert_ran(&rt, &run_on(rt.alloc(), words), 2, "", told);
     }
 }
 
+/// A word, the status, and what is said and complained.
+const FILES: &[(&str, u8, &str, &str)] = &[
+    ("a.o", 0, "ok 64 0 0\n", ""),
+    ("-x", 3, "", "cannot open -x\n"),
+    ("--", 3, "", "cannot open --\n"),
+];
+
 #[test]
 fn behind_dashes_each_word_is_a_file(rt: HostRuntime) {
-    let rows = [
-        ("a.o", 0, "ok 64 0 0\n", ""),
-        ("-x", 3, "", "cannot open -x\n"),
-        ("--", 3, "", "cannot open --\n"),
-    ];
-    for (file, status, said, complained) in rows {
+    for &(file, status, said, complained) in FILES {
         let ran = run_on(rt.alloc(), &["elfmap", "check", "--", file]);
         assert_ran(&rt, &ran, status, said, complained);
     }
@@ -64,9 +63,5 @@ fn behind_dashes_each_word_is_a_file(rt: HostRuntime) {
 #[test]
 fn a_refused_growth_leaves_nothing_out(rt: HostRuntime) {
     let ran = run_on(rt.alloc(), &["elfmap", "check", "a.o"]);
-    let (status, said, complained) = match ran.status {
-        0 => (0, "ok 64 0 0\n", ""),
-        _ => (3, "", "out of memory\n"),
-    };
-    assert_ran(&rt, &ran, status, said, complained);
+    assert_fits(&rt, &ran, "ok 64 0 0\n");
 }

@@ -5,7 +5,7 @@ use elf_tool_program::{
     Form, OpenFault, Opener, Options, Range, Refusal, RelocRule, ToolFault, Verdict, Width, link,
     map, run,
 };
-use std::alloc::{AllocError, Global};
+use std::alloc::Global;
 use std::io::ErrorKind;
 use std::process::Abort;
 use tests_files::{Failure, OnceFailingReader, PIECE, Sink, callee, caller, executable_of_a_call};
@@ -38,48 +38,52 @@ const ENTERED: Options<'static> = Options {
     ..OPTIONS
 };
 
-/// The reader of the second file fails at this call, of either command.
-fn assert_read_fails(rt: &impl Abort, alloc: Global, call: usize) {
+/// Readers of two files, of which the second one fails at this call.
+fn readers<'a>(first: &'a [u8], second: &'a [u8], call: usize) -> [OnceFailingReader<'a>; 2] {
+    [
+        OnceFailingReader::new(first, 1000, None),
+        OnceFailingReader::new(second, call, Some(ErrorKind::Interrupted)),
+    ]
+}
+
+/// What either command answers over them, and how many writes there were.
+fn answers_of_failing(alloc: Global, call: usize) -> ([Result<Verdict, ToolFault>; 2], usize) {
     let (first, second) = (caller(), callee());
-    let failure = Some(ErrorKind::Interrupted);
-    let mut mapped = [
-        OnceFailingReader::new(&first, 1000, None),
-        OnceFailingReader::new(&second, call, failure),
-    ];
-    let mut linked = [
-        OnceFailingReader::new(&first, 1000, None),
-        OnceFailingReader::new(&second, call, failure),
-    ];
+    let mut mapped = readers(&first, &second, call);
+    let mut linked = readers(&first, &second, call);
     let mut writer = Sink::new(1000, None);
     let answers = [
         map(alloc, &mut mapped, &OPTIONS, None, &mut writer),
         link(alloc, &mut linked, &ENTERED, &CALL, &mut writer),
     ];
-    let at = call.saturating_mul(PIECE) as u64;
-    assert_eq!(rt;
-        (answers, writer.calls),
-        ([Err(ToolFault::Read { at }); 2], 0)
-    );
+    (answers, writer.calls)
 }
 
 #[test]
 fn a_read_that_fails_is_told_with_its_place_in_its_file(rt: HostRuntime) {
     for call in 0..20 {
-        assert_read_fails(&rt, rt.alloc(), call);
+        let at = (call * PIECE) as u64;
+        let answers = answers_of_failing(rt.alloc(), call);
+        assert_eq!(rt; answers, ([Err(ToolFault::Read { at }); 2], 0));
     }
 }
 
-#[test]
-fn no_reader_behind_one_that_fails_is_called(rt: HostRuntime) {
+/// What `map` answers where the first reader fails at its fourth call, and the calls of both.
+fn calls_behind_failing(alloc: Global) -> (Result<Verdict, ToolFault>, [usize; 2]) {
     let (first, second) = (caller(), callee());
     let mut readers = [
         OnceFailingReader::new(&first, 3, Some(ErrorKind::Other)),
         OnceFailingReader::new(&second, 1000, None),
     ];
     let mut writer = Sink::new(1000, None);
-    let answer = map(rt.alloc(), &mut readers, &OPTIONS, None, &mut writer);
-    let calls = (readers[0].calls, readers[1].calls);
-    assert_eq!(rt; (answer, calls), (Err(ToolFault::Read { at: 24 }), (4, 0)));
+    let answer = map(alloc, &mut readers, &OPTIONS, None, &mut writer);
+    (answer, [readers[0].calls, readers[1].calls])
+}
+
+#[test]
+fn no_reader_behind_one_that_fails_is_called(rt: HostRuntime) {
+    let called = calls_behind_failing(rt.alloc());
+    assert_eq!(rt; called, (Err(ToolFault::Read { at: 24 }), [4, 0]));
 }
 
 /// The two commands, and the first of them by the rule of the call.
@@ -90,12 +94,49 @@ enum Command {
     Link,
 }
 
-/// What the command writes of the two files, of which this is the executable.
-fn text_of(command: Command, executable: &[u8]) -> &[u8] {
+/// `map` of the two files.
+fn map_both(
+    alloc: Global,
+    options: &Options<'_>,
+    rules: Option<&[RelocRule]>,
+    writer: &mut Sink,
+) -> Result<Verdict, ToolFault> {
+    let (first, second) = (caller(), callee());
+    map(
+        alloc,
+        &mut [first.as_slice(), second.as_slice()],
+        options,
+        rules,
+        writer,
+    )
+}
+
+/// `link` of them.
+fn link_both(alloc: Global, writer: &mut Sink) -> Result<Verdict, ToolFault> {
+    let (first, second) = (caller(), callee());
+    link(
+        alloc,
+        &mut [first.as_slice(), second.as_slice()],
+        &ENTERED,
+        &CALL,
+        writer,
+    )
+}
+
+fn answer_of(alloc: Global, command: Command, writer: &mut Sink) -> Result<Verdict, ToolFault> {
     match command {
-        Command::Map => LINES,
-        Command::MapByRules => RULED,
-        Command::Link => executable,
+        Command::Map => map_both(alloc, &OPTIONS, None, writer),
+        Command::MapByRules => map_both(alloc, &OPTIONS, Some(&CALL), writer),
+        Command::Link => link_both(alloc, writer),
+    }
+}
+
+/// Whether what the command writes of the two files begins so.
+fn begins(command: Command, text: &[u8]) -> bool {
+    match command {
+        Command::Map => LINES.starts_with(text),
+        Command::MapByRules => RULED.starts_with(text),
+        Command::Link => executable_of_a_call().starts_with(text),
     }
 }
 
@@ -107,24 +148,14 @@ fn assert_write_fails(
     call: usize,
     failure: Failure,
 ) {
-    let (first, second) = (caller(), callee());
     let mut writer = Sink::new(call, failure);
-    let files = &mut [first.as_slice(), second.as_slice()];
-    let answer = match command {
-        Command::Map => map(alloc, files, &OPTIONS, None, &mut writer),
-        Command::MapByRules => map(alloc, files, &OPTIONS, Some(&CALL), &mut writer),
-        Command::Link => link(alloc, files, &ENTERED, &CALL, &mut writer),
+    let answer = answer_of(alloc, command, &mut writer);
+    let fault = ToolFault::Write {
+        written: writer.text().len() as u64,
     };
-    let written = writer.text().len() as u64;
-    let executable = executable_of_a_call();
-    let begins = text_of(command, &executable).starts_with(writer.text());
     assert_eq!(rt;
-        (answer, begins, writer.calls),
-        (
-            Err(ToolFault::Write { written }),
-            true,
-            call.saturating_add(1)
-        )
+        (answer, begins(command, writer.text()), writer.calls),
+        (Err(fault), true, call.saturating_add(1))
     );
 }
 
@@ -145,10 +176,8 @@ fn a_write_that_fails_is_told_with_what_is_out(rt: HostRuntime) {
 
 #[test]
 fn the_executable_goes_out_without_a_flush(rt: HostRuntime) {
-    let (first, second) = (caller(), callee());
     let mut writer = Sink::new(1000, None);
-    let files = &mut [first.as_slice(), second.as_slice()];
-    let answer = link(rt.alloc(), files, &ENTERED, &CALL, &mut writer);
+    let answer = link_both(rt.alloc(), &mut writer);
     assert_eq!(rt;
         (answer, writer.text(), writer.empty_calls, writer.flushes),
         (Ok(Verdict::Done), executable_of_a_call().as_slice(), 0, 0)
@@ -158,10 +187,8 @@ fn the_executable_goes_out_without_a_flush(rt: HostRuntime) {
 // Where an allocation fails, the answer is out of memory with nothing written.
 #[test]
 fn a_refused_growth_leaves_nothing_out(rt: HostRuntime) {
-    let (first, second) = (caller(), callee());
     let mut writer = Sink::new(1000, None);
-    let files = &mut [first.as_slice(), second.as_slice()];
-    let answer = map(rt.alloc(), files, &OPTIONS, None, &mut writer);
+    let answer = map_both(rt.alloc(), &OPTIONS, None, &mut writer);
     let (answers, whole) = match answer {
         Ok(Verdict::Done) => (Ok(Verdict::Done), LINES),
         _ => (Err(ToolFault::OutOfMemory), b"".as_slice()),
@@ -169,27 +196,28 @@ fn a_refused_growth_leaves_nothing_out(rt: HostRuntime) {
     assert_eq!(rt; (answer, writer.text()), (answers, whole));
 }
 
+/// An entry that no file has, and how it is refused.
+const NOT_ENTERED: Options<'static> = Options {
+    entry: Some(b"nope"),
+    ..OPTIONS
+};
+
+const REFUSAL: Refusal = Refusal::Link {
+    rule: 10,
+    file: 0,
+    index: 0,
+    entry: 0,
+};
+
 // Rule 10 of the link map: no words of `map` ask for an entry.
 #[test]
 fn an_entry_that_no_file_has_is_refused(rt: HostRuntime) {
-    let (first, second) = (caller(), callee());
     let mut writer = Sink::new(1000, None);
-    let entered = Options {
-        entry: Some(b"nope"),
-        ..OPTIONS
-    };
-    let files = &mut [first.as_slice(), second.as_slice()];
-    let answer = map(rt.alloc(), files, &entered, None, &mut writer);
-    let refusal = Refusal::Link {
-        rule: 10,
-        file: 0,
-        index: 0,
-        entry: 0,
-    };
+    let answer = map_both(rt.alloc(), &NOT_ENTERED, None, &mut writer);
     assert_eq!(rt;
         (answer, writer.text()),
         (
-            Ok(Verdict::Refused(refusal)),
+            Ok(Verdict::Refused(REFUSAL)),
             b"refused 10 0 0 0\n".as_slice()
         )
     );
@@ -234,85 +262,117 @@ impl<'a> Opener for NamedFiles<'a> {
     }
 }
 
-/// The words in one line, what the file of rules holds, the call of its reader that fails, and then: how many files were asked for, and the
+/// The words, what the file of rules holds, the call of its reader that fails, and then: how many files were asked for, and the
 /// text on standard error.
-type Row = (&'static str, &'static [u8], usize, usize, &'static str);
+type Row = (
+    &'static [&'static str],
+    &'static [u8],
+    usize,
+    usize,
+    &'static str,
+);
 
 const RULES: &[u8] = b"2 pc 4 signed\n";
 
-const ROWS: [Row; 11] = [
+const ROWS: &[Row] = &[
     (
-        "elfmap map --base 0 --page 1 --rules r a.o",
+        &[
+            "elfmap", "map", "--base", "0", "--page", "1", "--rules", "r", "a.o",
+        ],
         RULES,
         0,
         1,
         "read failed at 0\n",
     ),
     (
-        "elfmap map --base 0 --page 1 --rules r a.o",
+        &[
+            "elfmap", "map", "--base", "0", "--page", "1", "--rules", "r", "a.o",
+        ],
         RULES,
         1,
         1,
         "read failed at 8\n",
     ),
     (
-        "elfmap map --base 0 --page 1 --rules r a.o",
+        &[
+            "elfmap", "map", "--base", "0", "--page", "1", "--rules", "r", "a.o",
+        ],
         b"2 pc 4 signed",
         9,
         1,
         "bad rule line 1\n",
     ),
     (
-        "elfmap map --base 0 --page 1 --rules no a.o",
+        &[
+            "elfmap", "map", "--base", "0", "--page", "1", "--rules", "no", "a.o",
+        ],
         b"",
         9,
         1,
         "cannot open no\n",
     ),
     (
-        "elfmap map --base 0 --page 1 --rules r no-a",
+        &[
+            "elfmap", "map", "--base", "0", "--page", "1", "--rules", "r", "no-a",
+        ],
         RULES,
         9,
         2,
         "cannot open no-a\n",
     ),
     (
-        "elfmap map --base 0 --page 1 a.o no-b no-c",
+        &[
+            "elfmap", "map", "--base", "0", "--page", "1", "a.o", "no-b", "no-c",
+        ],
         b"",
         9,
         2,
         "cannot open no-b\n",
     ),
     (
-        "elfmap map --base 0 --page 1 a.o b.o c.o",
+        &[
+            "elfmap", "map", "--base", "0", "--page", "1", "a.o", "b.o", "c.o",
+        ],
         b"",
         9,
         3,
         "read failed at 0\n",
     ),
     (
-        "elfmap link --base 0 --page 1 --entry callee --rules r whole short",
+        &[
+            "elfmap", "link", "--base", "0", "--page", "1", "--entry", "callee", "--rules", "r",
+            "whole", "short",
+        ],
         RULES,
         9,
         3,
         "file 1 refused 2 6\n",
     ),
     (
-        "elfmap link --base 0 --page 1 --entry callee --rules r whole whole-again",
+        &[
+            "elfmap", "link", "--base", "0", "--page", "1", "--entry", "callee", "--rules", "r",
+            "whole", "whole-2",
+        ],
         RULES,
         9,
         3,
         "refused 8 1 0 0\n",
     ),
     (
-        "elfmap link --base 0 --page 3 --entry callee --rules r whole whole-again",
+        &[
+            "elfmap", "link", "--base", "0", "--page", "3", "--entry", "callee", "--rules", "r",
+            "whole", "whole-2",
+        ],
         RULES,
         9,
         3,
         "refused 1 0 0 0\n",
     ),
     (
-        "elfmap link --base 0 --page one --entry callee --rules r whole whole-again",
+        &[
+            "elfmap", "link", "--base", "0", "--page", "one", "--entry", "callee", "--rules", "r",
+            "whole", "whole-2",
+        ],
         RULES,
         9,
         0,
@@ -320,9 +380,8 @@ const ROWS: [Row; 11] = [
     ),
 ];
 
-fn assert_ends(rt: &impl Abort, alloc: Global, object: &[u8], row: &Row) -> Result<(), AllocError> {
+fn assert_ends(rt: &impl Abort, alloc: Global, object: &[u8], row: &Row) {
     let (words, rules, fails_at, asked, told) = *row;
-    let words: Vec<&str> = words.split_whitespace().collect(alloc)?;
     let mut files = NamedFiles {
         rules,
         object,
@@ -331,42 +390,46 @@ fn assert_ends(rt: &impl Abort, alloc: Global, object: &[u8], row: &Row) -> Resu
     };
     let mut out = Sink::new(1000, None);
     let mut err = Sink::new(1000, None);
-    let status = run(alloc, &words, &mut files, &mut out, &mut err);
+    let status = run(alloc, words, &mut files, &mut out, &mut err);
     assert_eq!(rt;
         (status == 0, out.calls, files.asked, err.text()),
         (false, 0, asked, told.as_bytes())
     );
-    Ok(())
 }
 
 // The file of rules is opened, read and tested before a file to link is opened; all files are opened, in order, before one is read; and
 // what is refused is reported on standard error alone.
 #[test]
-fn files_are_opened_in_order(rt: HostRuntime) -> Result<(), AllocError> {
+fn files_are_opened_in_order(rt: HostRuntime) {
     let object = callee();
-    for row in &ROWS {
-        assert_ends(&rt, rt.alloc(), &object, row)?;
+    for row in ROWS {
+        assert_ends(&rt, rt.alloc(), &object, row);
     }
-    Ok(())
 }
 
-#[test]
-fn each_file_is_opened_once_and_nothing_is_flushed(rt: HostRuntime) {
+const MAP_BY_RULES: &[&str] = &[
+    "elfmap", "map", "--base", "4096", "--page", "1", "--rules", "r", "whole",
+];
+
+/// The status, how many files were asked for, how many writes had no bytes, the flushes, and the writes to standard error.
+fn calls_of_map(alloc: Global) -> (u8, [usize; 4]) {
     let object = callee();
-    let words = [
-        "elfmap", "map", "--base", "4096", "--page", "1", "--rules", "r", "whole",
-    ];
     let mut files = NamedFiles {
-        rules: b"2 pc 4 signed\n",
+        rules: RULES,
         object: &object,
         fails_at: 1000,
         asked: 0,
     };
     let mut out = Sink::new(1000, None);
     let mut err = Sink::new(1000, None);
-    let status = run(rt.alloc(), &words, &mut files, &mut out, &mut err);
-    assert_eq!(rt;
-        (status, files.asked, out.empty_calls, out.flushes, err.calls),
-        (0, 2, 0, 0, 0)
-    );
+    let status = run(alloc, MAP_BY_RULES, &mut files, &mut out, &mut err);
+    (
+        status,
+        [files.asked, out.empty_calls, out.flushes, err.calls],
+    )
+}
+
+#[test]
+fn each_file_is_opened_once_and_nothing_is_flushed(rt: HostRuntime) {
+    assert_eq!(rt; calls_of_map(rt.alloc()), (0, [2, 0, 0, 0]));
 }

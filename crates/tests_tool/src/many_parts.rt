@@ -1,14 +1,11 @@
 //! Files of many sections and segments.
-ghost use Rattle.std.specs.Prelude.{◌<◌};
-
 use elf_field::Order;
 use elf_image_stream::Fault;
-use elf_image_type::{parse, verdict, write};
+use elf_image_type::{Image, parse, verdict, write};
 use elf_tool_program::{Verdict, check, check_source, show};
 use std::alloc::{AllocError, Global};
 use std::process::Abort;
-use std::test::Fail;
-use tests_files::{OnceFailingWriter, PartialSource, Sink, set, set_header};
+use tests_files::{Field, OnceFailingWriter, PartialSource, Sink, set, set_header};
 
 // What is said of a file's bytes.
 
@@ -27,73 +24,105 @@ pub(crate) fn assert_lines(rt: &impl Abort, text: &[u8], lines: usize, front: &[
 /// padding.
 const TABLE: u64 = 120;
 
-/// A little-endian object of `count` empty sections without names, and no symbols: the sections, a symbol table, its string table and the
-/// section name string table.
-fn object(alloc: Global, count: u32) -> Result<Vec<u8>, AllocError>
-    requires { count < 100000 }
-{
+/// The header's places, and the names `.symtab`, `.strtab` and `.shstrtab`.
+const FRONT: [Field; 6] = [
+    (40, 8, TABLE),
+    (58, 2, 64),
+    (89, 8, 0x6261_746d_7973_2e00),
+    (97, 8, 0x6261_7472_7473_2e00),
+    (105, 8, 0x7472_7473_6873_2e00),
+    (113, 3, 0x6261),
+];
+
+/// All before the sections, of an object of `count` of them: the header, the contents, and section header 0, with the numbers that the
+/// header cannot hold.
+fn front(count: u32) -> [u8; 184] {
     let entries = u64::from(count) + 4;
     let names = u64::from(count) + 3;
-    let mut file = Vec::new(alloc);
-    file.resize(120 + 64 * (count as usize + 4), 0)?;
-    let header = [
-        (40, 8, TABLE),
-        (58, 2, 64),
+    let counts = [
         (60, 2, if entries < 0xff00 { entries } else { 0 }),
         (62, 2, if names < 0xff00 { names } else { 0xffff }),
-        // The names `.symtab`, `.strtab` and `.shstrtab`.
-        (89, 8, 0x6261_746d_7973_2e00),
-        (97, 8, 0x6261_7472_7473_2e00),
-        (105, 8, 0x7472_7473_6873_2e00),
-        (113, 3, 0x6261),
-        // Section header 0, with the numbers that the header cannot hold.
         (152, 8, if entries < 0xff00 { 0 } else { entries }),
         (160, 4, if names < 0xff00 { 0 } else { names }),
     ];
-    set_header(&mut file, Order::Little, &header);
-    for k in 0..count {
-        let at = TABLE + 64 * (u64::from(k) + 1);
-        let empty = [(at + 4, 4, 1), (at + 24, 8, 64), (at + 48, 8, 1)];
-        set(&mut file, Order::Little, &empty);
+    let mut file = [0; 184];
+    set_header(&mut file, Order::Little, &FRONT);
+    set(&mut file, Order::Little, &counts);
+    file
+}
+
+/// The section header of an empty section.
+fn empty_section() -> [u8; 64] {
+    let mut header = [0; 64];
+    let fields = [(4, 4, 1), (24, 8, 64), (48, 8, 1)];
+    set(&mut header, Order::Little, &fields);
+    header
+}
+
+/// The section headers of the symbol table, its string table and the section name string table, but for the link of the first.
+const LAST: [Field; 17] = [
+    (0, 4, 1),
+    (4, 4, 2),
+    (24, 8, 64),
+    (32, 8, 24),
+    (44, 4, 1),
+    (48, 8, 8),
+    (56, 8, 24),
+    (64, 4, 9),
+    (68, 4, 3),
+    (88, 8, 88),
+    (96, 8, 1),
+    (112, 8, 1),
+    (128, 4, 17),
+    (132, 4, 3),
+    (152, 8, 89),
+    (160, 8, 27),
+    (176, 8, 1),
+];
+
+/// They behind `count` sections.
+fn last_sections(count: u32) -> [u8; 192] {
+    let mut headers = [0; 192];
+    set(&mut headers, Order::Little, &LAST);
+    let link = (40, 4, u64::from(count) + 2);
+    set(&mut headers, Order::Little, &[link]);
+    headers
+}
+
+/// A little-endian object of `count` empty sections without names, and no symbols: the sections, a symbol table, its string table and the
+/// section name string table.
+fn object(alloc: Global, count: u32) -> Result<Vec<u8>, AllocError> {
+    let mut file = Vec::new(alloc);
+    file.extend_from_slice(&front(count))?;
+    let section = empty_section();
+    for _ in 0..count {
+        file.extend_from_slice(&section)?;
     }
-    set_tables(&mut file, TABLE + 64 * (u64::from(count) + 1), count);
+    file.extend_from_slice(&last_sections(count))?;
     Ok(file)
 }
 
-/// Writes the section headers of the symbol table, its string table and the section name string table, from this offset on.
-fn set_tables(file: &mut [u8], at: u64, count: u32)
-    requires { at < 10000000 }
-{
-    let fields = [
-        (at, 4, 1),
-        (at + 4, 4, 2),
-        (at + 24, 8, 64),
-        (at + 32, 8, 24),
-        (at + 40, 4, u64::from(count) + 2),
-        (at + 44, 4, 1),
-        (at + 48, 8, 8),
-        (at + 56, 8, 24),
-        (at + 64, 4, 9),
-        (at + 68, 4, 3),
-        (at + 88, 8, 88),
-        (at + 96, 8, 1),
-        (at + 112, 8, 1),
-        (at + 128, 4, 17),
-        (at + 132, 4, 3),
-        (at + 152, 8, 89),
-        (at + 160, 8, 27),
-        (at + 176, 8, 1),
-    ];
-    set(file, Order::Little, &fields);
+/// Whether the image is written as these bytes.
+fn is_written(alloc: Global, image: &Image<'_>, bytes: &[u8]) -> bool {
+    let mut written = Vec::new(alloc);
+    write(image, &mut written).is_ok() && written.as_slice() == bytes
 }
 
 /// How many sections the image of these bytes has, the index of its name table, and whether it is written as they are.
 fn image_told(alloc: Global, bytes: &[u8]) -> Result<(u64, u32, bool), Fault> {
     let image = parse(alloc, bytes)?;
-    let mut written = Vec::new(alloc);
-    let is_written = write(&image, &mut written).is_ok() && written.as_slice() == bytes;
     let count = image.section_count() as u64;
-    Ok((count, image.name_table(), is_written))
+    Ok((count, image.name_table(), is_written(alloc, &image, bytes)))
+}
+
+/// The file is accepted with this line.
+fn assert_accepted(rt: &impl Abort, alloc: Global, mut file: &[u8], line: &str) {
+    let mut said = Vec::new(alloc);
+    let checked = check(alloc, &mut file, &mut said);
+    assert_eq!(rt;
+        (checked, said.as_slice()),
+        (Ok(Verdict::Done), line.as_bytes())
+    );
 }
 
 /// The object of `count` sections is accepted with this line, has its name table at this index, and is written back.
@@ -104,42 +133,33 @@ fn assert_object(
     len: usize,
     names: u32,
     line: &str,
-) -> Result<(), Fail>
-    requires { count < 100000 }
-{
+) -> Result<(), AllocError> {
     let file = object(alloc, count)?;
-    let mut said = Vec::new(alloc);
-    let checked = check(alloc, &mut file.as_slice(), &mut said);
-    let told = image_told(alloc, &file)?;
-    assert_eq!(rt;
-        (file.len(), verdict(&file), checked, said.as_slice(), told),
-        (
-            len,
-            None,
-            Ok(Verdict::Done),
-            line.as_bytes(),
-            (u64::from(count) + 4, names, true)
-        )
-    );
+    assert_accepted(rt, alloc, &file, line);
+    let told = (file.len(), verdict(&file), image_told(alloc, &file));
+    let image = (u64::from(count) + 4, names, true);
+    assert_eq!(rt; told, (len, None, Ok(image)));
     Ok(())
 }
 
+/// A count, and of the object of so many sections: the length, the index of the name table, and the line. The count, and then the index of
+/// the name table too, is a reserved one.
+const ROWS: &[(u32, usize, u32, &str)] = &[
+    (65_275, 4_177_976, 65_278, "ok 4177976 65279 0\n"),
+    (65_276, 4_178_040, 65_279, "ok 4178040 65280 0\n"),
+    (65_277, 4_178_104, 65_280, "ok 4178104 65281 0\n"),
+];
+
 #[test]
-fn counts_in_the_header_and_in_section_header_0(rt: HostRuntime) -> Result<(), Fail> {
-    // The count, and then the index of the name table too, is a reserved one.
-    let rows = [
-        (65_275, 4_177_976, 65_278, "ok 4177976 65279 0\n"),
-        (65_276, 4_178_040, 65_279, "ok 4178040 65280 0\n"),
-        (65_277, 4_178_104, 65_280, "ok 4178104 65281 0\n"),
-    ];
-    for (count, len, names, line) in rows {
+fn counts_in_the_header_and_in_section_header_0(rt: HostRuntime) -> Result<(), AllocError> {
+    for &(count, len, names, line) in ROWS {
         assert_object(&rt, rt.alloc(), count, len, names, line)?;
     }
     Ok(())
 }
 
 #[test]
-fn is_sought_by_a_byte_a_call(rt: HostRuntime) -> Result<(), Fail> {
+fn is_sought_by_a_byte_a_call(rt: HostRuntime) -> Result<(), AllocError> {
     let file = object(rt.alloc(), 65_277)?;
     let mut out = Sink::new(1000, None);
     let mut source = PartialSource::new(&file, 1);
@@ -149,20 +169,29 @@ fn is_sought_by_a_byte_a_call(rt: HostRuntime) -> Result<(), Fail> {
     Ok(())
 }
 
+/// The header's line, six parts, the sections, and a symbol.
+const LINES: usize = 1 + 6 + 65_279 + 1;
+
+const FRONT_LINES: &[u8] =
+    b"file little 1 62 0x0 0x0\npart 0x0 0x40 header\npart 0x40 0x18 content 65276\n";
+
+const END_LINES: &[u8] =
+    b"\nsection 65278 3 0x0 0x0 0x59 0x1b 0 0 0x1 0x0 .shstrtab\nsymbol 65276 0 0 0 0 undef 0x0 0x0 -\n";
+
+/// `show` of the file of 65,275 sections goes out in pieces of less than this.
+fn assert_shown_in_pieces(rt: &impl Abort, alloc: Global, mut file: &[u8], piece: usize) {
+    let mut out = OnceFailingWriter::new(alloc, usize::MAX, 0, None);
+    let answer = show(alloc, &mut file, &mut out);
+    let are_short = out.offers.iter().max() < Some(&piece);
+    assert_eq!(rt; (answer, are_short), (Ok(Verdict::Done), true));
+    assert_lines(rt, &out.bytes, LINES, FRONT_LINES, END_LINES);
+}
+
 /// The text is far longer than the pieces in which it goes out.
 #[test]
-fn shows_each_section(rt: HostRuntime) -> Result<(), Fail> {
+fn shows_each_section(rt: HostRuntime) -> Result<(), AllocError> {
     let file = object(rt.alloc(), 65_275)?;
-    let mut out = OnceFailingWriter::new(rt.alloc(), usize::MAX, 0, None);
-    let answer = show(rt.alloc(), &mut file.as_slice(), &mut out);
-    let are_short = out.offers.iter().all(|offer| *offer < 66_000);
-    assert_eq!(rt; (answer, are_short), (Ok(Verdict::Done), true));
-    // The header's line, six parts, the sections, and a symbol.
-    let lines = 1 + 6 + 65_279 + 1;
-    let front = b"file little 1 62 0x0 0x0\npart 0x0 0x40 header\npart 0x40 0x18 content 65276\n";
-    let end =
-        b"\nsection 65278 3 0x0 0x0 0x59 0x1b 0 0 0x1 0x0 .shstrtab\nsymbol 65276 0 0 0 0 undef 0x0 0x0 -\n";
-    assert_lines(&rt, &out.bytes, lines, front, end);
+    assert_shown_in_pieces(&rt, rt.alloc(), &file, 66_000);
     Ok(())
 }
 
@@ -201,7 +230,7 @@ fn assert_shown(rt: &impl Abort, alloc: Global, mut bytes: &[u8]) {
 }
 
 #[test]
-fn shows_each_of_many_segments(rt: HostRuntime) -> Result<(), Fail> {
+fn shows_each_of_many_segments(rt: HostRuntime) -> Result<(), AllocError> {
     let bytes = file(rt.alloc())?;
     assert_shown(&rt, rt.alloc(), &bytes);
     Ok(())

@@ -17,7 +17,7 @@ pub(crate) const HEADER: &[u8; 64] = b"\x7fELF\x02\x01\x01\0\0\0\0\0\0\0\0\0\x01
     \0\0\0\0\0\0\0\0\0\0\0\0\0\0\0\0\0\0\0\0\0\0\0\0\0\0\0\0\x40\0\0\0\0\0\0\0\0\0\0\0";
 
 /// The words that ask for its check.
-const CHECK: [&str; 3] = ["elfmap", "check", "a.o"];
+const CHECK: &[&str] = &["elfmap", "check", "a.o"];
 
 /// More than the program ever writes here.
 pub(crate) const ROOM: usize = 800;
@@ -28,6 +28,17 @@ pub(crate) struct OneFile<'a> {
     pub bytes: &'a [u8],
     pub piece: usize,
     pub failure: Option<ErrorKind>,
+}
+
+impl OneFile<'static> {
+    /// A header, of which a read gives so many bytes.
+    pub(crate) fn header(piece: usize) -> OneFile<'static> {
+        OneFile {
+            bytes: HEADER,
+            piece,
+            failure: None,
+        }
+    }
 }
 
 impl<'a> Opener for OneFile<'a> {
@@ -132,42 +143,31 @@ pub(crate) fn assert_ran(rt: &impl Abort, ran: &Outcome, status: u8, said: &str,
     );
 }
 
+/// The check of a file of this name, onto a standard error that takes nothing.
+fn run_unheard(alloc: Global, name: &str) -> Outcome {
+    let words = ["elfmap", "check", name];
+    let out = LimitedWriter::new(ROOM, None);
+    run_onto(alloc, &words, &mut OneFile::header(7), out, 0)
+}
+
 #[test]
 fn a_failed_write_to_standard_error_changes_nothing(rt: HostRuntime) {
-    for (name, status, said) in [("a.o", 0, "ok 64 0 0\n"), ("b.o", 3, "")] {
-        let mut files = OneFile {
-            bytes: HEADER,
-            piece: 7,
-            failure: None,
-        };
-        let words = ["elfmap", "check", name];
-        let ran = run_onto(
-            rt.alloc(),
-            &words,
-            &mut files,
-            LimitedWriter::new(ROOM, None),
-            0,
-        );
-        assert_ran(&rt, &ran, status, said, "");
-    }
+    assert_ran(&rt, &run_unheard(rt.alloc(), "a.o"), 0, "ok 64 0 0\n", "");
+    assert_ran(&rt, &run_unheard(rt.alloc(), "b.o"), 3, "", "");
 }
+
+const OTHER_WORDS: &[&[&str]] = &[
+    &["elfmap", "check", "a.o", "a.o"],
+    &["elfmap", "help"],
+    &["elfmap"],
+    &[],
+];
 
 // How clap words its errors is clap's own: the end of each text is looked at.
 #[test]
 fn refuses_other_words(rt: HostRuntime) {
-    let rows: [&[&str]; 4] = [
-        &["elfmap", "check", "a.o", "a.o"],
-        &["elfmap", "help"],
-        &["elfmap"],
-        &[],
-    ];
-    for words in rows {
-        let mut files = OneFile {
-            bytes: HEADER,
-            piece: 7,
-            failure: None,
-        };
-        let ran = run_on(rt.alloc(), words, &mut files);
+    for &words in OTHER_WORDS {
+        let ran = run_on(rt.alloc(), words, &mut OneFile::header(7));
         let told = ran.err.text().ends_with(b"try '--help'.\n");
         assert_eq!(rt;
             (ran.status, ran.out.text(), told),
@@ -183,7 +183,7 @@ fn assert_read_fails(rt: &impl Abort, alloc: Global, kind: ErrorKind) {
         piece: 3,
         failure: Some(kind),
     };
-    let ran = run_on(alloc, &CHECK, &mut files);
+    let ran = run_on(alloc, CHECK, &mut files);
     assert_ran(rt, &ran, 3, "", "read failed at 10\n");
 }
 
@@ -197,18 +197,8 @@ fn a_failed_read_is_told_with_its_place(rt: HostRuntime) {
 fn assert_write_fails(rt: &impl Abort, alloc: Global, room: usize, failure: Option<ErrorKind>)
     requires { room < 10 }
 {
-    let mut files = OneFile {
-        bytes: HEADER,
-        piece: 1,
-        failure: None,
-    };
-    let ran = run_onto(
-        alloc,
-        &CHECK,
-        &mut files,
-        LimitedWriter::new(room, failure),
-        ROOM,
-    );
+    let out = LimitedWriter::new(room, failure);
+    let ran = run_onto(alloc, CHECK, &mut OneFile::header(1), out, ROOM);
     let mut told = *b"write failed after N\n";
     told[19] = b"0123456789"[room];
     assert_eq!(rt;
@@ -241,20 +231,19 @@ fn words_that_the_machine_does_not_give(rt: HostRuntime) {
     assert_refused(&rt, ErrorKind::Other, 3, "other error\n");
 }
 
+/// The run came to this line, or to out of memory with nothing written.
+pub(crate) fn assert_fits(rt: &impl Abort, ran: &Outcome, line: &str) {
+    match ran.status {
+        0 => assert_ran(rt, ran, 0, line, ""),
+        _ => assert_ran(rt, ran, 3, "", "out of memory\n"),
+    }
+}
+
 // Where an allocation fails, the answer is out of memory, and nothing was written.
 #[test]
 fn a_refused_growth_leaves_nothing_out(rt: HostRuntime) {
-    let mut files = OneFile {
-        bytes: HEADER,
-        piece: 64,
-        failure: None,
-    };
-    let ran = run_on(rt.alloc(), &CHECK, &mut files);
-    let (status, said, complained) = match ran.status {
-        0 => (0, "ok 64 0 0\n", ""),
-        _ => (3, "", "out of memory\n"),
-    };
-    assert_ran(&rt, &ran, status, said, complained);
+    let ran = run_on(rt.alloc(), CHECK, &mut OneFile::header(64));
+    assert_fits(&rt, &ran, "ok 64 0 0\n");
 }
 
 /// The text on [`one_segment`].
@@ -269,12 +258,10 @@ fn assert_show_fails(rt: &impl Abort, alloc: Global, mut file: &[u8], room: usiz
     let mut writer = LimitedWriter::new(room, Some(ErrorKind::Other));
     let answer = show(alloc, &mut file, &mut writer);
     let written = room as u64;
+    let out = ONE_SEGMENT_TEXT.as_bytes().get(..room);
     assert_eq!(rt;
         (answer, Some(writer.text())),
-        (
-            Err(ToolFault::Write { written }),
-            ONE_SEGMENT_TEXT.as_bytes().get(..room)
-        )
+        (Err(ToolFault::Write { written }), out)
     );
 }
 
@@ -294,6 +281,16 @@ struct OneName<'a> {
     name: &'a str,
     fault: OpenFault,
     asked: usize,
+}
+
+impl<'a> OneName<'a> {
+    fn new(name: &'a str, fault: OpenFault) -> OneName<'a> {
+        OneName {
+            name,
+            fault,
+            asked: 0,
+        }
+    }
 }
 
 impl<'a> Opener for OneName<'a> {
@@ -334,79 +331,81 @@ fn assert_runs(
     );
 }
 
+/// These words ask for the check of the header under this name.
+fn assert_opens(rt: &impl Abort, alloc: Global, name: &str, words: &[&str]) {
+    let mut files = OneName::new(name, OpenFault::Refused);
+    assert_runs(rt, alloc, words, &mut files, 0, "ok 64 0 0\n", "");
+}
+
+const NAMES: &[&str] = &[
+    "dir/a.o", "/a.o", "./a.o", " a.o", "a.o ", "\u{e4}.o", "-a.o", "--", "",
+];
+
 #[test]
 fn opens_the_name_as_it_stands(rt: HostRuntime) {
-    let names = [
-        "dir/a.o", "/a.o", "./a.o", " a.o", "a.o ", "\u{e4}.o", "-a.o", "--", "",
-    ];
-    for name in names {
-        let mut files = OneName {
+    for &name in NAMES {
+        assert_opens(&rt, rt.alloc(), name, &["elfmap", "check", "--", name]);
+        assert_opens(
+            &rt,
+            rt.alloc(),
             name,
-            fault: OpenFault::Refused,
-            asked: 0,
-        };
-        let words = ["elfmap", "check", "--", name];
-        assert_runs(&rt, rt.alloc(), &words, &mut files, 0, "ok 64 0 0\n", "");
-        files.asked = 0;
-        let words = ["elfmap", "check", "--seek", "--", name];
-        assert_runs(&rt, rt.alloc(), &words, &mut files, 0, "ok 64 0 0\n", "");
+            &["elfmap", "check", "--seek", "--", name],
+        );
     }
-    let mut files = OneName {
-        name: "a.o",
-        fault: OpenFault::Refused,
-        asked: 0,
-    };
+    let mut files = OneName::new("a.o", OpenFault::Refused);
     let words = ["elfmap", "show", "--", "\u{e4}.o"];
     let told = "cannot open \u{e4}.o\n";
     assert_runs(&rt, rt.alloc(), &words, &mut files, 3, "", told);
 }
 
+/// Words of each command, that ask for a file which is not there.
+const EACH_COMMAND: &[&[&str]] = &[
+    &["elfmap", "check", "b.o"],
+    &["elfmap", "check", "--seek", "b.o"],
+    &["elfmap", "show", "b.o"],
+    &["elfmap", "rewrite", "b.o"],
+    &["elfmap", "map", "--base", "0", "--page", "1", "b.o"],
+    &[
+        "elfmap", "map", "--base", "0", "--page", "1", "--rules", "r", "a.o",
+    ],
+];
+
 #[test]
 fn an_opener_that_wants_memory(rt: HostRuntime) {
-    let rows: [&[&str]; 6] = [
-        &["elfmap", "check", "b.o"],
-        &["elfmap", "check", "--seek", "b.o"],
-        &["elfmap", "show", "b.o"],
-        &["elfmap", "rewrite", "b.o"],
-        &["elfmap", "map", "--base", "0", "--page", "1", "b.o"],
-        &[
-            "elfmap", "map", "--base", "0", "--page", "1", "--rules", "r", "a.o",
-        ],
-    ];
-    for words in rows {
-        let mut files = OneName {
-            name: "a.o",
-            fault: OpenFault::OutOfMemory,
-            asked: 0,
-        };
+    for &words in EACH_COMMAND {
+        let mut files = OneName::new("a.o", OpenFault::OutOfMemory);
         assert_runs(&rt, rt.alloc(), words, &mut files, 3, "", "out of memory\n");
     }
 }
 
+/// Why the machine gives no reader of this name, and whether it gives a source.
+fn machine_fault(rt: &HostRuntime, name: &str) -> (Option<OpenFault>, bool) {
+    let mut files = MachineFiles { files: rt };
+    (files.reader(name).err(), files.source(name).is_ok())
+}
+
+const OPENED: (Option<OpenFault>, bool) = (None, true);
+
+const REFUSED: (Option<OpenFault>, bool) = (Some(OpenFault::Refused), false);
+
+/// Names, and what the machine says of each.
+const MACHINE_NAMES: &[(&str, (Option<OpenFault>, bool))] = &[
+    ("/dev/null", OPENED),
+    ("/dev/../dev/null", OPENED),
+    ("/dev/null ", REFUSED),
+    (" /dev/null", REFUSED),
+    ("/dev/null/x", REFUSED),
+    ("/dev/n\u{fc}ll", REFUSED),
+    ("-/dev/null", REFUSED),
+    ("no-such-file", REFUSED),
+    ("", REFUSED),
+];
+
 // No contract reports what the machine's files are: the null device is one, under just this name, and it is no folder.
 #[test]
 fn the_files_of_the_machine(rt: HostRuntime) {
-    let rows = [
-        ("/dev/null", true),
-        ("/dev/../dev/null", true),
-        ("/dev/null ", false),
-        (" /dev/null", false),
-        ("/dev/null/x", false),
-        ("/dev/n\u{fc}ll", false),
-        ("-/dev/null", false),
-        ("no-such-file", false),
-        ("", false),
-    ];
-    for (name, opens) in rows {
-        let mut files = MachineFiles { files: &rt };
-        let fault = files.reader(name).err();
-        let refused = if opens {
-            None
-        } else {
-            Some(OpenFault::Refused)
-        };
-        assert_eq!(rt; fault, refused, "{name}");
-        assert_eq!(rt; files.source(name).is_ok(), opens, "{name}");
+    for &(name, told) in MACHINE_NAMES {
+        assert_eq!(rt; (name, machine_fault(&rt, name)), (name, told));
     }
 }
 

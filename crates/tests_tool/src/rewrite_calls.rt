@@ -8,43 +8,53 @@ use tests_files::{Failure, OnceFailingReader, PIECE, Sink, empty_object};
 /// How many calls give the 376 bytes of the empty object; one more asks for the end.
 const READS: usize = 47;
 
-/// The reader fails at this call.
-fn assert_read_fails(rt: &impl Abort, alloc: Global, call: usize) {
+/// The reader fails at this call: the answer, its calls, those on an empty buffer, and the calls of the writer.
+fn rewrite_failing(alloc: Global, call: usize) -> (Result<Verdict, ToolFault>, [usize; 3]) {
     let file = empty_object();
     let mut reader = OnceFailingReader::new(&file, call, Some(ErrorKind::Interrupted));
     let mut writer = Sink::new(1000, None);
     let answer = rewrite(alloc, &mut reader, &mut writer);
-    let at = call.saturating_mul(PIECE) as u64;
-    let calls = [reader.calls, reader.empty_calls, writer.calls];
-    assert_eq!(rt;
-        (answer, calls),
-        (Err(ToolFault::Read { at }), [call.saturating_add(1), 0, 0])
-    );
+    (answer, [reader.calls, reader.empty_calls, writer.calls])
 }
 
 #[test]
 fn a_read_that_fails_is_told_with_its_place(rt: HostRuntime) {
     for call in 0..READS + 1 {
-        assert_read_fails(&rt, rt.alloc(), call);
+        let at = (call * PIECE) as u64;
+        let calls = [call + 1, 0, 0];
+        assert_eq!(rt;
+            rewrite_failing(rt.alloc(), call),
+            (Err(ToolFault::Read { at }), calls)
+        );
     }
 }
 
-/// The writer fails so at this call.
-fn assert_write_fails(rt: &impl Abort, alloc: Global, call: usize, failure: Failure) {
+/// The writer fails so at this call: the answer, how many bytes are out, whether they are the first ones, and its calls and flushes.
+fn rewrite_onto_failing(
+    alloc: Global,
+    call: usize,
+    failure: Failure,
+) -> (Result<Verdict, ToolFault>, usize, bool, [usize; 2]) {
     let file = empty_object();
     let mut writer = Sink::new(call, failure);
     let answer = rewrite(alloc, &mut file.as_slice(), &mut writer);
-    let written = writer.text().len() as u64;
-    let begins = file.starts_with(writer.text());
-    let calls = [writer.calls, writer.flushes];
-    assert_eq!(rt;
-        (answer, begins, calls),
-        (
-            Err(ToolFault::Write { written }),
-            true,
-            [call.saturating_add(1), 0]
-        )
-    );
+    let out = writer.text();
+    (
+        answer,
+        out.len(),
+        file.starts_with(out),
+        [writer.calls, writer.flushes],
+    )
+}
+
+fn assert_write_fails(rt: &impl Abort, alloc: Global, call: usize, failure: Failure) {
+    let rewritten = rewrite_onto_failing(alloc, call, failure);
+    let out = rewritten.1;
+    let fault = ToolFault::Write {
+        written: out as u64,
+    };
+    let calls = [call.saturating_add(1), 0];
+    assert_eq!(rt; rewritten, (Err(fault), out, true, calls));
 }
 
 #[test]
