@@ -5,37 +5,54 @@ use elf_table_hash::{HashFault, build_hash};
 use std::alloc::Global;
 use std::io::Write;
 
+const EXTENTS: [Extent; 3] = [
+    Extent { start: 8, len: 4 },
+    Extent { start: 0, len: 4 },
+    Extent { start: 20, len: 0 },
+];
+
 /// The calls on them.
 pub fn calls<W: Write>(alloc: Global, out: &mut W) {
-    let extents = [
-        Extent { start: 8, len: 4 },
-        Extent { start: 0, len: 4 },
-        Extent { start: 20, len: 0 },
-    ];
-    match SortedExtents::new(alloc, &extents) {
-        Ok(sorted) => say(
-            out,
-            "SortedExtents::new",
-            Said::Done(sorted.first_double().is_some() as u64),
-        ),
-        Err(OutOfMemory) => say(out, "SortedExtents::new", Said::Memory),
+    say(out, "SortedExtents::new", sorted(alloc));
+    say(out, "first_double", double(alloc));
+    say(out, "account", accounted(alloc));
+    say(out, "place", placed(alloc));
+    say(out, "build_hash", hashed(alloc));
+}
+
+fn sorted(alloc: Global) -> Said {
+    match SortedExtents::new(alloc, &EXTENTS) {
+        Ok(sorted) => Said::Done(sorted.first_double().is_some() as u64),
+        Err(OutOfMemory) => Said::Memory,
     }
-    match first_double(alloc, &extents) {
-        Ok(found) => say(out, "first_double", Said::Done(found.is_some() as u64)),
-        Err(OutOfMemory) => say(out, "first_double", Said::Memory),
+}
+
+fn double(alloc: Global) -> Said {
+    match first_double(alloc, &EXTENTS) {
+        Ok(found) => Said::Done(found.is_some() as u64),
+        Err(OutOfMemory) => Said::Memory,
     }
-    match account(alloc, &extents, 16) {
-        Ok(pieces) => say(out, "account", Said::Done(pieces.len() as u64)),
-        Err(OutOfMemory) => say(out, "account", Said::Memory),
+}
+
+fn accounted(alloc: Global) -> Said {
+    match account(alloc, &EXTENTS, 16) {
+        Ok(pieces) => Said::Done(pieces.len() as u64),
+        Err(OutOfMemory) => Said::Memory,
     }
+}
+
+fn placed(alloc: Global) -> Said {
     match place(alloc, &[(3, 1), (4, 8)], 64) {
-        Ok(places) => say(out, "place", Said::Done(places.len() as u64)),
-        Err(PlaceFault::OutOfMemory) => say(out, "place", Said::Memory),
-        Err(PlaceFault::Overflow { .. }) => say(out, "place", Said::Refused),
+        Ok(places) => Said::Done(places.len() as u64),
+        Err(PlaceFault::OutOfMemory) => Said::Memory,
+        Err(PlaceFault::Overflow { .. }) => Said::Refused,
     }
+}
+
+fn hashed(alloc: Global) -> Said {
     match build_hash(alloc, &[b"", b"printf", b"exit", b"a"], 2) {
-        Ok(words) => say(out, "build_hash", Said::Done(words.len() as u64)),
-        Err(HashFault::OutOfMemory) => say(out, "build_hash", Said::Memory),
-        Err(_) => say(out, "build_hash", Said::Refused),
+        Ok(words) => Said::Done(words.len() as u64),
+        Err(HashFault::OutOfMemory) => Said::Memory,
+        Err(_) => Said::Refused,
     }
 }

@@ -20,13 +20,17 @@ use std::io::Write;
 
 /// The calls on a file of these bytes.
 pub fn calls<W: Write>(alloc: Global, bytes: &[u8], out: &mut W) {
-    match scan(alloc, &mut Bytes(bytes)) {
-        Ok(outline) => say(out, "scan", Said::Done(outline.parts().len() as u64)),
-        Err(fault) => say(out, "scan", of_fault(fault)),
-    }
+    say(out, "scan", scanned(alloc, bytes));
     match parse(alloc, bytes) {
         Ok(image) => on_image(alloc, &image, out),
         Err(fault) => say(out, "parse", of_fault(fault)),
+    }
+}
+
+fn scanned(alloc: Global, bytes: &[u8]) -> Said {
+    match scan(alloc, &mut Bytes(bytes)) {
+        Ok(outline) => Said::Done(outline.parts().len() as u64),
+        Err(fault) => of_fault(fault),
     }
 }
 
@@ -35,10 +39,7 @@ fn on_image<W: Write>(alloc: Global, image: &Image<'_>, out: &mut W) {
     for i in 0..image.section_count() {
         on_section(alloc, image, i, out);
     }
-    match Tables::new(alloc, image) {
-        Ok(_) => say(out, "Tables::new", Said::Done(0)),
-        Err(AllocError) => say(out, "Tables::new", Said::Memory),
-    }
+    say(out, "Tables::new", with_tables(alloc, image));
     match object_of(alloc, image) {
         Ok(object) => on_object(alloc, &object, out),
         Err(fault) => say(out, "object_of", of_fault(fault)),
@@ -46,8 +47,22 @@ fn on_image<W: Write>(alloc: Global, image: &Image<'_>, out: &mut W) {
     say(out, "Image::len", Said::Done(image.len()));
 }
 
-/// A section that is no such table is refused, which is no line.
+fn with_tables(alloc: Global, image: &Image<'_>) -> Said {
+    match Tables::new(alloc, image) {
+        Ok(_) => Said::Done(0),
+        Err(AllocError) => Said::Memory,
+    }
+}
+
 fn on_section<W: Write>(alloc: Global, image: &Image<'_>, i: usize, out: &mut W)
+    requires { i < length image.now.sections }
+{
+    on_hash(alloc, image, i, out);
+    on_group(alloc, image, i, out);
+}
+
+/// A section that is no hash table is refused, which is no line.
+fn on_hash<W: Write>(alloc: Global, image: &Image<'_>, i: usize, out: &mut W)
     requires { i < length image.now.sections }
 {
     match Hash::new(alloc, image, i) {
@@ -55,6 +70,12 @@ fn on_section<W: Write>(alloc: Global, image: &Image<'_>, i: usize, out: &mut W)
         Err(Fault::OutOfMemory) => say(out, "Hash::new", Said::Memory),
         Err(_) => {}
     }
+}
+
+/// Nor is one on a section that is no group.
+fn on_group<W: Write>(alloc: Global, image: &Image<'_>, i: usize, out: &mut W)
+    requires { i < length image.now.sections }
+{
     match Group::new(alloc, image, i) {
         Ok(group) => say(out, "Group::new", Said::Done(group.flags() as u64)),
         Err(Fault::OutOfMemory) => say(out, "Group::new", Said::Memory),
@@ -64,15 +85,23 @@ fn on_section<W: Write>(alloc: Global, image: &Image<'_>, i: usize, out: &mut W)
 
 fn on_object<W: Write>(alloc: Global, object: &Object<'_>, out: &mut W) {
     say(out, "object_of", Said::Done(object.sections().len() as u64));
+    say(out, "lay_out", laid_out(alloc, object));
+    say(out, "write_object", written(alloc, object));
+}
+
+fn laid_out(alloc: Global, object: &Object<'_>) -> Said {
     match lay_out(alloc, object) {
-        Ok(layout) => say(out, "lay_out", Said::Done(layout.length())),
-        Err(LayoutFault::OutOfMemory) => say(out, "lay_out", Said::Memory),
-        Err(LayoutFault::TooLong) => say(out, "lay_out", Said::Refused),
+        Ok(layout) => Said::Done(layout.length()),
+        Err(LayoutFault::OutOfMemory) => Said::Memory,
+        Err(LayoutFault::TooLong) => Said::Refused,
     }
+}
+
+fn written(alloc: Global, object: &Object<'_>) -> Said {
     match write_object(alloc, object, &mut std::io::sink()) {
-        Ok(()) => say(out, "write_object", Said::Done(0)),
-        Err(ObjectWriteFault::OutOfMemory) => say(out, "write_object", Said::Memory),
-        Err(_) => say(out, "write_object", Said::Refused),
+        Ok(()) => Said::Done(0),
+        Err(ObjectWriteFault::OutOfMemory) => Said::Memory,
+        Err(_) => Said::Refused,
     }
 }
 
@@ -113,37 +142,48 @@ fn changed<W: Write>(alloc: Global, bytes: &mut [u8], at: usize, out: &mut W) ->
 /// object, and what `rewrite` writes, its length first.
 fn one<W: Write>(alloc: Global, bytes: &[u8], out: &mut W) -> bool {
     let mut file = bytes;
-    if check(alloc, &mut file, out).is_err() {
-        return false;
-    }
+    check(alloc, &mut file, out).is_ok()
+        && tell_verdict(bytes, out)
+        && match parse(alloc, bytes) {
+            Ok(image) => {
+                tell_object(alloc, bytes, &image, out) && tell_rewritten(alloc, bytes, out)
+            }
+            Err(_) => true,
+        }
+}
+
+fn tell_verdict<W: Write>(bytes: &[u8], out: &mut W) -> bool {
     let told = match verdict(bytes) {
         None => writeln!(out, "none"),
         Some((rule, at)) => writeln!(out, "{rule} {at}"),
     };
     told.is_ok()
-        && match parse(alloc, bytes) {
-            Ok(image) => of_image(alloc, bytes, &image, out),
-            Err(_) => true,
-        }
 }
 
-fn of_image<W: Write>(alloc: Global, bytes: &[u8], image: &Image<'_>, out: &mut W) -> bool {
+/// Whether the image of these bytes is written as they are.
+fn is_same(alloc: Global, bytes: &[u8], image: &Image<'_>) -> bool {
     let mut written = Vec::new(alloc);
-    let is_same = write(image, &mut written).is_ok() && written.as_slice() == bytes;
-    let object = match object_of(alloc, image) {
+    write(image, &mut written).is_ok() && written.as_slice() == bytes
+}
+
+fn tell_object<W: Write>(alloc: Global, bytes: &[u8], image: &Image<'_>, out: &mut W) -> bool {
+    let is_same = is_same(alloc, bytes, image);
+    let told = match object_of(alloc, image) {
         Ok(_) => writeln!(out, "{is_same} object"),
         Err(Fault::Rule { rule, at }) => writeln!(out, "{is_same} {rule} {at}"),
         Err(_) => return false,
     };
+    told.is_ok()
+}
+
+fn tell_rewritten<W: Write>(alloc: Global, bytes: &[u8], out: &mut W) -> bool {
     let mut canonical = Vec::new(alloc);
     let mut file = bytes;
     let Ok(ended) = rewrite(alloc, &mut file, &mut canonical) else {
         return false;
     };
     let is_done = ended == Verdict::Done;
-    object.is_ok()
-        && writeln!(out, "{is_done} {}", canonical.len()).is_ok()
-        && out.write_all(&canonical).is_ok()
+    writeln!(out, "{is_done} {}", canonical.len()).is_ok() && out.write_all(&canonical).is_ok()
 }
 
 // A file written again.

@@ -1,6 +1,6 @@
 //! The link of files, their relocated bytes, and their executable.
 ghost use Rattle.std.specs.Prelude.{IfOk};
-ghost use Rattle.elf_link_relocate.specs.Linked.{IsReadyLink, IsMapOfSome};
+ghost use Rattle.elf_link_relocate.specs.Linked.{IsMapButOptions, IsMapOfSome, IsReadyLink};
 
 use crate::said::{Said, of_fault, say};
 use elf_exec::{ExecFault, write_exec};
@@ -18,17 +18,17 @@ use std::io::Write;
 
 /// The calls on these files, where they are objects, by the relocation rules of a file.
 pub fn calls<W: Write>(alloc: Global, files: &[Vec<u8>], rules: &[u8], out: &mut W) {
-    let rules = match read_rules(alloc, rules) {
-        Ok(rules) => rules,
-        Err(RulesFault::OutOfMemory) => return say(out, "read_rules", Said::Memory),
-        Err(RulesFault::BadLine { .. }) => return say(out, "read_rules", Said::Refused),
-    };
+    match read_rules(alloc, rules) {
+        Ok(rules) => by_rules(alloc, files, &rules, out),
+        Err(RulesFault::OutOfMemory) => say(out, "read_rules", Said::Memory),
+        Err(RulesFault::BadLine { .. }) => say(out, "read_rules", Said::Refused),
+    }
+}
+
+fn by_rules<W: Write>(alloc: Global, files: &[Vec<u8>], rules: &[RelocRule], out: &mut W) {
     say(out, "read_rules", Said::Done(rules.len() as u64));
     match objects_of(alloc, files) {
-        Ok(objects) => {
-            say(out, "objects", Said::Done(objects.len() as u64));
-            on_objects(alloc, &objects, &rules, out);
-        }
+        Ok(objects) => on_objects(alloc, &objects, rules, out),
         Err(fault) => say(out, "objects", of_fault(fault)),
     }
 }
@@ -60,16 +60,27 @@ fn mapped<'a>(alloc: Global, objects: &[Object<'a>]) -> Result<LinkMap<'a>, Link
 }
 
 fn on_objects<W: Write>(alloc: Global, objects: &[Object<'_>], rules: &[RelocRule], out: &mut W) {
-    let map = match mapped(alloc, objects) {
-        Ok(map) => map,
-        Err(LinkFault::OutOfMemory) => return say(out, "map", Said::Memory),
-        Err(_) => return say(out, "map", Said::Refused),
-    };
+    say(out, "objects", Said::Done(objects.len() as u64));
+    match mapped(alloc, objects) {
+        Ok(map) => on_map(alloc, &map, objects, rules, out),
+        Err(LinkFault::OutOfMemory) => say(out, "map", Said::Memory),
+        Err(_) => say(out, "map", Said::Refused),
+    }
+}
+
+fn on_map<'m, 'a, W: Write>(
+    alloc: Global,
+    map: &'m LinkMap<'a>,
+    objects: &'m [Object<'a>],
+    rules: &'m [RelocRule],
+    out: &mut W,
+)
+    requires map { IsMapButOptions objects.now map.now }
+    requires some { IsMapOfSome objects.now map.now }
+{
     say(out, "map", Said::Done(map.outputs().len() as u64));
-    match relocate(alloc, &map, objects, rules) {
-        Ok(linked) => {
-            on_linked(alloc, &linked, out);
-        }
+    match relocate(alloc, map, objects, rules) {
+        Ok(linked) => on_linked(alloc, &linked, out),
         Err(LinkFault::OutOfMemory) => say(out, "relocate", Said::Memory),
         Err(_) => say(out, "relocate", Said::Refused),
     }

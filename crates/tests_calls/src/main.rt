@@ -51,19 +51,42 @@ fn growths(rt: &HostRuntime, words: &[String]) -> io::Result<ExitCode> {
     extents::calls(alloc, &mut out);
     words::calls(alloc, &mut out);
     objects::calls(alloc, &mut out);
-    let Ok(rules) = read(alloc, &mut fs::open(rt, rules.as_str())?, &mut out) else {
+    let Ok(rules) = read_file(rt, rules, &mut out)? else {
         return Ok(ExitCode::from(3));
     };
-    let mut files = Vec::new(alloc);
-    for name in names {
-        let Ok(file) = read(alloc, &mut fs::open(rt, name.as_str())?, &mut out) else {
-            return Ok(ExitCode::from(3));
-        };
-        images::calls(alloc, &file, &mut out);
-        files.push(file)?;
-    }
+    let Ok(files) = images_of(rt, names, &mut out)? else {
+        return Ok(ExitCode::from(3));
+    };
     links::calls(alloc, &files, &rules, &mut out);
     Ok(ExitCode::from(0))
+}
+
+/// The bytes of the files of these words, after the calls on each.
+fn images_of<W: Write>(
+    rt: &HostRuntime,
+    names: &[String],
+    out: &mut W,
+) -> io::Result<Result<Vec<Vec<u8>>, Fault>> {
+    let mut files = Vec::new(rt.alloc());
+    for name in names {
+        let file = match read_file(rt, name, out)? {
+            Ok(file) => file,
+            Err(fault) => return Ok(Err(fault)),
+        };
+        images::calls(rt.alloc(), &file, out);
+        files.push(file)?;
+    }
+    Ok(Ok(files))
+}
+
+/// The bytes of a file.
+fn read_file<W: Write>(
+    rt: &HostRuntime,
+    name: &String,
+    out: &mut W,
+) -> io::Result<Result<Vec<u8>, Fault>> {
+    let mut file = fs::open(rt, name.as_str())?;
+    Ok(read(rt.alloc(), &mut file, out))
 }
 
 /// The calls that take no memory, so many times, as the first of these words says, on the files of the other ones.

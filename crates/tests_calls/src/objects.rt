@@ -9,22 +9,26 @@ use std::io::Write;
 
 /// The calls on names and on these parts.
 pub fn calls<W: Write>(alloc: Global, out: &mut W) {
-    match shared_table(alloc, &[b"ab", b"b", b"c"]) {
-        Ok(shared) => say(out, "shared_table", Said::Done(shared.bytes.len() as u64)),
-        Err(OutOfMemory) => say(out, "shared_table", Said::Memory),
-    }
+    say(out, "shared_table", shared(alloc));
     let Ok(parts) = parts(alloc) else {
         return say(out, "ObjectParts", Said::Memory);
     };
     say(out, "ObjectParts", Said::Done(0));
+    say(out, "Object::new", made(alloc, parts));
+}
+
+fn shared(alloc: Global) -> Said {
+    match shared_table(alloc, &[b"ab", b"b", b"c"]) {
+        Ok(shared) => Said::Done(shared.bytes.len() as u64),
+        Err(OutOfMemory) => Said::Memory,
+    }
+}
+
+fn made(alloc: Global, parts: ObjectParts<'static>) -> Said {
     match Object::new(alloc, parts) {
-        Ok(object) => say(
-            out,
-            "Object::new",
-            Said::Done(object.sections().len() as u64),
-        ),
-        Err(ObjectFault::OutOfMemory) => say(out, "Object::new", Said::Memory),
-        Err(_) => say(out, "Object::new", Said::Refused),
+        Ok(object) => Said::Done(object.sections().len() as u64),
+        Err(ObjectFault::OutOfMemory) => Said::Memory,
+        Err(_) => Said::Refused,
     }
 }
 
@@ -41,17 +45,26 @@ fn section(flags: u64, entsize: u64, body: Body<'static>) -> Section<'static> {
     }
 }
 
-fn parts(alloc: Global) -> Result<ObjectParts<'static>, AllocError> {
+fn group(alloc: Global) -> Result<Section<'static>, AllocError> {
     let mut members = Vec::new(alloc);
     members.push(1)?;
-    let mut sections = Vec::new(alloc);
-    let group = Body::Group {
+    let body = Body::Group {
         comdat: true,
         signature: 0,
         members,
     };
-    sections.push(section(0, 4, group))?;
+    Ok(section(0, 4, body))
+}
+
+fn sections(alloc: Global) -> Result<Vec<Section<'static>>, AllocError> {
+    let group = group(alloc)?;
+    let mut sections = Vec::new(alloc);
+    sections.push(group)?;
     sections.push(section(0x206, 0, Body::Bits(1, b"\xc3")))?;
+    Ok(sections)
+}
+
+fn symbols(alloc: Global) -> Result<Vec<Symbol<'static>>, AllocError> {
     let mut symbols = Vec::new(alloc);
     symbols.push(Symbol {
         name: b"f",
@@ -61,6 +74,11 @@ fn parts(alloc: Global) -> Result<ObjectParts<'static>, AllocError> {
         value: 0,
         size: 0,
     })?;
+    Ok(symbols)
+}
+
+fn parts(alloc: Global) -> Result<ObjectParts<'static>, AllocError> {
+    let sections = sections(alloc)?;
     Ok(ObjectParts {
         order: Order::Little,
         osabi: 0,
@@ -68,6 +86,6 @@ fn parts(alloc: Global) -> Result<ObjectParts<'static>, AllocError> {
         machine: 62,
         flags: 0,
         sections,
-        symbols,
+        symbols: symbols(alloc)?,
     })
 }

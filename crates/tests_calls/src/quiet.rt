@@ -6,7 +6,7 @@ use elf_extent::{Counted, Extent, next_place, sweep};
 use elf_field::{Order, Record, Shdr};
 use elf_image_outline::{Outline, copy_image, scan};
 use elf_image_rules::verdict;
-use elf_image_stream::{Bytes, Seeking, Source};
+use elf_image_stream::{Bytes, Fault, Seeking, Source};
 use elf_image_type::{Image, parse, write};
 use elf_link_field::RelocRule;
 use elf_link_map::{LinkMap, Options, map};
@@ -26,17 +26,10 @@ pub fn calls(alloc: Global, files: &[Vec<u8>], times: u32) {
     let mut objects = Vec::new(alloc);
     for file in files {
         on_file(alloc, file.as_slice(), times);
-        let Ok(image) = parse(alloc, file.as_slice()) else {
+        let Ok(object) = object_in(alloc, file.as_slice()) else {
             return;
         };
-        let Ok(object) = object_of(alloc, &image) else {
-            return;
-        };
-        if let Ok(layout) = lay_out(alloc, &object) {
-            for _ in 0..times {
-                on_layout(&layout);
-            }
-        }
+        on_object(alloc, &object, times);
         let Ok(()) = objects.push(object) else {
             return;
         };
@@ -49,19 +42,44 @@ fn on_file(alloc: Global, bytes: &[u8], times: u32) {
     for _ in 0..times {
         on_bytes(bytes);
     }
-    if let Ok(mut image) = parse(alloc, bytes) {
-        for _ in 0..times {
-            on_image(&image);
-            edited(&mut image);
-        }
-        on_hashes(alloc, &image, times);
+    if let Ok(image) = parse(alloc, bytes) {
+        on_parsed(alloc, image, times);
     }
-    if let Ok(mut outline) = scan(alloc, &mut Bytes(bytes)) {
+    if let Ok(outline) = scan(alloc, &mut Bytes(bytes)) {
+        on_scanned(outline, bytes, times);
+    }
+}
+
+fn on_parsed(alloc: Global, image: Image<'_>, times: u32) {
+    let mut image = image;
+    for _ in 0..times {
+        on_image(&image);
+        edited(&mut image);
+    }
+    on_hashes(alloc, &image, times);
+}
+
+fn on_scanned(outline: Outline, bytes: &[u8], times: u32) {
+    let mut outline = outline;
+    for _ in 0..times {
+        on_outline(&outline, bytes);
+        outline.set_entry(1);
+        let _ = outline.set_flags(1, 2);
+        outline.zero_gaps();
+    }
+}
+
+/// The object of a file.
+fn object_in(alloc: Global, bytes: &[u8]) -> Result<Object<'_>, Fault> {
+    let image = parse(alloc, bytes)?;
+    object_of(alloc, &image)
+}
+
+/// The calls on its layout.
+fn on_object(alloc: Global, object: &Object<'_>, times: u32) {
+    if let Ok(layout) = lay_out(alloc, object) {
         for _ in 0..times {
-            on_outline(&outline, bytes);
-            outline.set_entry(1);
-            let _ = outline.set_flags(1, 2);
-            outline.zero_gaps();
+            on_layout(&layout);
         }
     }
 }
@@ -117,13 +135,24 @@ fn on_tables(image: &Image<'_>, i: usize)
         let _ = strings.get(1);
     }
     if let Ok(symbols) = Symbols::new(image, i) {
-        for symbol in &symbols {
-            let _ = symbol.name;
-        }
-        for j in 0..symbols.len() {
-            let _ = symbols.entry(j);
-        }
+        on_symbols(&symbols);
     }
+    on_entries(image, i);
+}
+
+fn on_symbols(symbols: &Symbols<'_>) {
+    for symbol in symbols {
+        let _ = symbol.name;
+    }
+    for j in 0..symbols.len() {
+        let _ = symbols.entry(j);
+    }
+}
+
+/// The tables whose entries are read one by one.
+fn on_entries(image: &Image<'_>, i: usize)
+    requires { i < length image.now.sections }
+{
     if let Ok(relocs) = Relocs::new(image, i) {
         for relocation in &relocs {
             let _ = relocation;
@@ -146,20 +175,28 @@ fn on_hashes(alloc: Global, image: &Image<'_>, times: u32) {
     for i in 0..image.section_count() {
         if let Ok(hash) = Hash::new(alloc, image, i) {
             for _ in 0..times {
-                let _ = (hash.find(b"main"), hash.probe(b"none"));
-                for word in &hash {
-                    let _ = word;
-                }
+                on_hash(&hash);
             }
         }
         if let Ok(group) = Group::new(alloc, image, i) {
             for _ in 0..times {
-                let _ = (group.flags(), group.signature(), group.len());
-                for member in &group {
-                    let _ = member;
-                }
+                on_group(&group);
             }
         }
+    }
+}
+
+fn on_hash(hash: &Hash<'_>) {
+    let _ = (hash.find(b"main"), hash.probe(b"none"));
+    for word in hash {
+        let _ = word;
+    }
+}
+
+fn on_group(group: &Group<'_>) {
+    let _ = (group.flags(), group.signature(), group.len());
+    for member in group {
+        let _ = member;
     }
 }
 
