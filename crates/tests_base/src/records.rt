@@ -148,7 +148,7 @@ fn parts_of_info(rt: HostRuntime) {
     assert_same(&rt, (of_symbol, of_relocation), ((1, 2), (7, 0x8000_0009)));
 }
 
-/// The first field of a header that isn't where the ruler says. It begins with its 16 bytes of `e_ident`.
+/// The first field of a header that isn't where the ruler says. Asserts that the header begins with its 16 bytes of `e_ident`.
 fn wrong_in_header(rt: &impl Abort, order: Order) -> Option<u64> {
     let record: Ehdr = through_bound(rt, order);
     assert_same(rt, record.e_ident.as_slice(), &RULER[..16]);

@@ -147,12 +147,12 @@ fn bad_line_of(alloc: Global, count: usize, rest: &[u8]) -> Result<usize, RulesF
 
 #[test]
 fn as_many_rules_as_there_may_be(rt: HostRuntime) {
-    let lines = [
+    let found = [
         rule_count(rt.alloc(), 256),
         bad_line_of(rt.alloc(), 257, b""),
         bad_line_of(rt.alloc(), 256, b"1"),
     ];
-    assert_same(&rt, lines, [Ok(256), Ok(257), Ok(257)]);
+    assert_same(&rt, found, [Ok(256), Ok(257), Ok(257)]);
 }
 
 /// The fault is reported in these words.

@@ -1,6 +1,6 @@
 //! Calls of the library, for tests that make allocations fail, make reads and writes fail, or compare what the calls say.
 //!
-//! `tests_calls allocations RULES FILE..` makes each call that takes memory, of records and extents by themselves and of these files, and
+//! `tests_calls growths RULES FILE..` makes each call that takes memory, of records and extents by themselves and of these files, and
 //! prints a line on each: which it was, and a number that reports its answer, or `out of memory`, or `refused`. After them it prints what
 //! is asked of the values that came out, which takes no memory. `tests_calls quiet N FILE..` makes each call that takes no memory N times
 //! on what these files are, and prints nothing of them.
@@ -8,7 +8,7 @@
 //! `tests_calls write FILE`, `object` and `copy` write the file again: its image, the object that it denotes, or by `copy_image` what is
 //! read where it has to be. They end as the program does: status 0 if all is written, 1 if a rule is broken, 3 with a line on standard
 //! error where memory, a read or a write failed. `tests_calls changes FILE` is about the beginnings of the file, and of the files that
-//! differ from it in one byte, what each call says ([`images::report`]).
+//! differ from it in one byte, what each call says ([`images::tell`]).
 #![tactic(auto)]
 
 mod extents;

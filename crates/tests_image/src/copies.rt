@@ -58,7 +58,7 @@ impl<'a> ComparingWriter<'a> {
 }
 
 impl ComparingWriter<'_> {
-    /// Takes as many of these bytes as there is room for.
+    /// Takes these bytes, as many as a piece, its room and what is to come allow.
     fn take(&mut self, buf: &[u8]) -> usize
         ensures { result ≤ length buf.now }
     {
@@ -117,7 +117,7 @@ fn a_filled_gap_is_zeroed(rt: HostRuntime) {
     assert_eq!(rt; copied, Ok((Ok(()), true)));
 }
 
-/// A copy of a file whose entry is set, and flags of its section 1: what that edit answers, and the copy.
+/// Sets the entry of a file and the flags of its section 1, and copies it: what the second edit answers, and the copy.
 fn edited_copy(
     alloc: Global,
     file: &[u8],
@@ -381,6 +381,7 @@ fn ended<'a>(failing: usize, bytes: &'a [u8], outs: &[usize]) -> Written<'a> {
     }
 }
 
+/// A call that wrote these bytes ended so.
 fn assert_ends(
     rt: &impl Abort,
     writer: &OnceFailingWriter,

@@ -176,7 +176,7 @@ fn told(alloc: Global, file: &[u8]) -> Result<Told, Fault> {
     Ok(told_by(&image))
 }
 
-/// Of the file of one section, and of that of two segments and sections.
+/// What is told of the file of one section, and of that of two segments and sections.
 const TOLD: [Result<Told, Fault>; 2] = [
     Ok((
         (LITTLE, true),
@@ -202,7 +202,7 @@ fn tells_the_header_sections_and_segments_of_a_file(rt: HostRuntime) {
 }
 
 /// The name and the content of section 1.
-fn first_texts<'a>(image: &Image<'a>) -> Option<(&'a [u8], &'a [u8])> {
+fn name_and_content_of<'a>(image: &Image<'a>) -> Option<(&'a [u8], &'a [u8])> {
     if image.section_count() < 2 {
         return None;
     }
@@ -215,7 +215,7 @@ fn name_and_content<'a>(
     file: &'a [u8],
 ) -> Result<Option<(&'a [u8], &'a [u8])>, Fault> {
     let image = parse(alloc, file)?;
-    Ok(first_texts(&image))
+    Ok(name_and_content_of(&image))
 }
 
 #[test]
@@ -463,7 +463,7 @@ fn loads_each_part_of_a_file(rt: HostRuntime) {
     );
 }
 
-/// The last page of addresses.
+/// Where the last page of addresses begins.
 const LAST: u64 = u64::MAX - 0xfff;
 
 /// The file of one segment, which goes on after the largest address.

@@ -29,7 +29,7 @@ fn file(
     object(alloc, Order::Big, sections, symbols)
 }
 
-/// The addresses of the sections, and what the names are bound to.
+/// The addresses of the sections, what the names are bound to, and how many outputs there are.
 type Told = ([Option<u64>; 4], [Option<Binding>; 3], usize);
 
 fn told(link: &LinkMap<'_>) -> Told {

@@ -48,7 +48,7 @@ fn mapped<'a>(
     )
 }
 
-/// How objects are linked, and how their executable is written.
+/// How a link ended, and how the writing of its executable did.
 pub(crate) type Ended = Result<Result<(), ExecFault>, LinkFault>;
 
 /// Writes the executable of these objects.
@@ -135,8 +135,8 @@ fn assert_ended(
     );
 }
 
-/// To a writer that takes so many bytes a call, and whose call of number `failing`, after so many bytes, alone fails so: that is the answer,
-/// and no call came after it.
+/// Writes the executable to a writer that takes so many bytes a call, and whose call of number `failing`, after so many bytes, alone fails
+/// so: that is the answer, and no call came after it.
 fn assert_stopped(
     rt: &impl Abort,
     alloc: Global,

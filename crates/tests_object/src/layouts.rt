@@ -64,8 +64,8 @@ fn sections_are_laid_out(rt: HostRuntime) {
     assert_same(&rt, found, expected);
 }
 
-/// Sections of one byte with the alignments 2^29, 2^28 and so on, so that each ends a half of what is left of 2^30 bytes; the last of them is
-/// aligned to 4,096 and has these bytes. One of them is `.text`, and one is `.rela.text`.
+/// Sections of one byte with the alignments 2^29, 2^28 and so on, so that each ends a half of what is left of 2^30 bytes; the last of them
+/// is aligned to 4,096 and has these bytes. One of them is `.text`, and one is `.rela.text`.
 fn halves(alloc: Global, last: &[u8]) -> Result<Vec<Section<'_>>, AllocError> {
     let mut sections = Vec::new(alloc);
     let mut align = 1 << 29;

@@ -109,7 +109,8 @@ fn many_fields(alloc: Global, order: Order) -> Result<Object<'static>, ObjectFau
     Object::new(alloc, parts)
 }
 
-/// The header's fields of its file, the bytes of section `b`, the relocation, and the symbol table after the symbol of index 0.
+/// Of the file of `many_fields`: the header's fields, the bytes of section `b`, the relocation, and the symbol table after the symbol of
+/// index 0.
 const MANY_FIELDS: [Field; 30] = [
     (7, 1, 3),
     (8, 1, 4),
@@ -143,8 +144,8 @@ const MANY_FIELDS: [Field; 30] = [
     (200, 8, 1),
 ];
 
-/// Its section header table after section header 0. Each has the name, the type, the flags, the address, the offset, the size, the link, the
-/// info, the alignment and the size of entries.
+/// Of that file the section header table after section header 0. Each has the name, the type, the flags, the address, the offset, the size,
+/// the link, the info, the alignment and the size of entries.
 const MANY_HEADERS: [[u64; 10]; 6] = [
     [1, 8, 3, 0x1000, 64, 0x123456789, 2, 0, 0x1000, 0],
     [9, 7, 0x40, 0, 64, 3, 0, 1, 0, 8],
@@ -205,8 +206,8 @@ fn text_is_written(
     Ok(is_written(alloc, &object, &one_section(order)))
 }
 
-/// Whether that of many fields is.
-fn many_are_written(
+/// Whether that of many fields is written so.
+fn many_fields_is_written(
     alloc: Global,
     order: Order,
 ) -> Result<Result<bool, ObjectWriteFault>, ObjectFault> {
@@ -219,16 +220,16 @@ fn objects_are_written_in_both_orders(rt: HostRuntime) {
     let found = [
         text_is_written(rt.alloc(), Order::Little),
         text_is_written(rt.alloc(), Order::Big),
-        many_are_written(rt.alloc(), Order::Little),
-        many_are_written(rt.alloc(), Order::Big),
+        many_fields_is_written(rt.alloc(), Order::Little),
+        many_fields_is_written(rt.alloc(), Order::Big),
     ];
     assert_same(&rt, found, [Ok(Ok(true)); 4]);
 }
 
 // Objects onto writers that take little or fail, and objects that are not written.
 
-/// Writes the object of one section to a writer whose call of number `failing`, after so many bytes, alone fails: that is the answer, and no
-/// call comes after it.
+/// Writes the object of one section to a writer whose call of number `failing`, after so many bytes, alone fails: that is the answer, and
+/// no call comes after it.
 fn assert_stopped(
     rt: &impl Abort,
     alloc: Global,

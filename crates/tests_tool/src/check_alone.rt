@@ -5,7 +5,9 @@ ghost use Rattle.elf_tool_check.specs.Ending.{AsksFor};
 ghost use Rattle.elf_tool_words.specs.Words.{IsAskedBy};
 ghost use Rattle.elf_tool_words.specs.declared.words.Request.TheVariants.{Check};
 
-use crate::program::{LimitedWriter, OneFile, Outcome, ROOM, assert_fits, assert_ran};
+use crate::program::{
+    LimitedWriter, OneFile, Outcome, ROOM, assert_line_or_out_of_memory, assert_ran,
+};
 use elf_tool_check::run_check;
 use std::alloc::Global;
 
@@ -63,5 +65,5 @@ fn behind_dashes_each_word_is_a_file(rt: HostRuntime) {
 #[test]
 fn a_refused_growth_leaves_nothing_out(rt: HostRuntime) {
     let ran = run_on(rt.alloc(), &["elfmap", "check", "a.o"]);
-    assert_fits(&rt, &ran, "ok 64 0 0\n");
+    assert_line_or_out_of_memory(&rt, &ran, "ok 64 0 0\n");
 }

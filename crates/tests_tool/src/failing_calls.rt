@@ -3,7 +3,9 @@
 ghost use Rattle.std.specs.Prelude.{◌≡◌};
 ghost use Rattle.elf_image_stream.specs.Source.{no_failures};
 
-use crate::program::{HEADER, LimitedWriter, Outcome, ROOM, assert_fits, assert_ran};
+use crate::program::{
+    HEADER, LimitedWriter, Outcome, ROOM, assert_line_or_out_of_memory, assert_ran,
+};
 use elf_field::Order;
 use elf_tool_program::{OpenFault, Opener, ToolFault, Verdict, check, check_source, run, show};
 use std::alloc::Global;
@@ -49,7 +51,7 @@ fn check_of_failing(
     (answer, calls)
 }
 
-/// That is the answer, and no call comes after it.
+/// The check whose read of this number fails so answers that, and no call comes after it.
 fn assert_read_fails(rt: &impl Abort, alloc: Global, call: usize, kind: ErrorKind) {
     let at = call.saturating_mul(PIECE) as u64;
     let calls = [call.saturating_add(1), 0, 0, 0];
@@ -65,14 +67,15 @@ fn a_read_that_fails_once_is_not_tried_again(rt: HostRuntime) {
     }
 }
 
-/// Whether the check of a header is done whose read of this number gives no bytes, and how many reads there were, and on an empty buffer.
+/// Whether the check of a header is done whose read of this number gives no bytes; how many reads there were, and how many of them on an
+/// empty buffer.
 fn check_of_ending(alloc: Global, call: usize, writer: &mut Sink) -> (bool, [usize; 2]) {
     let mut reader = OnceFailingReader::new(HEADER, call, None);
     let is_done = check(alloc, &mut reader, writer) == Ok(Verdict::Done);
     (is_done, [reader.calls, reader.empty_calls])
 }
 
-/// It says this, and reads no more.
+/// The check of a header whose read of this number gives no bytes says this, and reads no more.
 fn assert_ends(rt: &impl Abort, alloc: Global, call: usize, line: &str) {
     let mut writer = Sink::new(100, None);
     let checked = check_of_ending(alloc, call, &mut writer);
@@ -331,5 +334,5 @@ fn a_write_that_fails_is_told_with_what_is_out(rt: HostRuntime) {
 #[test]
 fn a_refused_growth_leaves_nothing_out(rt: HostRuntime) {
     let ran = run_on(rt.alloc(), &one_section(Order::Little), 456, 0);
-    assert_fits(&rt, &ran, "ok 456 5 0\n");
+    assert_line_or_out_of_memory(&rt, &ran, "ok 456 5 0\n");
 }

@@ -34,8 +34,8 @@ const FRONT: [Field; 6] = [
     (113, 3, 0x6261),
 ];
 
-/// All before the sections, of an object of `count` of them: the header, the contents, and section header 0, with the numbers that the
-/// header cannot hold.
+/// All before the section headers of an object of `count` sections: the header, the contents, and section header 0, with the numbers that
+/// the header cannot hold.
 fn front(count: u32) -> [u8; 184] {
     let entries = u64::from(count) + 4;
     let names = u64::from(count) + 3;
@@ -80,7 +80,7 @@ const LAST: [Field; 17] = [
     (176, 8, 1),
 ];
 
-/// They behind `count` sections.
+/// Those headers, where `count` sections are before them.
 fn last_sections(count: u32) -> [u8; 192] {
     let mut headers = [0; 192];
     set(&mut headers, Order::Little, &LAST);

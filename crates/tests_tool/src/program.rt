@@ -232,7 +232,7 @@ fn words_that_the_machine_does_not_give(rt: HostRuntime) {
 }
 
 /// The run came to this line, or to out of memory with nothing written.
-pub(crate) fn assert_fits(rt: &impl Abort, ran: &Outcome, line: &str) {
+pub(crate) fn assert_line_or_out_of_memory(rt: &impl Abort, ran: &Outcome, line: &str) {
     match ran.status {
         0 => assert_ran(rt, ran, 0, line, ""),
         _ => assert_ran(rt, ran, 3, "", "out of memory\n"),
@@ -243,7 +243,7 @@ pub(crate) fn assert_fits(rt: &impl Abort, ran: &Outcome, line: &str) {
 #[test]
 fn a_refused_growth_leaves_nothing_out(rt: HostRuntime) {
     let ran = run_on(rt.alloc(), CHECK, &mut OneFile::header(64));
-    assert_fits(&rt, &ran, "ok 64 0 0\n");
+    assert_line_or_out_of_memory(&rt, &ran, "ok 64 0 0\n");
 }
 
 /// The text on [`one_segment`].
@@ -358,8 +358,8 @@ fn opens_the_name_as_it_stands(rt: HostRuntime) {
     assert_runs(&rt, rt.alloc(), &words, &mut files, 3, "", told);
 }
 
-/// Words of each command, that ask for a file which is not there.
-const EACH_COMMAND: &[&[&str]] = &[
+/// Words that ask for a file which is not there.
+const ABSENT_FILES: &[&[&str]] = &[
     &["elfmap", "check", "b.o"],
     &["elfmap", "check", "--seek", "b.o"],
     &["elfmap", "show", "b.o"],
@@ -372,7 +372,7 @@ const EACH_COMMAND: &[&[&str]] = &[
 
 #[test]
 fn an_opener_that_wants_memory(rt: HostRuntime) {
-    for &words in EACH_COMMAND {
+    for &words in ABSENT_FILES {
         let mut files = OneName::new("a.o", OpenFault::OutOfMemory);
         assert_runs(&rt, rt.alloc(), words, &mut files, 3, "", "out of memory\n");
     }

@@ -47,6 +47,7 @@ fn rewrite_onto_failing(
     )
 }
 
+/// The writer fails so at this call: its first bytes are out, and the answer has their count.
 fn assert_write_fails(rt: &impl Abort, alloc: Global, call: usize, failure: Failure) {
     let rewritten = rewrite_onto_failing(alloc, call, failure);
     let out = rewritten.1;
