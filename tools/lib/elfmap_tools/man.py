@@ -1,12 +1,11 @@
 """`tools/release man`: the manual page of the program, from docs/MANUAL.md: its first paragraph, and its section "The commands". There each
 command has a part of its own, whose text up to the first example comes below COMMANDS, and what follows below EXAMPLES. A row of a table
-becomes a paragraph with its first cell as the tag.
+becomes a paragraph with its first cell as the tag. pandoc makes the page of this.
 
 And completions of bash, zsh and fish for a command. They read the help that it prints: its subcommands, its options, and the words that an
 option takes. All other words are files."""
 
-import functools, re
-from collections.abc import Iterable
+import functools, re, subprocess
 
 from .tree import Options, cells, filled, read_text
 
@@ -14,16 +13,11 @@ from .tree import Options, cells, filled, read_text
 MANUAL = "docs/MANUAL.md"
 # Parts that are no command, and their names in the page.
 OTHERS = {"Exit status": "EXIT STATUS", "Files of rules": "FILES", "Limits": "LIMITS"}
-MARK = re.compile(r"\[((?:`[^`]*`|[^\]`])*)\]\(([^)]*)\)|`([^`]*)`|\*\*([^*]*)\*\*")
-# The signs of ASCII, of which groff would make others.
-SIGNS = str.maketrans({"-": r"\-", "'": r"\(aq", "`": r"\(ga", "^": r"\(ha", "~": r"\(ti"})
+LINK = re.compile(r"\[((?:`[^`]*`|[^\]`])*)\]\(([^)]*)\)")
 SEE_ALSO = "readelf(1), ld(1), elf(5), elfmap-lint(1), elfmap-explain(1), elfmap-same(1), elfmap-gaps(1), elfmap-picture(1)"
 PAGES = """In the directory of the release: `docs/MANUAL.md` has these texts and the libraries, `docs/RULES.md` every rule by its number, what it
 means and what to do, `docs/RULE_FILES.md` the files of rules line by line, `doc/elfmap-doc.html` the library, and `include/elfmap.h` the
 calls for C."""
-
-
-# ---- docs/MANUAL.md
 
 
 def blocks(text: str) -> list[str]:
@@ -43,68 +37,37 @@ def is_example(block: str) -> bool:
     return block.startswith("    $ ")
 
 
-# ---- The macros
-
-
-def escaped(text: str) -> str:
-    return "".join(it if ord(it) < 128 else f"\\[u{ord(it):04X}]" for it in text.replace("\\", "\\e"))
-
-
-def literal(text: str) -> str:
-    """Escaped text that is typed or printed so."""
-    return re.sub(r"(?<![\w/.])\./elfmap\b", "elfmap", text).translate(SIGNS)
-
-
-def marked(text: str) -> str:
-    """Text whose code and stress are bold. A link is its words; one that leads to a part of the manual that the page lacks says so."""
+def with_tags(block: str) -> str:
+    """A block whose table is a list of tags, and whose links are words; one to a part of the manual that the page lacks says so."""
     here = {f"#{it.lower().replace(' ', '-')}" for it in parts()}
-
-    def own(mark: re.Match[str]) -> str:
-        words, target, code, stress = mark.groups()
-        if words is None:
-            return rf"\fB{stress if code is None else literal(code)}\fP"
-        return MARK.sub(own, words) + (f" ({MANUAL})" if target.startswith("#") and target not in here else "")
-
-    return MARK.sub(own, escaped(text))
-
-
-def guarded(line: str) -> str:
-    """A line that is no macro."""
-    return rf"\&{line}" if line.startswith((".", "'")) else line
-
-
-def macros(block: str) -> list[str]:
     if block.startswith("|"):
         rows = ([it.replace("\\|", "|") for it in cells(line)] for line in block.split("\n")[2:])
-        return [it for tag, *texts in rows for it in (".TP", guarded(marked(tag)), guarded(marked(", ".join(texts))))]
-    if not block.startswith("    "):
-        return [".PP", *(guarded(it) for it in marked(block).split("\n"))]
-    lines = (line.removeprefix("    ") for line in block.split("\n"))
-    return [".PP", ".RS 4", ".EX", *(guarded(literal(escaped(it))) for it in lines), ".EE", ".RE"]
+        block = "\n\n".join(f"{tag}\n:   {', '.join(texts)}" for tag, *texts in rows)
+    block = LINK.sub(lambda it: it[1] + (f" ({MANUAL})" if it[2].startswith("#") and it[2] not in here else ""), block)
+    return re.sub(r"(?<![\w/.])\./elfmap\b", "elfmap", block)
 
 
-# ---- The page
-
-
-def section(title: str, blocks: Iterable[str]) -> list[str]:
-    return [title, *(line for it in blocks for line in macros(it))]
+def by_pandoc(name: str, version: str, blocks: list[str]) -> str:
+    """The manual page of a command. Inline code is bold, all signs are those of ASCII, and no word is cut: it may be one that is typed."""
+    words = {"title": name.upper(), "section": "1", "footer": f"elfmap {version}", "header": "elfmap", "adjusting": "l"}
+    command = ["pandoc", "-s", "-f", "gfm+definition_lists", "-t", "man", "-M", "hyphenate=false", *(f"-V{it}={words[it]}" for it in words)]
+    made = subprocess.run(command, input="\n\n".join(blocks), stdout=subprocess.PIPE, check=True, encoding="utf-8").stdout
+    return re.sub(r"^[^.'].*", lambda line: line[0].replace("-", r"\-").replace(r"\f[V]", r"\f[B]"), made, flags=re.M)
 
 
 def page(version: str) -> str:
     summary = blocks(read_text(MANUAL))[1]
-    name = summary.partition(", the ")[0].replace("elfmap ", r"elfmap \- ", 1)
-    # No word is cut at the end of a line: it may be one that is typed.
-    lines = [f'.TH ELFMAP 1 "" "elfmap {escaped(version)}" "elfmap"', ".ad l", ".nr HY 0", ".SH NAME", name, ".SH SYNOPSIS"]
-    lines += [*macros(parts()[""][0]), *section(".SH DESCRIPTION", [summary]), ".SH COMMANDS"]
-    examples = [".SH EXAMPLES"]
+    text = ["# NAME", summary.partition(", the ")[0].replace("elfmap ", "elfmap - ", 1), "# SYNOPSIS", parts()[""][0]]
+    text += ["# DESCRIPTION", summary, "# COMMANDS"]
+    examples = ["# EXAMPLES"]
     for title, found in list(parts().items())[1:]:
         first = next((at for at, it in enumerate(found) if is_example(it)), len(found))
-        lines += section(f".SS {title}", found[:first]) if title not in OTHERS else []
-        examples += section(f".SS {title}", found[first:]) if found[first:] else []
+        text += [f"## {title}", *found[:first]] if title not in OTHERS else []
+        examples += [f"## {title}", *found[first:]] if found[first:] else []
     for title, name in OTHERS.items():
-        lines += section(f".SH {name}", (it for it in parts()[title] if not is_example(it)))
-    others = re.sub(r"(\S+)(\(\d\),?) ?", lambda it: f".BR {literal(it[1])} {it[2]}\n", SEE_ALSO).rstrip()
-    return "\n".join([*lines, *examples, ".SH SEE ALSO", others, *macros(PAGES), ""])
+        text += [f"# {name}", *(it for it in parts()[title] if not is_example(it))]
+    others = re.sub(r"([\w-]+)\(", r"**\1**(", SEE_ALSO)
+    return by_pandoc("elfmap", version, list(map(with_tags, [*text, *examples, "# SEE ALSO", others, PAGES])))
 
 
 def main(options: Options) -> None:

@@ -51,7 +51,7 @@ FILES = """README.md CONTRIBUTING.md CHANGELOG.md SECURITY.md docs/* rules/*.rul
     bindings/rust/src/* bindings/python/README.md bindings/python/pyproject.toml bindings/python/examples/* bindings/python/elfmap/*.py
     bindings/python/elfmap/py.typed""".split()
 # The commands, and what Debian's python3 imports, by which all of it is made.
-MAKERS = f"{PACKERS} {JINJA2} {MARKDOWN} wasm-opt"
+MAKERS = f"{PACKERS} {JINJA2} {MARKDOWN} pandoc wasm-opt"
 LINK = re.compile(r"(?<!!)\[((?:`[^`]*`|[^\]`])*)\]\((?!https?:|#)([^)#\s]+)[^)]*\)")
 
 
@@ -89,12 +89,10 @@ def page_of(name: str, module: str, version: str) -> str:
     """The manual page of a command of the Python package, which is its help, in long lines."""
     help = said(sys.executable, "-B", "-m", module, "--help", folder=PACKAGE, env=os.environ | {"COLUMNS": "300"})
     usage, about, *rest = help.stdout.strip().split("\n\n")
-    lines = [f'.TH {name.upper()} 1 "" "elfmap {version}" "elfmap"', ".SH NAME", rf"{name} \- {man.escaped(about)}", ".SH SYNOPSIS"]
-    lines += [man.literal(man.escaped(usage.removeprefix("usage: "))), ".SH OPTIONS"]
-    for it in rest[:-1]:
-        rows = re.findall(r"^  (\S.*?)(?:  +|\n +)(\S.*)$", it, re.M)
-        lines += [line for head, text in rows for line in (".TP", f".B {man.literal(man.escaped(head))}", man.guarded(man.escaped(text)))]
-    return "\n".join([*lines, ".SH EXIT STATUS", man.escaped(rest[-1]), ".SH SEE ALSO", ".BR elfmap (1)", ""])
+    rows = re.findall(r"^  (\S.*?)(?:  +|\n +)(\S.*)$", "\n".join(rest[:-1]), re.M)
+    text = ["# NAME", f"{name} - {about}", "# SYNOPSIS", f"`{usage.removeprefix('usage: ')}`"]
+    text += ["# OPTIONS", *(f"`{head}`\n:   {words}" for head, words in rows), "# EXIT STATUS", rest[-1], "# SEE ALSO", "**elfmap**(1)"]
+    return man.by_pandoc(name, version, text)
 
 
 def put(path: str, text: str | bytes) -> None:
