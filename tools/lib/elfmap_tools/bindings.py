@@ -7,22 +7,11 @@ from typing import Any
 
 from elfmap import _library
 
-from .library import BOTH, FOLDER, PACKERS, STRUCTS, c_type, calls, packed, structs
+from .library import BOTH, FOLDER, PACKERS, STRUCTS, calls, calls_in, packed, structs, structs_in
 from .suite import JSONSCHEMA, JUNITPARSER, Tally, Test
 from .tree import PACKAGE, TOP, Options, Texts, read_text, said
 
 TOOLS = f"{PACKERS} cargo git pre-commit {JSONSCHEMA} {JUNITPARSER}"
-Structs = dict[str, list[tuple[str, str]]]
-Calls = dict[str, list[str]]
-
-
-def in_rust() -> tuple[Structs, Calls]:
-    text = read_text("bindings/rust/src/raw.rs")
-    found = re.findall(r"^#\[repr\(C\)\]\npub\S* struct (\w+) \{(.*?)^\}", text, re.M | re.S)
-    fields = {STRUCTS[name]: re.findall(r"^    pub (\w+): (.+),$", body, re.M) for name, body in found}
-    structs = {tag: [(field, c_type(kind, STRUCTS)) for field, kind in own] for tag, own in fields.items()}
-    calls = re.findall(r"^    fn (\w+)\((.*?)\) -> (?:bool|u32);", text, re.M | re.S)
-    return structs, {name: [c_type(it, STRUCTS) for it in re.findall(r"\w+: ([^,]+)", given)] for name, given in calls}
 
 
 def python_type(kind: str, is_slice: bool = False) -> Any:
@@ -37,9 +26,8 @@ def python_type(kind: str, is_slice: bool = False) -> Any:
 
 def declarations(tally: Tally) -> None:
     """What a binding declares, something at least, is declared so by the header, which may have more."""
-    c_structs = {tag: [(name, f"{kind}[{count}]" if count else kind) for kind, name, count in own] for tag, own in structs().items()}
-    c_calls = calls()
-    rust_structs, rust_calls = in_rust()
+    c_structs, c_calls, rust = structs(), calls(), read_text("bindings/rust/src/raw.rs")
+    rust_structs, rust_calls = structs_in(rust, STRUCTS), calls_in(rust, STRUCTS)
     same = rust_structs and rust_calls and rust_structs.items() <= c_structs.items() and rust_calls.items() <= c_calls.items()
     tally.check(same, "bindings/rust/src/raw.rs declares other than include/elfmap.h")
     own = {tag: getattr(_library, it)._fields_ for it, tag in STRUCTS.items() if hasattr(_library, it)}

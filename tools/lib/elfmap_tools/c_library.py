@@ -15,7 +15,7 @@ from dataclasses import replace
 
 from .building import built
 from .cases import Case, case_files, every_case
-from .library import BOTH, ENGINES, FUNCTIONS, NUMBERS, PACKERS, RENAMED, VERDICTS, c_type, calls, packed, structs
+from .library import BOTH, ENGINES, FUNCTIONS, NUMBERS, PACKERS, RENAMED, VERDICTS, calls, calls_in, packed, structs, structs_in
 from .reference import parsed, shown
 from .suite import SANITIZERS, Tally, Test, number
 from .dump import c_lines
@@ -29,9 +29,7 @@ MACHINE_FILES = ["/bin/true", "/bin/ls", "/lib/x86_64-linux-gnu/libc.so.6", "/us
 RESULTS = {VERDICTS: "bool", ENGINES: "uint32_t"}
 # The struct of the header that a program fills in itself.
 OF_PROGRAM = "elfmap_block"
-STRUCT = re.compile(r"`struct (elfmap_\w+)`[^\n]*\n#\[repr\(C\)\]\n#\[derive[^\n]*\npub struct (\w+) \{\n(.*?)^\}", re.M | re.S)
-EXPORT = re.compile(r'#\[unsafe\(no_mangle\)\]\npub extern "C" fn (\w+)\((.*?)\) -> (\w+)', re.S)
-FIELD = re.compile(r"^    pub (\w+): (.*),", re.M)
+STRUCT = re.compile(r"`struct (elfmap_\w+)`.*\n(?:#.*\n)*pub struct (\w+) ")
 
 # ---- the header beside the texts of the library
 
@@ -41,26 +39,16 @@ def text_of(crates: Iterable[str]) -> str:
     return "\n".join(read_text(it).replace("EI_NIDENT", "16") for crate in crates for it in texts_of(crate) if it.endswith(".rt"))
 
 
-def parameters(text: str, tags: dict[str, str]) -> list[str]:
-    """The types of the parameters of an export, as C has them: a slice is a pointer and a length; an allocator passes nothing in C."""
-    found = []
-    for kind in re.findall(r"\w+: ((?:&mut |&|)\[?(?!Global)\w+\]?)", text):
-        found += [c_type(kind, tags), *["size_t"] * ("[" in kind)]
-    return found
-
-
 def compare_header(tally: Tally) -> None:
     """The header and the texts of the library say the same: so the fields of a struct are at the same offsets."""
-    found = STRUCT.findall(text_of(it for it in libraries() if it == VERDICTS or it.startswith(f"{VERDICTS}_")))
-    tags = {name: tag for tag, name, _ in found}
-    shared = {tag: [(name, c_type(kind, tags)) for name, kind in FIELD.findall(body)] for tag, _, body in found}
-    declared = {tag: [(name, kind + f"[{count}]" * bool(count)) for kind, name, count in own] for tag, own in structs().items()}
+    text, declared = text_of(it for it in libraries() if it == VERDICTS or it.startswith(f"{VERDICTS}_")), structs()
+    tags = {name: tag for tag, name in STRUCT.findall(text)}
     del declared[OF_PROGRAM]
-    tally.same("the structs of the header", declared, shared)
+    tally.same("the structs of the header", declared, structs_in(text, tags))
     for crate, result in RESULTS.items():
-        exported = EXPORT.findall(text_of([crate]))
-        tally.same(f"the calls of {crate}", calls(result), {name: parameters(given, tags) for name, given, _ in exported})
-        tally.same(f"the results of {crate}", {NUMBERS[own] for _, _, own in exported}, {result})
+        text = text_of([crate])
+        tally.same(f"the calls of {crate}", calls(result), calls_in(text, tags))
+        tally.same(f"the results of {crate}", {NUMBERS[it] for it in re.findall(r" fn elfmap_\w+\([^)]*\) -> (\w+)", text)}, {result})
 
 
 def compare_names(tally: Tally, library: str, crate: str, needs: set[str], may_need: set[str]) -> None:

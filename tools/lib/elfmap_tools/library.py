@@ -15,6 +15,10 @@ FOLDER = f"{TOP}/crates/{VERDICTS}/out"
 LIBRARY = f"{FOLDER}/libelfmap.a"
 SHARED = "libelfmap.so.0"
 FUNCTIONS = ("alloc", "dealloc", "realloc")
+# Of a struct its fields, each with its type in C; of a call the types of its parameters; and the tags of structs by their other names.
+Structs = dict[str, list[tuple[str, str]]]
+Calls = dict[str, list[str]]
+Tags = dict[str, str]
 # Rust's and Rattle's numbers as C has them.
 NUMBERS = {f"{kind[0]}{width}": f"{kind}{width}_t" for kind in ("int", "uint") for width in (8, 16, 32, 64)}
 NUMBERS |= {"usize": "size_t", "bool": "bool"}
@@ -49,13 +53,14 @@ def header() -> str:
     return re.sub(r"/\*.*?\*/", "", read_text("include/elfmap.h"), flags=re.S)
 
 
-def structs() -> dict[str, list[tuple[str, str, str]]]:
-    """The structs that the header declares: of each field its type, its name, and its count if it is an array."""
+def structs() -> Structs:
+    """The structs that the header declares: of each field its name and its type."""
     bodies = re.findall(r"^struct (\w+) \{(.*?)^\};", header(), re.M | re.S)
-    return {tag: re.findall(r"((?:struct )?\w+)(?: \*| )(\w+)(?:\[(\d+)\])?;", body) for tag, body in bodies}
+    fields = {tag: re.findall(r"((?:struct )?\w+)(?: \*| )(\w+)(\[\d+\])?;", body) for tag, body in bodies}
+    return {tag: [(name, kind + count) for kind, name, count in own] for tag, own in fields.items()}
 
 
-def c_type(kind: str, tags: dict[str, str]) -> str:
+def c_type(kind: str, tags: Tags) -> str:
     """A type of Rust or Rattle as C has it, with the tags of structs by their names; a slice is a pointer, beside which C has a length."""
     ((pointer, name, count),) = re.findall(r"^(\*const |\*mut |&mut |&|)\[?(\w+)(?:; (\w+))?\]?$", kind)
     own = NUMBERS.get(name) or f"struct {tags[name]}"
@@ -64,7 +69,23 @@ def c_type(kind: str, tags: dict[str, str]) -> str:
     return f"{own}[{count}]" if count else own
 
 
-def calls(result: str = r"bool|uint32_t|void|struct \w+") -> dict[str, list[str]]:
+def structs_in(text: str, tags: Tags) -> Structs:
+    """The structs for C that a text in Rust or Rattle has."""
+    found = re.findall(r"^#\[repr\(C\)\]\n(?:#[^\n]*\n)?pub\S* struct (\w+) \{(.*?)^\}", text, re.M | re.S)
+    fields = {tags[name]: re.findall(r"^    pub (\w+): (.+),$", body, re.M) for name, body in found}
+    return {tag: [(name, c_type(kind, tags)) for name, kind in own] for tag, own in fields.items()}
+
+
+def calls_in(text: str, tags: Tags) -> Calls:
+    """The calls that it has, and the types of their parameters: a slice is a pointer and a length; an allocator passes nothing in C."""
+    found = Calls()
+    for name, given in re.findall(r" fn (elfmap_\w+)\((.*?)\) ->", text, re.S):
+        kinds = re.findall(r"\w+: (?!Global)([^,]+)", given)
+        found[name] = [it for kind in kinds for it in (c_type(kind, tags), *["size_t"] * ("[" in kind))]
+    return found
+
+
+def calls(result: str = r"bool|uint32_t|void|struct \w+") -> Calls:
     """The functions that the header declares, those with a result, and the types of their parameters."""
     found = re.findall(rf"^(?:{result}) \**(elfmap_\w+)\((.*?)\);", header(), re.M | re.S)
     return {name: [re.sub(r"\w+$", "", it.strip()).strip() for it in given.split(",")] for name, given in found}
