@@ -128,10 +128,7 @@ class Browser:
 
     def value(self, expression: str) -> Any:
         """What an expression is in the page."""
-        found = self.call("Runtime.evaluate", expression=expression, returnByValue=True, awaitPromise=True)
-        if "exceptionDetails" in found:
-            raise RuntimeError(f"{expression}: {found['exceptionDetails']}")
-        return found["result"].get("value")
+        return self.driver.execute_script("return eval(arguments[0])", expression)
 
     def wait(self, expression: str, seconds: float = 60) -> bool:
         """Waits until an expression is true: whether it is in time."""
