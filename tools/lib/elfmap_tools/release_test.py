@@ -1,14 +1,13 @@
 """`tools/test release`: packs a release of what is built twice, and unpacks the archive in an empty folder. There all of it has to work, with
 nothing on the PATH but /usr/bin and /bin. MOST_SECONDS of a processor have to be enough to pack it."""
 
-import glob, os, re, shutil, subprocess, sys
-from collections.abc import Mapping
+import glob, os, re, shutil, sys
 
 from .library import BOTH
 from .release import MAKERS, commands, pack, version_of
 from .shown_commands import broken_links
 from .suite import Tally, Test, steps_of
-from .tree import TOP, Options, Texts, files_below, read_bytes, read_text, said
+from .tree import Options, files_below, read_bytes, read_text, said
 
 VERSION = "0-test"
 NAME = f"elfmap-{VERSION}-x86_64-linux"
@@ -19,10 +18,6 @@ FILES = [
     *(f"bin/{it}" for it in commands()), *(f"share/man/man1/{it}.1" for it in commands()),
 ]  # fmt: skip
 PLAIN = {"PATH": "/usr/bin:/bin", "LC_ALL": "C.UTF-8", "MANWIDTH": "80"}
-
-
-def ran(*command: str, folder: str, env: Mapping[str, str] = PLAIN) -> Texts:
-    return subprocess.run(command, cwd=folder, env=env, stdin=subprocess.DEVNULL, capture_output=True, text=True, errors="replace")
 
 
 class Release:
@@ -39,10 +34,10 @@ class Release:
         seconds = sum(os.times()[:4]) - begun
         self.check(seconds < MOST_SECONDS, f"a release is packed in {seconds:.0f} s of a processor")
         self.check(read_bytes(first) == read_bytes(second), "the archive is another one the second time")
-        self.check(ran("tar", "xf", first, folder=f"{room}/empty").returncode == 0, "tar does not unpack the archive")
+        self.check(said("tar", "xf", first, folder=f"{room}/empty").returncode == 0, "tar does not unpack the archive")
         names = {it[len(self.folder) + 1 :] for it in files_below(self.folder)}
         # What git has in these folders; of the crate and the package without their tests.
-        listed = ran("git", "ls-files", "[A-Z]*.md", "docs", "rules", "bindings", "examples", folder=TOP).stdout.split()
+        listed = said("git", "ls-files", "[A-Z]*.md", "docs", "rules", "bindings", "examples").stdout.split()
         wanted = {*FILES, *(it for it in listed if not re.search(r"^bindings/(rust|python)/tests/|^bindings/[^/]*$", it))}
         self.check(names == wanted, f"the archive lacks {sorted(wanted - names)}, and has beyond that {sorted(names - wanted)}")
         self.check(self.text("VERSION") == f"{VERSION}\n", "the file VERSION has not the version")
@@ -50,8 +45,8 @@ class Release:
     def text(self, path: str) -> str:
         return read_text(f"{self.folder}/{path}")
 
-    def elfmap(self, *words: str) -> Texts:
-        return ran("./elfmap", *words, folder=self.folder)
+    def help(self, *words: str) -> str:
+        return said("./elfmap", *words, "--help", folder=self.folder, env=PLAIN).stdout
 
     def links(self) -> None:
         """The relative links of the archive's pages."""
@@ -61,13 +56,13 @@ class Release:
 
     def usage(self) -> None:
         """docs/MANUAL.md and the manual page have the usage of each command that the program has."""
-        listed = self.elfmap("--help").stderr.partition("Commands:")[2].partition("Options:")[0]
+        listed = self.help().partition("Commands:")[2].partition("Options:")[0]
         commands = re.findall(r"^  (\w+) ", listed, re.M)
         usages = re.findall(r"^    (elfmap (\w+) .*)", self.text("docs/MANUAL.md").partition("\n## The commands\n")[2], re.M)
         self.tally.same("the commands of docs/MANUAL.md, by the program", [it for _, it in usages], commands)
         synopsis = self.text("share/man/man1/elfmap.1").replace(r"\-", "-").partition("\n.SH DESCRIPTION\n")[0].splitlines()
         for usage, command in usages:
-            own = usage_by_help(self.elfmap(command, "--help").stderr)
+            own = usage_by_help(self.help(command))
             self.check(words_of(own) == words_of(usage), f"the program's usage is '{own}', and docs/MANUAL.md has '{usage}'")
             self.check(usage in synopsis, f"the manual page has not the usage '{usage}'")
 
@@ -75,8 +70,8 @@ class Release:
         """The crate's example by cargo, which builds outside of the archive."""
         path = f"{os.path.dirname(shutil.which('cargo') or '')}:{PLAIN['PATH']}"
         env = {**os.environ, "PATH": path, "CARGO_TARGET_DIR": f"{self.room}/target"}
-        built = ran("cargo", "build", "--frozen", "--example", "symbols", folder=f"{self.folder}/bindings/rust", env=env)
-        self.check(built.returncode == 0, f"cargo build: {built.stderr}")
+        built = said("cargo", "build", "--frozen", "--example", "symbols", folder=f"{self.folder}/bindings/rust", env=env)
+        self.check(built.returncode == 0, f"cargo build: {built.stdout}")
 
     def steps(self) -> None:
         """What a shell tries."""
