@@ -197,13 +197,12 @@ def with_impls(item: Item, crate: str) -> Item:
 # ---- what a crate shows
 
 
-def shown_by(path: str) -> Iterator[tuple[int, str, str]]:
-    """What a file shows of others by `pub use`: each name with its path, and in front the offset of the line."""
-    for line in re.finditer(r"^pub use (?:([\w:]+)::\{([^}]*)\}|([\w:]+(?: as \w+)?));", read_text(path), re.M):
-        for word in (line[2] or line[3]).split(","):
-            place, _, alias = word.strip().partition(" as ")
-            if place:
-                yield line.start(), alias or place.rsplit("::", 1)[-1], f"{line[1]}::{place}" if line[1] else place
+def shown_by(path: str) -> Iterator[tuple[str, str]]:
+    """What a file shows, modules of its own and what others have: each name with its path."""
+    for line in re.finditer(r"^pub (?:use ([\w:]+)::\{([^}]*)\}|(?:use|mod) ([\w:]+(?: as \w+)?));", read_text(path), re.M):
+        for word in filter(None, map(str.strip, (line[2] or line[3]).split(","))):
+            place, _, alias = word.partition(" as ")
+            yield alias or place.rsplit("::", 1)[-1], f"{line[1]}::{place}" if line[1] else place
 
 
 def module_file(crate: str, words: tuple[str, ...]) -> str:
@@ -211,18 +210,13 @@ def module_file(crate: str, words: tuple[str, ...]) -> str:
     return f"crates/{crate}/src/{'/'.join(words or ('lib',))}.rt"
 
 
-def home_of(crate: str, words: tuple[str, ...], place: str) -> tuple[str, str]:
-    """The crate and the file in which the item of a path is defined, as a module of a crate names it."""
-    first, *rest, name = place.split("::")
-    is_other = os.path.isdir(f"{TOP}/crates/{first}")
-    crate, words = (first, tuple(rest)) if is_other else (crate, (*words, first, *rest))
+def home_of(crate: str, words: tuple[str, ...], place: str) -> tuple[str, str, str]:
+    """The crate and the file in which the item of a path is defined, as a module of a crate names it, and its name there."""
+    *rest, name = place.split("::")
+    is_other = bool(rest) and os.path.isdir(f"{TOP}/crates/{rest[0]}")
+    crate, words = (rest[0], tuple(rest[1:])) if is_other else (crate, (*words, *rest))
     path = module_file(crate, words)
-    if name in source(path)[1]:
-        return crate, path
-    for _, shown, further in shown_by(path):
-        if shown == name:
-            return home_of(crate, words, further)
-    raise LookupError(f"{path}: there is no {name}")
+    return (crate, path, name) if name in source(path)[1] else home_of(crate, words, dict(shown_by(path))[name])
 
 
 @functools.cache
@@ -239,21 +233,14 @@ def module(crate: str, words: tuple[str, ...]) -> Item:
     path = module_file(crate, words)
     front, items, _, _ = source(path)
     members = [it for it in items.values() if it.kind in ("const", "fn")]
-    for _, shown, place in shown_by(path):
-        members.append(replace(item_of_place(crate, words, place), name=shown, text=[f"pub mod {shown}"]))
+    for shown, place in shown_by(path):
+        members.append(replace(item_at(*home_of(crate, words, place)), name=shown, text=[f"pub mod {shown}"]))
     return Item("mod", words[-1], path, front, [f"pub mod {words[-1]}"], members=members)
-
-
-def item_of_place(crate: str, words: tuple[str, ...], place: str) -> Item:
-    return item_at(*home_of(crate, words, place), place.rsplit("::", 1)[-1])
 
 
 def items_of(crate: str) -> Iterator[Item]:
     """The items that a crate shows, in the order of its lib.rt."""
-    path = module_file(crate, ())
-    modules = [(line.start(), line[1], None) for line in re.finditer(r"^pub mod (\w+);", read_text(path), re.M)]
-    for _, shown, place in sorted([*modules, *shown_by(path)], key=lambda it: it[0]):
-        yield item_of_place(crate, (), place) if place else item_at(crate, path, shown)
+    return (item_at(*home_of(crate, (), place)) for _, place in shown_by(module_file(crate, ())))
 
 
 # ---- the definitions
