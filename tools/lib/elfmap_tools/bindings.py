@@ -40,8 +40,7 @@ def declarations(tally: Tally) -> None:
 
 def count_run(tally: Tally, ran: Texts, passed: int, failed: int) -> None:
     """What a run of tests counted. One that ends otherwise has failed, and what it said is printed."""
-    if ran.returncode and not failed:
-        failed = 1
+    failed = failed or int(ran.returncode != 0)
     tally.count(passed + failed, [ran.stdout] * bool(failed) + ["the same"] * (failed - 1))
 
 

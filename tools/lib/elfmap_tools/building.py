@@ -156,13 +156,12 @@ class Build:
         """Builds the program, or the library for C."""
         crate, out = self.target, f"{TOP}/crates/{self.target}/out"
         os.makedirs(out, exist_ok=True)
-        command, toolchain = [f"{kit()}/bin/rattle", "build"], ["--toolchain", f"{kit()}/toolchain"]
+        command = [f"{kit()}/bin/rattle", "build", *words(crate, folder_of), "--toolchain", f"{kit()}/toolchain"]
         if is_program(crate):
-            jobs = ["--jobs", str(min(MOST_JOBS, PROCESSORS))]
-            run([*command, *words(crate, folder_of), *toolchain, *jobs, "-o", f"{out}/{crate}.o"], crate)
+            run([*command, "--jobs", str(min(MOST_JOBS, PROCESSORS)), "-o", f"{out}/{crate}.o"], crate)
             run(link_words(f"{out}/{crate}", f"{out}/{crate}.o"), crate)
         elif crate in static_libraries():
-            run([*command, *words(crate, folder_of), *toolchain, "-o", f"{out}/lib{crate}.a"], crate)
+            run([*command, "-o", f"{out}/lib{crate}.a"], crate)
 
     def all(self) -> None:
         os.makedirs(RLIBS, exist_ok=True)

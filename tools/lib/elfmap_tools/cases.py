@@ -248,14 +248,9 @@ def objects_that_link(chance: Chance) -> list[bytes]:
     """The files of one object to three that link, mostly with some bytes and a name to begin at."""
     for _ in range(300):
         found = objects_to_link(chance)
-        if entries(found) and not mapped(found, *PLACES[0], RULES[0]).startswith(("refused ", "file ")):
+        if entries_of(found) and not mapped(found, *PLACES[0], RULES[0]).startswith(("refused ", "file ")):
             break
     return found
-
-
-def entries(contents: list[bytes]) -> list[str]:
-    """The names of the files that a program may begin at."""
-    return [it.decode("ascii") for it in entries_of(contents) if it.isalpha()]
 
 
 def files_to_link(text: Text, kind: str, made: Callable[[Chance], list[bytes]]) -> Iterator[tuple[Chance, dict[str, bytes]]]:
@@ -280,7 +275,7 @@ def executable_cases(text: Text) -> None:
     for chance, files in files_to_link(text, "executable", objects_that_link):
         base, page = chance.choice(PLACES[:2] * 4 + PLACES)
         rules = chance.choice((RULES[0], *RULES))
-        entry = chance.choice(entries([*files.values()]) * 4 + ["main", "x"])
+        entry = chance.choice(entries_of([*files.values()]) * 4 + ["main", "x"])
         text.case(f"link --base {base} --page {page} --entry {entry} --rules r {' '.join(files)}", {**files, "r": rules})
 
 

@@ -1,7 +1,7 @@
 """`tools/test real-files` and `tools/test real-objects`: files of this machine. A part of them is tried, the same each time: those whose
 paths have the least sums."""
 
-import contextlib, hashlib, os, re, shutil, tempfile
+import contextlib, hashlib, os, re, tempfile
 from collections import Counter
 from collections.abc import Iterable, Iterator
 from itertools import chain, product
@@ -13,7 +13,7 @@ from elfmap._sources import Unreadable, opened
 from .building import output_of
 from .reference import GROUP, NOBITS, REL, RELA, File, kept, string
 from .suite import Tally, Test, number
-from .tree import PROGRAM, TOP, Options, ending, files_below, read_bytes, run, side_by_side, write
+from .tree import PROGRAM, Options, compiled, ending, files_below, read_bytes, run, side_by_side, write
 
 ELF_64 = b"\x7fELF\x02"
 
@@ -90,17 +90,8 @@ def content_of(place: Place) -> bytes:
 SOURCES = ("main.c", "part.c", "templates.cc", "many.s")
 # Several ways of compiling, with debugging sections and many sections among them.
 WAYS = ("-O0", "-O2 -g", "-Os -ffunction-sections -fdata-sections", "-O2 -fPIC -fcommon")
-
-
-def compiled(folder: str) -> Iterator[str]:
-    """What the compilers make of the sources."""
-    for name in SOURCES[:3]:
-        shutil.copy(f"{TOP}/cases/sources/{name}", folder)
-    write(f"{folder}/many.s", "".join(f'.section s{i},"ax"\nnop\n' for i in range(500)))
-    for (way, words), compiler, name in product(enumerate(WAYS), ("gcc", "clang"), SOURCES):
-        out = f"{folder}/{name}.{compiler}.{way}.o"
-        if run(compiler, *words.split(), "-c", f"{folder}/{name}", "-o", out).returncode == 0:
-            yield out
+MADE = product(enumerate(WAYS), ("gcc", "clang"), SOURCES)
+BUILDS = [f"{compiler} {words} -c {name} -o {name}.{compiler}.{way}.o" for (way, words), compiler, name in MADE]
 
 
 def sections(data: bytes) -> list[tuple[int, Any]]:
@@ -190,6 +181,7 @@ ABOUT = "objects of this machine and its compilers through `rewrite`, beside rea
 def real_objects(tally: Tally, options: Options) -> None:
     below = [it for it in files_below("/usr/lib") if it.endswith((".o", ".a"))]
     found = {f"{path}({at})": (path, at, size) for it in below for path, at, size in objects_of(it)}
-    objects = [place for path in compiled(tally.folder) for place in objects_of(path)] + [found[it] for it in some(found, options)]
+    write(f"{tally.folder}/many.s", "".join(f'.section s{i},"ax"\nnop\n' for i in range(500)))
+    objects = [place for path in compiled(tally.folder, BUILDS) for place in objects_of(path)] + [found[it] for it in some(found, options)]
     count_ends(tally, side_by_side(try_object, objects), r"written|refused by rule \d+")
     tally.count(len(WAYS), linked(tally.folder))

@@ -8,19 +8,17 @@ The others are of two objects that are linked, and of the rules of rules/x86-64.
 of the rules is an error of status 2, a file that is not there one of status 3; else all say what the reference says, and `check` accepts
 what `link` wrote. The same seed makes the same files. What went wrong is put into the current folder, as fuzzed-SEED-K."""
 
-import os, random, re, shutil, subprocess
-from collections.abc import Iterable
+import os, random, re, subprocess
 from functools import partial
 from itertools import zip_longest
 
 from .making import Chance, a_file, fuzzed
 from .reference import RELA, answer
 from .suite import Tally, Test, count_tries, number
-from .tree import PROGRAM, RULES, TOP, Answer, Options, answer_of, ending, read_bytes, run as run_command, write
+from .tree import PROGRAM, RULES, Answer, Options, answer_of, compiled, ending, read_bytes, run as run_command, write
 
 run = partial(run_command, timeout=10)
 LONGEST = 1 << 19
-SOURCES = ("defining.c", "templates.cc", "caller.c", "held.rs", "parts.s")
 BIG = "--target=powerpc64-unknown-linux-gnu"
 BUILDS = (
     "gcc -c -g defining.c -o part.o",
@@ -36,13 +34,6 @@ BUILDS = (
 )
 PAIR = tuple(f"gcc -c -O1 -fno-pic -fno-pie -fcommon {it}.c -o linked-{it}.o" for it in ("caller", "defining"))
 SYSTEM = ("/usr/lib/x86_64-linux-gnu/crt1.o", "/usr/lib/x86_64-linux-gnu/libutil.so.1", "/usr/bin/true")
-
-
-def built(folder: str, builds: Iterable[str]) -> list[str]:
-    """What the machine's compilers make of the sources."""
-    for it in builds:
-        run_command(*it.split(), folder=folder)
-    return [path for path in (f"{folder}/{it.split()[-1]}" for it in builds) if os.path.exists(path)]
 
 
 def fuzzed_rules(rules: bytes, chance: Chance) -> bytes:
@@ -139,10 +130,8 @@ ABOUT, COMPILERS = "files and links with fields changed, beside the reference im
 
 @Test("mutants", ABOUT, commands=COMPILERS, crates="elfmap", alone=True, family="fuzz", options=OPTIONS)
 def mutants(tally: Tally, options: Options) -> None:
-    for it in SOURCES:
-        shutil.copy(f"{TOP}/cases/sources/{it}", tally.folder)
     system = [it for it in SYSTEM if os.path.exists(it) and os.path.getsize(it) <= LONGEST]
-    files, pair = [*built(tally.folder, BUILDS), *system], built(tally.folder, PAIR)
+    files, pair = [*compiled(tally.folder, BUILDS), *system], compiled(tally.folder, PAIR)
     if not tally.check(files and len(pair) == 2, "the compilers make no files"):
         return
     count_tries(tally, options, "fuzzed", partial(wrong_in, files, pair))

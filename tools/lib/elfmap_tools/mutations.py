@@ -10,7 +10,7 @@ must-fail/, which costs a check of its crate. In the gate only those with the li
 has just left them. A library of the program that has none of them, and no edit in must-fail/ either, has failed: nothing shows there that
 its contracts refuse a wrong body."""
 
-import os, re, shutil, tempfile
+import glob, os, re, shutil, tempfile
 from collections import Counter
 from collections.abc import Iterable
 from concurrent.futures import ThreadPoolExecutor, as_completed
@@ -69,9 +69,8 @@ def bugs_of(crate: str) -> list[Edit]:
 
 def must_fail_of(crate: str) -> list[Edit]:
     """The edits in must-fail/ of a crate."""
-    path = f"{TOP}/crates/{crate}/must-fail"
-    names = sorted(it for it in os.listdir(path) if it.endswith(".edit")) if os.path.isdir(path) else []
-    return [Edit(crate, name, read_text(f"{path}/{name}"), False) for name in names]
+    paths = sorted(glob.glob(f"{TOP}/crates/{crate}/must-fail/*.edit"))
+    return [Edit(crate, os.path.basename(it), read_text(it), False) for it in paths]
 
 
 # ---- what the check says of planted bugs

@@ -41,10 +41,11 @@ def mapped(contents: Sequence[bytes], base: str, page: str, rules: bytes | None 
     return str(link.map_lines(contents, int(base, 0), int(page, 0), None if rules is None else link.rules_of(rules)))
 
 
-def entries_of(contents: Sequence[bytes]) -> list[bytes]:
-    """The names of the files that an executable may begin at."""
+def entries_of(contents: Sequence[bytes]) -> list[str]:
+    """The names of the files, of letters alone, that an executable may begin at."""
     _, it = link.judged(contents, 0x400000, 0x1000)
-    return [name for name in it.entries if link.value_of(it, it.at, it.common_at, name)[1] != "zero"] if hasattr(it, "at") else []
+    names = [name for name in it.entries if link.value_of(it, it.at, it.common_at, name)[1] != "zero"] if hasattr(it, "at") else []
+    return [name.decode("ascii") for name in names if name.isalpha()]
 
 
 def parsed(words: Sequence[str]) -> tuple[dict[str, str], list[str]]:

@@ -1,6 +1,6 @@
 """The folders of the repository, its crates, and what every tool does: read and write files, run commands, show that it still runs."""
 
-import argparse, contextlib, functools, os, re, subprocess, sys, threading, time
+import argparse, contextlib, functools, os, re, shutil, subprocess, sys, threading, time
 from collections.abc import Callable, Iterable, Iterator, Mapping
 from concurrent.futures import ProcessPoolExecutor, ThreadPoolExecutor
 from typing import Any, TypeVar
@@ -83,6 +83,14 @@ def by_cc(path: str, words: str, source: str) -> str:
     """Makes a file of one of cases/sources/ by cc: its path."""
     wanted("cc", *words.split(), f"{TOP}/cases/sources/{source}", "-o", path)
     return path
+
+
+def compiled(folder: str, commands: Iterable[str]) -> list[str]:
+    """Runs compilers in a folder with cases/sources/: what they made, by the last word of each command."""
+    shutil.copytree(f"{TOP}/cases/sources", folder, dirs_exist_ok=True)
+    for it in commands:
+        run(*it.split(), folder=folder)
+    return [path for path in (f"{folder}/{it.split()[-1]}" for it in commands) if os.path.exists(path)]
 
 
 def side_by_side(function: Callable[[T], R], items: Iterable[T], by_processes: bool = False) -> list[R]:
