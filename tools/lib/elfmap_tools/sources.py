@@ -3,6 +3,7 @@
 import functools, os, re, textwrap
 from collections.abc import Iterator
 from dataclasses import dataclass, field, replace
+from itertools import takewhile
 
 from .tree import TOP, libraries, read_text, texts_of
 
@@ -13,7 +14,7 @@ Uses = dict[str, tuple[str, str]]
 # The public crates, in the order of the table at the head of the crate `elf`.
 PUBLIC_CRATES = [it for it in re.findall(r"^//! \| \[`(\w+)`\]", read_text("crates/elf/src/lib.rt"), re.M) if f"elf_{it}" in libraries()]
 HEAD = re.compile(r"pub (fn|struct|enum|trait|const|mod|type) (\w+)")
-CLAUSE = re.compile(r"(requires|ensures)\b")
+CLAUSE = re.compile(r" *(requires|ensures)\b")
 # What holds no bracket that counts: strings, characters, comments.
 LITERAL = re.compile(r"""b?"(?:\\.|[^"\\])*"|b?'(?:\\.[^']*|[^'\\])'|//.*""")
 WORD = re.compile(r"(?<![\w.])[^\W\d]\w*")
@@ -92,20 +93,12 @@ def unindented(lines: list[str]) -> list[str]:
 
 def signature_and_clauses(text: list[str]) -> tuple[list[str], list[str]]:
     """A function's signature, and the clauses after it."""
-    head, clauses = list[str](), list[list[str]]()
-    for line in text:
-        word = line.strip()
-        if word in ("{", "{}", ";") or (not clauses and word == "where"):
-            break
-        if CLAUSE.match(word):
-            clauses.append([line])
-        elif clauses:
-            clauses[-1].append(line)
-        else:
-            head.append(line.removesuffix(" {"))
-            if line.endswith(" {"):
-                break
-    return unindented(head), ["\n".join(unindented(it)).removesuffix(";") for it in clauses]
+    lines = list(takewhile(lambda it: it.strip() not in ("{", "{}", ";"), text))
+    count = next((k for k, it in enumerate(lines) if CLAUSE.match(it) or it.endswith(" {") or it.strip() == "where"), len(lines))
+    if count == len(lines) or not CLAUSE.match(lines[count]):
+        return unindented([it.removesuffix(" {") for it in lines[: count + 1] if it.strip() != "where"]), []
+    clauses = re.split(r"\n(?= *(?:requires|ensures)\b)", "\n".join(lines[count:]))
+    return unindented(lines[:count]), ["\n".join(unindented(it.split("\n"))).removesuffix(";") for it in clauses]
 
 
 def imports(text: str) -> Uses:
