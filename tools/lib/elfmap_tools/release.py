@@ -50,6 +50,7 @@ FILES = """README.md CONTRIBUTING.md CHANGELOG.md SECURITY.md docs/* rules/*.rul
     bindings/rust/Cargo.lock bindings/rust/Cargo.toml bindings/rust/README.md bindings/rust/build.rs bindings/rust/examples/*
     bindings/rust/src/* bindings/python/README.md bindings/python/pyproject.toml bindings/python/examples/* bindings/python/elfmap/*.py
     bindings/python/elfmap/py.typed""".split()
+PLAIN_MODE = "u=rwX,go=rX"
 # The commands, and what Debian's python3 imports, by which all of it is made.
 MAKERS = f"{PACKERS} {JINJA2} {MARKDOWN} pandoc wasm-opt"
 LINK = re.compile(r"(?<!!)\[((?:`[^`]*`|[^\]`])*)\]\((?!https?:|#)([^)#\s]+)[^)]*\)")
@@ -165,10 +166,9 @@ def put_release(folder: str, version: str) -> None:
 def archived(folder: str, path: str) -> str:
     """Packs a folder as a compressed archive, which is the same for the same files: its path."""
     parent, name = os.path.split(folder)
-    owner = ["--sort=name", "--owner=0", "--group=0", "--numeric-owner", "--mode=u=rwX,go=rX", f"--mtime=@{epoch()}"]
-    wanted("tar", "-C", parent, "--format=gnu", *owner, "-cf", f"{folder}.tar", name)
-    wanted("gzip", "-9n", f"{folder}.tar")
-    return str(shutil.move(f"{folder}.tar.gz", path))
+    owner = ["--sort=name", "--owner=0", "--group=0", "--numeric-owner", f"--mode={PLAIN_MODE}", f"--mtime=@{epoch()}"]
+    wanted("tar", "-C", parent, "--format=gnu", *owner, "-I", "gzip -9n", "-cf", os.path.abspath(path), name)
+    return path
 
 
 def pack(folder: str, given: str | None = None) -> str:
@@ -267,12 +267,9 @@ PACKAGES = {
 
 
 def settle(root: str) -> None:
-    """Gives a folder and each file below it the time of the commit and plain permissions."""
-    for at, _, names in os.walk(root):
-        for path in (at, *(f"{at}/{it}" for it in names)):
-            if not os.path.islink(path):
-                os.chmod(path, 0o755 if os.access(path, os.X_OK) else 0o644)
-            os.utime(path, (epoch(), epoch()), follow_symlinks=False)
+    """Gives a folder and each file below it plain permissions and the time of the commit."""
+    wanted("chmod", "-R", PLAIN_MODE, root)
+    wanted("find", root, "-exec", "touch", "-hd", f"@{epoch()}", "{}", "+")
 
 
 def deb(name: str, tree: str, folder: str, version: str) -> None:
