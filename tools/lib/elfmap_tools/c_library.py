@@ -1,13 +1,8 @@
 """`tools/test c-library`: the libraries for C, of the crates elf_c (verdicts, records and tables, without memory) and elf_c_engines (show,
-rewrite, map and link, with the three functions of memory under the names that include/elfmap.h gives them):
-
-- each struct of the header has the fields of the library's struct, of their types and in their order, and each call its parameters and its
-  result; the libraries export what the header declares, by names that begin with `elfmap_`, and need nothing, or the three functions
-  and some of C's on bytes;
-- bindings/c/test.c passes, and says of each file of cases/*.txt, and of some of the machine's own, what the reference implementation says;
-- bindings/c/engines.c passes, and answers what each case of the commands show, rewrite, map and link says.
-
-They are compiled by cc, and by clang with its checks of addresses and of undefined behavior, and the header by c++ too."""
+rewrite, map and link, with the three functions of memory under the names that include/elfmap.h gives them), beside the header. By cc, and
+by clang with its checks of addresses and of undefined behavior, bindings/c/test.c passes, and says of each file of cases/*.txt, and of
+some of the machine's own, what the reference implementation says; and bindings/c/engines.c answers what each case of the commands show,
+rewrite, map and link says. C++ takes the header too."""
 
 import os, re
 from collections.abc import Iterable

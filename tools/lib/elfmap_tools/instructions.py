@@ -1,9 +1,6 @@
 """`tools/test instructions`: counts the instructions of each command on generated files (bench/made.py), and compares the counts with the
-numbers in bench/instructions. So a command that got slower fails on a busy machine too, where seconds say little.
-
-A row is a command and its input. It fails if its count is more than 3 % above its stored number, if no number is stored, or if the command
-does not end with status 0. A stored number without a row fails, and so does a command of `elfmap --help` without a row. `--store` stores
-the counts, if every command ended with status 0.
+numbers in bench/instructions, which `--store` stores (docs/PERFORMANCE.md). A row is a command and its input. It fails if its count is more
+than PERCENT above its number, or has none; and so do a number without a row, and a command of `elfmap --help` without one.
 
 valgrind counts (its tool callgrind). It interprets the program, so the same run always has the same count. The program runs in its own
 folder, with relative names, the same environment, and the same routines of the C library on every processor. With another version of the C

@@ -1,17 +1,14 @@
-"""The tests `tools/test linked`: what `elfmap map --rules` and `elfmap link` make, beside the system's `ld` and where it runs.
+"""The tests `tools/test linked`: what `elfmap map --rules` and `elfmap link` make, beside the system's `ld` and where it runs. What
+docs/RULE_FILES.md does not say of them:
 
 - linked-like-ld: elfmap maps a program of three C files, and ld links them by a script made of the map's lines `output` and `common`: each
   output section at its address, its members in order. Then ld has the same sections, each live one with the same bytes, and each name with
   the same value; and where the program does not fit its addresses, ld refuses it too. The files are made without what ld edits itself:
   strings to be merged, and .eh_frame, which is renamed. From 2^63 on ld counts modulo 2^64: that is left out.
-- linked-runs: programs of C and C++, and of C over Debian's klibc, with the objects of its archive that they need, print and end the same
-  by ld and by elfmap; the executable is the reference's, and `check`, readelf and eu-elflint accept it.
-- linked-elsewhere: the same by qemu, for the other machines of rules/ that it has. The program reads numbers through addresses and
-  differences of each kind that data have; code there reaches what is elsewhere by kinds that no rule says (docs/RULE_FILES.md), so the
-  addresses that it needs are beside it.
-- linked-kinds: for each file of rules an object has fields of each kind that docs/RULE_FILES.md names, with numbers near both ends of their
-  range, and the machine's `ld` puts the same bytes there.
-- made-programs, in made_programs.py."""
+- linked-runs: a program over Debian's klibc has the objects of its archive that it needs; each executable is the reference's, and `check`,
+  readelf and eu-elflint accept it.
+- linked-elsewhere: the program reads numbers through addresses and differences of each kind that data have; code there reaches what is
+  elsewhere by kinds that no rule says, so the addresses that it needs are beside it."""
 
 import glob, os, re
 from collections import Counter

@@ -1,9 +1,8 @@
-"""Mutation tests: the check has to refuse each bug, at the function that it is planted in.
+"""Mutation tests: the check has to refuse each bug of crates/CRATE/mutations.txt (CONTRIBUTING.md), at the function that it is planted in.
 
-A bug is a paragraph of crates/CRATE/mutations.txt: `[NAME]`, `function: PATH`, the function as the check names it, without the crate, which
-must not be proved with the bug, and the lines of an edit, `file:`, `old:` and `new:`. Bugs are planted several at a time, each in a
-function of its own. If a check cannot tell, because all that it has against a function is that it calls another one that is open too, or
-because proof files name what the bug took away, the next check decides, and at last one of this bug alone.
+Bugs are planted several at a time, each in a function of its own. If a check cannot tell, because all that it has against a function is
+that it calls another one that is open too, or because proof files name what the bug took away, the next check decides, and at last one of
+this bug alone.
 
 A check reads only the functions that have a bug, and those that they call: that is why it takes less than `rt ci` does for an edit in
 must-fail/, which costs a check of its crate. In the gate only those with the line `gate: yes` are planted, over the libraries as `rt ci`

@@ -3,21 +3,13 @@
 A command is a line of a code block that begins with `$ `, or with `>>> ` for Python; below it are the lines that it prints, on standard
 output and standard error. There a line `..` means lines left out, and ` ..` at the end of a line the rest of it. A page's commands run in
 its order in a folder of their own. That is a release of the version VERSION, unpacked, whose bin/ is on the PATH, with its archive and the
-folders that the repository alone has. Commands within prose are not looked at.
+folders that the repository alone has. Commands within prose are not looked at. Skipped are those of SKIPPED, and those of a page of which
+one needs a tool of another version than README.md names, or a file of the machine of another length.
 
-Skipped are the commands of SKIPPED, by their text, and those of a page of which one needs a tool of another version than README.md names,
-or a file of the machine of another length. A code line that begins as a command does has to have its `$ `, and the tools that a page names
-and what it links to have to be there.
-
-`tools/test pages`: how long the sentences of the pages are. Tables, code, headings and the targets of links are no prose.
-
-A page whose sentences have a median of more than MEDIAN words fails, and so do all pages together above WORDS words. Of each page the test
-prints its words, its median, and its sentences of more than LONG_SENTENCE words. What is generated from the crates or is all tables has no
-median (TABLES), but its prose counts.
-
-A fenced block whose first line names a file quotes it: the file has to have these lines. Each `tools/test NAME` has to be a test. README.md
-has at most README_LINES lines, and its two commands in the first screen. A proof file of more than PROOF_LINES lines opens with a comment,
-its idea."""
+`tools/test pages`: how long the sentences of the pages are, those of each page (MEDIAN), but for what is generated or is all tables
+(TABLES), and all of them together (WORDS). Code, headings and the targets of links are no prose. A fenced block whose first line names a
+file quotes it: the file has to have these lines. README.md has its two commands in the first screen. A proof file of more than PROOF_LINES
+lines opens with a comment, its idea."""
 
 import glob, os, re, shutil, statistics, sys
 from collections.abc import Iterator
