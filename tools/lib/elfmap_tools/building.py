@@ -6,7 +6,7 @@ from collections.abc import Callable, Iterable
 from concurrent.futures import Future, ThreadPoolExecutor
 
 from .tree import (
-    PROCESSORS, TOP, Options, below, deps, is_newer, is_program, libraries, read_bytes, read_text, said, static_libraries, texts_of,
+    LIBRARIES_OF, PROCESSORS, STATIC_LIBRARIES, TOP, Options, below, deps, is_newer, is_program, read_bytes, read_text, said, texts_of,
     write,
 )  # fmt: skip
 
@@ -29,7 +29,7 @@ def version() -> str:
 @functools.cache
 def sum_of(crate: str) -> str:
     """A sum of all that a library is built from: the kit, its texts, and those of the libraries below it."""
-    found = hashlib.sha256(f"{version()} {libraries()[crate]}".encode())
+    found = hashlib.sha256(f"{version()} {LIBRARIES_OF[crate]}".encode())
     for path in texts_of(crate):
         found.update(f"{path[len(TOP):]} {os.path.getsize(path)} ".encode() + read_bytes(path))
     for dep in deps(crate):
@@ -62,12 +62,12 @@ def words(crate: str, folder_of: FolderOf) -> list[str]:
     """The words with which `rattle check` and `rattle build` read a crate. `folder_of` returns the folder of the rlib of a crate below it."""
     rlibs = {name: folder_of(name) for name in below(crate)}
     found = ["--crate-name", crate, "src/main.rt" if is_program(crate) else "src/lib.rt"]
-    for name in ["std", *libraries()[crate]]:
+    for name in ["std", *LIBRARIES_OF[crate]]:
         found += ["--extern", f"{name}={rlibs.get(name, f'{kit()}/rlibs')}/{name}.rlib"]
     for folder in dict.fromkeys([f"{kit()}/rlibs", *rlibs.values()]):
         found += ["-L", f"dependency={folder}"]
     found += ["--antt-project", f"{kit()}/rattle/logic/antt-project.json"]
-    if crate in static_libraries():
+    if crate in STATIC_LIBRARIES:
         found += ["--crate-type", "staticlib"]
     return [*found, "--logic-built", f"{kit()}/logic_built", "--links", f"{crate}="]
 
@@ -160,7 +160,7 @@ class Build:
         if is_program(crate):
             run([*command, "--jobs", str(min(MOST_JOBS, PROCESSORS)), "-o", f"{out}/{crate}.o"], crate)
             run(link_words(f"{out}/{crate}", f"{out}/{crate}.o"), crate)
-        elif crate in static_libraries():
+        elif crate in STATIC_LIBRARIES:
             run([*command, "-o", f"{out}/lib{crate}.a"], crate)
 
     def all(self) -> None:
@@ -182,7 +182,7 @@ class Build:
 
 def output_of(crate: str) -> str:
     """The path of the program or the library for C that is built of a crate."""
-    return f"{TOP}/crates/{crate}/out/" + (f"lib{crate}.a" if crate in static_libraries() else crate)
+    return f"{TOP}/crates/{crate}/out/" + (f"lib{crate}.a" if crate in STATIC_LIBRARIES else crate)
 
 
 def built(crate: str) -> str:

@@ -14,7 +14,7 @@ from .library import BOTH, ENGINES, FUNCTIONS, NUMBERS, PACKERS, RENAMED, VERDIC
 from .reference import parsed, shown
 from .suite import SANITIZERS, Tally, Test, number
 from .dump import c_lines
-from .tree import PROCESSORS, TOP, Options, by_cc, libraries, read_bytes, read_text, said, side_by_side, texts_of, wanted, write
+from .tree import LIBRARIES_OF, PROCESSORS, TOP, Options, by_cc, read_bytes, read_text, said, side_by_side, texts_of, wanted, write
 
 C = f"{TOP}/bindings/c"
 WARNINGS = ["-std=c99", "-pedantic", "-Wall", "-Wextra", "-Werror", f"-I{TOP}/include"]
@@ -36,7 +36,7 @@ def text_of(crates: Iterable[str]) -> str:
 
 def compare_header(tally: Tally) -> None:
     """The header and the texts of the library say the same: so the fields of a struct are at the same offsets."""
-    text, declared = text_of(it for it in libraries() if it == VERDICTS or it.startswith(f"{VERDICTS}_")), structs()
+    text, declared = text_of(it for it in LIBRARIES_OF if it == VERDICTS or it.startswith(f"{VERDICTS}_")), structs()
     tags = {name: tag for tag, name in STRUCT.findall(text)}
     del declared[OF_PROGRAM]
     tally.same("the structs of the header", declared, structs_in(text, tags))

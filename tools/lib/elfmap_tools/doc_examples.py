@@ -15,7 +15,7 @@ from dataclasses import dataclass
 from . import sources
 from .building import kit
 from .suite import Tally, Test
-from .tree import TOP, Options, below, is_program, libraries, read_text, said, write
+from .tree import LIBRARIES_OF, TOP, Options, below, is_program, read_text, said, write
 
 GIVEN = {
     "rt": "&(impl Abort + Print)", "alloc": "Global", "hasher": "BuildHasherDefault<FoldHasher>", "reader": "impl Read + Drop",
@@ -70,11 +70,11 @@ def words(crates: list[str]) -> list[str]:
     """The words with which `rattle check` reads the examples over the sources of these crates and of those below them."""
     found = ["check", "--crate-name", "doc_examples", "src/lib.rt", "--only", ""]
     crates = list(dict.fromkeys(it for crate in crates for it in [*below(crate), crate]))
-    of_kit = {it for crate in crates for it in libraries()[crate] if it not in libraries()}
+    of_kit = {it for crate in crates for it in LIBRARIES_OF[crate] if it not in LIBRARIES_OF}
     for name in ["core", "std", *sorted(of_kit)]:
         found += ["--extern", f"{name}={kit()}/rlibs/{name}.rlib"]
     for crate in crates:
-        found += ["--lib", f"{crate}:{','.join(['core', 'std', *libraries()[crate]])}={TOP}/{root_of(crate)}"]
+        found += ["--lib", f"{crate}:{','.join(['core', 'std', *LIBRARIES_OF[crate]])}={TOP}/{root_of(crate)}"]
     found += ["-L", f"dependency={kit()}/rlibs", "--antt-project", f"{kit()}/rattle/logic/antt-project.json"]
     return [*found, "--logic-built", f"{kit()}/logic_built"]
 
@@ -99,7 +99,7 @@ def faults_of(examples: list[Example], room: str) -> dict[Example, list[str]]:
 
 @Test("doc-examples", "each example in a doc comment compiles")
 def doc_examples(tally: Tally, options: Options) -> None:
-    crates = [it for it in libraries() if not is_program(it)]
+    crates = [it for it in LIBRARIES_OF if not is_program(it)]
     examples = [it for crate in crates for path in sources.sources_of(crate) for it in examples_in(crate, path)]
     tally.count(len(examples), map("\n".join, faults_of(examples, tally.folder).values()))
     tally.note(", ".join(f"{crate} {count}" for crate, count in Counter(it.crate for it in examples).items()))

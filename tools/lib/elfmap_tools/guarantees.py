@@ -6,7 +6,7 @@ from dataclasses import dataclass
 
 from .sources import PUBLIC_CRATES, WORD, Definition, Item, definition, imports, items_of, reach, signature_and_clauses, sources_of
 from .suite import TESTS, Tally, Test
-from .tree import TOP, Options, cells, libraries, read_text
+from .tree import LIBRARIES_OF, TOP, Options, cells, read_text
 
 PAGE = "docs/GUARANTEES.md"
 SPAN = re.compile(r"`([^`]+)`")
@@ -66,7 +66,7 @@ def functions_of(crate: str) -> Iterator[Item]:
 
 def call(path: str) -> Item | None:
     crate, _, name = path.partition("::")
-    return items_in(crate).get(name) if crate in libraries() else None
+    return items_in(crate).get(name) if crate in LIBRARIES_OF else None
 
 
 def functions(path: str) -> list[Item]:
@@ -111,7 +111,7 @@ def is_test_of_tools(name: str) -> bool:
 def runs(crate: str, module: str) -> bool:
     """Whether the gate runs a module of tests: the crate has it, and it has a test, or a test of `tools/test` calls its program."""
     source, root = (f"{TOP}/crates/{crate}/src/{it}.rt" for it in (module, "main" if crate in CALLED_BY else "lib"))
-    if crate not in libraries() or not os.path.isfile(source) or not re.search(rf"^mod {module};$", read_text(root), re.M):
+    if crate not in LIBRARIES_OF or not os.path.isfile(source) or not re.search(rf"^mod {module};$", read_text(root), re.M):
         return False
     return is_test_of_tools(CALLED_BY[crate]) if crate in CALLED_BY else "#[test]" in read_text(source)
 
@@ -122,7 +122,7 @@ def is_law_or_test(name: str) -> bool:
     crate, _, path = name.partition("::")
     if crate.startswith("tests_"):
         return runs(crate, path)
-    return crate in libraries() and any(it.name == path for it in functions_of(crate)) or len(functions(name)) == 1
+    return crate in LIBRARIES_OF and any(it.name == path for it in functions_of(crate)) or len(functions(name)) == 1
 
 
 def wrong_in(row: Row) -> Iterator[str]:

@@ -3,7 +3,7 @@
 takes of it what it calls: without an engine neither the engines nor malloc. A release has the same as a shared library, libelfmap.so.0,
 which exports the calls of include/elfmap.h and nothing else."""
 
-import functools, os, re, shutil, tempfile
+import os, re, shutil, tempfile
 
 from .building import built, output_of
 from .tree import TOP, Options, is_newer, read_text, wanted, write
@@ -14,6 +14,8 @@ BOTH, PACKERS = f"{VERDICTS} {ENGINES}", "cc ar objcopy"
 FOLDER = f"{TOP}/crates/{VERDICTS}/out"
 LIBRARY = f"{FOLDER}/libelfmap.a"
 SHARED = "libelfmap.so.0"
+# The text of include/elfmap.h without comments.
+HEADER = re.sub(r"/\*.*?\*/", "", read_text("include/elfmap.h"), flags=re.S)
 FUNCTIONS = ("alloc", "dealloc", "realloc")
 # Of a struct its fields, each with its type in C; of a call the types of its parameters; and the tags of structs by their other names.
 Structs = dict[str, list[tuple[str, str]]]
@@ -47,15 +49,9 @@ def pack(folder: str) -> str:
         return str(shutil.move(f"{room}/libelfmap.a", f"{folder}/libelfmap.a"))
 
 
-@functools.cache
-def header() -> str:
-    """The text of include/elfmap.h without comments."""
-    return re.sub(r"/\*.*?\*/", "", read_text("include/elfmap.h"), flags=re.S)
-
-
 def structs() -> Structs:
     """The structs that the header declares: of each field its name and its type."""
-    bodies = re.findall(r"^struct (\w+) \{(.*?)^\};", header(), re.M | re.S)
+    bodies = re.findall(r"^struct (\w+) \{(.*?)^\};", HEADER, re.M | re.S)
     fields = {tag: re.findall(r"((?:struct )?\w+)(?: \*| )(\w+)(\[\d+\])?;", body) for tag, body in bodies}
     return {tag: [(name, kind + count) for kind, name, count in own] for tag, own in fields.items()}
 
@@ -87,7 +83,7 @@ def calls_in(text: str, tags: Tags) -> Calls:
 
 def calls(result: str = r"bool|uint32_t|void|struct \w+") -> Calls:
     """The functions that the header declares, those with a result, and the types of their parameters."""
-    found = re.findall(rf"^(?:{result}) \**(elfmap_\w+)\((.*?)\);", header(), re.M | re.S)
+    found = re.findall(rf"^(?:{result}) \**(elfmap_\w+)\((.*?)\);", HEADER, re.M | re.S)
     return {name: [re.sub(r"\w+$", "", it.strip()).strip() for it in given.split(",")] for name, given in found}
 
 

@@ -16,7 +16,7 @@ from concurrent.futures import ThreadPoolExecutor, as_completed
 
 from .building import FolderOf, built_below, checked, gate_folder
 from .suite import Tally, Test, flag, word
-from .tree import PROCESSORS, TOP, Options, below, libraries, read_text, write
+from .tree import LIBRARIES_OF, PROCESSORS, TOP, Options, below, read_text, write
 
 
 class Edit:
@@ -168,8 +168,8 @@ ONLY = word("--only", "plant the bug of this name alone", metavar="NAME", defaul
 
 @Test("mutations", ABOUT, alone=True, options=(*FLAGS, ONLY, CRATES))
 def mutations(tally: Tally, options: Options) -> None:
-    crates = options.crates or sorted(libraries())
-    unknown = [it for it in crates if it not in libraries()]
+    crates = options.crates or sorted(LIBRARIES_OF)
+    unknown = [it for it in crates if it not in LIBRARIES_OF]
     if unknown:
         return tally.fail(f"no crate of crates.txt: {' '.join(unknown)}")
     if options.fit:

@@ -5,7 +5,7 @@ from collections.abc import Callable
 
 from . import building, definitions, doc, dump, library, man, minutes, page, peers, release as releasing, rules_tables
 from .suite import TESTS, Option, add_command, main as run_tests, word
-from .tree import PACKAGE, TOP, Options, libraries, progress
+from .tree import LIBRARIES_OF, PACKAGE, TOP, Options, progress
 
 # Its name, what it does, the function, whose answer is the status, and its words.
 Command = tuple[str, str, Callable[[Options], int | None], list[Option]]
@@ -29,7 +29,7 @@ def package_command(options: Options) -> int:
 
 
 FUNCTION = word("function", "a function's path in the crate, or the end of it that fits one alone, or a module, or a type", nargs="*")
-CRATE, OF_PACKAGE = word("crate", "a crate of crates.txt", choices=libraries()), word("words", "its words", nargs=argparse.REMAINDER)
+CRATE, OF_PACKAGE = word("crate", "a crate of crates.txt", choices=LIBRARIES_OF), word("words", "its words", nargs=argparse.REMAINDER)
 TEST = word("--test", "the tests alone whose names hold this", metavar="NAME")
 OBJECTS = [word("program", "elfmap"), word("file", "an object, or an archive of objects", nargs="+")]
 DEV: list[Command] = [

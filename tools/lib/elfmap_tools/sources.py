@@ -5,14 +5,14 @@ from collections.abc import Iterator
 from dataclasses import dataclass, field, replace
 from itertools import takewhile
 
-from .tree import TOP, libraries, read_text, texts_of
+from .tree import LIBRARIES_OF, TOP, read_text, texts_of
 
 # The comment lines and the attributes above a text, and its lines.
 Block = tuple[list[str], list[str], list[str]]
 # What words of the logic mean: of each a path and a name there.
 Uses = dict[str, tuple[str, str]]
 # The public crates, in the order of the table at the head of the crate `elf`.
-PUBLIC_CRATES = [it for it in re.findall(r"^//! \| \[`(\w+)`\]", read_text("crates/elf/src/lib.rt"), re.M) if f"elf_{it}" in libraries()]
+PUBLIC_CRATES = [it for it in re.findall(r"^//! \| \[`(\w+)`\]", read_text("crates/elf/src/lib.rt"), re.M) if f"elf_{it}" in LIBRARIES_OF]
 HEAD = re.compile(r"pub (fn|struct|enum|trait|const|mod|type) (\w+)")
 CLAUSE = re.compile(r" *(requires|ensures)\b")
 # What holds no bracket that counts: strings, characters, comments.

@@ -127,23 +127,11 @@ def progress(what: Callable[[], str]) -> Iterator[None]:
 # ---- the crates, by their lines in crates.txt
 
 
-@functools.cache
-def crate_lines() -> list[tuple[list[str], list[str]]]:
-    """Of each line of crates.txt the words before the colon, the crate's name first, and the libraries after it."""
-    lines = [line.split("#")[0].partition(":") for line in read_text("crates.txt").splitlines()]
-    return [(head.split(), rest.split()) for head, _, rest in lines if head.strip()]
-
-
-@functools.cache
-def libraries() -> dict[str, list[str]]:
-    """The libraries that each crate of the repository names."""
-    return {head[0]: rest for head, rest in crate_lines()}
-
-
-@functools.cache
-def static_libraries() -> set[str]:
-    """The crates that crates.txt makes archives for C."""
-    return {head[0] for head, _ in crate_lines() if "staticlib" in head[1:]}
+LINES = [line.split("#")[0].partition(":") for line in read_text("crates.txt").splitlines()]
+# The libraries that each crate of the repository names.
+LIBRARIES_OF = {head.split()[0]: rest.split() for head, _, rest in LINES if head.strip()}
+# The crates that become archives for C.
+STATIC_LIBRARIES = {head.split()[0] for head, _, _ in LINES if "staticlib" in head.split()[1:]}
 
 
 def is_program(crate: str) -> bool:
@@ -152,7 +140,7 @@ def is_program(crate: str) -> bool:
 
 def deps(name: str) -> list[str]:
     """The crates of the repository that this one names."""
-    return [it for it in libraries()[name] if it in libraries()]
+    return [it for it in LIBRARIES_OF[name] if it in LIBRARIES_OF]
 
 
 @functools.cache
