@@ -5,7 +5,7 @@ becomes a paragraph with its first cell as the tag. pandoc makes the page of thi
 And completions of bash, zsh and fish for a command. They read the help that it prints: its subcommands, its options, and the words that an
 option takes. All other words are files."""
 
-import functools, re, subprocess
+import re, subprocess
 
 from .tree import Options, cells, filled, read_text
 
@@ -25,12 +25,9 @@ def blocks(text: str) -> list[str]:
     return re.split(r"\n\n+", text.strip("\n"))
 
 
-@functools.cache
-def parts() -> dict[str, list[str]]:
-    """The blocks of the section "The commands": of its beginning, and of each part by its title."""
-    text = read_text(MANUAL).partition("\n## The commands\n")[2].partition("\n## ")[0]
-    first, *titles_and_texts = re.split(r"^### (.*)\n", text, flags=re.M)
-    return {"": blocks(first), **dict(zip(titles_and_texts[::2], map(blocks, titles_and_texts[1::2])))}
+# The blocks of the section "The commands": of its beginning, and of each part by its title.
+FIRST, *OTHER = re.split(r"^### (.*)\n", read_text(MANUAL).partition("\n## The commands\n")[2].partition("\n## ")[0], flags=re.M)
+PARTS = {"": blocks(FIRST), **dict(zip(OTHER[::2], map(blocks, OTHER[1::2])))}
 
 
 def is_example(block: str) -> bool:
@@ -39,7 +36,7 @@ def is_example(block: str) -> bool:
 
 def with_tags(block: str) -> str:
     """A block whose table is a list of tags, and whose links are words; one to a part of the manual that the page lacks says so."""
-    here = {f"#{it.lower().replace(' ', '-')}" for it in parts()}
+    here = {f"#{it.lower().replace(' ', '-')}" for it in PARTS}
     if block.startswith("|"):
         rows = ([it.replace("\\|", "|") for it in cells(line)] for line in block.split("\n")[2:])
         block = "\n\n".join(f"{tag}\n:   {', '.join(texts)}" for tag, *texts in rows)
@@ -57,15 +54,15 @@ def by_pandoc(name: str, version: str, blocks: list[str]) -> str:
 
 def page(version: str) -> str:
     summary = blocks(read_text(MANUAL))[1]
-    text = ["# NAME", summary.partition(", the ")[0].replace("elfmap ", "elfmap - ", 1), "# SYNOPSIS", parts()[""][0]]
+    text = ["# NAME", summary.partition(", the ")[0].replace("elfmap ", "elfmap - ", 1), "# SYNOPSIS", PARTS[""][0]]
     text += ["# DESCRIPTION", summary, "# COMMANDS"]
     examples = ["# EXAMPLES"]
-    for title, found in list(parts().items())[1:]:
+    for title, found in list(PARTS.items())[1:]:
         first = next((at for at, it in enumerate(found) if is_example(it)), len(found))
         text += [f"## {title}", *found[:first]] if title not in OTHERS else []
         examples += [f"## {title}", *found[first:]] if found[first:] else []
     for title, name in OTHERS.items():
-        text += [f"# {name}", *(it for it in parts()[title] if not is_example(it))]
+        text += [f"# {name}", *(it for it in PARTS[title] if not is_example(it))]
     others = re.sub(r"([\w-]+)\(", r"**\1**(", SEE_ALSO)
     return by_pandoc("elfmap", version, list(map(with_tags, [*text, *examples, "# SEE ALSO", others, PAGES])))
 

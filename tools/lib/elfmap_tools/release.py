@@ -53,6 +53,8 @@ FILES = """README.md CONTRIBUTING.md CHANGELOG.md SECURITY.md docs/* rules/*.rul
 PLAIN_MODE = "u=rwX,go=rX"
 # The commands, and what Debian's python3 imports, by which all of it is made.
 MAKERS = f"{PACKERS} {JINJA2} {MARKDOWN} pandoc wasm-opt"
+# The commands of the Python package: of each its name, its module and its function.
+COMMANDS = re.findall(r'^([\w-]+) = "([\w.]+):(\w+)"', read_text("bindings/python/pyproject.toml"), re.M)
 LINK = re.compile(r"(?<!!)\[((?:`[^`]*`|[^\]`])*)\]\((?!https?:|#)([^)#\s]+)[^)]*\)")
 
 
@@ -78,12 +80,6 @@ def epoch() -> int:
     """The time that all packed files have, in seconds: SOURCE_DATE_EPOCH, or else that of the commit, or of the file VERSION."""
     given = os.environ.get("SOURCE_DATE_EPOCH") or run("git", "-C", TOP, "log", "-1", "--format=%ct").stdout.decode().strip()
     return int(given or os.path.getmtime(f"{TOP}/VERSION"))
-
-
-def commands() -> dict[str, tuple[str, str]]:
-    """The commands of the Python package: of each its module and its function."""
-    found = re.findall(r'^([\w-]+) = "([\w.]+):(\w+)"', read_text("bindings/python/pyproject.toml"), re.M)
-    return {name: (module, function) for name, module, function in found}
 
 
 def page_of(name: str, module: str, version: str) -> str:
@@ -150,7 +146,7 @@ def put_release(folder: str, version: str) -> None:
         "lib/pkgconfig/elfmap.pc": PKG_CONFIG.format(prefix="${pcfiledir}/../..", libdir="lib", version=version),
         "share/man/man1/elfmap.1": man.page(version),
     }
-    for name, (module, function) in commands().items():
+    for name, module, function in COMMANDS:
         texts[f"bin/{name}"] = COMMAND.format(python="/usr/bin/env python3", path=BESIDE, module=module, function=function)
         texts[f"share/man/man1/{name}.1"] = page_of(name, module, version)
     if shutil.which("wasm-opt"):
@@ -249,7 +245,7 @@ def put_python(root: str, tree: str, version: str) -> None:
     os.remove(f"{root}/{PYTHON}/elfmap-{version}.dist-info/RECORD")
     os.remove(f"{root}/{PYTHON}/elfmap/libelfmap.so")
     os.symlink(f"../../../{TRIPLET}/{SHARED}", f"{root}/{PYTHON}/elfmap/libelfmap.so")
-    for name, (module, function) in commands().items():
+    for name, module, function in COMMANDS:
         put(f"{root}/usr/bin/{name}", COMMAND.format(python="/usr/bin/python3", path="", module=module, function=function))
         put_help(root, tree, name)
     for name, text in COMPILED.items():

@@ -4,7 +4,7 @@ nothing on the PATH but /usr/bin and /bin. MOST_SECONDS of a processor have to b
 import glob, os, re, shutil, sys
 
 from .library import BOTH
-from .release import MAKERS, commands, pack, version_of
+from .release import COMMANDS, MAKERS, pack, version_of
 from .shown_commands import broken_links
 from .suite import Tally, Test, steps_of
 from .tree import Options, files_below, read_bytes, read_text, said
@@ -15,7 +15,7 @@ MOST_SECONDS = 30
 FILES = [
     "elfmap.html", "VERSION", "bin/elfmap", "doc/elfmap-doc.html", "elfmap", "include/elfmap.h",
     "lib/libelfmap.a", "lib/libelfmap.so.0", "lib/pkgconfig/elfmap.pc", "share/man/man1/elfmap.1",
-    *(f"bin/{it}" for it in commands()), *(f"share/man/man1/{it}.1" for it in commands()),
+    *(f"bin/{it}" for it, *_ in COMMANDS), *(f"share/man/man1/{it}.1" for it, *_ in COMMANDS),
 ]  # fmt: skip
 PLAIN = {"PATH": "/usr/bin:/bin", "LC_ALL": "C.UTF-8", "MANWIDTH": "80"}
 
@@ -75,7 +75,7 @@ class Release:
 
     def steps(self) -> None:
         """What a shell tries."""
-        marks = {"TOP": self.folder, "V": VERSION, "PACKAGE": version_of(), "COMMANDS": " ".join(commands())}
+        marks = {"TOP": self.folder, "V": VERSION, "PACKAGE": version_of(), "COMMANDS": " ".join(it for it, *_ in COMMANDS)}
         steps = steps_of("release.steps", **marks, PYTHON=os.path.dirname(sys.executable))
         self.tally.try_steps(steps, lambda script: said("sh", "-c", script, folder=self.room, env=PLAIN).stdout)
 
