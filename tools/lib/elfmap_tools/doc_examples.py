@@ -43,10 +43,6 @@ class Example:
     lines: list[str]
 
 
-def root_of(crate: str) -> str:
-    return f"crates/{crate}/src/lib.rt"
-
-
 def examples_in(crate: str, path: str) -> Iterator[Example]:
     text = read_text(path)
     for it in FENCED.finditer(text):
@@ -74,7 +70,7 @@ def words(crates: list[str]) -> list[str]:
     for name in ["core", "std", *sorted(of_kit)]:
         found += ["--extern", f"{name}={kit()}/rlibs/{name}.rlib"]
     for crate in crates:
-        found += ["--lib", f"{crate}:{','.join(['core', 'std', *LIBRARIES_OF[crate]])}={TOP}/{root_of(crate)}"]
+        found += ["--lib", f"{crate}:{','.join(['core', 'std', *LIBRARIES_OF[crate]])}={TOP}/crates/{crate}/src/lib.rt"]
     found += ["-L", f"dependency={kit()}/rlibs", "--antt-project", f"{kit()}/rattle/logic/antt-project.json"]
     return [*found, "--logic-built", f"{kit()}/logic_built"]
 

@@ -32,10 +32,10 @@ def processes() -> dict[int, Process]:
 
 
 def name_of(words: list[str]) -> str:
-    """The program that these words start, by its file's name: an interpreter stands for its script, `tools/test` for its test."""
+    """The program that these words start, by its file's name: an interpreter stands for its script, `tools/test` for its test, if it is one."""
     names = [os.path.basename(it) for it in words]
     names = names[1:] if names and names[0] in SCRIPTED else names
-    return " ".join(names[:2] if names[:1] == ["test"] else names[:1])
+    return "".join(names[1:2] if names[:1] == ["test"] else names[:1])
 
 
 def work_of(words: list[str]) -> tuple[str, str] | None:
@@ -63,16 +63,12 @@ class Minutes:
 
         def see(pid: int, part: str) -> None:
             words, key = text_of(pid, "cmdline").split("\0")[:-1], (pid, found[pid][0])
-            if not part:
-                part = name_of(words).removeprefix("test ")
-                # A run of all tests has a process for each of them.
-                part = "" if part == "test" else part
-                if part:
-                    self.parts[key] = part, total(pid)
+            # A run of all tests has a process for each of them.
+            if not part and (part := name_of(words)):
+                self.parts[key] = part, total(pid)
             work = work_of(words) if part else None
             if work and part in ("rt", "mutations"):
-                kind, crate = work
-                self.works[key] = crate, "mutations" if part == "mutations" else kind, total(pid)
+                self.works[key] = work[1], part if part == "mutations" else work[0], total(pid)
             # The checker's copies of itself belong to the run that made them.
             for child in [] if work else children[pid]:
                 see(child, part)

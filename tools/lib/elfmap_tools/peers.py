@@ -11,7 +11,7 @@ import os, random, re, shutil, subprocess, tempfile
 from .cases import every_case
 from .machine_files import content_of, objects_of
 from .reference import SYMTAB, File, object_verdict, shown, symbols, verdict
-from .rules_tables import by_anchor
+from .rules_tables import file_rules
 from .tree import TOP, Options, by_cc, read_bytes, read_text, run, side_by_side, write
 
 PAGE = "docs/PEERS.md"
@@ -26,8 +26,8 @@ TOOLS = {
     "readelf": "readelf -aW a.o", "eu-readelf": "eu-readelf -a a.o", "eu-elflint": "eu-elflint --gnu-ld a.o",
     "llvm-readobj": "llvm-readobj --all a.o", "objcopy": "objcopy a.o b.o", "ld -r": "ld -r a.o -o b.o", "lld -r": "ld.lld -r a.o -o b.o",
 }  # fmt: skip
-# The rules by the command that answers them, and where docs/RULES.md has them.
-KINDS = {"check": ("image", range(1, 34)), "show": ("table", range(40, 70)), "rewrite": ("object", range(70, 80))}
+# The rules by the command that answers them.
+KINDS = {"check": range(1, 34), "show": range(40, 70), "rewrite": range(70, 80)}
 Files = dict[int, list[bytes]]
 
 
@@ -50,7 +50,7 @@ def case_files() -> Files:
         if it.words[:1] and it.words[0] in KINDS and len(it.words) == 2 and len(it.needs) == 1:
             # `rewrite` tells a refusal on standard error.
             rule = refused_by((it.out + it.err).decode("latin1"))
-            if rule in KINDS[it.words[0]][1]:
+            if rule in KINDS[it.words[0]]:
                 note(found, rule, bytes(it.files[it.needs[0].partition("=")[2]]))
     return found
 
@@ -102,7 +102,7 @@ def peers(options: Options) -> None:
     with tempfile.TemporaryDirectory(prefix="peers-") as room:
         made = {name: read_bytes(by_cc(f"{room}/made", words, "answer_peers.c")) for name, words in MADE.items()}
     changed = changed_files(list(made.values()))
-    found = case_files() | changed
+    found, names = case_files() | changed, {it.number: it.name for it in file_rules()}
     # The page says above its list of tools what it has.
     lines = [read_text(PAGE).partition("\n- `")[0]]
     for it in tools:
@@ -110,8 +110,7 @@ def peers(options: Options) -> None:
     lines += ["", f"| rule | files | {' | '.join(f'`{it}`' for it in tools)} |", f"|---|---|{'---|' * len(tools)}"]
     lines += [row(f"none: {name}", [content], tools) for name, content in made.items()]
     for rule, contents in sorted(found.items()):
-        kind = next(kind for kind, own in KINDS.values() if rule in own)
-        lines.append(row(f"{rule} `{by_anchor()[f'{kind}-{rule}'].name}`" + ("" if rule in changed else " *"), contents, tools))
+        lines.append(row(f"{rule} `{names[rule]}`" + ("" if rule in changed else " *"), contents, tools))
     write(f"{TOP}/{PAGE}", "\n".join([*lines, "", f"{sum(map(len, found.values()))} files.", ""]))
 
 
