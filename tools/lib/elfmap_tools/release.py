@@ -313,9 +313,9 @@ def crate(tree: str, folder: str, version: str) -> None:
         archived(own, f"{folder}/elfmap-{version}.crate")
 
 
-def packages(folder: str) -> list[str]:
-    """Makes all packages in a folder: their names."""
-    version = version_of()
+def make_packages(options: Options) -> None:
+    """Makes all packages in a folder, and prints their names."""
+    folder, version = options.folder, version_of()
     os.makedirs(folder, exist_ok=True)
     # What others make of it has this time, and its files these permissions.
     os.environ["SOURCE_DATE_EPOCH"] = str(epoch())
@@ -331,10 +331,5 @@ def packages(folder: str) -> list[str]:
         archived(tree, f"{made}/{os.path.basename(tree)}.tar.gz")
         names = sorted(os.listdir(made))
         write(f"{made}/SHA256SUMS", wanted("sha256sum", *names, folder=made))
-        for it in os.listdir(made):
-            shutil.move(f"{made}/{it}", f"{folder}/{it}")
-    return [*names, "SHA256SUMS"]
-
-
-def make_packages(options: Options) -> None:
-    print("".join(f"{options.folder}/{it}\n" for it in packages(options.folder)), end="")
+        for it in [*names, "SHA256SUMS"]:
+            print(shutil.move(f"{made}/{it}", f"{folder}/{it}"))

@@ -10,6 +10,7 @@ from .reference import RULE_NAMES
 from .suite import Tally, Test
 from .tree import TOP, Options, cells, read_text, write
 
+filled = functools.partial(textwrap.wrap, break_long_words=False, break_on_hyphens=False)
 MADE = "Made by `tools/release tables` from docs/RULES.md."
 
 
@@ -51,10 +52,6 @@ def file_rules() -> list[Rule]:
 
 def link_rules() -> list[Rule]:
     return rules_of("link", range(1, 100))
-
-
-def filled(text: str, width: int) -> list[str]:
-    return textwrap.wrap(text, width, break_long_words=False, break_on_hyphens=False)
 
 
 def rust_constants(rules: Iterable[Rule], indent: str = "") -> Iterator[str]:

@@ -49,11 +49,6 @@ def sentences(text: str) -> list[str]:
     return found
 
 
-def length(sentence: str) -> int:
-    """How many words a sentence has. Code is one word: it is read as a name."""
-    return len(re.sub(r"`[^`]*`", "code", sentence).split())
-
-
 def all_pages() -> list[str]:
     """The paths of the pages in the repository, README.md and the like first."""
     return [it for pattern in PATTERNS for it in sorted(glob.glob(pattern, root_dir=TOP))]
@@ -71,7 +66,8 @@ def pages(tally: Tally, options: Options) -> None:
     tests, total = {"setup", *families(TESTS), *(it.name for it in TESTS)}, 0
     for path in all_pages():
         text = read_text(path)
-        lengths = [(length(it), it) for it in sentences(text)]
+        # Code is one word: it is read as a name.
+        lengths = [(len(re.sub(r"`[^`]*`", "code", it).split()), it) for it in sentences(text)]
         words, median = sum(it for it, _ in lengths), statistics.median([it for it, _ in lengths] or [0])
         long = [it for it in lengths if it[0] > LONG_SENTENCE]
         tally.note(f"{path}: {words} words, median {median:g}, {len(long)} sentences of more than {LONG_SENTENCE} words")
