@@ -112,24 +112,16 @@ def call_of(case: Case) -> list[str] | None:
     return [command, options["--base"], options["--page"], *entry, rules or "-", *files]
 
 
-def try_call(tally: Tally, program: str, call: Case, right: bytes) -> None:
-    status, out, err = call.found(program)
-    why = f"{status} {out[:200]!r}, and not {right[:200]!r} {err.decode(errors='replace')[:2000]}"
-    tally.check((status, out) == (0, right), f"{call}: {why}")
-
-
 def try_engines(tally: Tally, program: str) -> None:
     """What the engines answer of the cases, and of files of the machine."""
-    tried = dict.fromkeys(COMMANDS, 0)
-    for case in (it for it in every_case() if it.words[:1] and it.words[0] in COMMANDS):
-        right = answer_of(case)
-        call = call_of(case) if right else None
-        if right and call:
-            try_call(tally, program, replace(case, words=call), right)
-            tried[case.words[0]] += 1
-    tally.check(all(tried.values()), f"of the cases were tried {tried}")
-    for path in filter(os.path.isfile, MACHINE_FILES):
-        try_call(tally, program, Case(["show", path], []), answer(DONE, shown(read_bytes(path)).encode()))
+    cases = ((it, answer_of(it)) for it in every_case() if it.words[:1] and it.words[0] in COMMANDS)
+    tries = [(replace(it, words=words), right) for it, right in cases if right and (words := call_of(it))]
+    tally.same("the commands of the cases that were tried", {call.words[0] for call, _ in tries}, set(COMMANDS))
+    tries += [(Case(["show", it], []), answer(DONE, shown(read_bytes(it)).encode())) for it in filter(os.path.isfile, MACHINE_FILES)]
+    for call, right in tries:
+        status, out, err = call.found(program)
+        why = f"{status} {out[:200]!r}, and not {right[:200]!r} {err.decode(errors='replace')[:2000]}"
+        tally.check((status, out) == (0, right), f"{call}: {why}")
 
 
 TOOLS = f"cc c++ clang nm objcopy {SANITIZERS}"
