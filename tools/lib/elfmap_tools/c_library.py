@@ -17,6 +17,7 @@ from .dump import c_lines
 from .tree import LIBRARIES_OF, PROCESSORS, TOP, Options, by_cc, read_bytes, read_text, said, side_by_side, texts_of, wanted, write
 
 C = f"{TOP}/bindings/c"
+TOOLS = f"cc c++ clang nm objcopy {SANITIZERS}"
 WARNINGS = ["-std=c99", "-pedantic", "-Wall", "-Wextra", "-Werror", f"-I{TOP}/include"]
 COMPILERS = {"cc": ["-O2"], "clang": ["-O1", "-g", "-fsanitize=address,undefined", "-fno-sanitize-recover=all"]}
 MACHINE_FILES = ["/bin/true", "/bin/ls", "/lib/x86_64-linux-gnu/libc.so.6", "/usr/lib/x86_64-linux-gnu/crt1.o"]
@@ -122,9 +123,6 @@ def try_engines(tally: Tally, program: str) -> None:
         status, out, err = call.found(program)
         why = f"{status} {out[:200]!r}, and not {right[:200]!r} {err.decode(errors='replace')[:2000]}"
         tally.check((status, out) == (0, right), f"{call}: {why}")
-
-
-TOOLS = f"cc c++ clang nm objcopy {SANITIZERS}"
 
 
 @Test("c-library", "the libraries for C, and the header, by cc and by clang with its checks", commands=TOOLS, crates=BOTH)

@@ -13,6 +13,8 @@ from .suite import Tally, Test, number, word
 from .tree import PROGRAM, T, TOP, Answer, Options, answer_of, read_text, run, write
 
 Files = dict[str, bytearray]
+ONLY = word("--only", "run the cases alone whose words or files have this name in them", metavar="NAME", default="")
+FROM = word("--in", "another folder of cases", dest="folder", metavar="FOLDER", default=f"{TOP}/cases")
 
 
 @dataclass
@@ -93,10 +95,6 @@ def case_files() -> dict[bytes, str]:
         for name, content in files.items():
             found.setdefault(bytes(content), f"{source}-{name}")
     return found
-
-
-ONLY = word("--only", "run the cases alone whose words or files have this name in them", metavar="NAME", default="")
-FROM = word("--in", "another folder of cases", dest="folder", metavar="FOLDER", default=f"{TOP}/cases")
 
 
 @Test("cases", "the program answers the cases of cases/*.txt", crates="elfmap elfmap_check", options=(FROM, ONLY))

@@ -13,6 +13,8 @@ from .reference import check, object_file, rewritten, text, verdict
 from .suite import Tally, Test, flag
 from .tree import PROCESSORS, Options, side_by_side, write
 
+ABOUT, ALL = "each one-byte change of an object, beside the reference implementation", flag("all", "of two more objects too: 390,000 files")
+
 
 def variants(file: bytes) -> Iterator[bytes]:
     """The files that `tests_calls changes` tries, in its order."""
@@ -55,9 +57,6 @@ def tried(part: tuple[bytes, str, int]) -> tuple[int, list[str]]:
         if calls.stdout.read() or calls.wait() != 0:
             wrong.append(f"the calls ended with status {calls.wait()}, or there were more of them")
     return count, wrong
-
-
-ABOUT, ALL = "each one-byte change of an object, beside the reference implementation", flag("all", "of two more objects too: 390,000 files")
 
 
 @Test("changed-files", ABOUT, crates="tests_calls", alone=True, family="fuzz", options=(ALL,))

@@ -12,6 +12,7 @@ from .suite import SETUPTOOLS, WHEEL, Tally, Test, setup, steps_of
 from .tree import TOP, Options, Texts, files_below, read_bytes, read_text, said, wanted
 
 SUITE = "bookworm"
+TOOLS = f"{MAKERS} readelf nm git dpkg-deb unshare {SETUPTOOLS} {WHEEL}"
 INCLUDED = "python3,python3-venv,gcc,libc6-dev,pkg-config,man-db,fish,zsh,cargo"
 CACHE = os.environ.get("XDG_CACHE_HOME") or os.path.expanduser("~/.cache")
 # Of other packages it is another root.
@@ -64,9 +65,6 @@ def in_clean_root(tally: Tally, folder: str) -> None:
 
 def contents(folder: str) -> dict[str, bytes]:
     return {os.path.basename(it): read_bytes(it) for it in files_below(folder)}
-
-
-TOOLS = f"{MAKERS} readelf nm git dpkg-deb unshare {SETUPTOOLS} {WHEEL}"
 
 
 @Test("packages", "what people install is the same twice, and works in a clean root", commands=TOOLS, crates=f"elfmap {BOTH}")

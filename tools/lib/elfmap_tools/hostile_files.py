@@ -26,6 +26,7 @@ MOST_SECONDS = 1.0
 LEAST_MEMORY, MOST_MEMORY, SEEKING_MEMORY = 1 << 20, 128, 2
 STACK = 1 << 20
 LITTLE, GLOBAL, WEAK, IN_GROUP = "little", 0x10, 0x20, 0x206
+ABOUT = "tables made to do harm, and large files: answers, time, memory, and a small stack"
 
 
 def row(command: str, *files: bytes, out: bytes | Callable[[bytes], bool] | None = None) -> Case:
@@ -161,9 +162,6 @@ def far_tables(tally: Tally) -> None:
             ended, _, memory = measured(tally.folder, partial(run, PROGRAM, *command, path))
             right, what = b"ok %d 2 0\n" % (at + 136), f"{' '.join(command)} of a table at {at}, {order}"
             tally.check(ended.stdout == right and memory <= most, f"{what}: {ended.stdout!r}, and not {right!r}; {memory} of {most} bytes")
-
-
-ABOUT = "tables made to do harm, and large files: answers, time, memory, and a small stack"
 
 
 # It looks at the time of the processor, which other work on it lengthens.

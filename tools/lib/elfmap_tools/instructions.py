@@ -16,6 +16,7 @@ from .suite import Tally, Test, flag
 from .tree import PROGRAM, TOP, Options, read_bytes, read_text, said, write
 
 STORED = f"{TOP}/bench/instructions"
+STORE = flag("store", "store the new numbers")
 HEAD = "# The instructions of each command and input. `tools/test instructions --store` writes this file.\n"
 PERCENT, LONGEST = 3, 300
 PLACE = ["--base", "0x400000", "--page", "0x1000"]
@@ -83,9 +84,6 @@ def counted(folder: str, command: str, make: Callable[[int], Any], names: list[s
     if ended.returncode or len(found) != 1:
         raise SystemExit(f"{command}: {make.__name__} ended with status {ended.returncode}: {ended.stderr[:300]!r}")
     return int(found[0])
-
-
-STORE = flag("store", "store the new numbers")
 
 
 @Test("instructions", "the instructions of each command, beside the stored numbers", commands="valgrind", crates="elfmap", options=(STORE,))

@@ -92,6 +92,8 @@ SOURCES = ("main.c", "part.c", "templates.cc", "many.s")
 WAYS = ("-O0", "-O2 -g", "-Os -ffunction-sections -fdata-sections", "-O2 -fPIC -fcommon")
 MADE = product(enumerate(WAYS), ("gcc", "clang"), SOURCES)
 BUILDS = [f"{compiler} {words} -c {name} -o {name}.{compiler}.{way}.o" for (way, words), compiler, name in MADE]
+TOOLS = "gcc g++ clang readelf eu-elflint"
+ABOUT = "objects of this machine and its compilers through `rewrite`, beside readelf and eu-elflint"
 
 
 def sections(data: bytes) -> list[tuple[int, Any]]:
@@ -171,10 +173,6 @@ def linked(folder: str) -> Iterator[str]:
         after = printed(folder, [write(f"{it}.after.o", run(PROGRAM, "rewrite", it).stdout) for it in parts])
         if own != after or own[0]:
             yield f"a program of rewritten files prints {after}, and not {own}"
-
-
-TOOLS = "gcc g++ clang readelf eu-elflint"
-ABOUT = "objects of this machine and its compilers through `rewrite`, beside readelf and eu-elflint"
 
 
 @Test("real-objects", ABOUT, commands=TOOLS, crates="elfmap", alone=True, options=OBJECTS)

@@ -17,6 +17,7 @@ ASSEMBLER = "x86_64-linux-gnu-as"
 # Every so many programs has the larger page, for which the file has megabytes of zeros.
 PLACES = [("0x400000", "0x1000")] * 12 + [("0x10000000", "0x1000")] * 7 + [("0x10000000", "0x200000")]
 OPTIONS = (number("count", 100, "so many programs"), number("seed", 1, "the same seed makes the same programs"))
+ABOUT = "programs of chance objects, linked and run"
 SECTIONS = {".bss": '"aw", @nobits', ".data": '"aw", @progbits', ".rodata": '"a", @progbits'}
 SECTIONS |= dict.fromkeys((".text", ".text.f"), '"ax", @progbits')
 # The lines of a file in assembly.
@@ -158,9 +159,6 @@ def wrong_in(seed: int, k: int, folder: str) -> str:
     os.chmod(program, 0o755)
     status = run(program, timeout=10).returncode
     return f"it ends with {status}, and not with {made.status & 0xFF}" if status != made.status & 0xFF else ""
-
-
-ABOUT = "programs of chance objects, linked and run"
 
 
 @Test("made-programs", ABOUT, commands=ASSEMBLER, crates="elfmap", alone=True, family="linked", options=OPTIONS)

@@ -18,6 +18,8 @@ from .suite import Tally, Test, count_tries, number
 from .tree import PROGRAM, RULES, Answer, Options, answer_of, compiled, ending, read_bytes, run as run_command, write
 
 run = partial(run_command, timeout=10)
+OPTIONS = (number("count", 500, "so many files"), number("seed", 1, "the same seed makes the same files"))
+ABOUT, COMPILERS = "files and links with fields changed, beside the reference implementation", "gcc g++ clang ld.lld rustc as"
 LONGEST = 1 << 19
 BIG = "--target=powerpc64-unknown-linux-gnu"
 BUILDS = (
@@ -122,10 +124,6 @@ def wrong_in(sources: list[str], pair: list[str], seed: int, number: int, folder
         return next((f"{' '.join(words)}: {wrong}" for words, wrong in tries if wrong), "")
     except subprocess.TimeoutExpired as late:
         return f"{late.cmd[1]} did not end"
-
-
-OPTIONS = (number("count", 500, "so many files"), number("seed", 1, "the same seed makes the same files"))
-ABOUT, COMPILERS = "files and links with fields changed, beside the reference implementation", "gcc g++ clang ld.lld rustc as"
 
 
 @Test("mutants", ABOUT, commands=COMPILERS, crates="elfmap", alone=True, family="fuzz", options=OPTIONS)

@@ -18,6 +18,11 @@ from .building import FolderOf, built_below, checked, gate_folder
 from .suite import Tally, Test, flag, word
 from .tree import LIBRARIES_OF, PROCESSORS, TOP, Options, below, read_text, write
 
+ABOUT = "the check refuses each bug of mutations.txt with 'gate: yes'; of CRATE.., or with --all of every crate, each bug"
+CRATES = word("crates", "the crates whose bugs are planted, all of them", nargs="*", metavar="CRATE")
+FLAGS = flag("all", "plant all bugs"), flag("fit", "plant none: only say whether each edit fits the text that it changes")
+ONLY = word("--only", "plant the bug of this name alone", metavar="NAME", default="")
+
 
 class Edit:
     """A bug of mutations.txt, or an edit of must-fail/, which names no function."""
@@ -158,12 +163,6 @@ def try_all(left: list[Edit], folder_of: FolderOf) -> list[tuple[Edit, str]]:
             alone = not any(ended.values())
             left = [bug for bug in left if not ended.get(bug)]
     return ends
-
-
-ABOUT = "the check refuses each bug of mutations.txt with 'gate: yes'; of CRATE.., or with --all of every crate, each bug"
-CRATES = word("crates", "the crates whose bugs are planted, all of them", nargs="*", metavar="CRATE")
-FLAGS = flag("all", "plant all bugs"), flag("fit", "plant none: only say whether each edit fits the text that it changes")
-ONLY = word("--only", "plant the bug of this name alone", metavar="NAME", default="")
 
 
 @Test("mutations", ABOUT, alone=True, options=(*FLAGS, ONLY, CRATES))

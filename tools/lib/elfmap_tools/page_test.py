@@ -18,6 +18,8 @@ from .tree import PROGRAM, TOP, Options, read_bytes, said, wanted, write
 MACHINE_FILES = ["/bin/true", "/bin/ls", "/usr/lib/gcc/x86_64-linux-gnu/12/crtbegin.o"]
 MACHINE_FILES += [f"/usr/lib/x86_64-linux-gnu/{it}" for it in ("crt1.o", "Scrt1.o", "crti.o", "libdl.so.2", "libutil.so.1")]
 LONGEST = 1 << 17
+ABOUT, TOOLS = "the page for a browser, in node beside `elfmap show`, and in chromium", f"node wasm-opt chromium chromedriver {SELENIUM} cc"
+COUNT = number("count", 3000, "so many changed files")
 
 # ---- in node
 
@@ -215,10 +217,6 @@ class InChromium(Browser):
         self.note(f"an object of {SYMBOLS:,} symbols, {os.path.getsize(path) / 2**20:.0f} MiB, was validated in {took:.1f} ms")
         self.check(took < MOST_MILLISECONDS, f"that took {took} ms")
         self.opens("symbols", "Symbols 1 to 100 of 1,000,")
-
-
-ABOUT, TOOLS = "the page for a browser, in node beside `elfmap show`, and in chromium", f"node wasm-opt chromium chromedriver {SELENIUM} cc"
-COUNT = number("count", 3000, "so many changed files")
 
 
 @Test("page", ABOUT, commands=TOOLS, crates=f"elfmap {CRATE}", alone=True, options=(COUNT,))

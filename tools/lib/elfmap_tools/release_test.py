@@ -12,6 +12,7 @@ from .tree import Options, files_below, read_bytes, read_text, said
 VERSION = "0-test"
 NAME = f"elfmap-{VERSION}-x86_64-linux"
 MOST_SECONDS = 30
+TOOLS = f"{MAKERS} nm git pkg-config cargo groff"
 FILES = [
     "elfmap.html", "VERSION", "bin/elfmap", "doc/elfmap-doc.html", "elfmap", "include/elfmap.h",
     "lib/libelfmap.a", "lib/libelfmap.so.0", "lib/pkgconfig/elfmap.pc", "share/man/man1/elfmap.1",
@@ -90,9 +91,6 @@ def usage_by_help(said: str) -> str:
     (usage,) = re.findall(r"Usage: (.*)", said)
     options = [it for it in re.findall(r"^ +(?:-\w, )?(--\w+(?: <\w+>)?)", said, re.M) if it != "--help" and it not in usage]
     return re.sub(r"[<>]", "", usage.replace("[OPTIONS]", " ".join(f"[{it}]" for it in options)))
-
-
-TOOLS = f"{MAKERS} nm git pkg-config cargo groff"
 
 
 @Test("release", "what a release has, and that all of it works", commands=TOOLS, crates=f"elfmap {BOTH}")

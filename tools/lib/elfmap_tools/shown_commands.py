@@ -109,6 +109,7 @@ SKIPPED = {
 # Tools whose output depends on their version, and the packages by which README.md names that.
 PACKAGES = {"gcc": "gcc", "readelf": "binutils", "objcopy": "binutils", "ld": "binutils", "eu-elflint": "elfutils"}
 PACKAGES |= {"llvm-objcopy": "LLVM", "llvm-readobj": "LLVM"}
+TOOLS = " ".join([*PACKAGES, "pkg-config", MAKERS])
 # Files of the machine, and how long they are where the pages' lines were printed (Debian 12).
 MACHINE_FILES = {"/bin/true": 35664}
 # A code line that begins so is a command.
@@ -224,9 +225,6 @@ class Page:
         self.tally.check(not gone, f"{self.name} names what is not there: {gone}")
         links = list(broken_links(self.path, self.text))
         self.tally.check(not links, f"{self.name} has links that lead nowhere: {links}")
-
-
-TOOLS = " ".join([*PACKAGES, "pkg-config", MAKERS])
 
 
 @Test(
