@@ -25,6 +25,9 @@ MACHINE_FILES = ["/bin/true", "/bin/ls", "/lib/x86_64-linux-gnu/libc.so.6", "/us
 RESULTS = {VERDICTS: "bool", ENGINES: "uint32_t"}
 # The struct of the header that a program fills in itself.
 OF_PROGRAM = "elfmap_block"
+DONE, REFUSED, NOT_LINKED, TOO_LONG, BAD_RULES = 0, 1, 2, 3, 6
+COMMANDS = ("show", "rewrite", "map", "link")
+ON_BYTES = {"bcmp", "memchr", "memcmp", "memcpy", "memmove", "memset", "strlen"}
 STRUCT = re.compile(r"`struct (elfmap_\w+)`.*\n(?:#.*\n)*pub struct (\w+) ")
 
 # ---- the header beside the texts of the library
@@ -73,11 +76,6 @@ def compare_files(tally: Tally, program: str, files: dict[str, list[str]]) -> No
         both = [it.rstrip("\n").split("\n")[1:] for it in found[2 * k : 2 * k + 2]]
         other: list[str] = next((lines for lines in both if lines != right), [])
         tally.check(both == [right, right], f"{path}: {[pair for pair in zip(other, right) if pair[0] != pair[1]][:2]}")
-
-
-DONE, REFUSED, NOT_LINKED, TOO_LONG, BAD_RULES = 0, 1, 2, 3, 6
-COMMANDS = ("show", "rewrite", "map", "link")
-ON_BYTES = {"bcmp", "memchr", "memcmp", "memcpy", "memmove", "memset", "strlen"}
 
 
 def answer(status: int, text: bytes = b"", offset: int = 0, file: int = 0, index: int = 0, rule: int = 0) -> bytes:

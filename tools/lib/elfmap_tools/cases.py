@@ -125,6 +125,8 @@ RULES = (
     b"2 pc 2 signed\n1 abs 1 wrap\n3 abs 2 wrap\n",
 )
 PLACES = (("0x400000", "0x1000"), ("0", "1"), ("4096", "1"), ("0xfffffffffffff000", "0x1000"), ("0x1001", "0x1000"))
+# Rules on segments, which an object has none of; and on notes, dynamic sections and hash tables, which it has as bytes, or not at all.
+OF_SEGMENTS, NOT_OF_OBJECTS = [19, 21, *range(25, 30)], range(59, 70)
 
 
 class Text:
@@ -220,10 +222,6 @@ def image_cases(text: Text) -> None:
     for k, chance, sound in series(text, "image", a_file):
         command = ("check", "check --seek", "show", "show")[k % 4]
         text.case(f"{command} f", {"f": changed(chance, text, sound)})
-
-
-# Rules on segments, which an object has none of; and on notes, dynamic sections and hash tables, which it has as bytes, or not at all.
-OF_SEGMENTS, NOT_OF_OBJECTS = [19, 21, *range(25, 30)], range(59, 70)
 
 
 def object_cases(text: Text) -> None:

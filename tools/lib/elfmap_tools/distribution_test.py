@@ -18,6 +18,14 @@ CACHE = os.environ.get("XDG_CACHE_HOME") or os.path.expanduser("~/.cache")
 # Of other packages it is another root.
 ROOT = f"{CACHE}/elfmap-tools/{SUITE}-{zlib.crc32(INCLUDED.encode()):08x}"
 PLAIN = {"PATH": "/usr/sbin:/usr/bin:/sbin:/bin", "LC_ALL": "C.UTF-8", "HOME": "/root", "DEBIAN_FRONTEND": "noninteractive"}
+# The places of the version.
+VERSIONS = {
+    "bindings/python/pyproject.toml": r'^version = "(.*)"', "bindings/python/elfmap/__init__.py": r'^__version__ = "(.*)"',
+    "bindings/rust/Cargo.toml": r'^version = "(.*)"', "bindings/rust/Cargo.lock": r'name = "elfmap"\nversion = "(.*)"',
+    "bindings/rust/README.md": r"elfmap-([\d.]+)\.crate", "bindings/python/README.md": r"elfmap-([\d.]+)-py3",
+}  # fmt: skip
+# Terminals too, for zsh.
+MOUNTED = 'mount -t proc proc "$1/proc" && mount --bind /dev/pts "$1/dev/pts" && exec chroot "$1" sh -c "$2"'
 
 
 def make_root() -> str:
@@ -35,16 +43,6 @@ def make_root() -> str:
             return f"debootstrap fails: {made.stdout.strip().splitlines()[-1:]}"
         os.rename(f"{room}/root", ROOT)
     return ""
-
-
-# The places of the version.
-VERSIONS = {
-    "bindings/python/pyproject.toml": r'^version = "(.*)"', "bindings/python/elfmap/__init__.py": r'^__version__ = "(.*)"',
-    "bindings/rust/Cargo.toml": r'^version = "(.*)"', "bindings/rust/Cargo.lock": r'name = "elfmap"\nversion = "(.*)"',
-    "bindings/rust/README.md": r"elfmap-([\d.]+)\.crate", "bindings/python/README.md": r"elfmap-([\d.]+)-py3",
-}  # fmt: skip
-# Terminals too, for zsh.
-MOUNTED = 'mount -t proc proc "$1/proc" && mount --bind /dev/pts "$1/dev/pts" && exec chroot "$1" sh -c "$2"'
 
 
 def inside(root: str, script: str) -> Texts:

@@ -17,6 +17,8 @@ from .rules_tables import by_anchor
 from .tree import Options, read_bytes, write
 
 TABLES = (SYMTAB, DYNSYM, RELA, REL, DYNAMIC_SECTION, NOTE)
+# The owner of a part by its index in the list of a file's extents, as the reference calls it: of a content by the section's index.
+OWNERS = {"header": 0, "sections": 1, "segments": 2, "content": 3, "gap": 2**64 - 1}
 
 # ---- the entries of tables: also of those that break a rule, as far as they lie in the file
 
@@ -84,10 +86,6 @@ def by_rooms(f: Any, broken: Broken | None, wanted: int) -> list[str]:
 
 def end_of(broken: Broken | None) -> str:
     return f"refused {broken[0]} {broken[1]}" if broken else "kept"
-
-
-# The owner of a part by its index in the list of a file's extents, as the reference calls it: of a content by the section's index.
-OWNERS = {"header": 0, "sections": 1, "segments": 2, "content": 3, "gap": 2**64 - 1}
 
 
 def loaded(f: Any, address: int) -> object:

@@ -26,6 +26,8 @@ HOST = (["as"], ["ld"])
 TOOLS = {machine: ([f"{target}-as"], [f"{target}-ld"]) for machine, target in MACHINES.items()}
 LLVM = (["llvm-mc-19", "-filetype=obj"], ["ld.lld-19", "-m"])
 TOOLS |= {machine: ([*LLVM[0], f"-triple={triple}"], [*LLVM[1], name]) for machine, (triple, name) in BY_LLVM.items()}
+# The file and the position of a section in its object.
+Place = tuple[int, int]
 
 
 class Workshop:
@@ -83,6 +85,8 @@ LD_CASES = (
     ("kernel, placed low", f"-O2 -mcmodel=kernel{BARE}", 0x1000000, 0x200000, True),
     ("large", f"-O2 -mcmodel=large{BARE}", 0x123456789000, 0x1000, True),
 )
+# Without a page size of its own ld would refuse addresses that share a page; nothing is loaded.
+LD_WORDS = "-static -nostdlib --no-relax --build-id=none -z max-page-size=1 -z common-page-size=1 -e start -T script -o by-ld".split()
 
 
 def section_name(f: Any, header: Any) -> str:
@@ -94,10 +98,6 @@ def symbols_of(f: Any) -> dict[str, tuple[int, bool]]:
     tables = [(i, f.content(it.sh_link)) for i, it in f.sections() if it.sh_type == SYMTAB]
     found = ((names, it) for i, names in tables for it in symbols(f, i) if it.st_info >> 4)
     return {string(names, it.st_name).decode(): (it.st_value, it.st_shndx != UNDEF) for names, it in found}
-
-
-# The file and the position of a section in its object.
-Place = tuple[int, int]
 
 
 class Output(NamedTuple):
@@ -153,10 +153,6 @@ class Map:
             at = len(os.path.commonprefix(pair))
             if pair[0] != pair[1]:
                 yield f"{what} from digit {at} on: {pair[0][at:][:40]}, of ld {pair[1][at:][:40]}"
-
-
-# Without a page size of its own ld would refuse addresses that share a page; nothing is loaded.
-LD_WORDS = "-static -nostdlib --no-relax --build-id=none -z max-page-size=1 -z common-page-size=1 -e start -T script -o by-ld".split()
 
 
 class Both:

@@ -16,6 +16,7 @@ from .suite import Tally, Test, number
 from .tree import PROGRAM, Options, compiled, ending, files_below, read_bytes, run, side_by_side, write
 
 ELF_64 = b"\x7fELF\x02"
+FILES, OBJECTS = ((number("count", it, "so many of them"),) for it in (2000, 4000))
 
 
 def some(paths: Iterable[str], options: Options) -> list[str]:
@@ -55,9 +56,6 @@ def try_file(path: str) -> str:
     return "accepted" if back.returncode == 0 and back.stdout == read_bytes(path) else f"{path}: example_edit does not give it back"
 
 
-FILES, OBJECTS = ((number("count", it, "so many of them"),) for it in (2000, 4000))
-
-
 @Test("real-files", "ELF files of this machine through `check`, `show` and back", crates="elfmap example_edit", alone=True, options=FILES)
 def real_files(tally: Tally, options: Options) -> None:
     count_ends(tally, side_by_side(try_file, some(files(), options)), "accepted|refused")
@@ -67,6 +65,13 @@ def real_files(tally: Tally, options: Options) -> None:
 
 # A file, and where the object begins in it and how long it is.
 Place = tuple[str, int, int]
+SOURCES = ("main.c", "part.c", "templates.cc", "many.s")
+# Several ways of compiling, with debugging sections and many sections among them.
+WAYS = ("-O0", "-O2 -g", "-Os -ffunction-sections -fdata-sections", "-O2 -fPIC -fcommon")
+MADE = product(enumerate(WAYS), ("gcc", "clang"), SOURCES)
+BUILDS = [f"{compiler} {words} -c {name} -o {name}.{compiler}.{way}.o" for (way, words), compiler, name in MADE]
+TOOLS = "gcc g++ clang readelf eu-elflint"
+ABOUT = "objects of this machine and its compilers through `rewrite`, beside readelf and eu-elflint"
 
 
 def objects_of(path: str) -> list[Place]:
@@ -85,15 +90,6 @@ def content_of(place: Place) -> bytes:
     with open(place[0], "rb") as it:
         it.seek(place[1])
         return it.read(place[2])
-
-
-SOURCES = ("main.c", "part.c", "templates.cc", "many.s")
-# Several ways of compiling, with debugging sections and many sections among them.
-WAYS = ("-O0", "-O2 -g", "-Os -ffunction-sections -fdata-sections", "-O2 -fPIC -fcommon")
-MADE = product(enumerate(WAYS), ("gcc", "clang"), SOURCES)
-BUILDS = [f"{compiler} {words} -c {name} -o {name}.{compiler}.{way}.o" for (way, words), compiler, name in MADE]
-TOOLS = "gcc g++ clang readelf eu-elflint"
-ABOUT = "objects of this machine and its compilers through `rewrite`, beside readelf and eu-elflint"
 
 
 def sections(data: bytes) -> list[tuple[int, Any]]:

@@ -56,6 +56,9 @@ RELEASE: list[Command] = [
     ("tables", "write the tables of the rules' names, from docs/RULES.md", rules_tables.main, []),
     ("definitions", "write docs/DEFINITIONS.md, from the comments in crates/*/specs/", definitions.main, []),
 ]
+# The modules that have tests, in the order in which these are begun.
+MODULES = """failing_calls c_library bindings instructions memory_faults linked names definitions guarantees doc doc_examples rules_tables cases
+    release_test distribution_test shown_commands mutations changed_files hostile_files mutants made_programs page_test machine_files""".split()
 
 
 def dev(words: list[str]) -> int:
@@ -65,11 +68,6 @@ def dev(words: list[str]) -> int:
 
 def release(words: list[str]) -> int:
     return run("tools/release", "What a release has, and what is generated.", RELEASE, words)
-
-
-# The modules that have tests, in the order in which these are begun.
-MODULES = """failing_calls c_library bindings instructions memory_faults linked names definitions guarantees doc doc_examples rules_tables cases
-    release_test distribution_test shown_commands mutations changed_files hostile_files mutants made_programs page_test machine_files""".split()
 
 
 def test(words: list[str]) -> int:

@@ -13,6 +13,7 @@ from tables import ENTRY_SIZE, elf_hash, entries_before_null, is_section, notes,
 from .tree import Answer
 
 Broken = tuple[int, int]
+Edit = tuple[Any, ...]
 laid: Callable[[Any], bytes] = objects.laid
 string: Callable[[bytes, int], bytes] = objects.string
 NULL, PROGBITS, SYMTAB, STRTAB, RELA, HASH, DYNAMIC_SECTION, NOTE, NOBITS, REL = range(10)
@@ -123,9 +124,6 @@ def group(members: list[int], signature: int = 1, flags: int = 1) -> Any:
 
 def text(content: bytes = b"\xc3", flags: int = ALLOC | EXEC, name: bytes = b".text", align: int = 1) -> Any:
     return section(name, PROGBITS, content, flags, align)
-
-
-Edit = tuple[Any, ...]
 
 
 def edited(file: bytes, *edits: Edit) -> bytes:

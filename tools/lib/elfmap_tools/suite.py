@@ -92,6 +92,10 @@ def setup(commands: Iterable[str]) -> bool:
 # Of a step its title, its script, and a pattern of what this prints.
 Step = tuple[str, str, str]
 COUNTS = re.compile(r"^(\d+) passed, (\d+) failed\n\Z", re.M)
+Function = Callable[["Tally", Options], None]
+# An option of a test: its words for argparse.
+Option = tuple[str, dict[str, object]]
+TESTS: list["Test"] = []
 
 
 def steps_of(name: str, **marks: str) -> list[Step]:
@@ -145,12 +149,6 @@ class Tally:
 
     def __str__(self) -> str:
         return f"{self.passed} passed, {self.failed} failed"
-
-
-Function = Callable[[Tally, Options], None]
-# An option of a test: its words for argparse.
-Option = tuple[str, dict[str, object]]
-TESTS: list["Test"] = []
 
 
 @dataclass
