@@ -5,7 +5,7 @@ import random
 from typing import Any
 
 from .reference import (
-    ABS, ALLOC, COMMON, DYNAMIC, DYNAMIC_SECTION, DYNSYM, ENTRY_SIZE, EXEC, GROUP, HASH, IN_GROUP, INFO_LINK, LOAD, NOBITS, NOTE,
+    ABS, ALLOC, COMMON, DYNAMIC, DYNAMIC_SECTION, DYNSYM, ENTRY_SIZE, GROUP, HASH, IN_GROUP, INFO_LINK, LOAD, NOBITS, NOTE,
     PROGBITS, PROGRAM_HEADER, REL, RELA, RELOCATION, STRTAB, SYMBOL, SYMTAB, SYMTAB_SHNDX, UNDEF, WRITE, File, edited, elf_hash, group,
     laid, object_of, record, relocations, section, symbol, text, with_index_table, words,
 )  # fmt: skip

@@ -7,9 +7,10 @@ from .doc_examples import words as words_over_sources
 from .building import kit
 from .sources import definitions
 from .suite import Tally, Test, flag, steps_of
-from .tree import PACKAGE, TOP, Options, read_text, run, said, write
+from .tree import PACKAGE, TOP, Options, read_text, said, write
 
-# ---- names: one name of a definition means one thing in the whole repository
+PROGRAMS = [f"{TOP}/tools/{it}" for it in ("dev", "test", "release")]
+SETTINGS = f"{TOP}/tools/pyproject.toml"
 
 
 @Test("names", "each name of a definition is in one crate")
@@ -24,9 +25,6 @@ def names(tally: Tally, options: Options) -> None:
     tally.check(places and not several, "a name is defined in more than one crate")
 
 
-# ---- must-not-compile: what borrows from a file's bytes must not outlive them
-
-
 @Test("must-not-compile", "what borrows from a file's bytes and outlives them is refused by the borrow checker")
 def must_not_compile(tally: Tally, options: Options) -> None:
     """The check has to have an error of the borrow checker in each function of cases/sources/outlives.rt.txt."""
@@ -39,9 +37,6 @@ def must_not_compile(tally: Tally, options: Options) -> None:
         tally.check(any(first <= line <= last for line in refused), f"the borrow checker did not refuse {it[1]}: {output[-2000:]}")
 
 
-# ---- launcher: what ./elfmap builds and runs for which words
-
-
 @Test("launcher", "what ./elfmap builds and runs for which words")
 def launcher(tally: Tally, options: Options) -> None:
     os.makedirs(f"{tally.folder}/crates/elf_field/src")
@@ -51,12 +46,6 @@ def launcher(tally: Tally, options: Options) -> None:
     # It looks at the times of these folders alone.
     inner = [it for it in glob.glob(f"{TOP}/crates/elf*/src/*") if os.path.isdir(it)]
     tally.check(not inner, f"./elfmap does not see changes in {inner}")
-
-
-# ---- the tools themselves and the Python package
-
-PROGRAMS = [f"{TOP}/tools/{it}" for it in ("dev", "test", "release")]
-SETTINGS = f"{TOP}/tools/pyproject.toml"
 
 
 @Test("types", "mypy --strict over tools/ and the Python package", commands="mypy")

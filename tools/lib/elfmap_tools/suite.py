@@ -2,7 +2,7 @@
 installs the Debian packages of the commands that are missing."""
 
 import argparse, functools, glob, os, re, shutil, subprocess, sys, tempfile, time, traceback
-from collections.abc import Callable, Iterable, Iterator
+from collections.abc import Callable, Iterable
 from concurrent.futures import ThreadPoolExecutor, as_completed
 from dataclasses import dataclass
 from itertools import chain
