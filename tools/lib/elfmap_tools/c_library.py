@@ -62,7 +62,6 @@ def compare_names(tally: Tally, library: str, crate: str, needs: set[str], may_n
 
 
 def compile_and_run(tally: Tally, compiler: str, program: str, *words: str) -> None:
-    """Compiles a test and runs it."""
     wanted(compiler, *WARNINGS, *COMPILERS[compiler], *words, "-o", program)
     ran = said(program)
     is_passed = ran.returncode == 0 and re.search(r"^\d+ passed, 0 failed$", ran.stdout, re.M)

@@ -36,7 +36,6 @@ class Case:
         return f"{self.source}: elfmap {' '.join(self.words)} with {' '.join(self.needs)}"
 
     def put_needs(self, folder: str) -> None:
-        """Writes the files that it needs."""
         for place, _, name in (it.partition("=") for it in self.needs):
             if name:
                 write(f"{folder}/{place}", self.files[name])
@@ -84,7 +83,6 @@ def cases_of(path: str) -> list[Case]:
 
 
 def every_case(folder: str = f"{TOP}/cases") -> Iterator[Case]:
-    """The cases of the files of a folder."""
     return (it for path in sorted(glob.glob(f"{folder}/*.txt")) for it in cases_of(path))
 
 
@@ -130,8 +128,6 @@ OF_SEGMENTS, NOT_OF_OBJECTS = [19, 21, *range(25, 30)], range(59, 70)
 
 
 class Text:
-    """The text of a file of cases."""
-
     def __init__(self, seed: str, count: int) -> None:
         self.seed, self.count, self.lines = seed, count, [HEAD.format(seed=seed, count=count)]
         self.files: dict[bytes, str] = {}

@@ -33,7 +33,6 @@ def section_of(found: Definition) -> str:
 
 
 def row(own: re.Match[str]) -> str:
-    """A row as its definition has it."""
     found = known()[own[1]]
     said = found.comment.replace("|", r"\|") or own[2] or ""
     name = os.path.basename(found.path).removesuffix(".antt")

@@ -126,7 +126,6 @@ def is_law_or_test(name: str) -> bool:
 
 
 def wrong_in(row: Row) -> Iterator[str]:
-    """What is wrong with a row."""
     yield from (f"there is no call `{it}`" for it in row.calls if call(it) is None)
     words = frozenset[str]().union(*map(words_of, row.calls))
     yield from (f"no contract of {', '.join(row.calls)} has `{it}`" for it in row.contract if it not in words)

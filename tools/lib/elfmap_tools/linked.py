@@ -110,8 +110,6 @@ class Output(NamedTuple):
 
 
 class Map:
-    """The lines of a link map of files."""
-
     def __init__(self, text: str, files: list[Any]) -> None:
         self.outputs, self.bytes = list[Output](), dict[Place, bytes]()
         self.commons, self.names = dict[str, str](), dict[str, tuple[str, str]]()

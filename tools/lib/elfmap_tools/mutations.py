@@ -62,7 +62,6 @@ class Edit:
 
 
 def bugs_of(crate: str) -> list[Edit]:
-    """The bugs in the list of a crate."""
     path = f"{TOP}/crates/{crate}/mutations.txt"
     _, *parts = re.split(r"^\[(.*)\]\n", read_text(path), flags=re.M) if os.path.isfile(path) else [""]
     twice = [name for name, count in Counter(parts[::2]).items() if count > 1]
@@ -72,7 +71,6 @@ def bugs_of(crate: str) -> list[Edit]:
 
 
 def must_fail_of(crate: str) -> list[Edit]:
-    """The edits in must-fail/ of a crate."""
     paths = sorted(glob.glob(f"{TOP}/crates/{crate}/must-fail/*.edit"))
     return [Edit(crate, os.path.basename(it), read_text(it), False) for it in paths]
 

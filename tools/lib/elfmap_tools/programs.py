@@ -12,7 +12,6 @@ Command = tuple[str, str, Callable[[Options], int | None], list[Option]]
 
 
 def run(name: str, about: str, commands: list[Command], words: list[str]) -> int:
-    """Runs a command of a program."""
     parser = argparse.ArgumentParser(name, description=about)
     added = parser.add_subparsers(dest="command", required=True, metavar="COMMAND", title="commands")
     for command, what, main, arguments in commands:

@@ -127,7 +127,6 @@ def without_dead_links(folder: str) -> None:
 
 
 def put_release(folder: str, version: str) -> None:
-    """Puts what a release has into a folder."""
     for crate in ("elfmap", library.VERDICTS, library.ENGINES):
         if not is_current(crate, output_of(crate)):
             how = f"build it with tools/dev prove {crate}, which needs the Rattle kit's command rt"

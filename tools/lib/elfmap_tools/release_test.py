@@ -75,7 +75,6 @@ class Release:
         self.check(built.returncode == 0, f"cargo build: {built.stdout}")
 
     def steps(self) -> None:
-        """What a shell tries."""
         marks = {"TOP": self.folder, "V": VERSION, "PACKAGE": version_of(), "COMMANDS": " ".join(it for it, *_ in COMMANDS)}
         steps = steps_of("release.steps", **marks, PYTHON=os.path.dirname(sys.executable))
         self.tally.try_steps(steps, lambda script: said("sh", "-c", script, folder=self.room, env=PLAIN).stdout)

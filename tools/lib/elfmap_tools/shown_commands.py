@@ -122,7 +122,6 @@ COMMAND = re.compile(r"^\$ ((?:.*\\\n)*.*)\n((?:(?!\$ ).*\n)*)", re.M)
 
 
 def blocks(text: str) -> Iterator[str]:
-    """The code blocks of a page."""
     for it in CODE.finditer(text):
         indent = 4 if it["fence"] is None else len(it["fence"])
         yield re.sub(f"^ {{{indent}}}", "", it["fenced"] or it["indented"], flags=re.M)

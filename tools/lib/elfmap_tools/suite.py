@@ -243,7 +243,6 @@ def run_several(tests: list[Test], jobs: int) -> int:
 
 
 def families(tests: list[Test]) -> dict[str, list[Test]]:
-    """The tests of each family, by its name."""
     return {family: [it for it in tests if it.family == family] for family in dict.fromkeys(it.family for it in tests) if family}
 
 
