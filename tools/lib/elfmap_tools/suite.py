@@ -42,6 +42,8 @@ PACKAGES |= {IMPORTED.format(it): f"python3-{it}" for it in IMPORTS}
 PACKAGES |= {f"qemu-{qemu}": "qemu-user" for qemu in RUN_BY_QEMU}
 # A cargo whose rustc compiles the tests of bindings/rust too; Debian has an older one beside it.
 LEAST = {"cargo": (1, 85)}
+# One package that can't be had keeps none of the others away.
+INSTALL = 'get() { apt-get install -y --no-install-recommends "$@"; }; apt-get update; get "$@" || for it; do get "$it"; done'
 
 
 def is_there(command: str) -> bool:
@@ -72,15 +74,9 @@ def setup(commands: Iterable[str]) -> bool:
     if not shutil.which("apt-get"):
         print(f"setup: there is no apt-get, which would install {' '.join(packages)}", file=sys.stderr)
         return False
-    words = [] if os.geteuid() == 0 else ["sudo"]
-    words += ["env", "DEBIAN_FRONTEND=noninteractive", "apt-get"]
-    subprocess.run([*words, "update"], stdin=subprocess.DEVNULL, stdout=subprocess.DEVNULL)
     print(f"setup: installs {' '.join(packages)}", flush=True)
-    install = [*words, "install", "-y", "--no-install-recommends"]
-    if subprocess.run([*install, *packages], stdin=subprocess.DEVNULL, stdout=subprocess.DEVNULL).returncode:
-        # One package that can't be had keeps none of the others away.
-        for it in packages:
-            subprocess.run([*install, it], stdin=subprocess.DEVNULL, stdout=subprocess.DEVNULL)
+    words = [*["sudo"] * (os.geteuid() != 0), "env", "DEBIAN_FRONTEND=noninteractive", "sh", "-c", INSTALL, "sh", *packages]
+    subprocess.run(words, stdin=subprocess.DEVNULL, stdout=subprocess.DEVNULL)
     left = missing(lacking)
     if left:
         print(f"setup: still {words_of(left)}", file=sys.stderr)
