@@ -109,13 +109,8 @@ def try_cases(tally: Tally, options: Options) -> None:
 
 # What cases/ was made by.
 SEED, COUNT = "elfmap", 60
-HEAD = """# Made by `tools/test make-cases --seed {seed} --count {count}`, with the answers of the reference implementation (reference/).
-#
-#   file NAME size N          a file of N bytes, 0 but for those in the lines below it: an offset, and bytes in hexadecimal
-#   file NAME like OTHER      the bytes of another file, but for those in the lines below it; size N cuts it, or lengthens it by zeros
-#   run WORDS                 elfmap is run with these words, in a folder that holds only the files named behind `with`
-#   status N                  the exit status; then standard output behind `> `, or `= NAME` where it is the bytes of a file, and standard
-#                             error behind `! `
+HEAD = """# Made by `tools/test make-cases --seed {seed} --count {count}`, with the answers of the reference implementation (reference/). How a
+# case is written the head of worked.txt says.
 """
 RULES = (
     b"1 abs 8 wrap\n2 pc 4 signed\n3 none 1 wrap\n",

@@ -10,7 +10,7 @@ compiler before the work of proofs, which takes ten times as long."""
 import os, re
 from collections import Counter
 from collections.abc import Iterator
-from dataclasses import dataclass
+from typing import NamedTuple
 
 from . import sources
 from .building import kit
@@ -33,8 +33,7 @@ REFUSED = """pub fn refused(bytes: &mut [u8; 2]) {
 """
 
 
-@dataclass(eq=False)
-class Example:
+class Example(NamedTuple):
     """A code block: its crate, its file, the line of its fence, and the lines in it."""
 
     crate: str
@@ -75,7 +74,7 @@ def words(crates: list[str]) -> list[str]:
     return [*found, "--logic-built", f"{kit()}/logic_built"]
 
 
-def faults_of(examples: list[Example], room: str) -> dict[Example, list[str]]:
+def faults_of(examples: list[Example], room: str) -> dict[str, list[str]]:
     """What the compiler says against these examples, by example. It checks borrows where all names and types are right."""
     modules = {f"example_{number}": it for number, it in enumerate(examples)}
     files = {"refused": REFUSED, **{name: function_of(it) for name, it in modules.items()}}
@@ -84,10 +83,10 @@ def faults_of(examples: list[Example], room: str) -> dict[Example, list[str]]:
     for name, text in files.items():
         write(f"{room}/src/{name}.rt", text)
     output = said(f"{kit()}/bin/rattle", *words([it.crate for it in examples]), folder=room).stdout
-    faults: dict[Example, list[str]] = {}
+    faults: dict[str, list[str]] = {}
     for name, line in re.findall(r"^src/(\w+)(\.rt:\d+:\d+: error.*)", output, re.M):
         if name in modules:
-            faults.setdefault(modules[name], []).append(f"src/{name}{line}".replace(f"src/{name}.rt", modules[name].path))
+            faults.setdefault(name, []).append(f"src/{name}{line}".replace(f"src/{name}.rt", modules[name].path))
     if not faults and not re.search(r"^src/refused\.rt:3:.*borrow-e0506", output, re.M):
         raise SystemExit(f"the compiler does not judge the examples:\n{output}")
     return faults

@@ -168,14 +168,13 @@ def c_lines(content: bytes) -> list[str]:
 
 # ---- for bindings/rust and bindings/python
 
-MACHINE_FILES = ["/bin/true"]
 # Of a longer file the records alone are told: the reference is slow.
 LONG = 1 << 20
 
 
 def files() -> list[bytes]:
     """The files of cases/*.txt and some of the machine's own, each once."""
-    return list(dict.fromkeys([*case_files(), *map(read_bytes, filter(os.path.isfile, MACHINE_FILES))]))
+    return list(dict.fromkeys([*case_files(), *map(read_bytes, filter(os.path.isfile, ["/bin/true"]))]))
 
 
 def record_line(word: str, record: Any, layout: Any, *parts: bytes | None) -> str:
