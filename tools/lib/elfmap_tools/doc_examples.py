@@ -4,8 +4,8 @@ proved of it, since what an example leaves out, as a check of a number, a proof 
 An example is a code block of a doc comment whose fence names no language. It is made the body of a function that returns any error, in a
 crate for this alone. There it sees what its own crate shows, before what crates below show, and what is named in `OF_STD`. What it uses and
 does not bind is a parameter, of the type in `GIVEN`; a name that is not there is an unknown one. The crates are read as they are, so none
-has to be built. The function `REFUSED` beside the examples borrows wrongly: that it is refused shows that borrows are checked, and ends the
-compiler before the work of proofs, which takes ten times as long."""
+has to be built. The functions of cases/sources/outlives.rt.txt are beside the examples: that they are refused shows that borrows are checked,
+and ends the compiler before the work of proofs, which takes ten times as long."""
 
 import os, re
 from collections import Counter
@@ -25,12 +25,6 @@ GIVEN = {
 }  # fmt: skip
 OF_STD = "use std::{alloc::Global, hash::{BuildHasherDefault, FoldHasher}, io::{Print, Read, Seek, Write}, process::Abort};"
 FENCED = re.compile(r"^ *//[/!] ?```(?P<language>.*?) *\n(?P<lines>(?: *//[/!].*\n)*?) *//[/!] ?```", re.M)
-REFUSED = """pub fn refused(bytes: &mut [u8; 2]) {
-    let first = &mut bytes[0];
-    bytes[0] = 1;
-    *first = 2;
-}
-"""
 
 
 class Example(NamedTuple):
@@ -77,8 +71,8 @@ def words(crates: list[str]) -> list[str]:
 def faults_of(examples: list[Example], room: str) -> dict[str, list[str]]:
     """What the compiler says against these examples, by example. It checks borrows where all names and types are right."""
     modules = {f"example_{number}": it for number, it in enumerate(examples)}
-    files = {"refused": REFUSED, **{name: function_of(it) for name, it in modules.items()}}
-    files["lib"] = "//! Examples of docs.\n#![tactic(auto)]\n" + "".join(f"pub mod {name};\n" for name in files)
+    files = {name: function_of(it) for name, it in modules.items()}
+    files["lib"] = read_text("cases/sources/outlives.rt.txt") + "".join(f"pub mod {name};\n" for name in files)
     os.makedirs(f"{room}/src")
     for name, text in files.items():
         write(f"{room}/src/{name}.rt", text)
@@ -87,7 +81,7 @@ def faults_of(examples: list[Example], room: str) -> dict[str, list[str]]:
     for name, line in re.findall(r"^src/(\w+)(\.rt:\d+:\d+: error.*)", output, re.M):
         if name in modules:
             faults.setdefault(name, []).append(f"src/{name}{line}".replace(f"src/{name}.rt", modules[name].path))
-    if not faults and not re.search(r"^src/refused\.rt:3:.*borrow-e0506", output, re.M):
+    if not faults and not re.search(r"^src/lib\.rt:\d+:.*borrow-e0", output, re.M):
         raise SystemExit(f"the compiler does not judge the examples:\n{output}")
     return faults
 
