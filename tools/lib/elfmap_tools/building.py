@@ -1,7 +1,7 @@
 """How the kit's checker reads a crate of this repository over built libraries; `tools/dev prove`, which proves the libraries below a crate
 and builds it; and `tools/dev check`, the loop while one writes."""
 
-import fcntl, functools, hashlib, os, re, resource, shutil, sys, tempfile, time
+import fcntl, functools, glob, hashlib, os, re, resource, shutil, sys, tempfile, time
 from collections.abc import Callable, Iterable
 from concurrent.futures import Future, ThreadPoolExecutor
 
@@ -227,9 +227,8 @@ def without_other_tests(folder: str, name: str) -> list[str]:
         kept.extend([match[2]] if name in match[2] else [])
         return match[0] if name in match[2] else ""
 
-    for at, _, names in os.walk(f"{folder}/src"):
-        for path in (f"{at}/{it}" for it in names if it.endswith(".rt")):
-            write(path, TEST.sub(left, read_text(path)))
+    for path in glob.glob(f"{folder}/src/**/*.rt", recursive=True):
+        write(path, TEST.sub(left, read_text(path)))
     return kept
 
 

@@ -16,8 +16,7 @@ ROW = re.compile(r"^\| `([^`]+)`(?: \| (.*?) \|)?.*$", re.M)
 @functools.cache
 def known() -> dict[str, Definition]:
     """Every definition of specs/ by its name."""
-    paths = sorted(glob.glob("crates/*/specs/*.antt", root_dir=TOP))
-    return {name: it for path in paths for name, it in definitions(path)[0].items()}
+    return {name: it for path in sorted(glob.glob("crates/*/specs/*.antt", root_dir=TOP)) for name, it in definitions(path)[0].items()}
 
 
 def section_of(found: Definition) -> str:

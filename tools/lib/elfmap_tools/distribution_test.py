@@ -47,8 +47,7 @@ def make_root() -> str:
 
 def inside(root: str, script: str) -> Texts:
     """Runs a script in a root, with processes and mounts of its own."""
-    words = ["unshare", "--mount", "--pid", "--fork", "sh", "-c", MOUNTED, "sh"]
-    return said(*words, root, script, env=PLAIN)
+    return said("unshare", "--mount", "--pid", "--fork", "sh", "-c", MOUNTED, "sh", root, script, env=PLAIN)
 
 
 def in_clean_root(tally: Tally, folder: str) -> None:

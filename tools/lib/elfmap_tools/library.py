@@ -74,11 +74,9 @@ def structs_in(text: str, tags: Tags) -> Structs:
 
 def calls_in(text: str, tags: Tags) -> Calls:
     """The calls that it has, and the types of their parameters: a slice is a pointer and a length; an allocator passes nothing in C."""
-    found = Calls()
-    for name, given in re.findall(r" fn (elfmap_\w+)\((.*?)\) ->", text, re.S):
-        kinds = re.findall(r"\w+: (?!Global)([^,]+)", given)
-        found[name] = [it for kind in kinds for it in (c_type(kind, tags), *["size_t"] * ("[" in kind))]
-    return found
+    calls = dict(re.findall(r" fn (elfmap_\w+)\((.*?)\) ->", text, re.S))
+    kinds = {name: re.findall(r"\w+: (?!Global)([^,]+)", given) for name, given in calls.items()}
+    return {name: [it for kind in own for it in (c_type(kind, tags), *["size_t"] * ("[" in kind))] for name, own in kinds.items()}
 
 
 def calls(result: str = r"bool|uint32_t|void|struct \w+") -> Calls:

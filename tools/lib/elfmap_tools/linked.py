@@ -62,11 +62,9 @@ class Workshop:
 
     def answers(self, *emulator: str) -> list[Answer]:
         """How the programs by ld and by elfmap end, and what they print."""
-        found = []
-        for program in (f"{self.folder}/by-ld", f"{self.folder}/by-elfmap"):
-            os.chmod(program, 0o755)
-            found.append(answer_of(self.run(*emulator, program, "word")))
-        return found
+        programs = [f"{self.folder}/by-ld", f"{self.folder}/by-elfmap"]
+        wanted("chmod", "755", *programs)
+        return [answer_of(self.run(*emulator, it, "word")) for it in programs]
 
 
 # ---- linked-like-ld

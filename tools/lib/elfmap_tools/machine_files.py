@@ -80,8 +80,7 @@ def objects_of(path: str) -> list[Place]:
         with opened(os.fsencode(path)) as source:
             if path.endswith(".a"):
                 return [(path, it.start, it.size) for it in members(source, b"") if source[it.start : it.start + 5] == ELF_64]
-            is_object = source[:5] == ELF_64 and source[16:18] in (b"\1\0", b"\0\1")
-            return [(path, 0, len(source))] if is_object else []
+            return [(path, 0, len(source))] if source[:5] == ELF_64 and source[16:18] in (b"\1\0", b"\0\1") else []
     except Unreadable:
         return []
 
@@ -92,16 +91,14 @@ def content_of(place: Place) -> bytes:
         return it.read(place[2])
 
 
-def sections(data: bytes) -> list[tuple[int, Any]]:
+def sections(data: bytes) -> Iterator[tuple[int, Any]]:
     """The sections that an object keeps: of each its index, and name, type, flags, address, alignment, entry size and content."""
-    f, found = File(data), []
+    f = File(data)
     names = f.content(f.name_table) if f.name_table else b"\0"
     for i, it in ((i, f.section(i)) for i in kept(f)):
         # Entries and words hold indexes: readelf lists these.
         content = it.sh_size if it.sh_type in (NOBITS, RELA, REL, GROUP) else f.content(i)
-        own = string(names, it.sh_name), it.sh_type, it.sh_flags, it.sh_addr, it.sh_addralign, it.sh_entsize, content
-        found.append((i, own))
-    return found
+        yield i, (string(names, it.sh_name), it.sh_type, it.sh_flags, it.sh_addr, it.sh_addralign, it.sh_entsize, content)
 
 
 def listed(path: str, data: bytes) -> list[str]:

@@ -42,11 +42,8 @@ def prose(text: str) -> str:
 
 def sentences(text: str) -> list[str]:
     """The sentences of a page, each in one line."""
-    found = []
-    for paragraph in PARAGRAPHS.split(prose(text)):
-        line = re.sub(r"^(?:[-*]|\d+\.) ", "", " ".join(paragraph.split()))
-        found += [it for it in SENTENCES.split(line) if it]
-    return found
+    lines = (re.sub(r"^(?:[-*]|\d+\.) ", "", " ".join(it.split())) for it in PARAGRAPHS.split(prose(text)))
+    return [it for line in lines for it in SENTENCES.split(line) if it]
 
 
 def all_pages() -> list[str]:

@@ -19,6 +19,8 @@ CLAUSE = re.compile(r" *(requires|ensures)\b")
 LITERAL = re.compile(r"""b?"(?:\\.|[^"\\])*"|b?'(?:\\.[^']*|[^'\\])'|//.*""")
 WORD = re.compile(r"(?<![\w.])[^\W\d]\w*")
 IMPORT = re.compile(r"use Rattle\.([\w.]+)\.\{([^}]*)\}")
+# A word, and what it is called here, if it is called otherwise.
+NAMES = re.compile(r"([^\s,]+)(?: as ([^\s,]+))?")
 DEFINITION = re.compile(r"^(?:(?:pub )?(?:abbrev|unfoldable|record|data) (?:pub )?([^\s(:]+)|(?:pub )?([^\s(:=]+) :)", re.M)
 
 
@@ -103,12 +105,7 @@ def signature_and_clauses(text: list[str]) -> tuple[list[str], list[str]]:
 
 def imports(text: str) -> Uses:
     """What the words of the logic in a text stand for, by its `use` lines: a path and a name there."""
-    found = {}
-    for path, names in IMPORT.findall(text):
-        for word in names.split(","):
-            name, _, alias = word.strip().partition(" as ")
-            found[alias or name] = (path, name)
-    return found
+    return {alias or name: (path, name) for path, names in IMPORT.findall(text) for name, alias in NAMES.findall(names)}
 
 
 def members_of(text: list[str], source: str, is_trait: bool, uses: Uses) -> Iterator[Item]:
@@ -121,14 +118,12 @@ def members_of(text: list[str], source: str, is_trait: bool, uses: Uses) -> Iter
             yield Item(match[2], match[3], source, docs, *signature_and_clauses(part), uses)
 
 
-def ghosts_of(text: list[str]) -> list[str]:
+def ghosts_of(text: list[str]) -> Iterator[str]:
     """The lines of a text that are of the logic alone, with their comments."""
-    found = []
     for _, marks, part in blocks(inside(text)):
-        if part[0].strip().startswith("ghost ") and not part[0].strip().startswith("ghost use"):
+        if re.match(" *ghost (?!use)", part[0]):
             comments = [it.replace("// ", "-- ", 1) for it in marks if it.startswith("//")]
-            found.append("\n".join([*comments, *unindented(part)]).removesuffix(";"))
-    return found
+            yield "\n".join([*comments, *unindented(part)]).removesuffix(";")
 
 
 def fields_of(text: list[str]) -> Iterator[tuple[list[str], str]]:
@@ -149,7 +144,7 @@ def item_of(docs: list[str], marks: list[str], text: list[str], source: str, use
     if kind in ("struct", "enum"):
         item.fields = list(fields_of(text))
     if kind == "trait":
-        item.members, item.ghosts = list(members_of(text, source, True, uses)), ghosts_of(text)
+        item.members, item.ghosts = list(members_of(text, source, True, uses)), list(ghosts_of(text))
         item.uses = {**uses, **imports("\n".join(text))}
     return item
 
@@ -193,8 +188,7 @@ def with_impls(item: Item, crate: str) -> Item:
 def shown_by(path: str) -> Iterator[tuple[str, str]]:
     """What a file shows, modules of its own and what others have: each name with its path."""
     for line in re.finditer(r"^pub (?:use ([\w:]+)::\{([^}]*)\}|(?:use|mod) ([\w:]+(?: as \w+)?));", read_text(path), re.M):
-        for word in filter(None, map(str.strip, (line[2] or line[3]).split(","))):
-            place, _, alias = word.partition(" as ")
+        for place, alias in NAMES.findall(line[2] or line[3]):
             yield alias or place.rsplit("::", 1)[-1], f"{line[1]}::{place}" if line[1] else place
 
 
