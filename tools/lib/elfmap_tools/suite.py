@@ -71,9 +71,6 @@ def setup(commands: Iterable[str]) -> bool:
     packages = sorted({PACKAGES[it] for it in lacking})
     if not packages:
         return True
-    if not shutil.which("apt-get"):
-        print(f"setup: there is no apt-get, which would install {' '.join(packages)}", file=sys.stderr)
-        return False
     print(f"setup: installs {' '.join(packages)}", flush=True)
     words = [*["sudo"] * (os.geteuid() != 0), "env", "DEBIAN_FRONTEND=noninteractive", "sh", "-c", INSTALL, "sh", *packages]
     subprocess.run(words, stdin=subprocess.DEVNULL, stdout=subprocess.DEVNULL)
