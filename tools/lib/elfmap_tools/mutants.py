@@ -36,6 +36,11 @@ BUILDS = (
 )
 PAIR = tuple(f"gcc -c -O1 -fno-pic -fno-pie -fcommon {it}.c -o linked-{it}.o" for it in ("caller", "defining"))
 SYSTEM = ("/usr/lib/x86_64-linux-gnu/crt1.o", "/usr/lib/x86_64-linux-gnu/libutil.so.1", "/usr/bin/true")
+# Bases and pages; the last pair breaks rule 1.
+PLACES = [("0x400000", "0x1000"), ("65536", "1"), ("0", "1"), ("0x80000000", "16"), ("0x7ffff000", "0x1000")]
+PLACES += [("0xffffffffffff0000", "4096"), ("0x1001", "0x1000")]
+ENTRIES = ("caller", "counted", "half", "once", "absent", "nowhere")
+RULE = re.compile(rb"[0-9]+ (abs|pc|none) [1248] (signed|unsigned|wrap)")
 
 
 def fuzzed_rules(rules: bytes, chance: Chance) -> bytes:
@@ -54,15 +59,6 @@ def fuzzed_rules(rules: bytes, chance: Chance) -> bytes:
     if kind == 4:
         return chance.choice((b"4294967295", b"4294967296", b"0001", b"-1", b"")) + b" abs 4 wrap\n" + rules
     return b"".join(chance.sample(rules.splitlines(True), chance.randrange(8))) if kind == 5 else rules
-
-
-# ---- what becomes of one
-
-# Bases and pages; the last pair breaks rule 1.
-PLACES = [("0x400000", "0x1000"), ("65536", "1"), ("0", "1"), ("0x80000000", "16"), ("0x7ffff000", "0x1000")]
-PLACES += [("0xffffffffffff0000", "4096"), ("0x1001", "0x1000")]
-ENTRIES = ("caller", "counted", "half", "once", "absent", "nowhere")
-RULE = re.compile(rb"[0-9]+ (abs|pc|none) [1248] (signed|unsigned|wrap)")
 
 
 def bad_line(rules: bytes) -> int:
