@@ -101,10 +101,7 @@ def put(path: str, text: str | bytes) -> None:
 def copied(source: str, path: str) -> None:
     """Copies a file, or a folder, into a folder that is made if it is not there."""
     os.makedirs(os.path.dirname(path), exist_ok=True)
-    if os.path.isdir(source):
-        shutil.copytree(source, path)
-    else:
-        shutil.copy(source, path)
+    wanted("cp", "-rLT", source, path)
 
 
 def runner(version: str, program: str) -> str:
