@@ -109,8 +109,8 @@ def try_cases(tally: Tally, options: Options) -> None:
 
 # What cases/ was made by.
 SEED, COUNT = "elfmap", 60
-HEAD = """# Made by `tools/test make-cases --seed {seed} --count {count}`, with the answers of the reference implementation (reference/). How a
-# case is written the head of worked.txt says.
+HEAD = """# Made by `tools/test make-cases --seed {seed} --count {count}`, with the answers of the reference implementation (reference/).
+# How a case is written the head of worked.txt says.
 """
 RULES = (
     b"1 abs 8 wrap\n2 pc 4 signed\n3 none 1 wrap\n",

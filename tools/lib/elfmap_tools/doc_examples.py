@@ -2,10 +2,10 @@
 proved of it, since what an example leaves out, as a check of a number, a proof would need.
 
 An example is a code block of a doc comment whose fence names no language. It is made the body of a function that returns any error, in a
-crate for this alone. There it sees what its own crate shows, before what crates below show, and what is named in `OF_STD`. What it uses and
-does not bind is a parameter, of the type in `GIVEN`; a name that is not there is an unknown one. The crates are read as they are, so none
-has to be built. The functions of cases/sources/outlives.rt.txt are beside the examples: that they are refused shows that borrows are checked,
-and ends the compiler before the work of proofs, which takes ten times as long."""
+crate for this alone. There it sees what its own crate shows, before what crates below show, and what is named in `OF_STD`. What it uses
+and does not bind is a parameter, of the type in `GIVEN`; a name that is not there is an unknown one. The crates are read as they are, so
+none has to be built. The functions of cases/sources/outlives.rt.txt are beside the examples: that they are refused shows that borrows are
+checked, and ends the compiler before the work of proofs, which takes ten times as long."""
 
 import os, re
 from collections import Counter

@@ -32,7 +32,7 @@ def processes() -> dict[int, Process]:
 
 
 def name_of(words: list[str]) -> str:
-    """The program that these words start, by its file's name: an interpreter stands for its script, `tools/test` for its test, if it is one."""
+    """The program that these words start, by its file's name: an interpreter stands for its script, `tools/test` for its one test."""
     names = [os.path.basename(it) for it in words]
     names = names[1:] if names and names[0] in SCRIPTED else names
     return "".join(names[1:2] if names[:1] == ["test"] else names[:1])
