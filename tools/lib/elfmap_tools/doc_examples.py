@@ -1,11 +1,13 @@
-"""`tools/test doc-examples`: each example in the docs of the libraries compiles: its names, types, moves and borrows are right. Nothing is
+"""`tools/test must-not-compile`: each function of cases/sources/outlives.rt.txt has an error of the borrow checker.
+
+`tools/test doc-examples`: each example in the docs of the libraries compiles: its names, types, moves and borrows are right. Nothing is
 proved of it, since what an example leaves out, as a check of a number, a proof would need.
 
 An example is a code block of a doc comment whose fence names no language. It is made the body of a function that returns any error, in a
 crate for this alone. There it sees what its own crate shows, before what crates below show, and what is named in `OF_STD`. What it uses
 and does not bind is a parameter, of the type in `GIVEN`; a name that is not there is an unknown one. The crates are read as they are, so
-none has to be built. The functions of cases/sources/outlives.rt.txt are beside the examples: that they are refused shows that borrows are
-checked, and ends the compiler before the work of proofs, which takes ten times as long."""
+none has to be built. Those functions are beside the examples: that they are refused shows that borrows are checked, and ends the compiler
+before the work of proofs, which takes ten times as long."""
 
 import os, re
 from collections import Counter
@@ -24,6 +26,7 @@ GIVEN = {
     "objects": "&'a [Object<'a>]", "options": "Options<'a>", "rules": "&'a [RelocRule]",
 }  # fmt: skip
 OF_STD = "use std::{alloc::Global, hash::{BuildHasherDefault, FoldHasher}, io::{Print, Read, Seek, Write}, process::Abort};"
+OUTLIVES = read_text("cases/sources/outlives.rt.txt")
 FENCED = re.compile(r"^ *//[/!] ?```(?P<language>.*?) *\n(?P<lines>(?: *//[/!].*\n)*?) *//[/!] ?```", re.M)
 
 
@@ -68,27 +71,35 @@ def words(crates: list[str]) -> list[str]:
     return [*found, "--logic-built", f"{kit()}/logic_built"]
 
 
-def faults_of(examples: list[Example], room: str) -> dict[str, list[str]]:
-    """What the compiler says against these examples, by example. It checks borrows where all names and types are right."""
-    modules = {f"example_{number}": it for number, it in enumerate(examples)}
-    files = {name: function_of(it) for name, it in modules.items()}
-    files["lib"] = read_text("cases/sources/outlives.rt.txt") + "".join(f"pub mod {name};\n" for name in files)
+def output_of(examples: list[Example], room: str) -> str:
+    """What the compiler says of these examples, and of the functions that must not compile: of borrows where all names and types are right."""
+    files = {f"example_{number}": function_of(it) for number, it in enumerate(examples)}
+    files["lib"] = OUTLIVES + "".join(f"pub mod {name};\n" for name in files)
     os.makedirs(f"{room}/src")
     for name, text in files.items():
         write(f"{room}/src/{name}.rt", text)
-    output = said(f"{kit()}/bin/rattle", *words([it.crate for it in examples]), folder=room).stdout
-    faults: dict[str, list[str]] = {}
-    for name, line in re.findall(r"^src/(\w+)(\.rt:\d+:\d+: error.*)", output, re.M):
-        if name in modules:
-            faults.setdefault(name, []).append(f"src/{name}{line}".replace(f"src/{name}.rt", modules[name].path))
-    if not faults and not re.search(r"^src/lib\.rt:\d+:.*borrow-e0", output, re.M):
-        raise SystemExit(f"the compiler does not judge the examples:\n{output}")
-    return faults
+    crates = [*re.findall(r"^use (elf_\w+)::", OUTLIVES, re.M), *(it.crate for it in examples)]
+    return said(f"{kit()}/bin/rattle", *words(crates), folder=room).stdout
 
 
 @Test("doc-examples", "each example in a doc comment compiles")
 def doc_examples(tally: Tally, options: Options) -> None:
     crates = [it for it in LIBRARIES_OF if not is_program(it)]
     examples = [it for crate in crates for path in sources.sources_of(crate) for it in examples_in(crate, path)]
-    tally.count(len(examples), map("\n".join, faults_of(examples, tally.folder).values()))
+    output, faults = output_of(examples, tally.folder), dict[str, list[str]]()
+    for name, number, line in re.findall(r"^(src/example_(\d+)\.rt)(:\d+:\d+: error.*)", output, re.M):
+        path = examples[int(number)].path
+        faults.setdefault(number, []).append(path + line.replace(name, path))
+    if not faults and not re.search(r"^src/lib\.rt:\d+:.*borrow-e0", output, re.M):
+        raise SystemExit(f"the compiler does not judge the examples:\n{output}")
+    tally.count(len(examples), map("\n".join, faults.values()))
     tally.note(", ".join(f"{crate} {count}" for crate, count in Counter(it.crate for it in examples).items()))
+
+
+@Test("must-not-compile", "what borrows from a file's bytes and outlives them is refused by the borrow checker")
+def must_not_compile(tally: Tally, options: Options) -> None:
+    output = output_of([], tally.folder)
+    refused = [int(it) for it in re.findall(r"^src/lib\.rt:(\d+):.*borrow-e0(?:505|515|597)", output, re.M)]
+    for it in re.finditer(r"^pub fn (\w+)(?:.*\n)*?^}", OUTLIVES, re.M):
+        first, last = (OUTLIVES.count("\n", 0, place) + 1 for place in it.span())
+        tally.check(any(first <= line <= last for line in refused), f"the borrow checker did not refuse {it[1]}: {output[-2000:]}")

@@ -1,13 +1,11 @@
-"""Checks of texts that need nothing built: `tools/test names`, `must-not-compile` and `launcher`, and of the tools themselves and of the
-Python package: `types` and `format`."""
+"""Checks of texts that need nothing built: `tools/test names` and `launcher`, and of the tools themselves and of the Python package: `types`
+and `format`."""
 
-import collections, glob, os, re, shutil
+import collections, glob, os, shutil
 
-from .doc_examples import words as words_over_sources
-from .building import kit
 from .sources import definitions
 from .suite import Tally, Test, flag, steps_of
-from .tree import PACKAGE, TOP, Options, read_text, said, write
+from .tree import PACKAGE, TOP, Options, said, write
 
 PROGRAMS = [f"{TOP}/tools/{it}" for it in ("dev", "test", "release")]
 SETTINGS = f"{TOP}/tools/pyproject.toml"
@@ -23,18 +21,6 @@ def names(tally: Tally, options: Options) -> None:
     for name, paths in several.items():
         tally.fail(f"{name}: {', '.join(paths)}")
     tally.check(places and not several, "a name is defined in more than one crate")
-
-
-@Test("must-not-compile", "what borrows from a file's bytes and outlives them is refused by the borrow checker")
-def must_not_compile(tally: Tally, options: Options) -> None:
-    """The check has to have an error of the borrow checker in each function of cases/sources/outlives.rt.txt."""
-    text = read_text("cases/sources/outlives.rt.txt")
-    write(f"{tally.new_folder('src')}/lib.rt", text)
-    output = said(f"{kit()}/bin/rattle", *words_over_sources(re.findall(r"^use (elf_\w+)::", text, re.M)), folder=tally.folder).stdout
-    refused = [int(it) for it in re.findall(r"^src/lib\.rt:(\d+):.*borrow-e0(?:505|515|597)", output, re.M)]
-    for it in re.finditer(r"^pub fn (\w+)(?:.*\n)*?^}", text, re.M):
-        first, last = (text.count("\n", 0, place) + 1 for place in it.span())
-        tally.check(any(first <= line <= last for line in refused), f"the borrow checker did not refuse {it[1]}: {output[-2000:]}")
 
 
 @Test("launcher", "what ./elfmap builds and runs for which words")
