@@ -72,7 +72,7 @@ def words(crates: list[str]) -> list[str]:
 
 
 def output_of(examples: list[Example], room: str) -> str:
-    """What the compiler says of these examples, and of the functions that must not compile: of borrows where all names and types are right."""
+    """What the compiler says of these examples, and of the functions that must not compile; of borrows where names and types are right."""
     files = {f"example_{number}": function_of(it) for number, it in enumerate(examples)}
     files["lib"] = OUTLIVES + "".join(f"pub mod {name};\n" for name in files)
     os.makedirs(f"{room}/src")
