@@ -16,7 +16,8 @@ from .reference import (
 from .rules_tables import by_anchor
 from .tree import Options, read_bytes, write
 
-TABLES = (SYMTAB, DYNSYM, RELA, REL, DYNAMIC_SECTION, NOTE)
+# A line for bindings/c/test.c, and one for bindings/rust and bindings/python.
+Lines = tuple[str, str]
 # The owner of a part by its index in the list of a file's extents, as the reference calls it: of a content by the section's index.
 OWNERS = {"header": 0, "sections": 1, "segments": 2, "content": 3, "gap": 2**64 - 1}
 
@@ -39,35 +40,46 @@ def beside(f: Any, i: int) -> tuple[int | None, int | None]:
     return None, link if kind == DYNAMIC_SECTION else None
 
 
-def symbols_in(f: Any, i: int) -> Iterator[tuple[Any, int, str]]:
-    """Each symbol, the index of its section, and its name."""
+def symbol_lines(f: Any, i: int) -> Iterator[Lines]:
+    """Of each symbol its numbers, the index of its section, and its name."""
     index_table, strings = beside(f, i)
     words, names = [] if index_table is None else f.words(index_table), content_of(f, strings)
     for k, it in enumerate(symbols(f, i)):
         if it.st_shndx != XINDEX or k < len(words):
-            yield it, words[k][1] if it.st_shndx == XINDEX else it.st_shndx, string(names, it.st_name).hex()
+            section, name = words[k][1] if it.st_shndx == XINDEX else it.st_shndx, string(names, it.st_name).hex()
+            numbers = f"{it.st_value} {it.st_size} {section} {it.st_shndx} {it.st_info} {it.st_other}"
+            yield f"symbol {fields(it, SYMBOL)} {section} {name}", f"symbol {i} {numbers} ={name}"
 
 
-def relocations_in(f: Any, i: int) -> Iterator[str]:
-    """The numbers of each relocation: its offset, addend, symbol and kind."""
+def relocation_lines(f: Any, i: int) -> Iterator[Lines]:
+    """Of each relocation its offset, addend, symbol and kind."""
     kind = f.section(i).sh_type
     for it in f.entries(i, RELOCATION, ENTRY_SIZE[kind]):
-        yield f"{it.r_offset} {signed(it.r_addend, 64) if kind == RELA else 0} {it.r_info // 2 ** 32} {it.r_info % 2 ** 32}"
+        numbers = f"{it.r_offset} {signed(it.r_addend, 64) if kind == RELA else 0} {it.r_info // 2 ** 32} {it.r_info % 2 ** 32}"
+        yield f"relocation {numbers}", f"relocation {i} {numbers}"
 
 
-def dynamic_in(f: Any, i: int) -> Iterator[tuple[str, str | None]]:
-    """The numbers of each dynamic entry, and the string at its number."""
+def dynamic_lines(f: Any, i: int) -> Iterator[Lines]:
+    """Of each dynamic entry its numbers, and the string at its number."""
     strings, entries = content_of(f, f.section(i).sh_link), entries_before_null(f, i)
     for it in f.entries(i, DYNAMIC, 16) if entries is None else entries:
-        yield f"{signed(it.d_tag, 64)} {it.d_un}", string(strings, it.d_un).hex() if it.d_un < len(strings) else None
+        numbers, name = f"{signed(it.d_tag, 64)} {it.d_un}", string(strings, it.d_un).hex() if it.d_un < len(strings) else None
+        yield f"dynamic {numbers} {'none' if name is None else name}", f"dynamic {i} {numbers} ={name or ''}"
 
 
-def notes_in(f: Any, i: int) -> Iterator[tuple[int, int, str, str]]:
-    """Each whole note: its type, where it ends, its name, and its descriptor."""
+def note_lines(f: Any, i: int) -> Iterator[Lines]:
+    """Of each whole note its type, where it ends, its name, and its descriptor."""
     for at, end, name, size in notes(f, i):
         named, begin = at + 12, at + 12 + padded(name)
         if begin + padded(size) <= end:
-            yield f.number(at + 8, 4), begin + padded(size), f.bytes[named : named + name][:-1].hex(), f.bytes[begin : begin + size].hex()
+            type, next_note = f.number(at + 8, 4), begin + padded(size) - f.section(i).sh_offset
+            own, descriptor = f.bytes[named : named + name][:-1].hex(), f.bytes[begin : begin + size].hex()
+            yield f"note {type} {next_note} {own} {descriptor}", f"note {i} {type} ={own} ={descriptor}"
+
+
+# What has the lines of a table, by its type.
+ENTRIES = dict.fromkeys((SYMTAB, DYNSYM), symbol_lines) | dict.fromkeys((RELA, REL), relocation_lines)
+ENTRIES |= {DYNAMIC_SECTION: dynamic_lines, NOTE: note_lines}
 
 
 def fields(record: Any, layout: Any) -> str:
@@ -118,23 +130,11 @@ def found_lines(f: Any, i: int) -> Iterator[str]:
         yield f"found {name.hex()} {found(words, names, name)}"
 
 
-def entry_lines(f: Any, i: int, kind: int) -> list[str]:
-    if kind in (SYMTAB, DYNSYM):
-        return [f"symbol {fields(it, SYMBOL)} {section} {name}" for it, section, name in symbols_in(f, i)]
-    if kind in (RELA, REL):
-        return [f"relocation {it}" for it in relocations_in(f, i)]
-    if kind == DYNAMIC_SECTION:
-        return [f"dynamic {numbers} {'none' if name is None else name}" for numbers, name in dynamic_in(f, i)]
-    if kind == NOTE:
-        return [f"note {type} {end - f.section(i).sh_offset} {name} {own}" for type, end, name, own in notes_in(f, i)]
-    return list(found_lines(f, i))
-
-
 def table_lines(f: Any, i: int, kind: int) -> Iterator[str]:
     """Of a table whose linked sections are there: where it is and those beside it are, how many entries it has, and these."""
     link = f.section(i).sh_link
     if kind == NOTE or is_section(f, link) and (kind != HASH or is_section(f, f.section(link).sh_link)):
-        lines = entry_lines(f, i, kind)
+        lines = list(found_lines(f, i)) if kind == HASH else [own for own, _ in ENTRIES[kind](f, i)]
         count = len(notes(f, i)) if kind == NOTE else len(lines) if kind == DYNAMIC_SECTION else f.section(i).sh_size // ENTRY_SIZE[kind]
         places = ("0 0" if it is None else f"{f.section(it).sh_offset} {len(content_of(f, it))}" for it in (i, *beside(f, i)))
         yield f"table {i} {' '.join(places)} {count} {kind} {f.bytes[5]}"
@@ -154,7 +154,7 @@ def kept_lines(f: Any) -> Iterator[str]:
         for address in ((it.p_vaddr + k) % 2**64 for k in (0, it.p_filesz - 1, it.p_filesz, it.p_memsz - 1, it.p_memsz)):
             yield f"load {address} {loaded(f, address)}"
     for i, it in f.sections():
-        if it.sh_type in (*TABLES, HASH):
+        if it.sh_type in (*ENTRIES, HASH):
             yield from table_lines(f, i, it.sh_type)
 
 
@@ -181,20 +181,6 @@ def record_line(word: str, record: Any, layout: Any, *parts: bytes | None) -> st
     return " ".join([word, fields(record, layout), *("-" if it is None else f"={it.hex()}" for it in parts)])
 
 
-def entries(f: Any, i: int, kind: int) -> list[str]:
-    """The entries of a table that breaks none of its rules."""
-    if table_verdict(f, i):
-        return [f"broken {i}"]
-    if kind in (SYMTAB, DYNSYM):
-        numbers = "{0.st_value} {0.st_size} {1} {0.st_shndx} {0.st_info} {0.st_other}"
-        return [f"symbol {i} {numbers.format(it, section)} ={name}" for it, section, name in symbols_in(f, i)]
-    if kind in (RELA, REL):
-        return [f"relocation {i} {it}" for it in relocations_in(f, i)]
-    if kind == DYNAMIC_SECTION:
-        return [f"dynamic {i} {numbers} ={name or ''}" for numbers, name in dynamic_in(f, i)]
-    return [f"note {i} {type} ={name} ={own}" for type, _, name, own in notes_in(f, i)]
-
-
 def lines_of(content: bytes) -> list[str]:
     """The lines on a file: its refusal, or what it counts, each of its records, parts and entries, and its object."""
     broken = verdict(content)
@@ -211,7 +197,8 @@ def lines_of(content: bytes) -> list[str]:
     if len(content) > LONG:
         return lines
     lines += [f"part {start} {size} {'gap' if owner.startswith('gap') else owner}" for start, size, owner in parts(f)]
-    lines += [line for i, it in f.sections() if it.sh_type in TABLES for line in entries(f, i, it.sh_type)]
+    for i, it in ((i, it) for i, it in f.sections() if it.sh_type in ENTRIES):
+        lines += [f"broken {i}"] if table_verdict(f, i) else [own for _, own in ENTRIES[it.sh_type](f, i)]
     refusal, written = rewritten(content) or ("", b"")
     return [*lines, f"show ={shown(content).encode().hex()}", f"rewrite {refusal.strip()}" if refusal else f"rewrite ={written.hex()}"]
 
