@@ -32,15 +32,11 @@ ABOUT = "tables made to do harm, and large files: answers, time, memory, and a s
 def row(command: str, *files: bytes, out: bytes | Callable[[bytes], bool] | None = None) -> Case:
     """A case of files f0, f1 and so on, with the answer of the reference implementation, if none is given, or what holds of its output."""
     names = [f"f{k}" for k in range(len(files))]
-    contents = {**dict(zip(names, files)), "r": b"2 pc 4 signed\n"}
-    found = Case([*command.split(), *names], [f"{it}={it}" for it in contents], files={it: bytearray(own) for it, own in contents.items()})
-    if callable(out):
-        found.holds = out
-    else:
-        right = answer(found.words, contents) if out is None else (0, out, b"")
-        assert right
-        found.status, found.out, found.err = right
-    return found
+    contents, words = {**dict(zip(names, files)), "r": b"2 pc 4 signed\n"}, [*command.split(), *names]
+    holds, own = (out, b"") if callable(out) else (None, out)
+    right = answer(words, contents) if own is None else (0, own, b"")
+    assert right
+    return Case(words, [f"{it}={it}" for it in contents], *right, files={it: bytearray(contents[it]) for it in contents}, holds=holds)
 
 
 def loaded(names: list[bytes], hash_words: bytes, strings: bytes = b"") -> bytes:
