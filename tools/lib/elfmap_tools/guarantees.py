@@ -2,7 +2,7 @@
 
 import functools, os, re
 from collections.abc import Iterator
-from dataclasses import dataclass
+from typing import NamedTuple
 
 from .sources import PUBLIC_CRATES, WORD, Definition, Item, definition, imports, items_of, reach, signature_and_clauses, sources_of
 from .suite import TESTS, Tally, Test
@@ -14,8 +14,7 @@ SPAN = re.compile(r"`([^`]+)`")
 CALLED_BY = {"tests_calls": "failing-calls"}
 
 
-@dataclass
-class Row:
+class Row(NamedTuple):
     """A row of the page: what is guaranteed, and the names of its other columns."""
 
     said: str

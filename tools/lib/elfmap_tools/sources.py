@@ -4,6 +4,7 @@ import functools, os, re, textwrap
 from collections.abc import Iterator
 from dataclasses import dataclass, field, replace
 from itertools import takewhile
+from typing import NamedTuple
 
 from .tree import LIBRARIES_OF, TOP, read_text, texts_of
 
@@ -233,8 +234,7 @@ def items_of(crate: str) -> Iterator[Item]:
 # ---- the definitions
 
 
-@dataclass(eq=False)
-class Definition:
+class Definition(NamedTuple):
     """A definition of a file of specs/, with the comment above it and its own text."""
 
     name: str
