@@ -14,7 +14,7 @@ from . import doc, library, man, page
 from .building import is_current, output_of
 from .library import PACKERS, SHARED
 from .suite import JINJA2, MARKDOWN
-from .tree import PACKAGE, PROGRAM, TOP, Options, files_below, read_bytes, read_text, run, said, wanted, write
+from .tree import PACKAGE, PROGRAM, TOP, Options, files_below, filled, read_bytes, read_text, run, said, wanted, write
 
 RUNNER = """#!/bin/sh
 # elfmap WORDS..: the program elfmap, with settings of the C library's memory.
@@ -35,16 +35,7 @@ if __name__ == "__main__":
 BESIDE = """
 top = os.path.dirname(os.path.dirname(os.path.realpath(__file__)))
 sys.path.insert(0, f"{top}/bindings/python")"""
-PKG_CONFIG = """prefix={prefix}
-includedir=${{prefix}}/include
-libdir=${{prefix}}/{libdir}
-
-Name: elfmap
-Description: ELF-64 files: verdict, records, tables, rewriting and linking
-Version: {version}
-Cflags: -I${{includedir}}
-Libs: -L${{libdir}} -lelfmap
-"""
+PKG_CONFIG = functools.partial(filled, read_text("include/elfmap.pc.in"))
 # The files of the repository that it has: those of the bindings but for their tests, which need the repository.
 FILES = """README.md CONTRIBUTING.md CHANGELOG.md SECURITY.md docs/* rules/*.rules examples/* include/elfmap.h bindings/c/*.[ch]
     bindings/rust/Cargo.lock bindings/rust/Cargo.toml bindings/rust/README.md bindings/rust/build.rs bindings/rust/examples/*
@@ -139,7 +130,7 @@ def put_release(folder: str, version: str) -> None:
         "VERSION": f"{version}\n",
         "bin/elfmap": runner(version, "elfmap"),
         "doc/elfmap-doc.html": f"{library_page}\n",
-        "lib/pkgconfig/elfmap.pc": PKG_CONFIG.format(prefix="${pcfiledir}/../..", libdir="lib", version=version),
+        "lib/pkgconfig/elfmap.pc": PKG_CONFIG(PREFIX="${pcfiledir}/../..", LIBDIR="lib", VERSION=version),
         "share/man/man1/elfmap.1": man.page(version),
     }
     for name, module, function in COMMANDS:
@@ -229,7 +220,7 @@ def put_dev(root: str, tree: str, version: str) -> None:
     copied(f"{tree}/lib/libelfmap.a", f"{root}/{LIBRARIES}/libelfmap.a")
     copied(f"{tree}/include/elfmap.h", f"{root}/usr/include/elfmap.h")
     os.symlink(SHARED, f"{root}/{LIBRARIES}/libelfmap.so")
-    put(f"{root}/{LIBRARIES}/pkgconfig/elfmap.pc", PKG_CONFIG.format(prefix="/usr", libdir=f"lib/{TRIPLET}", version=version))
+    put(f"{root}/{LIBRARIES}/pkgconfig/elfmap.pc", PKG_CONFIG(PREFIX="/usr", LIBDIR=f"lib/{TRIPLET}", VERSION=version))
     for it in ("sections.c", "symbols.c"):
         copied(f"{tree}/bindings/c/{it}", f"{root}/usr/share/doc/libelfmap-dev/examples/{it}")
 
