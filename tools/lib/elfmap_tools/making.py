@@ -154,17 +154,14 @@ def add_tables(chance: Chance, o: Any) -> None:
     entries = ((1, at[-1]), (5, 0x1000), (0, 0), (14, 99))
     dynamic = b"".join(record(o.order, DYNAMIC, d_tag=tag, d_un=number) for tag, number in entries)
     symbols = bytes(24) + b"".join(record(o.order, SYMBOL, st_name=it, st_info=0x12, st_value=16) for it in at[1:])
-
-    def table(name: bytes, type: int, content: bytes, entsize: int = 0, link: int | None = None, info: int = 0) -> None:
-        o.sections.append(section(name, type, content, ALLOC, 1, entsize, link, info))
-
-    table(b".dynstr", STRTAB, strings)
-    table(b".dynsym", DYNSYM, symbols, 24, first, 1)
-    if chance.randrange(2):
-        table(b".dynsym_shndx", SYMTAB_SHNDX, bytes(4 * len(names)), 4, first + 1)
-    table(b".hash", HASH, hash_content(o.order, names, chance.choice((1, 2, 3))), 4, first + 1)
-    table(b".dynamic", DYNAMIC_SECTION, dynamic, 16, first)
-    table(b".note", NOTE, note_content(chance, o.order))
+    o.sections += [
+        section(b".dynstr", STRTAB, strings, ALLOC),
+        section(b".dynsym", DYNSYM, symbols, ALLOC, 1, 24, first, 1),
+        *[section(b".dynsym_shndx", SYMTAB_SHNDX, bytes(4 * len(names)), ALLOC, 1, 4, first + 1)] * chance.randrange(2),
+        section(b".hash", HASH, hash_content(o.order, names, chance.choice((1, 2, 3))), ALLOC, 1, 4, first + 1),
+        section(b".dynamic", DYNAMIC_SECTION, dynamic, ALLOC, 1, 16, first),
+        section(b".note", NOTE, note_content(chance, o.order), ALLOC),
+    ]
 
 
 def a_file(chance: Chance, order: str | None = None) -> bytes:
