@@ -1,10 +1,7 @@
-"""`tools/dev peers`: the tables of docs/PEERS.md, what other tools say of files that elfmap refuses; and `tools/dev shared-tails PROGRAM
-FILE..`, how much shorter string tables are whose names share their tails.
+"""`tools/dev peers`: the tables of docs/PEERS.md, what other tools say of files that elfmap refuses. The page says how the files are made;
+which rule one breaks the reference implementation says. Tools that are not installed have no column.
 
-For each rule of images, tables and objects there are up to FILES_A_RULE files that break it first. They are files that cc made, with one
-byte changed, which the other tools take without a word as they were; where no such change is found for a rule, files of cases/*.txt; of
-rules 1 and 40 there are none. The reference implementation says which rule a file breaks. Nothing else is judged here: a tool is called,
-and its status and what it writes become a word. Tools that are not installed have no column."""
+`tools/dev shared-tails PROGRAM FILE..`: how much shorter string tables are whose names share their tails."""
 
 import os, random, re, shutil, subprocess, tempfile
 
