@@ -22,13 +22,12 @@ JINJA2, JSONSCHEMA, JUNITPARSER, MARKDOWN, SELENIUM, SETUPTOOLS, WHEEL = map(IMP
 SANITIZERS = "/usr/lib/llvm-*/lib/clang/*/lib/linux/libclang_rt.asan-x86_64.a"
 # The commands of each package, by their first words, or a file that has to be there.
 COMMANDS = {
-    "binutils": "ar as ld nm objcopy readelf", "binaryen": "wasm-opt", "black": "black", "cargo-web": "cargo",
-    "binutils-x86-64-linux-gnu": "x86_64-linux-gnu-as",
-    "chromium": "chromium", "chromium-driver": "chromedriver", "clang": "clang", "debootstrap": "debootstrap", "dpkg": "dpkg-deb", "elfutils": "eu-elflint",
-    "g++": "c++ g++", "gcc": "cc gcc", "git": "git", "groff": "groff", "libclang-rt-14-dev": SANITIZERS, "libklibc-dev": KLIBC,
-    "lld": "ld.lld", "lld-19": "ld.lld-19", "llvm": "llvm-objcopy llvm-readobj", "llvm-19": "llvm-mc-19",
-    "mypy": "mypy", "nodejs": "node", "pandoc": "pandoc", "pkg-config": "pkg-config",
-    "pre-commit": "pre-commit", "rustc-web": "rustc", "util-linux": "prlimit unshare", "valgrind": "valgrind",
+    "binaryen": "wasm-opt", "binutils": "ar as ld nm objcopy readelf", "binutils-x86-64-linux-gnu": "x86_64-linux-gnu-as", "black": "black",
+    "cargo-web": "cargo", "chromium": "chromium", "chromium-driver": "chromedriver", "clang": "clang", "debootstrap": "debootstrap",
+    "dpkg": "dpkg-deb", "elfutils": "eu-elflint", "g++": "c++ g++", "gcc": "cc gcc", "git": "git", "groff": "groff",
+    "libclang-rt-14-dev": SANITIZERS, "libklibc-dev": KLIBC, "lld": "ld.lld", "lld-19": "ld.lld-19", "llvm": "llvm-objcopy llvm-readobj",
+    "llvm-19": "llvm-mc-19", "mypy": "mypy", "nodejs": "node", "pandoc": "pandoc", "pkg-config": "pkg-config", "pre-commit": "pre-commit",
+    "rustc-web": "rustc", "util-linux": "prlimit unshare", "valgrind": "valgrind",
 }  # fmt: skip
 PACKAGES = {command: package for package, commands in COMMANDS.items() for command in commands.split()}
 # The machines of rules/, by the names of qemu's program and of the tools; one that qemu has no program for; and those that LLVM alone has,
