@@ -8,7 +8,7 @@ use crate::load::{Load, file_size};
 use crate::placed_exec::PlacedExec;
 use elf_field::abi::*;
 use elf_field::{Ehdr, Order, Phdr};
-use elf_image_stream::output::Entries;
+use elf_image_outline::Entries;
 use elf_link_relocate::{Identity, Linked};
 
 // The header of an executable (gABI chapter 4, ELF Header).

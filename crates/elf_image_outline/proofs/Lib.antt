@@ -1,4 +1,6 @@
 -- The lemmas of this crate.
+pub mod EntriesOut
+mod RecordsOfSource
 pub mod Scanned
 pub mod Edited
 pub mod Standing

@@ -25,7 +25,8 @@ use Rattle.elf_image_outline.specs.declared.outline.Owner.{Owner}
 use Rattle.elf_image_outline.specs.declared.outline.Part.{Part}
 use Rattle.elf_image_rules.specs.Rules.{MAX_LEN}
 use Rattle.elf_image_rules.specs.Tables.{content_extent, order_of}
-use Rattle.elf_image_stream.proofs.Public.{failed_within, flat_err}
+use Rattle.elf_image_outline.proofs.EntriesOut.{flat_err}
+use Rattle.elf_image_stream.proofs.Public.{failed_within}
 use Rattle.elf_image_stream.specs.Source.{HasFailed, Reaches, Remembers}
 use Rattle.elf_image_stream.specs.declared.source.Failures.{Failures}
 

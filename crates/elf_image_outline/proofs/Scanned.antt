@@ -33,7 +33,7 @@ use Rattle.elf_image_rules.specs.Tables.{counts_in, file_counts, header, order_o
 use Rattle.elf_image_rules.specs.declared.image_rules.Broken.{Broken}
 use Rattle.elf_image_rules.specs.declared.name_rules.TableEnds.{TableEnds}
 use Rattle.elf_image_rules.specs.declared.tables.Counts.{Counts}
-use Rattle.elf_image_stream.specs.Source.{table_at}
+use Rattle.elf_image_outline.specs.Records.{table_at}
 use Rattle.elf_image_stream.specs.declared.fault.Fault.TheVariants.{Rule, Io, OutOfMemory}
 use Rattle.elf_image_stream.specs.declared.fault.Fault.{Fault}
 

@@ -1,4 +1,5 @@
 -- The words of this crate's contracts.
+pub mod Records
 pub mod Outline
 pub mod Image
 pub mod Scanning

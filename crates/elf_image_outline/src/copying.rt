@@ -4,8 +4,9 @@ ghost use Rattle.elf_image_outline.specs.Outline.{bytes_out, later, Copies, Read
 ghost use Rattle.elf_image_stream.specs.Source.{Reaches, Remembers};
 ghost use Rattle.elf_image_outline.specs.Image.{IsImage, part_bytes};
 
+use crate::entries::write_records;
 use crate::outline::{Outline, Owner, Part};
-use elf_image_stream::output::{BLOCK, write_records, write_zeros};
+use elf_image_stream::output::{BLOCK, write_zeros};
 use elf_image_stream::{ReadFault, Source, WriteFault, read_exactly, write_whole};
 use std::io::Write;
 use thiserror::Error;

@@ -14,12 +14,16 @@
 #![tactic(auto)]
 
 mod copying;
+mod entries;
 mod extents;
 mod judged;
 mod outline;
+mod records;
 mod scanning;
 
 pub use copying::{CopyFault, copy_image};
+pub use entries::{Entries, write_entries, write_records};
 pub use judged::outline_of;
 pub use outline::{NoSection, Outline, Owner, Part, ReplaceFault};
+pub use records::{RecordsFault, read_ends, read_record, read_records};
 pub use scanning::scan;

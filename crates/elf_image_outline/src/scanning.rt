@@ -6,13 +6,15 @@ ghost use Rattle.elf_field.specs.Headers.{IsEhdr, IsShdr, shdr_at};
 ghost use Rattle.elf_image_outline.specs.Scanning.{KeepsHeadRules, Scans, scan_failure, HasTables, KeepsTableRules, names_extent};
 ghost use Rattle.elf_image_rules.specs.Rules.{MAX_LEN, AreEnds};
 ghost use Rattle.elf_image_rules.specs.Tables.{header as header_in, file_counts, no_section_header, order_of, section_header_of, sections as sections_in, names as names_in};
-ghost use Rattle.elf_image_stream.specs.Source.{Remembers, table_at, Reaches};
+ghost use Rattle.elf_image_stream.specs.Source.{Remembers, Reaches};
+ghost use Rattle.elf_image_outline.specs.Records.{table_at};
 ghost use Rattle.elf_image_outline.specs.Image.{AreRecordsIn, IsImage};
 ghost use Rattle.elf_field.specs.Bytes.{IsBytes};
 ghost use Rattle.elf_image_outline.specs.Outline.{IsOutlineOf, image_in};
 
 use crate::judged::judged_parts;
 use crate::outline::Outline;
+use crate::records::{read_ends, read_record, read_records};
 use elf_extent::Extent;
 use elf_field::abi::{EHDR_SIZE, EI_NIDENT};
 use elf_field::{Ehdr, Phdr, Record, Shdr};
@@ -22,7 +24,7 @@ use elf_image_rules::tables::{
 use elf_image_rules::{
     TableEnds, judge_header, judge_ident, judge_length, judge_program_table, judge_section_table,
 };
-use elf_image_stream::{Fault, Source, read_ends, read_exactly, read_record, read_records};
+use elf_image_stream::{Fault, Source, read_exactly};
 use std::alloc::Global;
 
 // The length and the header of a source, by rules 1 to 12 (gABI chapter 4, ELF Header).

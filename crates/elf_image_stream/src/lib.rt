@@ -2,11 +2,9 @@
 //!
 //! **In**: [`read_to_end`] takes all bytes of a reader, however its reads are cut, and [`resume`] goes on where it stopped. Bytes that can
 //! be read at any offset, as those of a file on a disk, are a [`Source`]. A call reads at one offset, and the source remembers its
-//! [`Failures`]. [`Bytes`] is one over memory, [`Seeking`] one over a file that can seek. [`read_exactly`] fills a buffer from it, and
-//! [`read_record`], [`read_records`] and [`read_ends`] build on that.
+//! [`Failures`]. [`Bytes`] is one over memory, [`Seeking`] one over a file that can seek. [`read_exactly`] fills a buffer from it.
 //!
-//! **Out**: [`write_whole`] writes bytes, [`output`] writes records and zeros too, and [`entries`] writes tables whose entries are made as
-//! they are written. Each counts the bytes that are written. A text that is written chunk by chunk, without memory, is *sent*: a call takes
+//! **Out**: [`write_whole`] writes bytes, and [`output`] zeros too. Each counts the bytes that are written. A text that is written chunk by chunk, without memory, is *sent*: a call takes
 //! how many bytes are written, and returns how many are written after it. [`send`] sends bytes, [`send_zeros`] zeros without a list of
 //! them, and [`send_all`] the texts of a [`Chunks`], which are made as they are sent.
 //!
@@ -18,12 +16,10 @@ mod fault;
 pub mod laws;
 pub mod output;
 mod reading;
-mod records;
 mod source;
 
 pub use chunks::{Chunks, send, send_all, send_zeros};
 pub use fault::{Fault, WriteFault};
 pub use output::write_whole;
 pub use reading::{read_to_end, resume};
-pub use records::{RecordsFault, read_ends, read_record, read_records};
 pub use source::{Bytes, Failed, Failures, ReadFault, Seeking, Source, read_exactly};

@@ -8,11 +8,11 @@ ghost use Rattle.elf_image_stream.specs.Output.{Writes};
 
 use crate::image::Image;
 use elf_field::Shdr;
-use elf_image_outline::{Outline, Owner, Part, outline_of};
+use elf_image_outline::{Outline, Owner, Part, outline_of, write_records};
 use elf_image_rules::judge_records;
 use elf_image_rules::tables::content_of;
-use elf_image_stream::output::{write_records, write_whole, write_zeros};
-use elf_image_stream::{Fault, WriteFault};
+use elf_image_stream::output::write_zeros;
+use elf_image_stream::{Fault, WriteFault, write_whole};
 use std::alloc::{AllocError, Global};
 use std::io::Write;
 

@@ -19,7 +19,7 @@ use Rattle.elf_field.specs.declared.number.Order.{Order}
 use Rattle.elf_field.specs.declared.rel.Rel.{Rel}
 use Rattle.elf_field.specs.declared.rela.Rela.{Rela}
 use Rattle.elf_image_rules.specs.Tables.{order_of}
-use Rattle.elf_image_stream.proofs.Public.{went_err}
+use Rattle.elf_image_outline.proofs.EntriesOut.{went_err}
 use Rattle.elf_image_stream.specs.declared.fault.WriteFault.{WriteFault}
 use Rattle.elf_image_type.specs.RelocatableFile.{spread, unaligned, all_headers, offsets, relocatable_bytes}
 use Rattle.elf_object_strings.specs.StringTable.{name_offset}

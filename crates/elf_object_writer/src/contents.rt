@@ -14,7 +14,7 @@ use crate::layout::content_part;
 use crate::placed_object::{LaidSection, PlacedObject, PlacedSection};
 use elf_field::abi::*;
 use elf_field::{Order, Rel, Rela, Sym};
-use elf_image_stream::output::{Entries, write_entries};
+use elf_image_outline::{Entries, write_entries};
 use elf_image_stream::{WriteFault, write_whole};
 use elf_object_type::{Body, Place, Relocation, Relocations, Section, Symbol};
 use std::io::Write;

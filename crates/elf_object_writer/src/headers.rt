@@ -15,7 +15,7 @@ use crate::layout::RECORD_ALIGNMENT;
 use crate::placed_object::{LaidSection, PlacedObject, PlacedSection};
 use elf_field::abi::*;
 use elf_field::{Ehdr, Order, Shdr};
-use elf_image_stream::output::Entries;
+use elf_image_outline::Entries;
 use elf_object_type::{Body, Info, Object, Symbol};
 
 // The header of an object's file (gABI chapter 4, ELF Header).

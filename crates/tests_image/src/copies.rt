@@ -3,8 +3,8 @@ ghost use Rattle.std.specs.Prelude.{◌≤◌, length};
 
 use crate::image_faults::{Written, written};
 use elf_field::{Order, Rela};
-use elf_image_outline::{CopyFault, NoSection, Outline, copy_image, scan};
-use elf_image_stream::output::{write_padded, write_records, write_zeros};
+use elf_image_outline::{CopyFault, NoSection, Outline, copy_image, scan, write_records};
+use elf_image_stream::output::write_zeros;
 use elf_image_stream::{Bytes, Fault, WriteFault};
 use std::alloc::Global;
 use std::io;
@@ -345,16 +345,6 @@ const ZEROS_OUT: [usize; 11] = [
     0, 1000, 2000, 3000, 4000, 4096, 5096, 6096, 7096, 8096, 8192,
 ];
 
-/// A part of 1,500 bytes after a block of zeros and ten more.
-const PART: [u8; 1500] = [7; 1500];
-
-const PADDING: usize = 4106;
-
-const PADDED: usize = PADDING + 1500;
-
-/// The same of zeros and part.
-const PADDED_OUT: [usize; 8] = [0, 1000, 2000, 3000, 4000, 4096, 4106, 5106];
-
 /// Relocations of 24 bytes, of which a block holds 170.
 const RELOCATIONS: usize = 400;
 
@@ -429,17 +419,6 @@ fn zeros_end_at_a_failed_call(rt: HostRuntime) {
         let mut writer = once_failing(rt.alloc(), failing);
         let answer = write_zeros(&mut writer, ZEROS as u64);
         assert_ends(&rt, &writer, answer, &bytes, &ZEROS_OUT);
-    }
-}
-
-#[test]
-fn a_padded_part_ends_at_a_failed_call(rt: HostRuntime) {
-    let mut bytes = [0; PADDED];
-    bytes[PADDING..].fill(7);
-    for failing in 0..=PADDED_OUT.len() {
-        let mut writer = once_failing(rt.alloc(), failing);
-        let answer = write_padded(&mut writer, PADDING as u64, &PART);
-        assert_ends(&rt, &writer, answer, &bytes, &PADDED_OUT);
     }
 }
 

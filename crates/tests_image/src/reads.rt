@@ -2,11 +2,9 @@
 ghost use Rattle.std.specs.Prelude.{◌≤◌, length};
 
 use elf_field::{Order, Rel};
+use elf_image_outline::{RecordsFault, read_ends, read_record, read_records};
 use elf_image_rules::TableEnds;
-use elf_image_stream::{
-    Bytes, Failed, Failures, ReadFault, RecordsFault, Seeking, Source, read_ends, read_exactly,
-    read_record, read_records,
-};
+use elf_image_stream::{Bytes, Failed, Failures, ReadFault, Seeking, Source, read_exactly};
 use std::alloc::Global;
 use std::io::Cursor;
 use std::process::Abort;

@@ -1,7 +1,7 @@
 use Rattle.std.proofs.Common.{◌≡◌, ◌+◌, ◌*◌, length}
 use Rattle.std.specs.List.{AllByRecursion}
-use Rattle.elf_image_stream.specs.Source.{Extends}
-use Rattle.elf_image_stream.proofs.records.push_records.Given as goal
+use Rattle.elf_image_outline.specs.Records.{Extends}
+use Rattle.elf_image_outline.proofs.records.push_records.Given as goal
 
 -- so many records are after the others
 abbrev pub invariant-loop-i : goal.invariant-loop-i

@@ -1,7 +1,7 @@
 use Rattle.std.proofs.Common.{◌-◌, ◌≡◌, ◌≤◌, ℕ, List, Some, length}
 use Rattle.std.specs.List.{AllByRecursion}
-use Rattle.elf_image_stream.specs.Source.{table_at}
-use Rattle.elf_image_stream.proofs.records.read_records.Given as goal
+use Rattle.elf_image_outline.specs.Records.{table_at}
+use Rattle.elf_image_outline.proofs.records.read_records.Given as goal
 
 -- exactly the first records are read
 abbrev pub invariant-loop-next : goal.invariant-loop-next

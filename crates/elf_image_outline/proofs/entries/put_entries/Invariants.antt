@@ -1,6 +1,6 @@
 use Rattle.std.proofs.Common.{◌≡◌, ◌*◌, drop, length, take}
 use Rattle.std.specs.List.{flat_map}
-use Rattle.elf_image_stream.proofs.output.put_entries.Given as goal
+use Rattle.elf_image_outline.proofs.entries.put_entries.Given as goal
 
 -- the first entries are in the front
 abbrev pub invariant-loop-i : goal.invariant-loop-i

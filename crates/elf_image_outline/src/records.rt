@@ -1,12 +1,11 @@
 //! Records of a source: one, or a table of them (gABI chapter 4, Data Representation).
 ghost use Rattle.std.specs.Prelude.{◌≡◌, ◌<◌, ◌+◌, ◌^◌, ◌≤◌, ◌*◌, ℕ, List, Some, length, IfErr, IfOk, OnOk};
 ghost use Rattle.std.specs.List.{AllByRecursion};
-ghost use Rattle.elf_image_stream.specs.Source.{ReadsByte, ReadsEnds, Extends, HasTable, IsRecordsFault, ReadsRecord, table_at};
+ghost use Rattle.elf_image_outline.specs.Records.{ReadsByte, ReadsEnds, Extends, HasTable, IsRecordsFault, ReadsRecord, table_at};
 
-use crate::fault::Fault;
-use crate::source::{ReadFault, Source, read_exactly};
 use elf_field::{Order, Record, get_at};
 use elf_image_rules::TableEnds;
+use elf_image_stream::{Fault, ReadFault, Source, read_exactly};
 use std::alloc::{AllocError, AllocFailed, Global};
 
 // The first and the last byte of a string table of a source (gABI chapter 4, String Table).
@@ -66,7 +65,7 @@ pub enum RecordsFault {
 }
 
 impl From<ReadFault> for RecordsFault {
-    ghost use Rattle.elf_image_stream.specs.declared.records.RecordsFault.TheVariants.{Io};
+    ghost use Rattle.elf_image_outline.specs.declared.records.RecordsFault.TheVariants.{Io};
 
     ghost from_gives = { λ failed fault. fault ≡ Io failed.at };
 
@@ -76,7 +75,7 @@ impl From<ReadFault> for RecordsFault {
 }
 
 impl From<AllocError> for RecordsFault {
-    ghost use Rattle.elf_image_stream.specs.declared.records.RecordsFault.TheVariants.{OutOfMemory};
+    ghost use Rattle.elf_image_outline.specs.declared.records.RecordsFault.TheVariants.{OutOfMemory};
 
     ghost from_gives = { λ _ fault. fault ≡ OutOfMemory };
 
@@ -86,7 +85,7 @@ impl From<AllocError> for RecordsFault {
 }
 
 impl<T: Drop> From<AllocFailed<T>> for RecordsFault {
-    ghost use Rattle.elf_image_stream.specs.declared.records.RecordsFault.TheVariants.{OutOfMemory};
+    ghost use Rattle.elf_image_outline.specs.declared.records.RecordsFault.TheVariants.{OutOfMemory};
 
     ghost from_gives = { λ _ fault. fault ≡ OutOfMemory };
 
@@ -96,7 +95,7 @@ impl<T: Drop> From<AllocFailed<T>> for RecordsFault {
 }
 
 impl From<RecordsFault> for Fault {
-    ghost use Rattle.elf_image_stream.specs.Source.{records_fault};
+    ghost use Rattle.elf_image_outline.specs.Records.{records_fault};
 
     ghost from_gives = { λ refused fault. fault ≡ records_fault refused };
 

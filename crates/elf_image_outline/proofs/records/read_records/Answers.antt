@@ -1,7 +1,7 @@
 use Rattle.std.proofs.Common.{◌≤◌, ◌+◌, ◌*◌, arith, mul-le-mul_left}
 use Rattle.std.proofs.Math.Nat.{mul-add}
-use Rattle.elf_image_stream.proofs.Sources.{fault_later}
-use Rattle.elf_image_stream.proofs.records.read_records.Goals as goal
+use Rattle.elf_image_outline.proofs.RecordsOfSource.{fault_later}
+use Rattle.elf_image_outline.proofs.records.read_records.Goals as goal
 
 pub read_several-requires-clause-fits : goal.read_several-requires-clause-fits
 read_several-requires-clause-fits g c =

@@ -1,6 +1,6 @@
 use Rattle.std.proofs.Common.{List, ℕ, drop, length, take, ap, arith, ◌∙◌}
-use Rattle.elf_image_stream.proofs.Written.{in_records, length-put_mid, record_put, length-several, several_at}
-use Rattle.elf_image_stream.proofs.output.put_entries.Goals as goal
+use Rattle.elf_image_outline.proofs.EntriesOut.{in_records, length-put_mid, record_put, length-several, several_at}
+use Rattle.elf_image_outline.proofs.entries.put_entries.Goals as goal
 
 pub loop-i-preserved : goal.loop-i-preserved
 loop-i-preserved g c =

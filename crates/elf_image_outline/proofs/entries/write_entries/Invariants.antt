@@ -1,7 +1,7 @@
 use Rattle.std.proofs.Common.{◌-◌, ◌≤◌, length, take}
 use Rattle.std.specs.List.{flat_map}
 use Rattle.std.specs.Io.KnownBytes.{Appends}
-use Rattle.elf_image_stream.proofs.output.write_entries.Given as goal
+use Rattle.elf_image_outline.proofs.entries.write_entries.Given as goal
 
 -- exactly the first entries are out
 abbrev pub invariant-loop-next : goal.invariant-loop-next

@@ -1,6 +1,6 @@
 use Rattle.std.proofs.Common.{rules, ◌*◌}
-use Rattle.elf_image_stream.proofs.Sources.{all_more, extends_on}
-use Rattle.elf_image_stream.proofs.records.push_records.Goals as goal
+use Rattle.elf_image_outline.proofs.RecordsOfSource.{all_more, extends_on}
+use Rattle.elf_image_outline.proofs.records.push_records.Goals as goal
 
 pub loop-i-preserved : goal.loop-i-preserved
 loop-i-preserved g c =

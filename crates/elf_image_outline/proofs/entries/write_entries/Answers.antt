@@ -4,8 +4,8 @@
 use Rattle.std.proofs.Common.{◌*◌, take, arith, ap, ◌∙◌}
 use Rattle.std.proofs.lemmas.List.{length-take-le}
 use Rattle.elf_field.proofs.RecordTableLaws.{length-table}
-use Rattle.elf_image_stream.proofs.Written.{flat_err, flat_ok}
-use Rattle.elf_image_stream.proofs.output.write_entries.Goals as goal
+use Rattle.elf_image_outline.proofs.EntriesOut.{flat_err, flat_ok}
+use Rattle.elf_image_outline.proofs.entries.write_entries.Goals as goal
 
 pub after-requires : goal.after-requires
 after-requires g c =

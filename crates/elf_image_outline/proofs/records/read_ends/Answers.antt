@@ -3,8 +3,8 @@
 use Rattle.std.proofs.Common.{rules, ◌≡◌, ◌<◌, ◌+◌, ◌-◌, ◌∙◌, ℕ, List, ap, drop, refl, subst, sym, take, arith}
 use Rattle.elf_image_rules.specs.Rules.{AreEnds}
 use Rattle.elf_field.specs.Bytes.{IsBytes}
-use Rattle.elf_image_stream.proofs.Sources.{ends_in, one_byte_table, some_table}
-use Rattle.elf_image_stream.proofs.records.read_ends.Goals as goal
+use Rattle.elf_image_outline.proofs.RecordsOfSource.{ends_in, one_byte_table, some_table}
+use Rattle.elf_image_outline.proofs.records.read_ends.Goals as goal
 
 pub returns-then-len-eq1-clause-reads : goal.returns-then-len-eq1-clause-reads
 returns-then-len-eq1-clause-reads g c =

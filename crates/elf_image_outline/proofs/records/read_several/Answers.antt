@@ -1,6 +1,6 @@
 use Rattle.std.proofs.Common.{rules, ◌≡◌, ◌∙◌, ◌*◌, ℕ, ap, drop, length, take}
-use Rattle.elf_image_stream.proofs.Sources.{table_on}
-use Rattle.elf_image_stream.proofs.records.read_several.Goals as goal
+use Rattle.elf_image_outline.proofs.RecordsOfSource.{table_on}
+use Rattle.elf_image_outline.proofs.records.read_several.Goals as goal
 
 pub returns-clause-told : goal.returns-clause-told
 returns-clause-told g c = λ b table from told begins first.
