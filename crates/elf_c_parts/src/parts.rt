@@ -30,7 +30,7 @@ pub struct Part {
 }
 
 /// Why a file's parts are not reported.
-#[derive(Clone, Copy, PartialEq, Eq, Debug)]
+#[derive(Clone, Copy)]
 pub enum PartsFault {
     /// The first rule that the file breaks, and the lowest offset at which it does, in bytes.
     Rule { rule: u16, at: u64 },

@@ -12,7 +12,7 @@ use elf_image_rules::{FileExtents, judge_records};
 
 /// `struct elfmap_extent`: a slot of a buffer, which holds an extent of a file.
 #[repr(C)]
-#[derive(Clone, Copy, PartialEq, Eq, Debug)]
+#[derive(Clone, Copy)]
 pub struct Slot {
     /// The offset of the first byte.
     pub start: u64,
@@ -21,7 +21,7 @@ pub struct Slot {
 }
 
 /// The buffer has too few slots.
-#[derive(Clone, Copy, PartialEq, Eq, Debug)]
+#[derive(Clone, Copy)]
 pub struct ShortRoom {
     /// How many slots are needed: three, and one for each section header.
     pub wanted: u64,

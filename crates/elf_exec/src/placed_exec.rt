@@ -104,7 +104,7 @@ fn file_end(parts: &[(u64, u64)], from: u64, places: &[u64]) -> u64
 }
 
 /// Relocated bytes with the segments of their executable, and where the bytes of each segment begin in the file.
-#[derive(Debug, Drop)]
+#[derive(Drop)]
 pub(crate) struct PlacedExec<'l, 'm, 'a> {
     linked: &'l Linked<'m, 'a>,
     loads: Vec<Load>,

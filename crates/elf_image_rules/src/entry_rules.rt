@@ -33,7 +33,7 @@ pub fn ends_behind(start: u64, size: u64, len: u64) -> bool
 // Rules on each section by itself: 22 to 24, and 32 on its name (gABI chapter 4, Sections).
 
 /// A rule on one section header, whatever the others are; it is not tested at type NULL.
-#[derive(Clone, Copy, Debug, PartialEq, Eq)]
+#[derive(Clone, Copy)]
 pub enum SectionRule {
     /// Rule 22, [`WRONG_SECTION_ALIGNMENT`].
     WrongSectionAlignment,
@@ -136,7 +136,7 @@ pub(crate) fn judge_sections<T: Records>(
 // Rules 25 to 29, on the segments (gABI chapter 5, Program Header).
 
 /// A rule on one segment, whatever the others are.
-#[derive(Clone, Copy, Debug, PartialEq, Eq)]
+#[derive(Clone, Copy)]
 pub enum SegmentRule {
     /// Rule 25, [`SEGMENT_PAST_END`], in a file of so many bytes; not tested at type NULL.
     SegmentPastEnd(u64),

@@ -83,7 +83,7 @@ pub(crate) fn segment_at(bytes: &[u8], header: &Ehdr, index: u64) -> Phdr
 
 /// How many section headers and program headers a file has, and the index of its section name string
 /// table, 0 for none.
-#[derive(Clone, Copy, Debug, PartialEq, Eq)]
+#[derive(Clone, Copy)]
 pub struct Counts {
     /// How many section headers there are.
     pub sections: u64,

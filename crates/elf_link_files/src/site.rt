@@ -13,7 +13,7 @@ use elf_object_type::Object;
 /// Where a rule may be broken in the files of a link: a file, a section or symbol of it, and an entry of a relocation section. What a rule
 /// does not look at is 0. Of two sites the one in the earlier file comes first, in one file the one of the lower index, and there the one
 /// of the lower entry.
-#[derive(Clone, Copy, Debug, PartialEq, Eq)]
+#[derive(Clone, Copy)]
 pub struct Site {
     /// The position of the file among the objects, from 0.
     pub file: usize,

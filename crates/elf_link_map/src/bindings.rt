@@ -171,7 +171,7 @@ impl<'a> Names<'a> {
 // The number of each symbol's name: the position of its binding in a link map (gABI chapter 4, Symbol Table).
 
 /// A link map, and the number of the name of each symbol.
-#[derive(Debug, Drop)]
+#[derive(Drop)]
 pub struct NumberedMap<'a> {
     /// The link map.
     pub map: LinkMap<'a>,

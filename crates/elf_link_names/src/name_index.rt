@@ -40,7 +40,7 @@ pub struct NameIndex<'a> {
 }
 
 /// What is known of a name before it is placed: [`NameIndex::look_up`] returns it.
-#[derive(Clone, Copy, Debug)]
+#[derive(Clone, Copy)]
 pub struct Lookup {
     /// The hash of the name.
     pub hash: u64,

@@ -100,7 +100,7 @@ pub(crate) fn judge_front(image: &Image<'_>, symbol_table: Option<usize>) -> Res
 // Rules 76, 78 and 79: the references from one section of a file to another (gABI chapter 4, Sections: sh_link, sh_info).
 
 /// A rule on the references of one section.
-#[derive(Clone, Copy, Debug, PartialEq, Eq)]
+#[derive(Clone, Copy)]
 pub(crate) enum ReferenceRule {
     /// Rule 76, [`WRONG_RELOCATION_TARGET`](crate::rules::WRONG_RELOCATION_TARGET).
     WrongRelocationTarget,

@@ -14,7 +14,7 @@ use elf_table_all::{Symbols, Tables};
 // What a section of a type holds in an object (gABI chapter 4, Sections: sh_type).
 
 /// The kind of a section's [`Body`](elf_object_type::Body).
-#[derive(Clone, Copy, Debug, PartialEq, Eq)]
+#[derive(Clone, Copy, PartialEq, Eq)]
 pub enum BodyKind {
     /// Bytes that mean nothing to the object.
     Bits,
@@ -44,7 +44,7 @@ impl BodyKind {
 
 /// The sections that an object leaves out, beside those without a type, by their indexes: the symbol table with its string
 /// table and its index table, and the section name string table (0 for none).
-#[derive(Clone, Copy, Debug, PartialEq, Eq)]
+#[derive(Clone, Copy)]
 pub struct LeftOut {
     /// The symbol table.
     pub symbol_table: Option<usize>,

@@ -48,7 +48,7 @@ fn without_equal_ends<'a, 'b>(a: &'a [u8], b: &'b [u8]) -> Option<(&'a [u8], &'b
 }
 
 /// The index of a name in a list.
-#[derive(Clone, Copy, Debug)]
+#[derive(Clone, Copy)]
 pub(crate) struct Numbered {
     pub(crate) index: usize,
     // The last eight bytes as a number, the last of them the most significant; zeros represent those that a shorter name lacks.

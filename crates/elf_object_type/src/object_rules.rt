@@ -70,7 +70,7 @@ fn is_wrong_membership(parts: &ObjectParts<'_>, i: usize, member: usize, marks: 
 // Rules 7 to 9: the symbols (gABI chapter 4, Symbol Table).
 
 /// A rule on one symbol.
-#[derive(Clone, Copy, Debug, PartialEq, Eq)]
+#[derive(Clone, Copy)]
 pub(crate) enum SymbolRule {
     /// Rule 7, [`ZERO_IN_SYMBOL_NAME`].
     ZeroInSymbolName,

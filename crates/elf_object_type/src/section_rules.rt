@@ -95,7 +95,7 @@ const TYPES_WITHOUT_BITS: [u32; 11] = [
 ];
 
 /// A rule on one section.
-#[derive(Clone, Copy, Debug, PartialEq, Eq)]
+#[derive(Clone, Copy)]
 pub(crate) enum SectionRule {
     /// Rule 1, [`ZERO_IN_SECTION_NAME`].
     ZeroInSectionName,

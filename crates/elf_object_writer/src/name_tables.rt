@@ -15,7 +15,7 @@ use std::marker::Model;
 
 /// An object, and where names of its symbols end in the string table that they were read from. Of two names with one end the longer one ends
 /// with the other, so neither is looked at to see that they share their bytes.
-#[derive(Debug, Drop)]
+#[derive(Drop)]
 pub struct ObjectWithEnds<'o, 'a> {
     object: &'o Object<'a>,
     // For each symbol the offset after its name there, plus 1; 0, or none, if that is not known.
@@ -71,7 +71,7 @@ impl<'o, 'a> ObjectWithEnds<'o, 'a> {
 }
 
 /// The string table of the symbols, and the section name string table.
-#[derive(Debug, Drop)]
+#[derive(Drop)]
 pub(crate) struct NameTables {
     pub(crate) strings: Shared,
     pub(crate) names: Shared,

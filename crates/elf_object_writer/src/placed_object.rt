@@ -13,7 +13,7 @@ use std::marker::Model;
 // The sections of an object's canonical layout (gABI chapter 4, Sections).
 
 /// A section, by what it is.
-#[derive(Clone, Copy, Debug, PartialEq, Eq)]
+#[derive(Clone, Copy)]
 pub(crate) enum PlacedSection {
     /// The object's own section of this position.
     Own(usize),
@@ -28,7 +28,7 @@ pub(crate) enum PlacedSection {
 }
 
 /// An object, its string tables and its layout.
-#[derive(Debug, Drop)]
+#[derive(Drop)]
 pub(crate) struct PlacedObject<'o, 'a> {
     object: &'o Object<'a>,
     tables: NameTables,

@@ -8,7 +8,7 @@ use elf_field::abi::*;
 use elf_image_type::Image;
 
 /// The first two index tables of a symbol table, by the indexes of their sections.
-#[derive(Clone, Copy, Debug, PartialEq, Eq)]
+#[derive(Clone, Copy)]
 pub struct IndexTables {
     /// The first, None if there is none.
     pub first: Option<usize>,

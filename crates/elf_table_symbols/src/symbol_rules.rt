@@ -53,7 +53,7 @@ pub fn word(order: Order, words: &[u8], j: usize) -> u32
 }
 
 /// A rule on one symbol by itself.
-#[derive(Clone, Copy, Debug, PartialEq, Eq)]
+#[derive(Clone, Copy)]
 pub(crate) enum SymbolRule {
     /// Rule 47, [`MISPLACED_BINDING`].
     MisplacedBinding,

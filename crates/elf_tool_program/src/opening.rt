@@ -11,7 +11,7 @@ use std::alloc::Global;
 use std::io::Read;
 
 /// Why files are not all open: the one of the name at this position gave no reader.
-#[derive(Clone, Copy, Debug, PartialEq, Eq)]
+#[derive(Clone, Copy)]
 pub(crate) struct Unopened {
     pub position: usize,
     pub fault: OpenFault,
@@ -46,7 +46,7 @@ pub(crate) fn open_all<O: Opener>(
 // The file of relocation rules that `map` and `link` are given.
 
 /// Why a file gives no relocation rules.
-#[derive(Clone, Copy, Debug, PartialEq, Eq)]
+#[derive(Clone, Copy)]
 pub(crate) enum NoRules {
     /// There is no such file, or it may not be read.
     Unopened,
