@@ -13,9 +13,9 @@ use Rattle.elf_link_files.specs.declared.fault.Options.{Options}
 use Rattle.elf_tool_link.specs.Link.{FilesLink}
 use Rattle.elf_tool_link.specs.Map.{MapSays}
 use Rattle.elf_tool_rule_file.specs.RuleFile.{AreRules, IsBadLine}
-use Rattle.elf_tool_text.specs.declared.engine.Refusal.TheVariants.{File, Link, TooLong}
-use Rattle.elf_tool_text.specs.declared.engine.Verdict.TheVariants.{Done, Refused}
-use Rattle.elf_tool_text.specs.declared.engine.Verdict.{Verdict}
+use Rattle.elf_tool_check.specs.declared.calls.Refusal.TheVariants.{File, Link, TooLong}
+use Rattle.elf_tool_check.specs.declared.calls.Verdict.TheVariants.{Done, Refused}
+use Rattle.elf_tool_check.specs.declared.calls.Verdict.{Verdict}
 
 -- Files that lie in bytes, by their extents.
 

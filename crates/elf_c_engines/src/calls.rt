@@ -7,8 +7,8 @@ ghost use Rattle.elf_c_parts.specs.Slots.{extent_in};
 
 use elf_c_parts::Slot;
 use elf_link_field::RelocRule;
+use elf_tool_check::{Refusal, Verdict};
 use elf_tool_rule_file::{RulesFault, read_rules};
-use elf_tool_text::{Refusal, Verdict};
 use std::alloc::Global;
 
 // How a call ends: with the output of an engine in the caller's buffer, or without output.

@@ -11,10 +11,10 @@ use crate::calls::{CallFault, Outcome, files_in, give_up, rules_in, tell};
 use elf_c_parts::Slot;
 use elf_link_field::RelocRule;
 use elf_link_map::Options;
+use elf_tool_check::Verdict;
 use elf_tool_link::{link_files, map_files};
 use elf_tool_rewrite::rewrite_bytes;
 use elf_tool_show::{push_refused_tables, show_bytes};
-use elf_tool_text::Verdict;
 use std::alloc::Global;
 
 // What a file holds, and its object in canonical layout.

@@ -19,10 +19,10 @@ use Rattle.elf_tool.proofs.SaysOne.{of_holding, of_one, or_refused, of_answer}
 use Rattle.elf_tool.specs.Laws.{SaysOne}
 use Rattle.elf_tool_rewrite.specs.Rewrite.{ObjectSays, RewriteRefuses, RewriteSays, SectionsSay}
 use Rattle.elf_tool_show.specs.Show.{AreVerdictsOf, ShowSays, show_text}
-use Rattle.elf_tool_text.specs.Line.{refused_line}
-use Rattle.elf_tool_text.specs.declared.engine.Refusal.TheVariants.{File, Link, TooLong}
-use Rattle.elf_tool_text.specs.declared.engine.Verdict.TheVariants.{Done, Refused}
-use Rattle.elf_tool_text.specs.declared.engine.Verdict.{Verdict}
+use Rattle.elf_tool_check.specs.FileLines.{refused_line}
+use Rattle.elf_tool_check.specs.declared.calls.Refusal.TheVariants.{File, Link, TooLong}
+use Rattle.elf_tool_check.specs.declared.calls.Verdict.TheVariants.{Done, Refused}
+use Rattle.elf_tool_check.specs.declared.calls.Verdict.{Verdict}
 
 -- `rewrite` prints at most one thing of bytes, by cases. They are one image that denotes one object with one canonical layout, which is too
 -- long or not. Or one rule is broken first, of images or of objects' files. No two of these come together.

@@ -37,10 +37,10 @@ use Rattle.elf_tool_link.specs.Map.{MapSays, RelocationSays, bytes_lines, file_r
 use Rattle.elf_tool_link.specs.ObjectFiles.{AreObjectFiles, IsFirstRefused, IsObjectFile, IsRefusedFile}
 use Rattle.elf_tool_rewrite.specs.Rewrite.{ObjectSays, RewriteSays}
 use Rattle.elf_tool_show.specs.Show.{ShowSays, show_text}
-use Rattle.elf_tool_text.specs.Line.{ok_line, refused_line}
-use Rattle.elf_tool_text.specs.declared.engine.Refusal.TheVariants.{File, Link, TooLong}
-use Rattle.elf_tool_text.specs.declared.engine.Verdict.TheVariants.{Done, Refused}
-use Rattle.elf_tool_text.specs.declared.engine.Verdict.{Verdict}
+use Rattle.elf_tool_check.specs.FileLines.{ok_line, refused_line}
+use Rattle.elf_tool_check.specs.declared.calls.Refusal.TheVariants.{File, Link, TooLong}
+use Rattle.elf_tool_check.specs.declared.calls.Verdict.TheVariants.{Done, Refused}
+use Rattle.elf_tool_check.specs.declared.calls.Verdict.{Verdict}
 
 -- of one answer, which gives both
 pub of_answer : {A : Type 0} (Is : A → Type 0) (verdict : A → Verdict) (text : A → List ℕ) (Says : Verdict → List ℕ → Type 0) →

@@ -8,7 +8,7 @@ use Rattle.elf_link_map.specs.LinkMap.{FirstOfLink, IsLinkMap, LinkMapValue}
 use Rattle.elf_link_relocate.specs.Fields.{applied_entry_rules}
 use Rattle.elf_object_type.specs.Object.{ObjectValue}
 use Rattle.elf_tool_link.specs.ObjectFiles.{AreObjectFiles}
-use Rattle.elf_tool_text.specs.declared.engine.Verdict.{Verdict}
+use Rattle.elf_tool_check.specs.declared.calls.Verdict.{Verdict}
 
 -- The link of files where no rule of it is broken.
 

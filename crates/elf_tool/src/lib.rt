@@ -13,11 +13,10 @@ pub mod laws;
 
 pub use elf_link_field::{Form, Range, RelocRule, Width};
 pub use elf_link_files::Options;
-pub use elf_tool_check::{OpenFault, Opener, Status, check};
+pub use elf_tool_check::{OpenFault, Opener, Refusal, Status, ToolFault, Verdict, check};
 pub use elf_tool_link::{link, map};
 pub use elf_tool_program::{check_source, run};
 pub use elf_tool_rewrite::rewrite;
 pub use elf_tool_rule_file::{RulesFault, read_rules};
 pub use elf_tool_show::show;
-pub use elf_tool_text::{Refusal, ToolFault, Verdict};
 pub use elf_tool_words::{Request, WordsFault, read_words};

@@ -1,1 +1,3 @@
--- The lemmas of this crate: none of its own.
+-- The lemmas of this crate.
+pub mod EngineCalls
+pub mod LineInARow

@@ -2,12 +2,12 @@
 use Rattle.std.specs.Prelude.{◌≡◌, ℕ, List, length, None, Option, Some, Result}
 use Rattle.elf_image_rules.specs.Rules.{IsFault}
 use Rattle.elf_image_rules.specs.Tables.{header, sections, section_header_count, program_header_count}
-use Rattle.elf_tool_text.specs.Engine.{IsFileCallAllocatingFirst}
-use Rattle.elf_tool_text.specs.Line.{ok_line, refused_line}
-use Rattle.elf_tool_text.specs.declared.engine.Refusal.TheVariants.{File, Link, TooLong}
-use Rattle.elf_tool_text.specs.declared.engine.ToolFault.{ToolFault}
-use Rattle.elf_tool_text.specs.declared.engine.Verdict.{Verdict}
-use Rattle.elf_tool_text.specs.declared.engine.Verdict.TheVariants.{Done, Refused}
+use Rattle.elf_tool_check.specs.Engine.{IsFileCallAllocatingFirst}
+use Rattle.elf_tool_check.specs.FileLines.{ok_line, refused_line}
+use Rattle.elf_tool_check.specs.declared.calls.Refusal.TheVariants.{File, Link, TooLong}
+use Rattle.elf_tool_check.specs.declared.calls.ToolFault.{ToolFault}
+use Rattle.elf_tool_check.specs.declared.calls.Verdict.{Verdict}
+use Rattle.elf_tool_check.specs.declared.calls.Verdict.TheVariants.{Done, Refused}
 
 -- how many sections the file has by its header and its section header 0 (gABI chapter 4, ELF Header)
 abbrev pub file_sections : List ℕ → ℕ

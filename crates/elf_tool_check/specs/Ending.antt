@@ -7,9 +7,9 @@ use Rattle.elf_tool_check.specs.declared.ending.Status.TheVariants.{Done, Refuse
 use Rattle.elf_tool_check.specs.declared.ending.Status.{Status}
 use Rattle.elf_tool_check.specs.declared.opener.OpenFault.TheVariants.{Refused, OutOfMemory}
 use Rattle.elf_tool_check.specs.declared.opener.OpenFault.{OpenFault}
-use Rattle.elf_tool_text.specs.declared.engine.ToolFault.{ToolFault}
-use Rattle.elf_tool_text.specs.declared.engine.Verdict.{Verdict}
-use Rattle.elf_tool_text.specs.declared.engine.Verdict.TheVariants as verdict
+use Rattle.elf_tool_check.specs.declared.calls.ToolFault.{ToolFault}
+use Rattle.elf_tool_check.specs.declared.calls.Verdict.{Verdict}
+use Rattle.elf_tool_check.specs.declared.calls.Verdict.TheVariants as verdict
 
 -- What an opener of files returns.
 

@@ -1,3 +1,5 @@
 -- The words of this crate's contracts.
 pub mod Check
 pub mod Ending
+pub mod Engine
+pub mod FileLines

@@ -5,8 +5,8 @@ ghost use Rattle.std.specs.declared.io.ErrorKind.TheVariants.{InvalidData};
 ghost use Rattle.elf_tool_check.specs.Ending.{code_of, ending_of};
 ghost use Rattle.elf_tool_check.specs.declared.ending.Status.{Status as Ending};
 
+use crate::calls::{ToolFault, Verdict};
 use crate::opener::OpenFault;
-use elf_tool_text::{ToolFault, Verdict};
 use std::fmt::Display;
 use std::io;
 use std::io::Write;

@@ -4,12 +4,11 @@ ghost use Rattle.elf_image_rules.specs.Rows.{fault_of};
 ghost use Rattle.elf_image_rules.specs.Rules.{IsFault};
 ghost use Rattle.elf_image_rules.specs.JudgedRecords.{file_of};
 ghost use Rattle.elf_tool_check.specs.Check.{CheckSays, IsChecked, file_sections, file_segments, verdict_of};
-ghost use Rattle.elf_tool_text.specs.Line.{ok_line as ok_line_of};
+ghost use Rattle.elf_tool_check.specs.FileLines.{ok_line as ok_line_of, refused_line as refused_line_of};
 
+use crate::calls::{Refusal, ToolFault, Verdict, read_input};
 use elf_image_rules::{Broken, JudgedRecords, judge_by_sorting};
 use elf_image_stream::send;
-use elf_tool_text::line::{ok_line, refused_line};
-use elf_tool_text::{Refusal, ToolFault, Verdict, read_input};
 use std::alloc::{AllocError, Global};
 use std::io::{Read, Write};
 
@@ -71,4 +70,25 @@ fn verdict_on(judged: Result<JudgedRecords<'_>, Broken<u64>>) -> Verdict
         Ok(_) => Verdict::Done,
         Err(Broken { rule, at }) => Verdict::Refused(Refusal::File { file: 0, rule, at }),
     }
+}
+
+// The lines on a file, which all engines share.
+
+/// The line on a file of this length in bytes, with so many sections and segments, that is accepted. Fails only when out of memory.
+pub fn ok_line(
+    alloc: Global,
+    length: usize,
+    sections: u64,
+    segments: u64,
+) -> Result<String, AllocError>
+    ensures { IfOk result (λ line. string_bytes line ≡ ok_line_of length sections segments) }
+{
+    format!(in alloc; "ok {length} {sections} {segments}\n")
+}
+
+/// The line on a file that is refused by this rule at this offset. Fails only when out of memory.
+pub fn refused_line(alloc: Global, rule: u16, at: u64) -> Result<String, AllocError>
+    ensures { IfOk result (λ line. string_bytes line ≡ refused_line_of rule at) }
+{
+    format!(in alloc; "refused {rule} {at}\n")
 }

@@ -12,15 +12,16 @@
 //! ```
 #![tactic(auto)]
 
+mod calls;
 mod ending;
 mod engine;
 mod machine;
 mod opener;
 mod program;
 
-pub use elf_tool_text::{Refusal, ToolFault, Verdict};
+pub use calls::{Refusal, ToolFault, Verdict, read_input};
 pub use ending::{Status, fail, misused, refuse_words, status_of, unopened};
-pub use engine::check;
+pub use engine::{check, ok_line, refused_line};
 pub use machine::{check_on_machine, words_of};
 pub use opener::{MachineFiles, OpenFault, Opener};
 pub use program::{check_file, run_check};

@@ -12,8 +12,8 @@ use Rattle.elf_tool_link.specs.Link.{FilesLink, MapLinks, unlinked_verdict}
 use Rattle.elf_tool_link.specs.ObjectFiles.{AreObjectFiles, BeginAsObjects, IsFirstRefused, IsObjectFile, IsRefusedFile, IsUnlinked, link_unlinked}
 use Rattle.elf_tool_link.specs.declared.mapped.Unlinked.TheVariants.{Refused, OutOfMemory}
 use Rattle.elf_tool_link.specs.declared.mapped.Unlinked.{Unlinked}
-use Rattle.elf_tool_text.specs.Engine.{Prints}
-use Rattle.elf_tool_text.specs.declared.engine.Refusal.TheVariants.{File, Link, TooLong}
+use Rattle.elf_tool_check.specs.Engine.{Prints}
+use Rattle.elf_tool_check.specs.declared.calls.Refusal.TheVariants.{File, Link, TooLong}
 use Rattle.elf_link_files.specs.declared.fault.LinkFault.TheVariants as link
 
 -- Files as objects, file by file. A file that is an object is one more; the first that is not is refused, with all before it objects;

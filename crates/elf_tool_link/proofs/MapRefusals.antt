@@ -16,8 +16,8 @@ use Rattle.elf_tool_link.specs.ObjectFiles.{IsUnlinked, link_unlinked}
 use Rattle.elf_tool_link.specs.declared.mapped.Unlinked.TheVariants.{Refused, OutOfMemory}
 use Rattle.elf_tool_link.specs.declared.mapped.Unlinked.{Unlinked}
 use Rattle.elf_tool_text.specs.Line.{bytes_text}
-use Rattle.elf_tool_text.specs.declared.engine.Refusal.TheVariants.{File, Link, TooLong}
-use Rattle.elf_tool_text.specs.declared.engine.Verdict.{Verdict}
+use Rattle.elf_tool_check.specs.declared.calls.Refusal.TheVariants.{File, Link, TooLong}
+use Rattle.elf_tool_check.specs.declared.calls.Verdict.{Verdict}
 use Rattle.elf_link_files.specs.declared.fault.LinkFault.TheVariants as link
 
 -- Of the text that bytes are shown as.

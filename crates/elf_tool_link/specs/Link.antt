@@ -11,12 +11,13 @@ use Rattle.elf_exec.specs.Executable.{IsExecFile, IsExecutable}
 use Rattle.elf_exec.specs.ExecWriting.{IsTooLongFor}
 use Rattle.elf_tool_link.specs.ObjectFiles.{AreObjectFiles, IsFirstRefused}
 use Rattle.elf_tool_link.specs.declared.mapped.Unlinked.{Unlinked}
-use Rattle.elf_tool_text.specs.Engine.{Prints, AreRead, FailsReading}
-use Rattle.elf_tool_text.specs.declared.engine.Refusal.TheVariants.{File, Link, TooLong}
-use Rattle.elf_tool_text.specs.declared.engine.ToolFault.{ToolFault}
-use Rattle.elf_tool_text.specs.declared.engine.ToolFault.TheVariants.{OutOfMemory}
-use Rattle.elf_tool_text.specs.declared.engine.Verdict.{Verdict}
-use Rattle.elf_tool_text.specs.declared.engine.Verdict.TheVariants.{Done, Refused}
+use Rattle.elf_tool_check.specs.Engine.{Prints}
+use Rattle.elf_tool_link.specs.Inputs.{AreRead, FailsReading}
+use Rattle.elf_tool_check.specs.declared.calls.Refusal.TheVariants.{File, Link, TooLong}
+use Rattle.elf_tool_check.specs.declared.calls.ToolFault.{ToolFault}
+use Rattle.elf_tool_check.specs.declared.calls.ToolFault.TheVariants.{OutOfMemory}
+use Rattle.elf_tool_check.specs.declared.calls.Verdict.{Verdict}
+use Rattle.elf_tool_check.specs.declared.calls.Verdict.TheVariants.{Done, Refused}
 use Rattle.elf_tool_link.specs.declared.mapped.Unlinked.TheVariants as unlinked
 
 -- of objects, their map and relocation rules: their executable, which is an image that loads the memory of the link; or that it has too

@@ -17,13 +17,15 @@ use Rattle.elf_link_relocate.specs.Linked.{LinkedValue, bytes_at, IsLinked}
 use Rattle.elf_object_type.specs.Object.{ObjectValue}
 use Rattle.elf_tool_link.specs.ObjectFiles.{AreObjectFiles, IsFirstRefused}
 use Rattle.elf_tool_link.specs.declared.mapped.Unlinked.{Unlinked}
-use Rattle.elf_tool_text.specs.Engine.{Prints, AreRead, FailsReading}
-use Rattle.elf_tool_text.specs.Line.{bytes_text, hexadecimal, line, name_text}
-use Rattle.elf_tool_text.specs.declared.engine.Refusal.TheVariants.{File, Link, TooLong}
-use Rattle.elf_tool_text.specs.declared.engine.Refusal.{Refusal}
-use Rattle.elf_tool_text.specs.declared.engine.ToolFault.{ToolFault}
-use Rattle.elf_tool_text.specs.declared.engine.Verdict.TheVariants.{Done, Refused}
-use Rattle.elf_tool_text.specs.declared.engine.Verdict.{Verdict}
+use Rattle.elf_tool_check.specs.Engine.{Prints}
+use Rattle.elf_tool_link.specs.Inputs.{AreRead, FailsReading}
+use Rattle.elf_tool_check.specs.FileLines.{line}
+use Rattle.elf_tool_text.specs.Line.{bytes_text, hexadecimal, name_text}
+use Rattle.elf_tool_check.specs.declared.calls.Refusal.TheVariants.{File, Link, TooLong}
+use Rattle.elf_tool_check.specs.declared.calls.Refusal.{Refusal}
+use Rattle.elf_tool_check.specs.declared.calls.ToolFault.{ToolFault}
+use Rattle.elf_tool_check.specs.declared.calls.Verdict.TheVariants.{Done, Refused}
+use Rattle.elf_tool_check.specs.declared.calls.Verdict.{Verdict}
 use Rattle.elf_tool_link.specs.declared.mapped.Unlinked.TheVariants as unlinked
 
 -- The lines of `map`, word by word.

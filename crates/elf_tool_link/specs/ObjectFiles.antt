@@ -17,7 +17,7 @@ use Rattle.elf_tool_link.specs.declared.mapped.FileFault.TheVariants.{Refused, O
 use Rattle.elf_tool_link.specs.declared.mapped.FileFault.{FileFault}
 use Rattle.elf_tool_link.specs.declared.mapped.Unlinked.TheVariants.{Refused as UnlinkedRefused, OutOfMemory as UnlinkedOutOfMemory}
 use Rattle.elf_tool_link.specs.declared.mapped.Unlinked.{Unlinked}
-use Rattle.elf_tool_text.specs.declared.engine.Refusal.TheVariants.{File, Link, TooLong}
+use Rattle.elf_tool_check.specs.declared.calls.Refusal.TheVariants.{File, Link, TooLong}
 use Rattle.elf_image_stream.specs.declared.fault.Fault.TheVariants as fault
 use Rattle.elf_link_files.specs.declared.fault.LinkFault.TheVariants as link
 use Rattle.elf_tool_link.specs.declared.mapped.FileFault.TheVariants as file

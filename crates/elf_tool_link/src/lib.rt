@@ -14,12 +14,13 @@
 //! ```
 #![tactic(auto)]
 
+mod inputs;
 mod linking;
 mod map_lines;
 mod mapped;
 mod mapping;
 
 pub use elf_link_map::Options;
-pub use elf_tool_text::{Refusal, ToolFault, Verdict};
+pub use elf_tool_check::{Refusal, ToolFault, Verdict};
 pub use linking::{link, link_files};
 pub use mapping::{map, map_files};

@@ -1,15 +1,16 @@
 //! `link`: the executable of files.
 ghost use Rattle.std.specs.Prelude.{◌≡◌, map as map_list};
-ghost use Rattle.elf_tool_text.specs.Engine.{Prints};
+ghost use Rattle.elf_tool_check.specs.Engine.{Prints};
 ghost use Rattle.elf_link_relocate.specs.Linked.{IsReadyLink};
 ghost use Rattle.elf_tool_link.specs.Link.{ExecSays, FilesLink, IsLinkCall, MapLinks, unlinked_verdict};
 
+use crate::inputs::read_inputs;
 use crate::mapped::{Unlinked, mapped_files, slices_of};
 use elf_exec::{ExecFault, write_exec};
 use elf_link_field::RelocRule;
 use elf_link_map::Options;
 use elf_link_relocate::{Linked, Mapped};
-use elf_tool_text::{Refusal, ToolFault, Verdict, read_inputs};
+use elf_tool_check::{Refusal, ToolFault, Verdict};
 use std::alloc::Global;
 use std::io::{Read, Write};
 

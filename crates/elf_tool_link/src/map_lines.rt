@@ -1,7 +1,7 @@
 //! The lines of `map`: each function appends one to the text that will be written.
 ghost use Rattle.std.specs.Prelude.{◌≡◌, ◌++◌, ◌∷◌, OnOk, ◌<◌, IfOk, length, slice_index_or};
 ghost use Rattle.std.specs.List.{flat_map};
-ghost use Rattle.elf_tool_text.specs.Line.{blank};
+ghost use Rattle.elf_tool_check.specs.FileLines.{blank};
 ghost use Rattle.elf_tool_link.specs.Map.{binding_text, bits_text, common_line, discarded_line, file_refused_line, link_refused_line, member_line, name_line, output_line, refusal_line, value_text, common_lines, discarded_lines, map_text as map_text_of, member_text, name_lines, output_lines};
 ghost use Rattle.elf_link_outputs.specs.Placed.{common_value, output_value};
 ghost use Rattle.elf_link_map.specs.Standing.{size_in};
@@ -9,7 +9,7 @@ ghost use Rattle.elf_link_map.specs.Standing.{size_in};
 use elf_link_map::{Binding, Common, LinkMap, Member, Named, Output, memory_size};
 use elf_link_relocate::binding_value;
 use elf_object_type::Object;
-use elf_tool_text::Refusal;
+use elf_tool_check::Refusal;
 use elf_tool_text::line::{
     begin_line, end_line, push_decimal, push_hexadecimal, push_name, push_wide_hexadecimal,
     push_word,

@@ -8,7 +8,7 @@ use elf_link_map::{LinkFault, Options};
 use elf_link_relocate::Mapped;
 use elf_object_reader::object_of;
 use elf_object_type::Object;
-use elf_tool_text::Refusal;
+use elf_tool_check::Refusal;
 use std::alloc::{AllocError, Global};
 use std::hash::{BuildHasherDefault, FoldHasher};
 

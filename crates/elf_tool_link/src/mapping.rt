@@ -1,19 +1,21 @@
 //! `map`: where the sections and names of files are in their link.
 ghost use Rattle.std.specs.Prelude.{◌≡◌, ◌++◌, ◌∷◌, length, Some, option_copied, map as map_list};
 ghost use Rattle.std.specs.List.{flat_map};
-ghost use Rattle.elf_tool_text.specs.Line.{blank, bytes_text};
+ghost use Rattle.elf_tool_check.specs.FileLines.{blank};
+ghost use Rattle.elf_tool_text.specs.Line.{bytes_text};
 ghost use Rattle.elf_tool_link.specs.Map.{bytes_line, bytes_lines, member_bytes, IsMapped, IsThis, MapSays, RelocationSays, TellsUnlinked, refusal_line};
 ghost use Rattle.elf_image_stream.specs.Output.{Sends};
-ghost use Rattle.elf_tool_text.specs.Engine.{Prints};
+ghost use Rattle.elf_tool_check.specs.Engine.{Prints};
 
+use crate::inputs::read_inputs;
 use crate::map_lines::{map_text, push_refusal_line};
 use crate::mapped::{Unlinked, mapped_files, slices_of};
 use elf_image_stream::{Chunks, WriteFault, send, send_all};
 use elf_link_field::RelocRule;
 use elf_link_map::{Member, Options};
 use elf_link_relocate::{Linked, Mapped};
+use elf_tool_check::{Refusal, ToolFault, Verdict};
 use elf_tool_text::lines::{send_decimal, send_hexadecimal, send_word};
-use elf_tool_text::{Refusal, ToolFault, Verdict, read_inputs};
 use std::alloc::Global;
 use std::io::{Read, Write};
 

@@ -15,11 +15,11 @@ use Rattle.elf_image_rules.specs.declared.image_rules.Broken.{Broken}
 use Rattle.elf_image_stream.specs.Output.{StoppedIn}
 use Rattle.elf_tool_check.specs.Check.{CheckSays, file_sections, file_segments, verdict_of}
 use Rattle.elf_tool_program.specs.CheckSource.{IsCheckLine, IsScanned, SourceSays, line_of_scan}
-use Rattle.elf_tool_text.specs.Engine.{Prints}
-use Rattle.elf_tool_text.specs.Line.{ok_line}
-use Rattle.elf_tool_text.specs.declared.engine.ToolFault.TheVariants.{Write}
-use Rattle.elf_tool_text.specs.declared.engine.Verdict.TheVariants.{Done}
-use Rattle.elf_tool_text.specs.declared.engine.Verdict.{Verdict}
+use Rattle.elf_tool_check.specs.Engine.{Prints}
+use Rattle.elf_tool_check.specs.FileLines.{ok_line}
+use Rattle.elf_tool_check.specs.declared.calls.ToolFault.TheVariants.{Write}
+use Rattle.elf_tool_check.specs.declared.calls.Verdict.TheVariants.{Done}
+use Rattle.elf_tool_check.specs.declared.calls.Verdict.{Verdict}
 
 -- Of files that are opened one after the other.
 

@@ -8,13 +8,13 @@ use Rattle.elf_image_rules.specs.Rules.{IsFault}
 use Rattle.elf_image_rules.specs.declared.image_rules.Broken.{Broken}
 use Rattle.elf_tool_check.specs.Ending.{Call}
 use Rattle.elf_tool_check.specs.Check.{CheckSays}
-use Rattle.elf_tool_text.specs.Engine.{Prints}
-use Rattle.elf_tool_text.specs.Line.{ok_line, refused_line}
-use Rattle.elf_tool_text.specs.declared.engine.Refusal.TheVariants.{File, Link, TooLong}
-use Rattle.elf_tool_text.specs.declared.engine.ToolFault.{ToolFault}
-use Rattle.elf_tool_text.specs.declared.engine.ToolFault.TheVariants.{Read, Write, OutOfMemory}
-use Rattle.elf_tool_text.specs.declared.engine.Verdict.{Verdict}
-use Rattle.elf_tool_text.specs.declared.engine.Verdict.TheVariants.{Done, Refused}
+use Rattle.elf_tool_check.specs.Engine.{Prints}
+use Rattle.elf_tool_check.specs.FileLines.{ok_line, refused_line}
+use Rattle.elf_tool_check.specs.declared.calls.Refusal.TheVariants.{File, Link, TooLong}
+use Rattle.elf_tool_check.specs.declared.calls.ToolFault.{ToolFault}
+use Rattle.elf_tool_check.specs.declared.calls.ToolFault.TheVariants.{Read, Write, OutOfMemory}
+use Rattle.elf_tool_check.specs.declared.calls.Verdict.{Verdict}
+use Rattle.elf_tool_check.specs.declared.calls.Verdict.TheVariants.{Done, Refused}
 
 -- the line of a verdict on one file: `ok` with a length and counts, or `refused` with the rule and the offset that the verdict carries
 abbrev pub IsCheckLine : Verdict → List ℕ → Type 0

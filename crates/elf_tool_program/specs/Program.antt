@@ -18,9 +18,9 @@ use Rattle.elf_tool_program.specs.declared.opening.Unopened.{Unopened}
 use Rattle.elf_tool_rewrite.specs.Rewrite.{IsRewritten}
 use Rattle.elf_tool_rule_file.specs.RuleFile.{AreRules, IsBadLine}
 use Rattle.elf_tool_show.specs.Show.{IsShown}
-use Rattle.elf_tool_text.specs.Engine.{GivesBytes, GivesFile}
-use Rattle.elf_tool_text.specs.declared.engine.ToolFault.{ToolFault}
-use Rattle.elf_tool_text.specs.declared.engine.Verdict.{Verdict}
+use Rattle.elf_tool_link.specs.Inputs.{GivesBytes, GivesFile}
+use Rattle.elf_tool_check.specs.declared.calls.ToolFault.{ToolFault}
+use Rattle.elf_tool_check.specs.declared.calls.Verdict.{Verdict}
 use Rattle.elf_tool_words.specs.Words.{IsAskedBy, IsRefusedBy}
 use Rattle.elf_tool_words.specs.declared.words.Request.TheVariants.{Check, CheckSource, Show, Rewrite, Map, Link}
 use Rattle.elf_tool_words.specs.declared.words.Request.{Request}

@@ -18,12 +18,13 @@ mod program;
 mod scan_check;
 
 pub use elf_link_field::{Form, Range, RelocRule, Width};
-pub use elf_tool_check::{MachineFiles, OpenFault, Opener, Status, check, refuse_words};
+pub use elf_tool_check::{
+    MachineFiles, OpenFault, Opener, Refusal, Status, ToolFault, Verdict, check, refuse_words,
+};
 pub use elf_tool_link::{Options, link, map};
 pub use elf_tool_rewrite::rewrite;
 pub use elf_tool_rule_file::{RulesFault, read_rules};
 pub use elf_tool_show::show;
-pub use elf_tool_text::{Refusal, ToolFault, Verdict};
 pub use elf_tool_words::{Request, WordsFault, read_words};
 pub use machine::run_on_machine;
 pub use program::run;

@@ -12,12 +12,14 @@ ghost use Rattle.elf_tool_program.specs.Program.{EndsFiles, EndsLink, EndsMap, E
 use crate::opening::{NoRules, open_all, rules_of};
 use crate::scan_check::check_source;
 use elf_link_field::RelocRule;
-use elf_tool_check::{OpenFault, Opener, Status, check_file, fail, misused, status_of, unopened};
+use elf_tool_check::{
+    OpenFault, Opener, Refusal, Status, ToolFault, Verdict, check_file, fail, misused, status_of,
+    unopened,
+};
 use elf_tool_link::{Options, link, map};
 use elf_tool_rewrite::rewrite;
 use elf_tool_rule_file::RulesFault;
 use elf_tool_show::show;
-use elf_tool_text::{Refusal, ToolFault, Verdict};
 use elf_tool_words::{Request, WordsFault, read_words};
 use std::alloc::Global;
 use std::convert::AsStr;

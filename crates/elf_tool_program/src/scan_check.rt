@@ -9,8 +9,7 @@ ghost use Rattle.elf_tool_program.specs.CheckSource.{IsScanStopped, IsScanned, I
 use elf_image_outline::{Outline, scan};
 use elf_image_rules::Broken;
 use elf_image_stream::{Fault, Source, send};
-use elf_tool_text::line::{ok_line, refused_line};
-use elf_tool_text::{Refusal, ToolFault, Verdict};
+use elf_tool_check::{Refusal, ToolFault, Verdict, ok_line, refused_line};
 use std::alloc::{AllocError, Global};
 use std::io::Write;
 

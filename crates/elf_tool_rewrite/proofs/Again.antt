@@ -1,7 +1,7 @@
 -- What `rewrite` wrote is the file of an object: it is an image that denotes this object, of which it writes the same file.
 use Rattle.std.proofs.Common.{ℕ, List, inl, inr, refl}
 use Rattle.elf_tool_rewrite.specs.Rewrite.{RewriteSays}
-use Rattle.elf_tool_text.specs.declared.engine.Verdict.TheVariants.{Done}
+use Rattle.elf_tool_check.specs.declared.calls.Verdict.TheVariants.{Done}
 
 pub rewrite_again : (b text : List ℕ) → RewriteSays b Done text → RewriteSays text Done text
 rewrite_again b text says = elim says [

@@ -9,11 +9,11 @@ use Rattle.elf_object_type.specs.Object.{ObjectValue}
 use Rattle.elf_image_rules.specs.Rules.{MAX_LEN, IsFault}
 use Rattle.elf_image_rules.specs.Rows.{FirstIn}
 use Rattle.elf_table_symbols.specs.Sections.{Sections, sections_of}
-use Rattle.elf_tool_text.specs.Engine.{IsFileCallAllocatingFirst}
-use Rattle.elf_tool_text.specs.declared.engine.Refusal.TheVariants.{File, Link, TooLong}
-use Rattle.elf_tool_text.specs.declared.engine.ToolFault.{ToolFault}
-use Rattle.elf_tool_text.specs.declared.engine.Verdict.{Verdict}
-use Rattle.elf_tool_text.specs.declared.engine.Verdict.TheVariants.{Done, Refused}
+use Rattle.elf_tool_check.specs.Engine.{IsFileCallAllocatingFirst}
+use Rattle.elf_tool_check.specs.declared.calls.Refusal.TheVariants.{File, Link, TooLong}
+use Rattle.elf_tool_check.specs.declared.calls.ToolFault.{ToolFault}
+use Rattle.elf_tool_check.specs.declared.calls.Verdict.{Verdict}
+use Rattle.elf_tool_check.specs.declared.calls.Verdict.TheVariants.{Done, Refused}
 
 -- of an object: its file, or that its canonical layout is too long for one
 abbrev pub ObjectSays : ObjectValue → Verdict → List ℕ → Type 0

@@ -1,16 +1,16 @@
 //! `rewrite`: the object of a file, in canonical layout.
 ghost use Rattle.std.specs.Prelude.{◌≡◌, ℕ, List};
-ghost use Rattle.elf_tool_text.specs.Engine.{Prints};
+ghost use Rattle.elf_tool_check.specs.Engine.{Prints};
 ghost use Rattle.elf_tool_rewrite.specs.Rewrite.{IsRewritten, ObjectSays, RewriteSays, SectionsSay};
 ghost use Rattle.elf_table_symbols.specs.Sections.{sections_of};
-ghost use Rattle.elf_tool_text.specs.declared.engine.Verdict.TheVariants.{Done};
+ghost use Rattle.elf_tool_check.specs.declared.calls.Verdict.TheVariants.{Done};
 
 use elf_image_stream::Fault;
 use elf_image_type::{Image, parse};
 use elf_object_file::write_object_with_ends;
 use elf_object_reader::object_with_ends;
 use elf_object_writer::{ObjectWithEnds, ObjectWriteFault};
-use elf_tool_text::{Refusal, ToolFault, Verdict, read_input};
+use elf_tool_check::{Refusal, ToolFault, Verdict, read_input};
 use std::alloc::Global;
 use std::io::{Read, Write};
 

@@ -11,5 +11,5 @@
 
 mod engine;
 
-pub use elf_tool_text::{Refusal, ToolFault, Verdict};
+pub use elf_tool_check::{Refusal, ToolFault, Verdict};
 pub use engine::{rewrite, rewrite_bytes};

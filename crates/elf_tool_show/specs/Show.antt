@@ -32,13 +32,14 @@ use Rattle.elf_table_symbols.specs.declared.symbols.Place.TheVariants.{Undefined
 use Rattle.elf_table_symbols.specs.declared.symbols.Place.{Place}
 use Rattle.elf_table_symbols.specs.declared.table_section.TableKind.TheVariants.{SymbolTable, RelocationTable, SectionGroup, NoteSection, DynamicArray, HashTable}
 use Rattle.elf_table_symbols.specs.declared.table_section.TableKind.{TableKind}
-use Rattle.elf_tool_text.specs.Engine.{IsFileCall, WritesReport}
-use Rattle.elf_tool_text.specs.Line.{hexadecimal, line, name_text, bytes_text, refused_line}
-use Rattle.elf_tool_text.specs.declared.engine.Refusal.TheVariants.{File, Link, TooLong}
-use Rattle.elf_tool_text.specs.declared.engine.ToolFault.TheVariants.{OutOfMemory}
-use Rattle.elf_tool_text.specs.declared.engine.ToolFault.{ToolFault}
-use Rattle.elf_tool_text.specs.declared.engine.Verdict.TheVariants.{Done, Refused}
-use Rattle.elf_tool_text.specs.declared.engine.Verdict.{Verdict}
+use Rattle.elf_tool_check.specs.Engine.{IsFileCall, WritesReport}
+use Rattle.elf_tool_check.specs.FileLines.{line, refused_line}
+use Rattle.elf_tool_text.specs.Line.{hexadecimal, name_text, bytes_text}
+use Rattle.elf_tool_check.specs.declared.calls.Refusal.TheVariants.{File, Link, TooLong}
+use Rattle.elf_tool_check.specs.declared.calls.ToolFault.TheVariants.{OutOfMemory}
+use Rattle.elf_tool_check.specs.declared.calls.ToolFault.{ToolFault}
+use Rattle.elf_tool_check.specs.declared.calls.Verdict.TheVariants.{Done, Refused}
+use Rattle.elf_tool_check.specs.declared.calls.Verdict.{Verdict}
 
 -- The lines of `show`, word by word. (gABI chapter 4, ELF Header and Sections; chapter 5, Program Header.)
 

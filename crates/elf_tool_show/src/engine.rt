@@ -1,8 +1,9 @@
 //! `show`: the header, the parts, the sections, the segments and the tables of a file.
 ghost use Rattle.std.specs.Prelude.{◌≡◌, List, length, map};
 ghost use Rattle.std.specs.List.{flat_map};
-ghost use Rattle.elf_tool_text.specs.Engine.{WritesText, IsBuffered};
-ghost use Rattle.elf_tool_text.specs.Line.{refused_line as refused_line_of};
+ghost use Rattle.elf_tool_check.specs.Engine.{WritesText};
+ghost use Rattle.elf_tool_text.specs.Buffered.{IsBuffered};
+ghost use Rattle.elf_tool_check.specs.FileLines.{refused_line as refused_line_of};
 ghost use Rattle.elf_tool_show.specs.Show.{IsShown, IsShownOf, section_lines, segment_lines, show_text, part_line};
 
 use crate::show_lines::{push_file_line, push_part_line, push_section_line, push_segment_line};
@@ -11,9 +12,9 @@ use elf_image_outline::Part;
 use elf_image_stream::{Fault, send};
 use elf_image_type::{Image, parse};
 use elf_table_all::Tables;
-use elf_tool_text::line::refused_line;
+use elf_tool_check::{Refusal, ToolFault, Verdict, read_input, refused_line};
+use elf_tool_text::Output;
 use elf_tool_text::lines::{Lines, show_lines};
-use elf_tool_text::{Output, Refusal, ToolFault, Verdict, read_input};
 use std::alloc::{AllocError, Global};
 use std::io::{Read, Write};
 

@@ -13,6 +13,6 @@ mod engine;
 mod show_lines;
 mod show_tables;
 
-pub use elf_tool_text::{Refusal, ToolFault, Verdict};
+pub use elf_tool_check::{Refusal, ToolFault, Verdict};
 pub use engine::{show, show_bytes};
 pub use show_tables::push_refused_tables;

@@ -1,7 +1,7 @@
 //! The lines of `show`: each function appends one to the text that will be written. The numbers of a line are put together from the last
 //! one on, and appended in one piece.
 ghost use Rattle.std.specs.Prelude.{◌≡◌, ◌≤◌, ◌+◌, ◌++◌, OnOk, drop, length, take};
-ghost use Rattle.elf_tool_text.specs.Line.{further_words};
+ghost use Rattle.elf_tool_check.specs.FileLines.{further_words};
 ghost use Rattle.elf_tool_show.specs.Show.{file_line, order_text, owner_words, part_line, section_line, segment_line};
 
 use elf_field::{Ehdr, Order, Phdr, Shdr};

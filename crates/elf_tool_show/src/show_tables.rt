@@ -1,11 +1,12 @@
 //! The lines of `show` on the tables that a file holds.
 ghost use Rattle.std.specs.Prelude.{◌≡◌, ◌∷◌, ◌≤◌, ◌+◌, ◌++◌, OnOk, length, map, ◌<◌, List, ℕ, IfOk};
 ghost use Rattle.std.specs.Fmt.{decimal};
-ghost use Rattle.elf_tool_text.specs.Line.{blank, bytes_text, further_words};
+ghost use Rattle.elf_tool_check.specs.FileLines.{blank, further_words};
+ghost use Rattle.elf_tool_text.specs.Line.{bytes_text};
 ghost use Rattle.elf_tool_show.specs.Show.{addend_text, dynamic_line, group_line, hash_line, note_line, place_text, relocation_line, string_words, symbol_line, table_refused_line, all_table_lines, note_lines, table_text, RefusedTablesSay};
 ghost use Rattle.elf_table_symbols.specs.SymbolView.{symbol_entry_value};
 ghost use Rattle.elf_table_lists.specs.Notes.{note_value};
-ghost use Rattle.elf_tool_text.specs.Engine.{IsBuffered};
+ghost use Rattle.elf_tool_text.specs.Buffered.{IsBuffered};
 ghost use Rattle.elf_table_symbols.specs.Sections.{sections_of};
 ghost use Rattle.elf_table_all.specs.Tables.{HasSoundTable, signature_name};
 ghost use Rattle.elf_table_lists.specs.Groups.{group_of};
@@ -20,13 +21,14 @@ use elf_table_all::{
     Dynamic, Group, Hash, Note, Notes, Place, Relocation, Relocs, Symbol, Symbols, TableKind,
     Tables, is_string_tag,
 };
+use elf_tool_check::{Refusal, ToolFault, Verdict};
+use elf_tool_text::Output;
 use elf_tool_text::line::{
     begin_line, end_line, push_bytes, push_decimal, push_hexadecimal, push_name, push_signed,
     push_word,
 };
 use elf_tool_text::line_end::{DECIMAL_ROOM, LINE_ROOM, LineEnd, SIGNED_ROOM};
 use elf_tool_text::lines::{Lines, push_lines, show_lines};
-use elf_tool_text::{Output, Refusal, ToolFault, Verdict};
 use std::alloc::{AllocError, Global};
 use std::io::Write;
 

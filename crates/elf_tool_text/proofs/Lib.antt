@@ -1,4 +1,3 @@
--- `Public` is for the proofs of the crates above, the others are for those of this one.
-pub mod Calls
+-- `Public` is for the proofs of the crates above, the other is for those of this one.
 pub mod TextLines
 pub mod Public

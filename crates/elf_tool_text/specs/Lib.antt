@@ -1,3 +1,3 @@
 -- The words of this crate's contracts.
-pub mod Engine
+pub mod Buffered
 pub mod Line

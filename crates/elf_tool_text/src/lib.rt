@@ -1,5 +1,4 @@
-//! What goes in and out of the engines of `elfmap`: files that are read whole, lines that are made word by word, texts that go
-//! out in pieces, and how an engine ends ([`Verdict`], [`ToolFault`]).
+//! What the engines of `elfmap` write: lines that are made word by word, and texts that go out in pieces.
 //!
 //! A [`line`](mod@line) is its words with single blanks between them and a line feed after:
 //!
@@ -16,9 +15,9 @@
 #![tactic(auto)]
 
 mod digits;
-mod engine;
 pub mod line;
 pub mod line_end;
 pub mod lines;
+mod output;
 
-pub use engine::{Output, Refusal, ToolFault, Verdict, read_input, read_inputs};
+pub use output::Output;

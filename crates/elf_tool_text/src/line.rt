@@ -1,10 +1,11 @@
-//! Lines, word by word, at the end of a text: [`begin_line`] with the first word, a call for each further one, [`end_line`]. And the lines
-//! that all engines share. Each call fails only when out of memory; some of what it was to append may be after the text then.
-ghost use Rattle.std.specs.Prelude.{◌≡◌, ◌∷◌, ◌++◌, IfOk, OnOk, codes, string_bytes};
+//! Lines, word by word, at the end of a text: [`begin_line`] with the first word, a call for each further one, [`end_line`].
+//! Each call fails only when out of memory; some of what it was to append may be after the text then.
+ghost use Rattle.std.specs.Prelude.{◌≡◌, ◌∷◌, ◌++◌, OnOk, codes};
 ghost use Rattle.std.specs.Fmt.{decimal, signed_decimal};
 ghost use Rattle.std.specs.List.{list_all};
 ghost use Rattle.hex.specs.Hex.{encode_lower};
-ghost use Rattle.elf_tool_text.specs.Line.{blank, hexadecimal, is_graphic as is_graphic_byte, is_plain as is_plain_name, name_text, ok_line as ok_line_of, refused_line as refused_line_of};
+ghost use Rattle.elf_tool_check.specs.FileLines.{blank};
+ghost use Rattle.elf_tool_text.specs.Line.{hexadecimal, is_graphic as is_graphic_byte, is_plain as is_plain_name, name_text};
 
 use crate::digits::{
     MOST_DECIMAL, MOST_HEXADECIMAL, WIDE_ROOM, glyph, put_before, put_decimal, put_hexadecimal,
@@ -122,23 +123,4 @@ pub fn end_line(text: &mut Vec<u8>) -> Result<(), AllocError>
     ensures { OnOk result (text.new.items ≡ text.old.items ++ codes "\n") }
 {
     text.extend_from_slice(b"\n")
-}
-
-/// The line on a file of this length in bytes, with so many sections and segments, that is accepted. Fails only when out of memory.
-pub fn ok_line(
-    alloc: Global,
-    length: usize,
-    sections: u64,
-    segments: u64,
-) -> Result<String, AllocError>
-    ensures { IfOk result (λ line. string_bytes line ≡ ok_line_of length sections segments) }
-{
-    format!(in alloc; "ok {length} {sections} {segments}\n")
-}
-
-/// The line on a file that is refused by this rule at this offset. Fails only when out of memory.
-pub fn refused_line(alloc: Global, rule: u16, at: u64) -> Result<String, AllocError>
-    ensures { IfOk result (λ line. string_bytes line ≡ refused_line_of rule at) }
-{
-    format!(in alloc; "refused {rule} {at}\n")
 }

@@ -14,7 +14,8 @@
 ghost use Rattle.std.specs.Prelude.{◌≡◌, ◌∷◌, ◌≤◌, ◌+◌, ◌*◌, ◌++◌, [], length};
 ghost use Rattle.std.specs.Fmt.{decimal, signed_decimal};
 ghost use Rattle.hex.specs.Hex.{encode_lower};
-ghost use Rattle.elf_tool_text.specs.Line.{blank, hexadecimal};
+ghost use Rattle.elf_tool_check.specs.FileLines.{blank};
+ghost use Rattle.elf_tool_text.specs.Line.{hexadecimal};
 
 use crate::digits::{glyph, put_before, put_decimal, put_hexadecimal};
 use std::marker::Model;

@@ -3,13 +3,14 @@ ghost use Rattle.std.specs.Prelude.{◌≡◌, ◌++◌, ◌<◌, OnOk, ◌∷�
 ghost use Rattle.std.specs.List.{flat_map, range_with_len};
 ghost use Rattle.std.specs.Fmt.{decimal};
 ghost use Rattle.hex.specs.Hex.{encode_lower};
-ghost use Rattle.elf_tool_text.specs.Engine.{IsBuffered};
+ghost use Rattle.elf_tool_text.specs.Buffered.{IsBuffered};
 ghost use Rattle.elf_image_stream.specs.Output.{Sends};
-ghost use Rattle.elf_tool_text.specs.Line.{blank};
+ghost use Rattle.elf_tool_check.specs.FileLines.{blank};
 
 use crate::digits::{MOST_DECIMAL, put_decimal};
-use crate::engine::{Output, ToolFault};
+use crate::output::Output;
 use elf_image_stream::{WriteFault, send};
+use elf_tool_check::ToolFault;
 use std::alloc::{AllocError, Global};
 use std::io::Write;
 

@@ -13,12 +13,12 @@ use Rattle.elf_tool_check.specs.Check.{CheckSays}
 use Rattle.elf_tool_program.specs.CheckSource.{IsSourceChecked}
 use Rattle.elf_tool_check.specs.Ending.{code_of, ending_of}
 use Rattle.elf_tool_check.specs.declared.ending.Status.{Status}
-use Rattle.elf_tool_text.specs.Engine.{IsFileCall, IsReadWhole, Report}
+use Rattle.elf_tool_check.specs.Engine.{IsFileCall, IsReadWhole, Report}
 use Rattle.elf_tool_show.specs.Show.{ShowSays}
-use Rattle.elf_tool_text.specs.declared.engine.Refusal.TheVariants.{File, Link, TooLong}
-use Rattle.elf_tool_text.specs.declared.engine.ToolFault.{ToolFault}
-use Rattle.elf_tool_text.specs.declared.engine.Verdict.{Verdict}
-use Rattle.elf_tool_text.specs.declared.engine.Verdict.TheVariants.{Done, Refused}
+use Rattle.elf_tool_check.specs.declared.calls.Refusal.TheVariants.{File, Link, TooLong}
+use Rattle.elf_tool_check.specs.declared.calls.ToolFault.{ToolFault}
+use Rattle.elf_tool_check.specs.declared.calls.Verdict.{Verdict}
+use Rattle.elf_tool_check.specs.declared.calls.Verdict.TheVariants.{Done, Refused}
 use Rattle.elf_tool_words.specs.Words.{is_set}
 use Rattle.elf_tool_words.specs.Command.{check, elfmap, map_command, rewrite, show}
 use Rattle.elf_tool_program.specs.Program.{EndsRun}

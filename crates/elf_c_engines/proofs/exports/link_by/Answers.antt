@@ -1,8 +1,8 @@
 use Rattle.std.proofs.Common.{◌≡◌, ℕ, List, [], Bor, Ok, Some, map, refl}
 use Rattle.elf_link_files.specs.declared.fault.Options.{Options}
 use Rattle.elf_tool_link.specs.Link.{FilesLink}
-use Rattle.elf_tool_text.specs.Engine.{Prints}
-use Rattle.elf_tool_text.specs.declared.engine.Verdict.{Verdict}
+use Rattle.elf_tool_check.specs.Engine.{Prints}
+use Rattle.elf_tool_check.specs.declared.calls.Verdict.{Verdict}
 use Rattle.elf_c_engines.proofs.exports.link_by.Goals as goal
 
 -- what is said into an empty text is all that this holds

@@ -3,7 +3,7 @@ use Rattle.elf_c_parts.specs.declared.room.Slot.{Slot}
 use Rattle.elf_link_field.specs.declared.rule.RelocRule.{RelocRule}
 use Rattle.elf_tool_link.specs.Map.{MapSays}
 use Rattle.elf_tool_rule_file.specs.RuleFile.{AreRules}
-use Rattle.elf_tool_text.specs.declared.engine.Verdict.{Verdict}
+use Rattle.elf_tool_check.specs.declared.calls.Verdict.{Verdict}
 use Rattle.elf_c_engines.specs.declared.calls.CallFault.{CallFault}
 use Rattle.elf_c_engines.specs.declared.calls.CallFault.TheVariants.{BadRules, BadFiles, OutOfMemory}
 use Rattle.elf_c_engines.specs.declared.exports.LinkOptions.{LinkOptions}

@@ -19,9 +19,9 @@ use Rattle.elf_tool.proofs.SaysOne.{of_holding, of_one, or_refused, some_link}
 use Rattle.elf_tool.specs.Laws.{SaysOne}
 use Rattle.elf_tool_link.specs.Link.{ExecSays, FileRefuses, FilesLink, MapLinks, ObjectsLink, RuleRefuses}
 use Rattle.elf_tool_link.specs.ObjectFiles.{AreObjectFiles, IsFirstRefused}
-use Rattle.elf_tool_text.specs.declared.engine.Refusal.TheVariants.{File, Link, TooLong}
-use Rattle.elf_tool_text.specs.declared.engine.Verdict.TheVariants.{Done, Refused}
-use Rattle.elf_tool_text.specs.declared.engine.Verdict.{Verdict}
+use Rattle.elf_tool_check.specs.declared.calls.Refusal.TheVariants.{File, Link, TooLong}
+use Rattle.elf_tool_check.specs.declared.calls.Verdict.TheVariants.{Done, Refused}
+use Rattle.elf_tool_check.specs.declared.calls.Verdict.{Verdict}
 use Rattle.elf_tool.proofs.laws.one_link.Goals as goal
 
 -- ---- the executable

@@ -16,9 +16,9 @@ use Rattle.elf_tool.proofs.SaysOne.{of_answer, of_holding, of_one, or_refused, s
 use Rattle.elf_tool.specs.Laws.{SaysOne}
 use Rattle.elf_tool_link.specs.Map.{FilesRefuse, LinkRefuses, LinkSays, MapSays, RelocationSays, bytes_lines, file_refused_line, link_refused_line, map_text}
 use Rattle.elf_tool_link.specs.ObjectFiles.{AreObjectFiles, IsFirstRefused}
-use Rattle.elf_tool_text.specs.declared.engine.Refusal.TheVariants.{File, Link, TooLong}
-use Rattle.elf_tool_text.specs.declared.engine.Verdict.TheVariants.{Done, Refused}
-use Rattle.elf_tool_text.specs.declared.engine.Verdict.{Verdict}
+use Rattle.elf_tool_check.specs.declared.calls.Refusal.TheVariants.{File, Link, TooLong}
+use Rattle.elf_tool_check.specs.declared.calls.Verdict.TheVariants.{Done, Refused}
+use Rattle.elf_tool_check.specs.declared.calls.Verdict.{Verdict}
 use Rattle.elf_tool.proofs.laws.one_map.Goals as goal
 
 -- the verdict and the line on a rule that is broken first at a site

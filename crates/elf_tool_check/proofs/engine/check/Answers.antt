@@ -1,8 +1,8 @@
 use Rattle.std.proofs.Common.{arith, vec_len}
 use Rattle.std.proofs.lemmas.Result.{err_from_is_err_and}
 use Rattle.elf_tool_check.specs.Check.{CheckSays}
-use Rattle.elf_tool_text.specs.declared.engine.ToolFault.TheVariants.{OutOfMemory}
-use Rattle.elf_tool_text.proofs.Public.{kept_early, given_up}
+use Rattle.elf_tool_check.specs.declared.calls.ToolFault.TheVariants.{OutOfMemory}
+use Rattle.elf_tool_check.proofs.EngineCalls.{kept_early, given_up}
 use Rattle.elf_tool_check.proofs.engine.check.Goals as goal
 
 pub returns-in_err-line : goal.returns-in_err-line

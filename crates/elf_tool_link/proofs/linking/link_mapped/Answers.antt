@@ -6,7 +6,7 @@ use Rattle.elf_object_type.specs.Object.{ObjectValue}
 use Rattle.elf_link_relocate.proofs.Public.{ready_of}
 use Rattle.elf_tool_link.specs.Link.{ExecSays}
 use Rattle.elf_tool_link.proofs.LinkRefusals.{relocation_refused}
-use Rattle.elf_tool_text.proofs.Public.{said_as}
+use Rattle.elf_tool_check.proofs.EngineCalls.{said_as}
 use Rattle.elf_tool_link.proofs.linking.link_mapped.Goals as goal
 
 pub link_relocated-requires : goal.link_relocated-requires

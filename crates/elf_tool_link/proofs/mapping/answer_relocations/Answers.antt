@@ -1,4 +1,4 @@
-use Rattle.elf_tool_text.proofs.Public.{said_as}
+use Rattle.elf_tool_check.proofs.EngineCalls.{said_as}
 use Rattle.elf_tool_link.proofs.MapRefusals.{relocation_refused}
 use Rattle.elf_tool_link.proofs.mapping.answer_relocations.Goals as goal
 

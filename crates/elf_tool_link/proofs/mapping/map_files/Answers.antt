@@ -1,5 +1,5 @@
 use Rattle.std.proofs.Common.{inl}
-use Rattle.elf_tool_text.proofs.Public.{said_as}
+use Rattle.elf_tool_check.proofs.EngineCalls.{said_as}
 use Rattle.elf_tool_link.proofs.MapRefusals.{files_refused}
 use Rattle.elf_tool_link.proofs.mapping.map_files.Goals as goal
 

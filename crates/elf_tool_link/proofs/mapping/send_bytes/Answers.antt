@@ -1,6 +1,6 @@
 use Rattle.std.proofs.Common.{◌≡◌, ◌∙◌, ◌==◌, ℕ, [], ◌∷◌, ap, false, sym, true}
 use Rattle.hex.specs.Hex.{encode_lower}
-use Rattle.elf_tool_text.specs.Line.{blank}
+use Rattle.elf_tool_check.specs.FileLines.{blank}
 use Rattle.elf_tool_link.proofs.MapRefusals.{digits_text}
 use Rattle.elf_image_stream.proofs.Public.{sends_behind}
 use Rattle.elf_tool_link.proofs.mapping.send_bytes.Goals as goal

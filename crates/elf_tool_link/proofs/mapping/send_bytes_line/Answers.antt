@@ -3,7 +3,8 @@
 use Rattle.std.proofs.Common.{[], ◌∷◌, ◌++◌, codes}
 use Rattle.std.specs.Fmt.{decimal}
 use Rattle.std.proofs.lemmas.Result.{err_from_is_err_and}
-use Rattle.elf_tool_text.specs.Line.{blank, bytes_text}
+use Rattle.elf_tool_check.specs.FileLines.{blank}
+use Rattle.elf_tool_text.specs.Line.{bytes_text}
 use Rattle.elf_tool_link.specs.Map.{bytes_line}
 use Rattle.elf_image_stream.proofs.Public.{sends_behind, stopped_later, stopped_longer}
 use Rattle.elf_tool_text.proofs.Public.{sends_line, stopped_in_line}

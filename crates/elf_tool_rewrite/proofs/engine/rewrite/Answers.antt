@@ -1,6 +1,6 @@
 use Rattle.std.proofs.Common.{arith, vec_len}
 use Rattle.elf_tool_rewrite.specs.Rewrite.{RewriteSays}
-use Rattle.elf_tool_text.proofs.Public.{said}
+use Rattle.elf_tool_check.proofs.EngineCalls.{said}
 use Rattle.elf_tool_rewrite.proofs.Again.{rewrite_again}
 use Rattle.elf_tool_rewrite.proofs.engine.rewrite.Goals as goal
 

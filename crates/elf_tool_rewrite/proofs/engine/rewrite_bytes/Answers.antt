@@ -2,7 +2,7 @@ use Rattle.std.proofs.Common.{[], inl, inr, refl}
 use Rattle.std.proofs.KnownBytes.{Appends-nil}
 use Rattle.elf_table_symbols.specs.Sections.{sections_of}
 use Rattle.elf_tool_rewrite.specs.Rewrite.{RewriteSays, SectionsSay}
-use Rattle.elf_tool_text.proofs.Public.{said_more}
+use Rattle.elf_tool_check.proofs.EngineCalls.{said_more}
 use Rattle.elf_tool_rewrite.proofs.Again.{rewrite_again}
 use Rattle.elf_tool_rewrite.proofs.engine.rewrite_bytes.Goals as goal
 

@@ -1,7 +1,7 @@
 use Rattle.std.proofs.Common.{inl}
 use Rattle.elf_table_symbols.specs.Sections.{sections_of}
 use Rattle.elf_tool_rewrite.specs.Rewrite.{ObjectSays, SectionsSay}
-use Rattle.elf_tool_text.proofs.Public.{said_more}
+use Rattle.elf_tool_check.proofs.EngineCalls.{said_more}
 use Rattle.elf_tool_rewrite.proofs.engine.rewrite_image.Goals as goal
 
 pub returns-in-Ok : goal.returns-in-Ok

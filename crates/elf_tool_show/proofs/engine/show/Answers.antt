@@ -1,8 +1,8 @@
 use Rattle.std.proofs.Common.{◌≡◌, ◌+◌, ◌^◌, ◌≤◌, ◌⊎◌, ℕ, List, Option, Result, arith, inl, inr, length, vec_len}
 use Rattle.std.specs.Io.KnownBytes.{Consumes, IsAtEnd}
 use Rattle.elf_tool_show.specs.Show.{IsShown, IsShownOf}
-use Rattle.elf_tool_text.specs.declared.engine.ToolFault.{ToolFault}
-use Rattle.elf_tool_text.specs.declared.engine.Verdict.{Verdict}
+use Rattle.elf_tool_check.specs.declared.calls.ToolFault.{ToolFault}
+use Rattle.elf_tool_check.specs.declared.calls.Verdict.{Verdict}
 use Rattle.elf_tool_show.proofs.engine.show.Goals as goal
 
 -- what is shown of the bytes of a file is shown of the file

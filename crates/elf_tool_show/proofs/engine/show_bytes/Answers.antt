@@ -3,10 +3,10 @@
 use Rattle.std.proofs.Common.{inr, refl}
 use Rattle.std.proofs.lemmas.Result.{err_from_is_err_and}
 use Rattle.elf_table_all.specs.Tables.{TablesValue}
-use Rattle.elf_tool_text.specs.Line.{refused_line}
+use Rattle.elf_tool_check.specs.FileLines.{refused_line}
 use Rattle.elf_tool_show.specs.Show.{show_text}
-use Rattle.elf_tool_text.specs.declared.engine.Refusal.TheVariants.{File}
-use Rattle.elf_tool_text.specs.declared.engine.Verdict.TheVariants.{Done, Refused}
+use Rattle.elf_tool_check.specs.declared.calls.Refusal.TheVariants.{File}
+use Rattle.elf_tool_check.specs.declared.calls.Verdict.TheVariants.{Done, Refused}
 use Rattle.elf_tool_show.proofs.engine.show_bytes.Goals as goal
 
 pub returns-in_err-show_image-in-Ok : goal.returns-in_err-show_image-in-Ok

@@ -9,9 +9,10 @@ use Rattle.elf_image_outline.specs.Image.{ImageValue, PlacedPart}
 use Rattle.elf_image_outline.specs.declared.outline.Part.{Part}
 use Rattle.elf_table_all.specs.Tables.{TablesValue}
 use Rattle.elf_tool_show.specs.Show.{all_table_lines, part_lines, section_lines, segment_lines, show_text, file_line, part_line}
-use Rattle.elf_tool_text.specs.Engine.{Buffers, IsCutShort, WritesPrefix}
-use Rattle.elf_tool_text.specs.declared.engine.ToolFault.{ToolFault}
-use Rattle.elf_tool_text.specs.declared.engine.Output.{Output}
+use Rattle.elf_tool_check.specs.Engine.{WritesPrefix}
+use Rattle.elf_tool_text.specs.Buffered.{Buffers, IsCutShort}
+use Rattle.elf_tool_check.specs.declared.calls.ToolFault.{ToolFault}
+use Rattle.elf_tool_text.specs.declared.output.Output.{Output}
 use Rattle.elf_tool_text.proofs.Public.{all_out, all_cut, buffers_both, buffers_line, buffers_none, cut_later, cut_longer}
 use Rattle.elf_tool_show.proofs.engine.show_image.Goals as goal
 

@@ -1,6 +1,6 @@
 use Rattle.std.proofs.Common.{◌≡◌, ℕ, drop, take}
 use Rattle.std.specs.List.{flat_map}
-use Rattle.elf_tool_text.specs.Engine.{Buffers}
+use Rattle.elf_tool_text.specs.Buffered.{Buffers}
 use Rattle.elf_tool_show.specs.Show.{note_line}
 use Rattle.elf_tool_show.proofs.show_tables.show_notes.Given as goal
 

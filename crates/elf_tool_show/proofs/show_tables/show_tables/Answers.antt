@@ -4,7 +4,7 @@ use Rattle.std.proofs.Common.{◌∙◌, List, ℕ, ap, length, refl, subst, sym
 use Rattle.std.specs.List.{range_with_len}
 use Rattle.std.proofs.lemmas.Result.{err_from_is_err_and}
 use Rattle.elf_image_outline.specs.Image.{ImageValue}
-use Rattle.elf_tool_text.specs.Engine.{Buffers, IsCutShort}
+use Rattle.elf_tool_text.specs.Buffered.{Buffers, IsCutShort}
 use Rattle.elf_tool_show.specs.Show.{all_table_lines, table_text}
 use Rattle.elf_tool_text.proofs.Public.{all_lines_buffered, is_index, line_at, lines_buffered, lines_cut, no_index}
 use Rattle.elf_tool_show.proofs.show_tables.show_tables.Goals as goal

@@ -1,6 +1,6 @@
 use Rattle.std.proofs.Common.{length, take}
 use Rattle.std.specs.List.{flat_map, range_with_len}
-use Rattle.elf_tool_text.specs.Engine.{Buffers}
+use Rattle.elf_tool_text.specs.Buffered.{Buffers}
 use Rattle.elf_tool_show.specs.Show.{table_text}
 use Rattle.elf_tool_show.proofs.show_tables.show_tables.Given as goal
 

@@ -1,5 +1,5 @@
 use Rattle.std.proofs.Common.{[], ◌∷◌}
-use Rattle.elf_tool_text.specs.Line.{blank}
+use Rattle.elf_tool_check.specs.FileLines.{blank}
 use Rattle.elf_image_stream.proofs.Public.{sends_behind}
 use Rattle.elf_tool_text.proofs.lines.send_word.Goals as goal
 

@@ -4,7 +4,7 @@ use Rattle.std.proofs.Common.{refl}
 use Rattle.std.specs.List.{range_with_len}
 use Rattle.std.proofs.lemmas.Result.{err_from_is_err_and}
 use Rattle.elf_image_stream.proofs.Public.{is_index, line_at, no_index}
-use Rattle.elf_tool_text.proofs.Calls.{all_lines_buffered, line_refused, line_buffered, line_cut}
+use Rattle.elf_tool_text.proofs.TextLines.{all_lines_buffered, line_refused, line_buffered, line_cut}
 use Rattle.elf_tool_text.proofs.lines.show_lines.Goals as goal
 
 pub returns-in_err-push : goal.returns-in_err-push

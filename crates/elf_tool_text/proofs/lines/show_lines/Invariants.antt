@@ -1,6 +1,6 @@
 use Rattle.std.proofs.Common.{take}
 use Rattle.std.specs.List.{flat_map, range_with_len}
-use Rattle.elf_tool_text.specs.Engine.{Buffers}
+use Rattle.elf_tool_text.specs.Buffered.{Buffers}
 use Rattle.elf_tool_text.proofs.lines.show_lines.Given as goal
 
 -- the first lines are sent

@@ -1,9 +1,9 @@
 use Rattle.std.proofs.Common.{◌≡◌, ◌∙◌, IfOk, [], ◌∷◌, ◌++◌, codes, rules, string_bytes}
 use Rattle.std.proofs.lemmas.Result.{IfOk-weaker}
 use Rattle.std.specs.Fmt.{decimal}
-use Rattle.elf_tool_text.specs.Line.{ok_line}
-use Rattle.elf_tool_text.proofs.TextLines.{line_in_a_row, to_the_end}
-use Rattle.elf_tool_text.proofs.line.ok_line.Goals as goal
+use Rattle.elf_tool_check.specs.FileLines.{ok_line}
+use Rattle.elf_tool_check.proofs.LineInARow.{line_in_a_row, to_the_end}
+use Rattle.elf_tool_check.proofs.engine.ok_line.Goals as goal
 
 pub returns : goal.returns
 unfolding ok_line

@@ -1,6 +1,6 @@
 use Rattle.std.proofs.Common.{◌≡◌, length, map}
-use Rattle.elf_tool_text.specs.Engine.{AreReadSoFar}
-use Rattle.elf_tool_text.proofs.engine.read_inputs.Given as goal
+use Rattle.elf_tool_link.specs.Inputs.{AreReadSoFar}
+use Rattle.elf_tool_link.proofs.inputs.read_inputs.Given as goal
 
 -- the first files are read, and the other readers are as they were
 abbrev pub invariant-loop-i : goal.invariant-loop-i

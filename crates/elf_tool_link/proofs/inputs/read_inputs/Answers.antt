@@ -3,9 +3,9 @@
 use Rattle.std.proofs.Common.{◌≡◌, ◌∙◌, ◌≤◌, [], ◌∷◌, ◌++◌, List, ℕ, Vec, Global, ap, arith, length, map, rules, subst, vec_len}
 use Rattle.std.proofs.lemmas.List.{length-map, length-set, map-append}
 use Rattle.std.proofs.lemmas.Result.{err_from_is_err_and}
-use Rattle.elf_tool_text.specs.Engine.{IsReadFaultAfter}
-use Rattle.elf_tool_text.proofs.Calls.{all_read, next_read, next_stops, reading_stopped}
-use Rattle.elf_tool_text.proofs.engine.read_inputs.Goals as goal
+use Rattle.elf_tool_check.specs.Engine.{IsReadFaultAfter}
+use Rattle.elf_tool_link.proofs.InputFiles.{all_read, next_read, next_stops, reading_stopped}
+use Rattle.elf_tool_link.proofs.inputs.read_inputs.Goals as goal
 
 abbrev items : Vec ℕ Global → List ℕ
 items f = f.items

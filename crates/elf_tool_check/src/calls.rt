@@ -1,16 +1,16 @@
-//! What a command reads, writes and fails with.
-ghost use Rattle.std.specs.Prelude.{◌≡◌, Some, ◌+◌, ◌≤◌, ◌⊎◌, [], map, take, vec_len, IfErr, IfOk, IfSome, OnOk, ◌<◌, length};
+//! What an engine reads, and how it ends: with a verdict on what it read, or with a fault of its surroundings.
+ghost use Rattle.std.specs.Prelude.{◌≡◌, Some, ◌+◌, ◌≤◌, ◌⊎◌, [], take, vec_len, IfErr, IfSome, OnOk};
 ghost use Rattle.std.specs.Io.KnownBytes.{Consumes, IsAtEnd};
 ghost use Rattle.elf_image_rules.specs.Rules.{MAX_LEN};
-ghost use Rattle.elf_tool_text.specs.Engine.{IsReadFaultAfter, AreRead, IsReadingFault, IsBuffered};
+ghost use Rattle.elf_tool_check.specs.Engine.{IsReadFaultAfter};
 
-use elf_image_stream::{Fault, WriteFault, read_to_end, send};
-use std::alloc::{AllocError, AllocFailed, Global};
+use elf_image_stream::{Fault, WriteFault, read_to_end};
+use std::alloc::{AllocError, AllocFailed};
 use std::error::Error;
 use std::fmt;
-use std::io::{Read, Write};
+use std::io::Read;
 
-// How an engine ends: with a verdict on what it read, or with a fault of its surroundings.
+// How an engine ends.
 
 /// What an engine found, once all that it says is written.
 #[derive(Clone, Copy, Debug, PartialEq, Eq)]
@@ -43,7 +43,7 @@ pub enum Refusal {
 }
 
 impl fmt::Display for Refusal {
-    ghost use Rattle.elf_tool_text.specs.Engine.{refusal_text};
+    ghost use Rattle.elf_tool_check.specs.Engine.{refusal_text};
 
     ghost output = { λ refusal. Some (refusal_text refusal) };
 
@@ -74,7 +74,7 @@ pub enum ToolFault {
 }
 
 impl fmt::Display for ToolFault {
-    ghost use Rattle.elf_tool_text.specs.Engine.{fault_text};
+    ghost use Rattle.elf_tool_check.specs.Engine.{fault_text};
 
     ghost output = { λ fault. Some (fault_text fault) };
 
@@ -90,7 +90,7 @@ impl fmt::Display for ToolFault {
 impl Error for ToolFault {}
 
 impl From<AllocError> for ToolFault {
-    ghost use Rattle.elf_tool_text.specs.declared.engine.ToolFault.TheVariants.{OutOfMemory};
+    ghost use Rattle.elf_tool_check.specs.declared.calls.ToolFault.TheVariants.{OutOfMemory};
 
     ghost from_gives = { λ _ fault. fault ≡ OutOfMemory };
 
@@ -100,7 +100,7 @@ impl From<AllocError> for ToolFault {
 }
 
 impl<T: Drop> From<AllocFailed<T>> for ToolFault {
-    ghost use Rattle.elf_tool_text.specs.declared.engine.ToolFault.TheVariants.{OutOfMemory};
+    ghost use Rattle.elf_tool_check.specs.declared.calls.ToolFault.TheVariants.{OutOfMemory};
 
     ghost from_gives = { λ _ fault. fault ≡ OutOfMemory };
 
@@ -110,7 +110,7 @@ impl<T: Drop> From<AllocFailed<T>> for ToolFault {
 }
 
 impl From<WriteFault> for ToolFault {
-    ghost use Rattle.elf_tool_text.specs.declared.engine.ToolFault.TheVariants.{Write};
+    ghost use Rattle.elf_tool_check.specs.declared.calls.ToolFault.TheVariants.{Write};
 
     ghost from_gives = { λ failed fault. fault ≡ Write failed.written };
 
@@ -141,72 +141,5 @@ pub fn read_input<R: Read>(reader: &mut R, buf: &mut Vec<u8>) -> Result<(), Tool
         Err(Fault::OutOfMemory) => Err(ToolFault::OutOfMemory),
         // No rule is tested while the file is read.
         Err(Fault::Rule { .. }) => unreachable!(),
-    }
-}
-
-/// All bytes of each of several files, as [`read_input`] reads them, one after the other: the next one is not begun before all of the
-/// one before it is read. The first fault ends it.
-pub fn read_inputs<R: Read>(alloc: Global, readers: &mut [R]) -> Result<Vec<Vec<u8>>, ToolFault>
-    ensures ok { IfOk result (λ files.
-        AreRead (map R.remaining readers.old) (map R.remaining readers.new) (map (λ f. f.items) files.items)) }
-    ensures fault { IfErr result (IsReadingFault (map R.remaining readers.old) (map R.remaining readers.new)) }
-{
-    let mut files = Vec::new(alloc);
-    for i in 0..readers.len() {
-        let mut file = Vec::new(alloc);
-        read_input(&mut readers[i], &mut file)?;
-        let Ok(()) = files.push(file) else {
-            return Err(ToolFault::OutOfMemory);
-        };
-    }
-    Ok(files)
-}
-
-// A text that is written in large pieces.
-
-/// How many bytes at least are written at once, but for the last piece.
-const PIECE: usize = 65536;
-
-/// The end of a text that is not yet written, and how many bytes of the text were written before.
-#[derive(Drop)]
-pub struct Output {
-    /// What is not yet written.
-    pub pending: Vec<u8>,
-    /// How many bytes are written: [`u64::MAX`] if they are more.
-    pub written: u64,
-}
-
-impl Output {
-    /// Nothing was written, and nothing is pending.
-    pub fn new(alloc: Global) -> Output
-        ensures pending { result.pending.items ≡ [] }
-        ensures written { result.written ≡ 0 }
-    {
-        Output {
-            pending: Vec::new(alloc),
-            written: 0,
-        }
-    }
-
-    /// Writes what is pending if it is a large piece. Fails as [`flush`](Output::flush) does.
-    pub fn flush_piece<W: Write>(&mut self, writer: &mut W) -> Result<(), ToolFault>
-        ensures buffered { IsBuffered (W.contents writer.old) (W.contents writer.new) self.old self.new [] result }
-        ensures short { OnOk result (length self.new.pending.items < PIECE) }
-    {
-        if self.pending.len() < PIECE {
-            return Ok(());
-        }
-        self.flush(writer)
-    }
-
-    /// Writes all that is pending. If the writer fails, [`ToolFault::Write`] has the count of all bytes that are written: [`u64::MAX`] if
-    /// they are more.
-    pub fn flush<W: Write>(&mut self, writer: &mut W) -> Result<(), ToolFault>
-        ensures buffered { IsBuffered (W.contents writer.old) (W.contents writer.new) self.old self.new [] result }
-        ensures empty { OnOk result (self.new.pending.items ≡ []) }
-    {
-        self.written = send(writer, self.written, &self.pending)?;
-        self.pending.clear();
-        Ok(())
     }
 }
