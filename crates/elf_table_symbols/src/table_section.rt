@@ -13,7 +13,7 @@ use elf_image_type::Image;
 // (gABI chapter 4, Sections: sh_type, sh_link, sh_entsize).
 
 /// A kind of table.
-#[derive(Clone, Copy)]
+#[derive(Clone, Copy, PartialEq, Eq)]
 pub enum TableKind {
     /// A symbol table: SYMTAB or DYNSYM.
     SymbolTable,
