@@ -387,8 +387,8 @@ module _ {X : Type 0} (f : X → List ℕ) (xs : List X) (i : ℕ) (d : X) (with
   one_more_piece : flat_map f (take (i + 1) xs) ≡ flat_map f (take i xs) ++ f (get_or xs i d)
   one_more_piece = ap (flat_map f) (take_more xs i d within) ∙ flat_map-append f (take i xs) (get_or xs i d ∷ []) ∙ ap (λ (s : List ℕ). flat_map f (take i xs) ++ s) (append-nil (f (get_or xs i d)))
 
-  all_lines : flat_map f xs ≡ flat_map f (take (i + 1) xs) ++ flat_map f (drop (i + 1) xs)
-  all_lines = ap (flat_map f) (sym (take-append-drop (i + 1) xs)) ∙ flat_map-append f (take (i + 1) xs) (drop (i + 1) xs)
+  all_in_two : flat_map f xs ≡ flat_map f (take (i + 1) xs) ++ flat_map f (drop (i + 1) xs)
+  all_in_two = ap (flat_map f) (sym (take-append-drop (i + 1) xs)) ∙ flat_map-append f (take (i + 1) xs) (drop (i + 1) xs)
 
   module _ (a b : Option (List ℕ)) (o p : Output) (line : List ℕ) (sent : Buffers a b o p (flat_map f (take i xs))) (is : line ≡ f (get_or xs i d)) where
     pushed_line : (q : Output) → q.pending.items ≡ p.pending.items ++ line → q.written ≡ p.written → Buffers a b o q (flat_map f (take (i + 1) xs))
@@ -404,7 +404,7 @@ module _ {X : Type 0} (f : X → List ℕ) (xs : List X) (i : ℕ) (d : X) (with
     pub line_cut : (c : Option (List ℕ)) (q : Output) (fault : ToolFault) → q.pending.items ≡ p.pending.items ++ line → q.written ≡ p.written → IsCutShort b c q [] fault
         → IsCutShort a c o (flat_map f xs) fault
     line_cut c q fault pushed same stop =
-        subst (λ (s : List ℕ). IsCutShort a c o s fault) (sym all_lines)
+        subst (λ (s : List ℕ). IsCutShort a c o s fault) (sym all_in_two)
         (cut_longer a c o (flat_map f (take (i + 1) xs)) (flat_map f (drop (i + 1) xs)) fault
         (cut_flushed a b c o q (flat_map f (take (i + 1) xs)) fault (pushed_line q pushed same) stop))
 
@@ -418,7 +418,7 @@ module _ {X : Type 0} (f : X → List ℕ) (xs : List X) (i : ℕ) (d : X) (with
   pub lines_cut : (a b c : Option (List ℕ)) (o p : Output) (fault : ToolFault) → Buffers a b o p (flat_map f (take i xs)) → IsCutShort b c p (f (get_or xs i d)) fault
       → IsCutShort a c o (flat_map f xs) fault
   lines_cut a b c o p fault sent stop =
-      subst (λ (s : List ℕ). IsCutShort a c o s fault) (sym all_lines)
+      subst (λ (s : List ℕ). IsCutShort a c o s fault) (sym all_in_two)
       (cut_longer a c o (flat_map f (take (i + 1) xs)) (flat_map f (drop (i + 1) xs)) fault
       (subst (λ (s : List ℕ). IsCutShort a c o s fault) (sym one_more_piece)
       (cut_later a b c o p (flat_map f (take i xs)) (f (get_or xs i d)) fault sent stop)))

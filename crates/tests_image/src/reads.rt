@@ -1,5 +1,5 @@
 //! Records and whole files that are read.
-ghost use Rattle.std.specs.Prelude.{◌≤◌, length};
+ghost use Rattle.std.specs.Prelude.{◌≤◌};
 
 use elf_field::{Order, Rel};
 use elf_image_outline::{RecordsFault, read_ends, read_record, read_records};
