@@ -11,16 +11,19 @@ ghost use Rattle.elf_image_type.specs.RelocatableFile.{FileContents, HasContents
 ghost use Rattle.elf_image_outline.specs.Image.{ImageValue, IsImage, IsSoundImage, Stands, program_header_of, section_header_of};
 
 /// An image is represented by one list of bytes, and by no other, be it with a fault or without.
+#[tactic(auto, using(crate::proofs::Public::one_list))]
 pub fn one_list()
     ensures { (v : ImageValue) (b c : List ℕ) → IsImage v b → Stands v c → b ≡ c }
 {}
 
 /// Each list of bytes that breaks no rule is an image; by [`one_image`] it is just one.
+#[tactic(auto, using(crate::proofs::Public::some_image))]
 pub fn some_image()
     ensures { (b : List ℕ) → IsBytes b → IsFault b None → (v : ImageValue) × IsImage v b }
 {}
 
 /// A list of bytes that breaks no rule is one image: no other value is represented by it.
+#[tactic(auto, using(crate::proofs::Public::one_image))]
 pub fn one_image()
     ensures { (v w : ImageValue) (b : List ℕ) → IsImage v b → IsImage w b → v ≡ w }
 {}
@@ -36,6 +39,7 @@ pub fn fields()
 
 /// An image value is sound by itself exactly if there is a list of bytes that represents it, and that breaks no rule. So an edit that
 /// keeps a value sound leaves an image.
+#[tactic(auto, using(crate::proofs::Public::sound_stands, crate::proofs::Public::image_is_sound))]
 pub fn sound()
     ensures stands { (v : ImageValue) → IsSoundImage v → (b : List ℕ) × IsImage v b }
     ensures only { (v : ImageValue) (b : List ℕ) → IsImage v b → IsSoundImage v }
@@ -43,6 +47,7 @@ pub fn sound()
 
 /// A file that is written from its parts, each after the one before it with zeros between: where its records keep the rules, the bytes
 /// break none, and what they represent has these records and contents.
+#[tactic(auto, using(crate::proofs::Public::written_is_bytes, crate::proofs::Public::written_accepted, crate::proofs::Public::written_read))]
 pub fn written_file()
     ensures bytes { (f : FileContents) (places : List ℕ) (parts : List WrittenPart) → IsWritable f places parts →
         IsBytes (written places parts) }

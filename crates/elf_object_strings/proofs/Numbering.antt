@@ -9,10 +9,11 @@ use Rattle.std.specs.Int.{byte_worth, from_le_bytes, sum_through, w64}
 use Rattle.std.specs.Ordering.{nat_cmp, ordering_then, is_lt}
 use Rattle.std.proofs.Math.Nat.{add-mul, mul-le-mul_right, one-le-pow, pow-succ'}
 use Rattle.std.proofs.lemmas.Bool.{cases_lt, cases_order}
-use Rattle.std.proofs.lemmas.List.{append-nil, drop_all, get_or-reverse, get_or_past, length-append, length-drop, length-replicate, length-reverse, replicate_more, reverse-append, take-append-drop, take-replicate, take_all, take_more, take_rest, get_or-map, get_or_default, length-map}
+use Rattle.std.proofs.lemmas.List.{append-nil, drop_all, get_or-reverse, get_or_past, length-append, length-drop, length-replicate, length-reverse, replicate_more, reverse-append, take-append-drop, take-replicate, take_all, take_more, take_rest, get_or-map, get_or_default, length-map, map-append, get_or_append_left, get_or-append_right}
 use Rattle.std.specs.List.{All, Contains}
 use Rattle.std.specs.List.Sorted.{IsPermutation, IsSortedBy}
 use Rattle.std.proofs.lemmas.Cmp.{back_total, nat_cmp_total, nat_list_cmp_total, on_total, then_total}
+use Rattle.std.proofs.lemmas.List.Elements.{All-push}
 use Rattle.std.proofs.lemmas.List.Sorted.{All-permutation, Contains-permutation, IsPermutation-map, length_permutation, ranks_by, sorted_far}
 use Rattle.std.proofs.lemmas.Bool.Decides.{Decides-eqb, nat_tests}
 use Rattle.std.proofs.lemmas.Map.Keys.{IsDistinct-IsPermutation}
@@ -277,6 +278,24 @@ pub record AreNumberedTo (names : List (List ℕ)) (i : ℕ) (numbered : List Nu
   pub as_many : length numbered ≡ i
   pub indexes : (k : ℕ) → k < i → get_or (indexes_in numbered) k 0 ≡ k
   pub ends : All (HasEnd names) numbered
+
+-- one name more
+pub numbered_more : (names : List (List ℕ)) (i : ℕ) (numbered : List Numbered) (it : Numbered) → it.index ≡ i → HasEnd names it →
+    AreNumberedTo names i numbered → AreNumberedTo names (i + 1) (numbered ++ it ∷ [])
+numbered_more names i numbered it index end so_far =
+    let many = so_far.as_many in
+    let indexes_many = length-map numbered index_of in
+    record {
+      as_many = length-append numbered (it ∷ []) ∙ ap (λ (n : ℕ). n + 1) many;
+      indexes = λ k lt. rw (map-append index_of numbered (it ∷ []))
+          (elim (cases_lt k i) [
+            | inl below ↦ get_or_append_left (indexes_in numbered) (it.index ∷ []) 0 k (omega arith) ∙ so_far.indexes k below
+            | inr above ↦ (let is : k - i ≡ 0 = omega arith in
+                get_or-append_right (indexes_in numbered) (it.index ∷ []) i k 0 (omega arith) above
+                ∙ ap (λ (q : ℕ). get_or (it.index ∷ []) q 0) is ∙ omega arith)
+          ]);
+      ends = All-push (HasEnd names) numbered it so_far.ends end;
+    }
 
 pub numbered_all : (names : List (List ℕ)) (numbered : List Numbered) → AreNumberedTo names (length names) numbered →
     AreNumbered names (names_by_ends names numbered) (indexes_in numbered)

@@ -9,6 +9,7 @@ pub fn holds_names()
 
 /// Of names without a zero byte it has each at the lowest offset at which the name is with a zero after it, and no table that holds them
 /// all is shorter.
+#[tactic(auto, using(crate::proofs::Public::shares_tails))]
 pub fn shares_tails()
     ensures { (names : List (List ℕ)) → AreZeroFree names → SharesTails names }
 {}

@@ -1,4 +1,4 @@
-use Rattle.std.proofs.Common.{arith, refl}
+use Rattle.std.proofs.Common.{arith, refl, rules}
 use Rattle.std.proofs.lemmas.List.{map-set}
 use Rattle.elf_image_outline.specs.Image.{IsReplaceable}
 use Rattle.elf_image_type.specs.ImageView.{view_of}
@@ -12,3 +12,6 @@ invariant_of-self c =
 
 pub returns-clause-ok : goal.returns-clause-ok
 returns-clause-ok c = (c.in_ok-check_replaceable.ensures, rw (← c.self.view_is, map-set) refl)
+
+pub returns-in_err-check_replaceable-clause-err : goal.returns-in_err-check_replaceable-clause-err
+returns-in_err-check_replaceable-clause-err c = search rules
