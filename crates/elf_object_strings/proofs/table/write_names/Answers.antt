@@ -1,3 +1,5 @@
+-- One pass of the loop writes one more name where it is its own owner, and notes its end, one below the length then (`written_more`). After
+-- the last pass all names are written (`written_all`).
 use Rattle.std.proofs.Common.{◌≡◌, ◌<◌, Bor, List, [], ap, arith, get_or, length, nat_eq, rules, subst, sym, ℕ, ◌-◌}
 use Rattle.std.proofs.lemmas.List.{get_or-map, length-map}
 use Rattle.elf_object_strings.specs.StringTable.{HasEnds, texts, with_name}
