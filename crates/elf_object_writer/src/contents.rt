@@ -402,6 +402,7 @@ fn write_body<W: Write>(order: Order, body: &Body<'_>, writer: &mut W) -> Result
 }
 
 /// Writes relocations: as they were read, where they stay a table in the byte order and of the type of the section.
+#[tactic(auto, using(crate::proofs::Going::relocations_back))]
 fn write_relocations<W: Write>(
     order: Order,
     rela: bool,

@@ -159,6 +159,7 @@ impl<'o, 'a> PlacedObject<'o, 'a> {
     }
 
     /// The section index of `.shstrtab`, which is the last one.
+    #[tactic(auto, using(crate::proofs::CanonicalLayout::names_at_is))]
     pub(crate) fn names_index(&self) -> usize
         ensures value { result ≡ name_table_at self.now.object }
         ensures few { result < 2 ^ 31 }
