@@ -88,6 +88,22 @@ relocations_back false order bytes relocations is =
     ∙ entries_bytes rel_laws order bytes 0 0 count is.are_bytes (omega arith)
     ∙ take_all (16 * count) bytes (omega arith)
 
+-- ---- bytes that go out in two pieces
+
+-- the writer failed in the first
+pub first_cut : (a b : Option (List ℕ)) (n : ℕ) (xs ys : List ℕ) → (n < length xs) × Appends a b (take n xs) →
+    (n < length (xs ++ ys)) × Appends a b (take n (xs ++ ys))
+first_cut a b n xs ys failed =
+    let below = failed.0 in
+    let all = length-append xs ys in
+    (omega arith, subst (λ (s : List ℕ). Appends a b s) (sym (take-append-le n xs ys (omega arith))) failed.1)
+
+-- it failed in the second
+pub second_cut : (a b c : Option (List ℕ)) (m n : ℕ) (xs ys : List ℕ) → length xs ≡ m → Appends a b xs → (n < length ys) × Appends b c (take n ys) →
+    (m + n < length (xs ++ ys)) × Appends a c (take (m + n) (xs ++ ys))
+second_cut a b c m n xs ys long before failed =
+    subst (λ (s : List ℕ). (m + n < length (xs ++ s)) × Appends a c (take (m + n) (xs ++ s))) (append-nil ys) (went_err a b c m n xs ys [] long before failed)
+
 -- ---- bytes that go out part by part
 
 -- the bytes that are out, and the parts that are still to come at their places

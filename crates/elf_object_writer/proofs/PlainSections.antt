@@ -24,7 +24,7 @@ use Rattle.elf_object_type.specs.declared.parts.Section.{Section}
 use Rattle.elf_object_type.specs.declared.parts.Symbol.{Symbol}
 use Rattle.elf_object_type.specs.declared.relocations.Relocation.{Relocation}
 use Rattle.elf_object_writer.specs.Laid.{content_part, LARGEST, saturated, group_words, own_section, rel_entry, rela_entry, relocation_bytes, relocation_section_type, layout_parts, PlainSection, has_index_table, index_table_section, index_word, null_symbol, plain_sections, section_names, sections_before_names, strings, symbol_entry, symbol_names, symbol_table_section, is_far}
-use Rattle.elf_object_writer.specs.PlacedObject.{IsSectionAt, plain_section, HasSharedNames}
+use Rattle.elf_object_writer.specs.PlacedObject.{IsSectionAt, plain_section, HasSharedNames, last_names}
 use Rattle.elf_object_writer.specs.declared.placed_object.PlacedSection.TheVariants.{Own, SymbolTable, IndexTable, Strings, Names}
 
 -- The parts of an object's own sections, as code counts them: entries times their size, saturated at the largest number of 64 bits. For
@@ -368,11 +368,6 @@ own_names : (o : ObjectValue) (sections : List SectionValue) → map (λ s. s.na
 own_names o [] = refl
 own_names o (s ∷ sections) = ap (λ (names : List (List ℕ)). s.name ∷ names) (own_names o sections)
 
--- those of the sections after the object's own
-abbrev last_names : Bool → List (List ℕ)
-last_names true = codes ".symtab" ∷ codes ".symtab_shndx" ∷ codes ".strtab" ∷ codes ".shstrtab" ∷ []
-last_names false = codes ".symtab" ∷ codes ".strtab" ∷ codes ".shstrtab" ∷ []
-
 names_behind : (o : ObjectValue) (far : Bool) →
     map (λ (s : PlainSection). s.name) (symbol_table_section o ∷ ((if far then index_table_section o ∷ [] else []) ++ (strings (codes ".strtab") (symbol_names o) ∷ [])))
     ++ (codes ".shstrtab" ∷ []) ≡ last_names far
@@ -391,19 +386,24 @@ own_texts : (o : ObjectValue) (sections : List Section) (names : List (Bor (List
     map now_of names ≡ map (λ s. s.name) o.sections
 own_texts o sections names values own = ap (map now_of) own ∙ names_of_sections sections ∙ ap (map (λ (s : SectionValue). s.name)) values
 
-pushed : (texts : List (List ℕ)) (before after : List (Bor (List ℕ))) (name : Bor (List ℕ)) → map now_of before ≡ texts → after ≡ before ++ (name ∷ []) →
+pub section_names_pushed : (o : ObjectValue) (sections : List Section) (own names : List (Bor (List ℕ))) (far : Bool) → map section_value sections ≡ o.sections →
+    own ≡ map (λ (s : Section). s.name) sections → has_index_table o ≡ far → map now_of names ≡ map now_of own ++ last_names far → map now_of names ≡ section_names o
+section_names_pushed o sections own names far values own_is is pushed =
+    pushed ∙ ap (λ (texts : List (List ℕ)). texts ++ last_names far) (own_texts o sections own values own_is) ∙ sym (section_names_are o far is)
+
+name_pushed : (texts : List (List ℕ)) (before after : List (Bor (List ℕ))) (name : Bor (List ℕ)) → map now_of before ≡ texts → after ≡ before ++ (name ∷ []) →
     map now_of after ≡ texts ++ (name.now ∷ [])
-pushed texts before after name is more =
+name_pushed texts before after name is more =
     ap (map now_of) more ∙ map-append now_of before (name ∷ []) ∙ ap (λ (ts : List (List ℕ)). ts ++ (name.now ∷ [])) is
 
-pub names_with_index_table : (o : ObjectValue) (sections : List Section) (n0 n1 n2 n3 n4 : List (Bor (List ℕ))) (a b c d : Bor (List ℕ)) →
-    map section_value sections ≡ o.sections → n0 ≡ map (λ (s : Section). s.name) sections → n1 ≡ n0 ++ (a ∷ []) → n2 ≡ n1 ++ (b ∷ []) → n3 ≡ n2 ++ (c ∷ []) → n4 ≡ n3 ++ (d ∷ []) →
+pub names_with_index_table : (n0 n1 n2 n3 n4 : List (Bor (List ℕ))) (a b c d : Bor (List ℕ)) →
+    n1 ≡ n0 ++ (a ∷ []) → n2 ≡ n1 ++ (b ∷ []) → n3 ≡ n2 ++ (c ∷ []) → n4 ≡ n3 ++ (d ∷ []) →
     a.now ≡ codes ".symtab" → b.now ≡ codes ".symtab_shndx" → c.now ≡ codes ".strtab" → d.now ≡ codes ".shstrtab" →
-    has_index_table o ≡ true → map now_of n4 ≡ section_names o
-names_with_index_table o sections n0 n1 n2 n3 n4 a b c d values own e1 e2 e3 e4 is_a is_b is_c is_d far =
-    let t = map (λ (s : SectionValue). s.name) o.sections in
-    let all = pushed _ n3 n4 d (pushed _ n2 n3 c (pushed _ n1 n2 b (pushed t n0 n1 a (own_texts o sections n0 values own) e1) e2) e3) e4 in
-    all ∙ four t a.now b.now c.now d.now is_a is_b is_c is_d ∙ sym (section_names_are o true far)
+    map now_of n4 ≡ map now_of n0 ++ last_names true
+names_with_index_table n0 n1 n2 n3 n4 a b c d e1 e2 e3 e4 is_a is_b is_c is_d =
+    let t = map now_of n0 in
+    let all = name_pushed _ n3 n4 d (name_pushed _ n2 n3 c (name_pushed _ n1 n2 b (name_pushed t n0 n1 a refl e1) e2) e3) e4 in
+    all ∙ four t a.now b.now c.now d.now is_a is_b is_c is_d
   where
     four : (t : List (List ℕ)) (a b c d : List ℕ) → a ≡ codes ".symtab" → b ≡ codes ".symtab_shndx" → c ≡ codes ".strtab" → d ≡ codes ".shstrtab" →
         (((t ++ (a ∷ [])) ++ (b ∷ [])) ++ (c ∷ [])) ++ (d ∷ []) ≡ t ++ last_names true
@@ -411,14 +411,13 @@ names_with_index_table o sections n0 n1 n2 n3 n4 a b c d values own e1 e2 e3 e4 
         append_assoc ((t ++ (a ∷ [])) ++ (b ∷ [])) (c ∷ []) (d ∷ []) ∙ append_assoc (t ++ (a ∷ [])) (b ∷ []) (c ∷ d ∷ []) ∙ append_assoc t (a ∷ []) (b ∷ c ∷ d ∷ [])
         ∙ ap (λ (r : List (List ℕ)). t ++ r) (ap₂ (λ (x y : List ℕ). x ∷ y ∷ c ∷ d ∷ []) is_a is_b ∙ ap₂ (λ (x y : List ℕ). codes ".symtab" ∷ codes ".symtab_shndx" ∷ x ∷ y ∷ []) is_c is_d)
 
-pub names_without_index_table : (o : ObjectValue) (sections : List Section) (n0 n1 n2 n3 : List (Bor (List ℕ))) (a c d : Bor (List ℕ)) →
-    map section_value sections ≡ o.sections → n0 ≡ map (λ (s : Section). s.name) sections → n1 ≡ n0 ++ (a ∷ []) → n2 ≡ n1 ++ (c ∷ []) → n3 ≡ n2 ++ (d ∷ []) →
-    a.now ≡ codes ".symtab" → c.now ≡ codes ".strtab" → d.now ≡ codes ".shstrtab" →
-    has_index_table o ≡ false → map now_of n3 ≡ section_names o
-names_without_index_table o sections n0 n1 n2 n3 a c d values own e1 e2 e3 is_a is_c is_d near =
-    let t = map (λ (s : SectionValue). s.name) o.sections in
-    let all = pushed _ n2 n3 d (pushed _ n1 n2 c (pushed t n0 n1 a (own_texts o sections n0 values own) e1) e2) e3 in
-    all ∙ three t a.now c.now d.now is_a is_c is_d ∙ sym (section_names_are o false near)
+pub names_without_index_table : (n0 n1 n2 n3 : List (Bor (List ℕ))) (a c d : Bor (List ℕ)) →
+    n1 ≡ n0 ++ (a ∷ []) → n2 ≡ n1 ++ (c ∷ []) → n3 ≡ n2 ++ (d ∷ []) → a.now ≡ codes ".symtab" → c.now ≡ codes ".strtab" → d.now ≡ codes ".shstrtab" →
+    map now_of n3 ≡ map now_of n0 ++ last_names false
+names_without_index_table n0 n1 n2 n3 a c d e1 e2 e3 is_a is_c is_d =
+    let t = map now_of n0 in
+    let all = name_pushed _ n2 n3 d (name_pushed _ n1 n2 c (name_pushed t n0 n1 a refl e1) e2) e3 in
+    all ∙ three t a.now c.now d.now is_a is_c is_d
   where
     three : (t : List (List ℕ)) (a c d : List ℕ) → a ≡ codes ".symtab" → c ≡ codes ".strtab" → d ≡ codes ".shstrtab" →
         ((t ++ (a ∷ [])) ++ (c ∷ [])) ++ (d ∷ []) ≡ t ++ last_names false

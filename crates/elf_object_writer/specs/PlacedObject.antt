@@ -1,5 +1,5 @@
 -- An object with its string tables and its canonical layout.
-use Rattle.std.specs.Prelude.{◌≡◌, ℕ, List, map, ◌<◌, ◌≤◌, ◌+◌, ◌^◌, All, codes, get_or, length, ◌-◌, take, Option, Result, Ok, Err, MatchResult, ◌++◌, replicate, slice_index}
+use Rattle.std.specs.Prelude.{◌≡◌, ◌∷◌, Bool, true, false, [], ℕ, List, map, ◌<◌, ◌≤◌, ◌+◌, ◌^◌, All, codes, get_or, length, ◌-◌, take, Option, Result, Ok, Err, MatchResult, ◌++◌, replicate, slice_index}
 use Rattle.std.specs.Io.KnownBytes.{Appends}
 use Rattle.std.specs.List.{flat_map}
 use denote.Struct.Props.{props}
@@ -32,6 +32,11 @@ pub record AreNameTables (o : ObjectValue) (tables : NameTables) : Type 0 where
   pub string_offsets : tables.strings.offsets.items ≡ map (name_offset (symbol_names o)) (symbol_names o)
   pub names : tables.names.bytes.items ≡ string_table (section_names o)
   pub name_offsets : tables.names.offsets.items ≡ map (name_offset (section_names o)) (section_names o)
+
+-- the names of the sections after the object's own
+abbrev pub last_names : Bool → List (List ℕ)
+last_names true = codes ".symtab" ∷ codes ".symtab_shndx" ∷ codes ".strtab" ∷ codes ".shstrtab" ∷ []
+last_names false = codes ".symtab" ∷ codes ".strtab" ∷ codes ".shstrtab" ∷ []
 
 -- the names of the sections in one table and those of the symbols in the other: each at its lowest offset, and neither table could be
 -- shorter

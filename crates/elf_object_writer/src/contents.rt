@@ -254,6 +254,7 @@ impl<'p, 'o, 'a> Entries for IndexWords<'p, 'o, 'a> {
 }
 
 /// How many symbols there are.
+#[tactic(auto, using(crate::proofs::HeaderTables::counted_symbols))]
 pub(crate) fn symbol_count(placed: &PlacedObject<'_, '_>) -> usize
     ensures value { result ≡ length placed.now.object.symbols }
     ensures few { SYM_SIZE * (result + 1) ≤ MAX_LEN }
@@ -270,6 +271,7 @@ pub(crate) fn prove_few_symbols(placed: &PlacedObject<'_, '_>)
 }
 
 /// The symbol at this position, which is in a section that is there where it is in one.
+#[tactic(auto, using(crate::proofs::HeaderTables::near_place))]
 fn symbol<'a>(placed: &PlacedObject<'_, 'a>, position: usize) -> Symbol<'a>
     requires { position < length placed.now.object.symbols }
     ensures value { symbol_value result ≡ symbol_at placed.now.object position }
@@ -402,6 +404,7 @@ fn write_body<W: Write>(order: Order, body: &Body<'_>, writer: &mut W) -> Result
 }
 
 /// Writes relocations: as they were read, where they stay a table in the byte order and of the type of the section.
+#[tactic(auto, using(crate::proofs::Going::relocations_back))]
 fn write_relocations<W: Write>(
     order: Order,
     rela: bool,

@@ -1,9 +1,9 @@
 //! The names of an object's symbols and sections, as string tables (gABI chapter 4, String Table).
-ghost use Rattle.std.specs.Prelude.{◌≡◌, [], IfErr, IfOk, map};
+ghost use Rattle.std.specs.Prelude.{◌≡◌, ◌++◌, [], IfErr, IfOk, map};
 ghost use Rattle.std.specs.List.{list_any};
 ghost use Rattle.elf_object_strings.specs.StringTable.{AreTails};
 ghost use Rattle.elf_object_writer.specs.Laid.{has_index_table, is_far, section_names, symbol_names};
-ghost use Rattle.elf_object_writer.specs.PlacedObject.{AreNameTables};
+ghost use Rattle.elf_object_writer.specs.PlacedObject.{AreNameTables, last_names};
 ghost use Rattle.elf_object_writer.specs.declared.layout.LayoutFault.TheVariants.{OutOfMemory};
 
 use crate::layout::LayoutFault;
@@ -116,13 +116,22 @@ fn section_names<'a>(alloc: Global, object: &Object<'a>) -> Result<Vec<&'a [u8]>
     ensures { IfOk result (λ names. map (λ name. name.now) names.items ≡ section_names object.now) }
 {
     let mut names = own_names(alloc, object.sections())?;
+    push_last_names(&mut names, has_index_table(object))?;
+    Ok(names)
+}
+
+/// Adds the names of the sections after the object's own, that of the index table only where there is one.
+fn push_last_names(names: &mut Vec<&[u8]>, has_index_table: bool) -> Result<(), AllocError>
+    ensures { IfOk result (λ done. map (λ name. name.now) names.new.items ≡
+        map (λ name. name.now) names.old.items ++ last_names has_index_table) }
+{
     names.push(b".symtab")?;
-    if has_index_table(object) {
+    if has_index_table {
         names.push(b".symtab_shndx")?;
     }
     names.push(b".strtab")?;
     names.push(b".shstrtab")?;
-    Ok(names)
+    Ok(())
 }
 
 /// Whether a symbol lies in a section whose index its `st_shndx` can't hold.

@@ -211,12 +211,23 @@ pub fn write_layout<W: Write>(
 ) -> Result<(), ObjectWriteFault>
     ensures { IsLayoutWritten source.now.object (W.contents writer.old) (W.contents writer.new) result }
 {
-    let placed = match PlacedObject::new(alloc, source) {
-        Ok(placed) => placed,
-        Err(LayoutFault::TooLong) => return Err(ObjectWriteFault::TooLong),
-        Err(LayoutFault::OutOfMemory) => return Err(ObjectWriteFault::OutOfMemory),
-    };
-    match write_placed(alloc, &placed, writer) {
+    match PlacedObject::new(alloc, source) {
+        Ok(placed) => write_out(alloc, &placed, writer),
+        Err(LayoutFault::TooLong) => Err(ObjectWriteFault::TooLong),
+        Err(LayoutFault::OutOfMemory) => Err(ObjectWriteFault::OutOfMemory),
+    }
+}
+
+/// Writes the object, which has its layout.
+fn write_out<W: Write>(
+    alloc: Global,
+    placed: &PlacedObject<'_, '_>,
+    writer: &mut W,
+) -> Result<(), ObjectWriteFault>
+    ensures { IsLayoutWritten placed.now.object (W.contents writer.old) (W.contents writer.new) result }
+{
+    placed.prove_placed();
+    match write_placed(alloc, placed, writer) {
         Ok(()) => Ok(()),
         Err(fault) => Err(ObjectWriteFault::Io {
             written: fault.written,

@@ -118,6 +118,7 @@ impl<'o, 'a> PlacedObject<'o, 'a> {
     }
 
     /// How many sections there are, from section index 1 on.
+    #[tactic(auto, using(crate::proofs::CanonicalLayout::few_sections))]
     pub(crate) fn section_count(&self) -> usize
         ensures value { result ≡ length (plain_sections self.now.object) }
         ensures few { result < 2 ^ 24 }
@@ -142,6 +143,7 @@ impl<'o, 'a> PlacedObject<'o, 'a> {
     }
 
     /// The section index of `.symtab`.
+    #[tactic(auto, using(crate::proofs::PlainSections::own_below))]
     pub(crate) fn symbol_table_index(&self) -> usize
         ensures value { result ≡ symbol_table_at self.now.object }
         ensures few { result < 2 ^ 31 }
@@ -159,6 +161,7 @@ impl<'o, 'a> PlacedObject<'o, 'a> {
     }
 
     /// The section index of `.shstrtab`, which is the last one.
+    #[tactic(auto, using(crate::proofs::CanonicalLayout::names_at_is))]
     pub(crate) fn names_index(&self) -> usize
         ensures value { result ≡ name_table_at self.now.object }
         ensures few { result < 2 ^ 31 }

@@ -1,4 +1,5 @@
-use Rattle.std.proofs.Common.{List, map, take_all, ap, subst, ◌∙◌}
+use Rattle.std.proofs.Common.{◌∷◌, ◌++◌, ℕ, List, [], map, take_all, ap, ap₂, subst, sym, ◌∙◌}
+use Rattle.std.proofs.lemmas.List.{map_more}
 use Rattle.elf_object_type.specs.declared.parts.Section.{Section}
 use Rattle.elf_object_writer.specs.Laid.{content_part, saturated, own_section}
 use Rattle.elf_object_type.specs.Object.{SectionValue}
@@ -23,3 +24,12 @@ returns c =
     ∙ ap (map (λ (s : Section). saturated (content_part (own_section o (section_value s))))) (take_all c.loop-section.section-index items c.loop-section-test.false)
     ∙ own_parts_are o items
     ∙ ap (λ (ss : List SectionValue). map saturated (map content_part (map (own_section o) ss))) c.sections-section-items.ensures
+
+pub loop-section-preserved : goal.loop-section-preserved
+loop-section-preserved c =
+    let o = c.args.object.now in
+    let part : Section → ℕ × ℕ = λ s. saturated (content_part (own_section o (section_value s))) in
+    let item = c.section-item.result in
+    c.in_ok-push.ensures.items
+    ∙ ap₂ (λ (parts : List (ℕ × ℕ)) (last : ℕ × ℕ). parts ++ (last ∷ [])) c.loop-section.invariant (c.content_part.ensures o ∙ ap part c.section-item.is)
+    ∙ sym (map_more part c.sections-section-items.result.now c.loop-section.section-index item c.loop-section-test.true)
