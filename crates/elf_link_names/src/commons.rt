@@ -98,6 +98,15 @@ impl<'l, 'a> NameTable<'l, 'a> {
 
 // The position of each name's common among those that are placed, by the number of the name.
 
+/// The commons that are placed, and their positions.
+#[derive(Drop)]
+pub(crate) struct PlacedCommons {
+    /// All of them, in the order of the first one of each name.
+    pub(crate) list: Vec<Chosen>,
+    /// For each name the position of its common, where it has one.
+    pub(crate) ranks: Vec<usize>,
+}
+
 impl<'l, 'a> NameTable<'l, 'a> {
     /// For each name the position of its common, where it has one. Fails only when out of memory.
     pub(crate) fn ranks(&self, alloc: Global, commons: &[Chosen]) -> Result<Vec<usize>, AllocError>
@@ -115,5 +124,14 @@ impl<'l, 'a> NameTable<'l, 'a> {
             ranks[number] = k;
         }
         Ok(ranks)
+    }
+    /// All commons that are placed, with their positions by the numbers of the names. Fails only when out of memory.
+    pub(crate) fn placed_commons(&self, alloc: Global) -> Result<PlacedCommons, AllocError>
+        ensures chosen { IfOk result (λ placed. AreChosen self.now placed.list.items) }
+        ensures ranks { IfOk result (λ placed. AreAllRanks self.now placed.list.items placed.ranks.items) }
+    {
+        let list = self.chosen_commons(alloc)?;
+        let ranks = self.ranks(alloc, &list)?;
+        Ok(PlacedCommons { list, ranks })
     }
 }

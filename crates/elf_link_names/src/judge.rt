@@ -88,6 +88,27 @@ pub(crate) fn judge_symbols(inputs: &Inputs<'_, '_>) -> Result<(), Broken<Site>>
     Ok(())
 }
 
+/// The inputs, where they break none of rules 1 to 7.
+///
+/// Returns the first rule that is broken, or [`LinkFault::OutOfMemory`] when out of memory. It takes memory only after rules 1 and 2.
+fn judged_inputs<'l, 'a>(
+    alloc: Global,
+    objects: &'l [Object<'a>],
+    options: &Options<'_>,
+) -> Result<Inputs<'l, 'a>, LinkFault>
+    ensures options { OnOk result (FirstAmong (option_rules options.now objects.entry.now) None) }
+    ensures sections { OnOk result (FirstAmong (link_section_rules objects.entry.now) None) }
+    ensures symbols { OnOk result (FirstAmong (link_symbol_rules objects.entry.now) None) }
+    ensures inputs { IfOk result (λ inputs. inputs ≡ objects.entry.now) }
+    ensures err { IfErr result (IsInputFault options.now objects.entry.now) }
+{
+    judge_options(options, objects)?;
+    let inputs = Inputs::new(alloc, objects)?;
+    judge_sections(&inputs)?;
+    judge_symbols(&inputs)?;
+    Ok(inputs)
+}
+
 /// The names of the files, where they break none of rules 1 to 9.
 ///
 /// Returns the first rule that is broken, or [`LinkFault::OutOfMemory`] when out of memory. It takes memory only after rules 1 and 2.
@@ -101,11 +122,9 @@ pub fn judge<'l, 'a>(
     ensures objects { IfOk result (λ resolution. resolution.objects ≡ objects.entry.now) }
     ensures err { IfErr result (IsInputFault options.now objects.entry.now) }
 {
-    judge_options(options, objects)?;
-    let inputs = Inputs::new(alloc, objects)?;
-    judge_sections(&inputs)?;
-    judge_symbols(&inputs)?;
+    let inputs = judged_inputs(alloc, objects, options)?;
     let table = NameTable::new(alloc, inputs)?;
     table.judge_names()?;
-    Ok(Resolution::new(alloc, table)?)
+    let placed = table.placed_commons(alloc)?;
+    Ok(Resolution::new(table, placed))
 }

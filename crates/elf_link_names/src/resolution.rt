@@ -8,9 +8,10 @@ ghost use Rattle.elf_link_files.specs.Files.{AreDiscardMarks, IsSymbolIn, symbol
 ghost use Rattle.elf_object_type.specs.ObjectView.{symbol_value};
 ghost use Rattle.elf_link_names.specs.Tables.{name_position};
 ghost use Rattle.elf_link_names.specs.declared.name_rules.Choice.TheVariants.{Common};
-ghost use Rattle.elf_link_names.specs.Resolution.{AreChosen, IsCommonOf, IsNumberIn, name_in};
+ghost use Rattle.elf_link_names.specs.Resolution.{AreAllRanks, AreChosen, IsCommonOf, IsNumberIn, name_in};
 ghost use Rattle.elf_link_names.specs.KnownNames.{AreNameNumbers, ArePositionsOf};
 
+use crate::commons::PlacedCommons;
 use crate::known_names::KnownNames;
 use crate::name_index::NameIndex;
 use crate::name_rules::{Choice, choice_of};
@@ -98,23 +99,20 @@ pub struct ResolutionParts<'a> {
 }
 
 impl<'l, 'a> Resolution<'l, 'a> {
-    /// These names, each of which is bound. Fails only when out of memory.
-    pub(crate) fn new(
-        alloc: Global,
-        table: NameTable<'l, 'a>,
-    ) -> Result<Resolution<'l, 'a>, AllocError>
-        requires { AllBound table }
-        ensures { IfOk result (λ resolution. resolution.objects ≡ table.entry) }
+    /// These names, each of which is bound, with their commons that are placed.
+    pub(crate) fn new(table: NameTable<'l, 'a>, placed: PlacedCommons) -> Resolution<'l, 'a>
+        requires bound { AllBound table }
+        requires chosen { AreChosen table placed.list.items }
+        requires ranks { AreAllRanks table placed.list.items placed.ranks.items }
+        ensures { result.objects ≡ table.entry }
     {
-        let commons = table.chosen_commons(alloc)?;
-        let ranks = table.ranks(alloc, &commons)?;
-        Ok(Resolution {
+        Resolution {
             inputs: table.inputs,
             names: table.names,
             numbers: table.numbers,
-            commons,
-            ranks,
-        })
+            commons: placed.list,
+            ranks: placed.ranks,
+        }
     }
 
     /// A symbol of a file.

@@ -8,8 +8,8 @@ use Rattle.elf_object_type.specs.Object.{SymbolValue, binding}
 use Rattle.elf_link_files.specs.Files.{symbol_in}
 use Rattle.elf_link_names.specs.declared.known_names.Known.{Known}
 use Rattle.elf_link_names.specs.KnownNames.{IsKnownBefore}
-use Rattle.elf_link_names.specs.Tables.{name_position}
-use Rattle.elf_link_names.proofs.KnownNames.{keeps_new, known_none, none_placed, names_again, names_local, names_new}
+use Rattle.elf_link_names.specs.Tables.{IsLookup, name_position}
+use Rattle.elf_link_names.proofs.KnownNames.{keeps_new, known_none, none_placed, placed_at, names_again, names_local, names_new}
 use Rattle.elf_link_names.proofs.known_names.pass_symbol.Goals as goal
 
 pub returns-then-is_local-clause-names : goal.returns-then-is_local-clause-names
@@ -17,6 +17,35 @@ returns-then-is_local-clause-names c =
     let s = c.args.symbol.now in
     names_local s.inputs.now s.id.file s.id.index (name_position c.args.names.now.positions) c.args.names.now.known
     (subst (λ (s : SymbolValue). binding s ≡ STB_LOCAL) c.symbol-own.ensures (c.if-is_local.ensures.0 refl)) c.requires.before
+
+pub returns-then-is_local-clause-number : goal.returns-then-is_local-clause-number
+returns-then-is_local-clause-number c = λ not_local.
+    absurd (not_local (subst (λ (s : SymbolValue). binding s ≡ STB_LOCAL) c.symbol-own.ensures (c.if-is_local.ensures.0 refl)))
+
+pub place_looked_up-requires : goal.place_looked_up-requires
+place_looked_up-requires c =
+    subst (λ (n : List ℕ). IsLookup (name_position c.args.names.now.positions) n c.args.lookup) (sym (ap (λ (s : SymbolValue). s.name) c.symbol-own.ensures))
+    (c.requires.lookup (λ local. (
+    let never : false ≡ true = c.if-is_local.ensures.1 (subst (λ (s : SymbolValue). binding s ≡ STB_LOCAL) (sym c.symbol-own.ensures) local) in
+    absurd (cc))))
+
+pub note_again-requires-clause-within : goal.note_again-requires-clause-within
+note_again-requires-clause-within c =
+    let s = c.args.symbol.now in
+    let old = name_position c.args.names.now.positions in
+    let at = subst (λ (n : List ℕ). old n ≡ Some c.in-Some.k) (ap (λ (s : SymbolValue). s.name) c.symbol-own.ensures) (sym c.in_ok-place.ensures.old ∙ c.in-Some.is) in
+    (placed_at s.inputs.now s.id.file s.id.index old c.args.names.now.known _ c.in-Some.k at c.requires.before).0
+
+pub returns-in_ok-note_again-in-Some-clause-number : goal.returns-in_ok-note_again-in-Some-clause-number
+returns-in_ok-note_again-in-Some-clause-number c = λ not_local.
+    let s = c.args.symbol.now in
+    let old = name_position c.args.names.now.positions in
+    let name = (symbol_in s.inputs.now s.id.file s.id.index).name in
+    rw c.in-Some.is at (c.in_ok-place.ensures.placed name) ∙
+    subst (λ (n : List ℕ). old n ≡ Some c.in-Some.k) (ap (λ (s : SymbolValue). s.name) c.symbol-own.ensures) (sym c.in_ok-place.ensures.old ∙ c.in-Some.is)
+
+pub returns-in_ok-note_again-in-Some-clause-kept : goal.returns-in_ok-note_again-in-Some-clause-kept
+returns-in_ok-note_again-in-Some-clause-kept c = λ q j at. rw c.in-Some.is at (c.in_ok-place.ensures.placed q) ∙ at
 
 pub returns-in_ok-note_again-in-Some-clause-names : goal.returns-in_ok-note_again-in-Some-clause-names
 returns-in_ok-note_again-in-Some-clause-names c =
