@@ -125,6 +125,7 @@ impl<'l, 'a> NameTable<'l, 'a> {
         }
         Ok(ranks)
     }
+
     /// All commons that are placed, with their positions by the numbers of the names. Fails only when out of memory.
     pub(crate) fn placed_commons(&self, alloc: Global) -> Result<PlacedCommons, AllocError>
         ensures chosen { IfOk result (λ placed. AreChosen self.now placed.list.items) }
