@@ -12,7 +12,7 @@ from .building import built
 from .cases import Case, case_files, every_case
 from .library import BOTH, ENGINES, FUNCTIONS, NUMBERS, PACKERS, RENAMED, VERDICTS, calls, calls_in, packed, structs, structs_in
 from .reference import parsed, shown
-from .suite import SANITIZERS, Tally, Test, number
+from .suite import SANITIZERS, Tally, Test, by_chance
 from .dump import c_lines
 from .tree import LIBRARIES_OF, PROCESSORS, TOP, Options, by_cc, read_bytes, read_text, said, side_by_side, texts_of, wanted, write
 
@@ -149,11 +149,10 @@ def c_library(tally: Tally, options: Options) -> None:
 MOST, LONGEST = 256, 1 << 16
 MADE = ["-c -O1", "-c -O0 -ffunction-sections", "-x c++ -c -O1 -g", "-nostdlib -static -Wl,-e,answer"]
 MADE += ["-shared -nostdlib -fPIC -Wl,--hash-style=sysv -Wl,-soname,answer.so"]
-COPIES = (number("count", 20000, "so many copies"), number("seed", 1, "the same seed makes the same copies"))
 ABOUT = "bytes of files changed; what the library for C says of each copy agrees with itself (bindings/c/laws.c)"
 
 
-@Test("laws", ABOUT, commands=PACKERS, crates=BOTH, alone=True, options=COPIES)
+@Test("laws", ABOUT, commands=PACKERS, crates=BOTH, alone=True, options=by_chance(20000, "copies"))
 def laws(tally: Tally, options: Options) -> None:
     wanted("cc", "-O2", *WARNINGS, f"{C}/laws.c", packed(), "-o", f"{tally.folder}/laws")
     # What cc makes of a few lines of C, and the files of the cases that are accepted.

@@ -57,7 +57,7 @@ RELEASE: list[Command] = [
 ]
 # The modules that have tests, in the order in which these are begun.
 MODULES = """failing_calls c_library bindings instructions memory_faults linked names definitions guarantees doc doc_examples rules_tables cases
-    release_test distribution_test shown_commands mutations changed_files hostile_files mutants made_programs page_test machine_files""".split()
+    release_test distribution_test shown_commands mutations fuzz hostile_files page_test machine_files""".split()
 
 
 def dev(words: list[str]) -> int:

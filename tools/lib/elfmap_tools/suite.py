@@ -1,7 +1,7 @@
 """The tests of `tools/test`: each by its name, with the commands and the built crates that it needs; alone or side by side. `tools/test setup`
 installs the Debian packages of the commands that are missing."""
 
-import argparse, functools, glob, os, re, shutil, subprocess, sys, tempfile, time, traceback
+import argparse, glob, os, re, shutil, subprocess, sys, tempfile, time, traceback
 from collections.abc import Callable, Iterable
 from concurrent.futures import ThreadPoolExecutor, as_completed
 from dataclasses import dataclass
@@ -9,7 +9,7 @@ from itertools import chain
 from typing import Any
 
 from .building import built
-from .tree import PROCESSORS, TOP, Options, Texts, filled, progress, read_text, run, said, side_by_side
+from .tree import PROCESSORS, TOP, Options, Texts, filled, progress, read_text, run, said
 
 # ---- the commands that tests start, and the Debian packages that have them
 
@@ -170,6 +170,10 @@ def number(name: str, default: int, about: str) -> Option:
     return word(f"--{name}", f"{about} ({default})", type=int, default=default, metavar="N")
 
 
+def by_chance(count: int, what: str) -> tuple[Option, ...]:
+    return number("count", count, f"so many {what}"), number("seed", 1, f"the same seed makes the same {what}")
+
+
 def flag(name: str, about: str) -> Option:
     return word(f"--{name}", about, action="store_true")
 
@@ -271,18 +275,3 @@ def main(tests: list[Test], words: list[str]) -> int:
     if options.name in by_name:
         return run_one(by_name[options.name], options)
     return run_several(families(tests).get(options.name, tests), options.jobs)
-
-
-def tried_in_folder(name: str, wrong_in: Callable[[int, int, str], str], seed: int, k: int) -> str:
-    """What is wrong with try K of a seed, which has a folder of its own; if something is, the folder is kept here, as NAME-SEED-K."""
-    with tempfile.TemporaryDirectory(prefix=f"{name}-{seed}-{k}.") as folder:
-        wrong = wrong_in(seed, k, folder)
-        if wrong:
-            shutil.copytree(folder, f"{name}-{seed}-{k}", dirs_exist_ok=True)
-        return f"{name}-{seed}-{k}: {wrong}" if wrong else ""
-
-
-def count_tries(tally: Tally, options: Options, name: str, wrong_in: Callable[[int, int, str], str]) -> None:
-    """Counts so many tries of a seed, side by side."""
-    tries = functools.partial(tried_in_folder, name, wrong_in, options.seed)
-    tally.count(options.count, filter(None, side_by_side(tries, range(options.count), True)))
