@@ -29,14 +29,11 @@ from itertools import zip_longest
 from typing import IO, Any
 
 from .building import output_of
-from .failing_calls import files_by_hand
+from .hostile import files_by_hand
 from .making import Chance, a_file, fuzzed
 from .reference import RELA, answer, check, object_file, rewritten, text, verdict
 from .suite import Tally, Test, by_chance, flag
-
-from .tree import (
-    PROCESSORS, PROGRAM, RULES, Answer, Options, answer_of, compiled, ending, read_bytes, run, side_by_side, wanted, write,
-)  # fmt: skip
+from .tree import PROCESSORS, PROGRAM, RULES, Answer, Options, answer_of, compiled, ending, read_bytes, run, side_by_side, wanted, write
 
 
 def tried_in_folder(name: str, wrong_in: Callable[[int, int, str], str], seed: int, k: int) -> str:

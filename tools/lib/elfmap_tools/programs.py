@@ -56,8 +56,8 @@ RELEASE: list[Command] = [
     ("definitions", "write docs/DEFINITIONS.md, from the comments in crates/*/specs/", definitions.main, []),
 ]
 # The modules that have tests, in the order in which these are begun.
-MODULES = """failing_calls c_library bindings instructions memory_faults linked names definitions guarantees doc doc_examples rules_tables cases
-    release_test distribution_test shown_commands mutations fuzz hostile_files page_test machine_files""".split()
+MODULES = """hostile c_library bindings instructions memory_faults linked names definitions guarantees doc doc_examples rules_tables cases
+    release_test distribution_test shown_commands mutations fuzz page_test machine_files""".split()
 
 
 def dev(words: list[str]) -> int:
