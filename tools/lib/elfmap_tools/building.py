@@ -5,10 +5,8 @@ import fcntl, functools, glob, hashlib, os, re, resource, shutil, sys, tempfile,
 from collections.abc import Callable, Iterable
 from concurrent.futures import Future, ThreadPoolExecutor
 
-from .tree import (
-    LIBRARIES_OF, PROCESSORS, STATIC_LIBRARIES, TOP, Options, below, deps, is_newer, is_program, read_bytes, read_text, said, texts_of,
-    write,
-)  # fmt: skip
+from .tree import LIBRARIES_OF, PROCESSORS, STATIC_LIBRARIES, TOP
+from .tree import Options, below, deps, is_newer, is_program, read_bytes, read_text, said, texts_of, write
 
 # Where `tools/dev prove` puts the libraries that it proved, each beside a sum of what it was made from.
 RLIBS = f"{TOP}/crates/elfmap/out/rlibs"

@@ -7,12 +7,10 @@ from collections.abc import Iterator
 from typing import Any
 
 from .cases import case_files
-
-from .reference import (
-    DYNAMIC, DYNAMIC_SECTION, DYNSYM, ENTRY_SIZE, HASH, HEADER, LOAD, NOBITS, NOTE, NULL, PROGRAM_HEADER, REL, RELA, RELOCATION,
-    SECTION_HEADER, SYMBOL, SYMTAB, SYMTAB_SHNDX, XINDEX, Broken, File, check, elf_hash, entries_before_null, is_section, name_of,
-    notes, padded, parts, rewritten, shown, signed, string, symbols, table_verdict, verdict,
-)  # fmt: skip
+from .reference import DYNAMIC, DYNAMIC_SECTION, DYNSYM, ENTRY_SIZE, HASH, HEADER, LOAD, NOBITS, NOTE, NULL, PROGRAM_HEADER, REL, RELA
+from .reference import RELOCATION, SECTION_HEADER, SYMBOL, SYMTAB, SYMTAB_SHNDX, XINDEX
+from .reference import Broken, File, check, elf_hash, entries_before_null, is_section, name_of, notes, padded, parts, rewritten, shown
+from .reference import signed, string, symbols, table_verdict, verdict
 from .rules_tables import by_anchor
 from .tree import Options, read_bytes, write
 

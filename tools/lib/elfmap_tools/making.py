@@ -4,11 +4,9 @@ of it goes by a source of chance, so that the same seed makes the same files."""
 import random
 from typing import Any
 
-from .reference import (
-    ABS, ALLOC, COMMON, DYNAMIC, DYNAMIC_SECTION, DYNSYM, ENTRY_SIZE, GROUP, HASH, IN_GROUP, INFO_LINK, LOAD, NOBITS, NOTE,
-    PROGBITS, PROGRAM_HEADER, REL, RELA, RELOCATION, STRTAB, SYMBOL, SYMTAB, SYMTAB_SHNDX, UNDEF, WRITE, File, edited, elf_hash, group,
-    laid, object_of, record, relocations, section, symbol, text, with_index_table, words,
-)  # fmt: skip
+from .reference import ABS, ALLOC, COMMON, DYNAMIC, DYNAMIC_SECTION, DYNSYM, ENTRY_SIZE, GROUP, HASH, INFO_LINK, IN_GROUP, LOAD, NOBITS
+from .reference import NOTE, PROGBITS, PROGRAM_HEADER, REL, RELA, RELOCATION, STRTAB, SYMBOL, SYMTAB, SYMTAB_SHNDX, UNDEF, WRITE
+from .reference import File, edited, elf_hash, group, laid, object_of, record, relocations, section, symbol, text, with_index_table, words
 
 Chance = random.Random
 Field = tuple[str, int, int]
