@@ -6,7 +6,8 @@ from typing import Any
 
 from .reference import ABS, ALLOC, COMMON, DYNAMIC, DYNAMIC_SECTION, DYNSYM, ENTRY_SIZE, GROUP, HASH, INFO_LINK, IN_GROUP, LOAD, NOBITS
 from .reference import NOTE, PROGBITS, PROGRAM_HEADER, REL, RELA, RELOCATION, STRTAB, SYMBOL, SYMTAB, SYMTAB_SHNDX, UNDEF, WRITE
-from .reference import File, edited, elf_hash, group, laid, object_of, record, relocations, section, symbol, text, with_index_table, words
+from .reference import File, edited, elf_hash, group, laid, number_words, object_of, record, relocations, section, symbol, text
+from .reference import with_index_table
 
 Chance = random.Random
 Field = tuple[str, int, int]
@@ -118,7 +119,7 @@ def full_object() -> bytes:
         section(b".bss", NOBITS, 100, WRITE | ALLOC, 32),
         relocations([(1, 4, 2, 2**64 - 4)], 1, b".rela.text.f", IN_GROUP | INFO_LINK),
         section(b".rel.data", REL, [(0, 2, 1, 0), (8, 5, 1, 0)], INFO_LINK, 8, 16, info=3),
-        section(b".note", NOTE, words("little", 4, 5, 1) + b"own\0" + bytes(8), ALLOC, 4),
+        section(b".note", NOTE, number_words("little", 4, 5, 1) + b"own\0" + bytes(8), ALLOC, 4),
     ]
     return with_index_table(object_of(sections, symbols))
 
@@ -129,14 +130,14 @@ def hash_content(order: str, names: list[bytes], bucket_count: int) -> bytes:
     for k, name in list(enumerate(names))[1:]:
         bucket = elf_hash(name) % bucket_count
         buckets[bucket], chains[k] = k, buckets[bucket]
-    return words(order, bucket_count, len(names), *buckets, *chains)
+    return number_words(order, bucket_count, len(names), *buckets, *chains)
 
 
 def note_content(chance: Chance, order: str) -> bytes:
     content = b""
     for _ in range(chance.randrange(3)):
         name, descriptor = chance.choice((b"", b"GNU\0", b"x\0")), bytes(chance.randrange(10))
-        content += words(order, len(name), len(descriptor), chance.randrange(4))
+        content += number_words(order, len(name), len(descriptor), chance.randrange(4))
         content += name + bytes(-len(name) % 4) + descriptor + bytes(-len(descriptor) % 4)
     return content
 

@@ -48,7 +48,7 @@ PICTURE = [word("file", "an ELF file"), word("picture", "the picture, as PNG")]
 RELEASE: list[Command] = [
     ("pack", "pack what is built into one archive", releasing.main, [HERE, VERSION]),
     ("packages", "make all packages of what is built: of Debian, Python and Rust, and the archive", releasing.make_packages, [HERE]),
-    ("library", "pack the library for C", library.main, [THERE]),
+    ("library", "pack the library for C", lambda it: print(library.pack(os.path.abspath(it.folder))), [THERE]),
     ("man", "print the manual page", man.main, [VERSION]),
     ("page", "print the page for a browser", page.main, []),
     ("page-picture", "take a picture of the page with a file on it (docs/page.png)", page.picture, PICTURE),
@@ -56,7 +56,7 @@ RELEASE: list[Command] = [
     ("definitions", "write docs/DEFINITIONS.md, from the comments in crates/*/specs/", definitions.main, []),
 ]
 # The modules that have tests, in the order in which these are begun.
-MODULES = """hostile c_library bindings instructions memory_faults linked names definitions guarantees doc doc_examples rules_tables cases
+MODULES = """hostile library instructions memory_faults linked names definitions guarantees doc doc_examples rules_tables cases
     release_test distribution_test shown_commands mutations fuzz page_test machine_files""".split()
 
 

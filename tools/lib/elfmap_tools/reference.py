@@ -81,7 +81,7 @@ def answer(words: Sequence[str], files: Mapping[str, bytes]) -> Answer | None:
 # ---- objects by their parts
 
 
-def words(order: str, *numbers: int) -> bytes:
+def number_words(order: str, *numbers: int) -> bytes:
     return b"".join(it.to_bytes(4, cast(Any, order)) for it in numbers)
 
 
