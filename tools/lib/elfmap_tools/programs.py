@@ -3,22 +3,12 @@
 import argparse, importlib, os, subprocess, sys
 from collections.abc import Callable
 
-from . import building, definitions, doc, dump, library, man, minutes, page, peers, release as releasing, rules_tables
+from . import building, definitions, doc, dump, library, man, minutes, page, peers, release, rules_tables
 from .suite import TESTS, Option, add_command, main as run_tests, word
 from .tree import LIBRARIES_OF, PACKAGE, TOP, Options, progress
 
 # Its name, what it does, the function, whose answer is the status, and its words.
 Command = tuple[str, str, Callable[[Options], int | None], list[Option]]
-
-
-def run(name: str, about: str, commands: list[Command], words: list[str]) -> int:
-    parser = argparse.ArgumentParser(name, description=about)
-    added = parser.add_subparsers(dest="command", required=True, metavar="COMMAND", title="commands")
-    for command, what, main, arguments in commands:
-        add_command(added, command, what, arguments).set_defaults(main=main)
-    options = parser.parse_args(words)
-    with progress(lambda: f"{name} {options.command}"):
-        return int(options.main(options) or 0)
 
 
 def package_command(options: Options) -> int:
@@ -46,8 +36,8 @@ VERSION, HERE = word("version", "the version", nargs="?", default=""), word("fol
 THERE = word("folder", "where to (crates/elf_c/out)", nargs="?", default=library.FOLDER)
 PICTURE = [word("file", "an ELF file"), word("picture", "the picture, as PNG")]
 RELEASE: list[Command] = [
-    ("pack", "pack what is built into one archive", releasing.main, [HERE, VERSION]),
-    ("packages", "make all packages of what is built: of Debian, Python and Rust, and the archive", releasing.make_packages, [HERE]),
+    ("pack", "pack what is built into one archive", lambda it: print(release.pack(it.folder, it.version)), [HERE, VERSION]),
+    ("packages", "make all packages of what is built: of Debian, Python and Rust, and the archive", release.make_packages, [HERE]),
     ("library", "pack the library for C", lambda it: print(library.pack(os.path.abspath(it.folder))), [THERE]),
     ("man", "print the manual page", man.main, [VERSION]),
     ("page", "print the page for a browser", page.main, []),
@@ -57,18 +47,22 @@ RELEASE: list[Command] = [
 ]
 # The modules that have tests, in the order in which these are begun.
 MODULES = """hostile library instructions memory_faults linked names definitions guarantees doc doc_examples rules_tables cases
-    release_test distribution_test shown_commands mutations fuzz page_test machine_files""".split()
+    release shown_commands mutations fuzz page_test machine_files""".split()
+
+ABOUT_DEV = "What you need while you change code. What is tested is in tools/test, and what a release has in tools/release."
+ABOUT_RELEASE = "What a release has, and what is generated."
 
 
-def dev(words: list[str]) -> int:
-    about = "What you need while you change code. What is tested is in tools/test, and what a release has in tools/release."
-    return run("tools/dev", about, DEV, words)
-
-
-def release(words: list[str]) -> int:
-    return run("tools/release", "What a release has, and what is generated.", RELEASE, words)
-
-
-def test(words: list[str]) -> int:
-    places = [importlib.import_module(f"{__package__}.{it}").__name__ for it in MODULES]
-    return run_tests(sorted(TESTS, key=lambda it: places.index(it.function.__module__)), words)
+def main(tool: str, words: list[str]) -> int:
+    """Runs `tools/dev`, `tools/release` or `tools/test` with these words."""
+    if tool == "tools/test":
+        places = [importlib.import_module(f"{__package__}.{it}").__name__ for it in MODULES]
+        return run_tests(sorted(TESTS, key=lambda it: places.index(it.function.__module__)), words)
+    about, commands = (ABOUT_DEV, DEV) if tool == "tools/dev" else (ABOUT_RELEASE, RELEASE)
+    parser = argparse.ArgumentParser(tool, description=about)
+    added = parser.add_subparsers(dest="command", required=True, metavar="COMMAND", title="commands")
+    for command, what, function, arguments in commands:
+        add_command(added, command, what, arguments).set_defaults(function=function)
+    options = parser.parse_args(words)
+    with progress(lambda: f"{tool} {options.command}"):
+        return int(options.function(options) or 0)

@@ -1,4 +1,6 @@
-"""`tools/release pack`: what is built in one archive, elfmap-VERSION-x86_64-linux.tar.gz, which is used on a Linux with the GNU C library
+"""What people install, and the tests of it.
+
+`tools/release pack`: what is built in one archive, elfmap-VERSION-x86_64-linux.tar.gz, which is used on a Linux with the GNU C library
 and without the Rattle kit. docs/MANUAL.md lists what it has; elfmap.html is in it if wasm-opt is installed.
 
 A page's link to a file that the archive lacks becomes its words. VERSION is the first line of the file VERSION, unless another one is
@@ -6,15 +8,25 @@ given. The same program, library, version, texts and commit make the same archiv
 
 `tools/release packages`: all that people install, made of what is built: the archive of `tools/release pack`, packages of Debian, the
 Python package as a wheel with the library in it, the Rust crate with the static library, and their SHA256SUMS. docs/MANUAL.md lists what
-each has. The same build makes the same bytes: every file has the time of the commit."""
+each has. The same build makes the same bytes: every file has the time of the commit.
 
-import functools, glob, gzip, os, re, shutil, sys, tempfile, zipfile
+`tools/test release`: packs a release of what is built twice, and unpacks the archive in an empty folder. There all of it has to work, with
+nothing on the PATH but /usr/bin and /bin. MOST_SECONDS of a processor have to be enough to pack it.
+
+`tools/test packages`: makes the packages of `tools/release packages` twice, with the same bytes, and installs and tries each in a root
+of Debian 12 that has neither the kit nor anything of the repository. Each part of the repository has to have the version of VERSION.
+
+The root is made by debootstrap, once, and is kept in the cache; each run has a copy of it. Without root's rights, debootstrap or a mirror
+the tests in it are skipped by their names."""
+
+import functools, glob, gzip, os, re, shutil, sys, tempfile, zipfile, zlib
+from collections.abc import Iterator
 
 from . import doc, library, man, page
 from .building import is_current, output_of
-from .library import PACKERS, SHARED
-from .suite import JINJA2, MARKDOWN
-from .tree import PACKAGE, PROGRAM, TOP, Options, files_below, filled, read_bytes, read_text, run, said, wanted, write
+from .library import BOTH, PACKERS, SHARED, calls
+from .suite import JINJA2, MARKDOWN, SETUPTOOLS, WHEEL, Tally, Test, setup, steps_of
+from .tree import PACKAGE, PROGRAM, TOP, Options, Texts, files_below, filled, read_bytes, read_text, run, said, wanted, write
 
 RUNNER = """#!/bin/sh
 # elfmap WORDS..: the program elfmap, with settings of the C library's memory.
@@ -123,6 +135,22 @@ def without_dead_links(folder: str) -> None:
         write(page, LINK.sub(kept, read_text(page)))
 
 
+def anchors(text: str) -> set[str]:
+    """The names of the places of a page that a link can lead to."""
+    heads = [re.sub(r"[^\w\- ]", "", it.lower()).replace(" ", "-") for it in re.findall(r"^#+ (.*)", text, re.M)]
+    return {*heads, *re.findall(r'<a id="([^"]*)"', text)}
+
+
+def broken_links(page: str, text: str) -> Iterator[str]:
+    """The links of a page that lead to no file of the repository, or to no place in it."""
+    for link in re.findall(r"\]\(([^)\s]+)\)", text):
+        path, _, anchor = link.partition("#")
+        target = os.path.join(os.path.dirname(page), path) if path else page
+        is_there = link.startswith("https://") or os.path.exists(target) and (not anchor or anchor in anchors(read_text(target)))
+        if not is_there:
+            yield link
+
+
 def put_release(folder: str, version: str) -> None:
     for crate in ("elfmap", library.VERDICTS, library.ENGINES):
         if not is_current(crate, output_of(crate)):
@@ -171,10 +199,6 @@ def pack(folder: str, given: str | None = None) -> str:
     with tempfile.TemporaryDirectory(prefix="elfmap-release-") as work:
         put_release(f"{work}/{name}", version)
         return archived(f"{work}/{name}", f"{folder}/{name}.tar.gz")
-
-
-def main(options: Options) -> None:
-    print(pack(options.folder, options.version))
 
 
 # ---- the packages of Debian
@@ -329,3 +353,172 @@ def make_packages(options: Options) -> None:
         write(f"{made}/SHA256SUMS", wanted("sha256sum", *names, folder=made))
         for it in [*names, "SHA256SUMS"]:
             print(shutil.move(f"{made}/{it}", f"{folder}/{it}"))
+
+
+# ---- the test of a release
+
+VERSION, MOST_SECONDS = "0-test", 30
+MADE = [
+    "elfmap.html", "VERSION", "bin/elfmap", "doc/elfmap-doc.html", "elfmap", "include/elfmap.h",
+    "lib/libelfmap.a", "lib/libelfmap.so.0", "lib/pkgconfig/elfmap.pc", "share/man/man1/elfmap.1",
+    *(f"bin/{it}" for it, *_ in COMMANDS), *(f"share/man/man1/{it}.1" for it, *_ in COMMANDS),
+]  # fmt: skip
+PLAIN = {"PATH": "/usr/bin:/bin", "LC_ALL": "C.UTF-8", "MANWIDTH": "80"}
+
+
+class Release:
+    """A release that is unpacked: its folder, and an empty one elsewhere."""
+
+    def __init__(self, tally: Tally, room: str) -> None:
+        self.check, self.tally = tally.check, tally
+        self.folder, self.room = f"{room}/empty/elfmap-{VERSION}-x86_64-linux", f"{room}/elsewhere"
+        os.mkdir(f"{room}/empty")
+        os.mkdir(self.room)
+        # The first one may build the module of the page.
+        first, begun = pack(f"{room}/first", VERSION), sum(os.times()[:4])
+        second = pack(f"{room}/second", VERSION)
+        seconds = sum(os.times()[:4]) - begun
+        self.check(seconds < MOST_SECONDS, f"a release is packed in {seconds:.0f} s of a processor")
+        self.check(read_bytes(first) == read_bytes(second), "the archive is another one the second time")
+        self.check(said("tar", "xf", first, folder=f"{room}/empty").returncode == 0, "tar does not unpack the archive")
+        names = {it[len(self.folder) + 1 :] for it in files_below(self.folder)}
+        # What git has in these folders; of the crate and the package without their tests.
+        listed = said("git", "ls-files", "[A-Z]*.md", "docs", "rules", "bindings", "examples").stdout.split()
+        wanted = {*MADE, *(it for it in listed if not re.search(r"^bindings/(rust|python)/tests/|^bindings/[^/]*$", it))}
+        self.check(names == wanted, f"the archive lacks {sorted(wanted - names)}, and has beyond that {sorted(names - wanted)}")
+        self.check(self.text("VERSION") == f"{VERSION}\n", "the file VERSION has not the version")
+
+    def text(self, path: str) -> str:
+        return read_text(f"{self.folder}/{path}")
+
+    def help(self, *words: str) -> str:
+        return said("./elfmap", *words, "--help", folder=self.folder, env=PLAIN).stdout
+
+    def links(self) -> None:
+        """The relative links of the archive's pages."""
+        for page in sorted(glob.glob("**/*.md", root_dir=self.folder, recursive=True)):
+            broken = list(broken_links(f"{self.folder}/{page}", self.text(page)))
+            self.check(not broken, f"{page} has links to {broken}, which the archive lacks")
+
+    def usage(self) -> None:
+        """docs/MANUAL.md and the manual page have the usage of each command that the program has."""
+        listed = self.help().partition("Commands:")[2].partition("Options:")[0]
+        commands = re.findall(r"^  (\w+) ", listed, re.M)
+        usages = re.findall(r"^    (elfmap (\w+) .*)", self.text("docs/MANUAL.md").partition("\n## The commands\n")[2], re.M)
+        self.tally.same("the commands of docs/MANUAL.md, by the program", [it for _, it in usages], commands)
+        synopsis = self.text("share/man/man1/elfmap.1").replace(r"\-", "-").partition("\n.SH DESCRIPTION\n")[0].splitlines()
+        for usage, command in usages:
+            own = usage_by_help(self.help(command))
+            self.check(words_of(own) == words_of(usage), f"the program's usage is '{own}', and docs/MANUAL.md has '{usage}'")
+            self.check(usage in synopsis, f"the manual page has not the usage '{usage}'")
+
+    def rust(self) -> None:
+        """The crate's example by cargo, which builds outside of the archive."""
+        path = f"{os.path.dirname(shutil.which('cargo') or '')}:{PLAIN['PATH']}"
+        env = {**os.environ, "PATH": path, "CARGO_TARGET_DIR": f"{self.room}/target"}
+        built = said("cargo", "build", "--frozen", "--example", "symbols", folder=f"{self.folder}/bindings/rust", env=env)
+        self.check(built.returncode == 0, f"cargo build: {built.stdout}")
+
+    def steps(self) -> None:
+        marks = {"TOP": self.folder, "V": VERSION, "PACKAGE": version_of(), "COMMANDS": " ".join(it for it, *_ in COMMANDS)}
+        steps = steps_of("release.steps", **marks, PYTHON=os.path.dirname(sys.executable))
+        self.tally.try_steps(steps, lambda script: said("sh", "-c", script, folder=self.room, env=PLAIN).stdout)
+
+
+def words_of(usage: str) -> list[str]:
+    """The words and options of a usage, in any order."""
+    return sorted(re.findall(r"\[[^\]]*\]|--\w+ [A-Z]+|\S+", usage))
+
+
+def usage_by_help(said: str) -> str:
+    """The usage that the program prints, with its options in place of [OPTIONS]."""
+    (usage,) = re.findall(r"Usage: (.*)", said)
+    options = [it for it in re.findall(r"^ +(?:-\w, )?(--\w+(?: <\w+>)?)", said, re.M) if it != "--help" and it not in usage]
+    return re.sub(r"[<>]", "", usage.replace("[OPTIONS]", " ".join(f"[{it}]" for it in options)))
+
+
+@Test(
+    "release", "what a release has, and that all of it works", commands=f"{MAKERS} nm git pkg-config cargo groff", crates=f"elfmap {BOTH}"
+)
+def try_release(tally: Tally, options: Options) -> None:
+    it = Release(tally, tally.folder)
+    for part in (it.links, it.usage, it.rust, it.steps):
+        part()
+
+
+# ---- the test of the packages
+
+SUITE = "bookworm"
+INSTALLERS = f"{MAKERS} readelf nm git dpkg-deb unshare {SETUPTOOLS} {WHEEL}"
+INCLUDED = "python3,python3-venv,gcc,libc6-dev,pkg-config,man-db,fish,zsh,cargo"
+CACHE = os.environ.get("XDG_CACHE_HOME") or os.path.expanduser("~/.cache")
+# Of other packages it is another root.
+ROOT = f"{CACHE}/elfmap-tools/{SUITE}-{zlib.crc32(INCLUDED.encode()):08x}"
+AS_ROOT = {"PATH": "/usr/sbin:/usr/bin:/sbin:/bin", "LC_ALL": "C.UTF-8", "HOME": "/root", "DEBIAN_FRONTEND": "noninteractive"}
+# The places of the version.
+VERSIONS = {
+    "bindings/python/pyproject.toml": r'^version = "(.*)"', "bindings/python/elfmap/__init__.py": r'^__version__ = "(.*)"',
+    "bindings/rust/Cargo.toml": r'^version = "(.*)"', "bindings/rust/Cargo.lock": r'name = "elfmap"\nversion = "(.*)"',
+    "bindings/rust/README.md": r"elfmap-([\d.]+)\.crate", "bindings/python/README.md": r"elfmap-([\d.]+)-py3",
+}  # fmt: skip
+# Terminals too, for zsh.
+MOUNTED = 'mount -t proc proc "$1/proc" && mount --bind /dev/pts "$1/dev/pts" && exec chroot "$1" sh -c "$2"'
+
+
+def make_root() -> str:
+    """Makes the root where there is none: why that can't be done."""
+    if os.path.isdir(ROOT):
+        return ""
+    if os.geteuid() != 0:
+        return "only root can make one"
+    if not setup(["debootstrap"]):
+        return "there is no debootstrap"
+    os.makedirs(os.path.dirname(ROOT), exist_ok=True)
+    with tempfile.TemporaryDirectory(dir=os.path.dirname(ROOT)) as room:
+        made = said("timeout", "900", "debootstrap", "--variant=minbase", f"--include={INCLUDED}", SUITE, f"{room}/root")
+        if made.returncode:
+            return f"debootstrap fails: {made.stdout.strip().splitlines()[-1:]}"
+        os.rename(f"{room}/root", ROOT)
+    return ""
+
+
+def inside(root: str, script: str) -> Texts:
+    """Runs a script in a root, with processes and mounts of its own."""
+    return said("unshare", "--mount", "--pid", "--fork", "sh", "-c", MOUNTED, "sh", root, script, env=AS_ROOT)
+
+
+def in_clean_root(tally: Tally, folder: str) -> None:
+    why, root, steps = make_root(), f"{tally.folder}/root", steps_of("packages.steps", V=version_of())
+    why = why or (f"{ROOT} is not copied" if said("cp", "-a", ROOT, root).returncode else "")
+    why = why or ("this machine lets nobody mount" if inside(root, "true").returncode else "")
+    if why:
+        return tally.note(f"skipped: without a clean root ({why}): {', '.join(title for title, *_ in steps)}")
+    shutil.copytree(folder, f"{root}/packages")
+    tally.try_steps(steps, lambda script: inside(root, script).stdout)
+
+
+def contents(folder: str) -> dict[str, bytes]:
+    return {os.path.basename(it): read_bytes(it) for it in files_below(folder)}
+
+
+@Test("packages", "what people install is the same twice, and works in a clean root", commands=INSTALLERS, crates=f"elfmap {BOTH}")
+def packages(tally: Tally, options: Options) -> None:
+    version, room = version_of(), tally.folder
+    for path, pattern in VERSIONS.items():
+        found = re.findall(pattern, read_text(path), re.M)[:1]
+        tally.same(f"the version in {path}", found, [version])
+    tally.same("./elfmap --version", said("./elfmap", "--version").stdout, f"elfmap {version}\n")
+    first, second = f"{room}/first", f"{room}/second"
+    for it, mask, zone in ((first, "022", "UTC"), (second, "077", "Asia/Tokyo")):
+        words = ["sh", "-c", f'umask {mask} && TZ={zone} exec "$@"', "sh", sys.executable, f"{TOP}/tools/release", "packages", it]
+        wanted(*words, folder=room)
+    tally.check(contents(first) == contents(second), "the packages have other bytes the second time")
+    summed, names = said("sha256sum", "-c", "--quiet", "SHA256SUMS", folder=first), contents(first).keys() - {"SHA256SUMS"}
+    is_whole = summed.returncode == 0 and names == set(read_text(f"{first}/SHA256SUMS").split()[1::2])
+    tally.check(is_whole, f"SHA256SUMS, beside {names}: {summed.stdout}")
+    tally.check(all(re.search(rf"[-_]{re.escape(version)}[-_.]", it) for it in names), f"not all have the version {version}: {names}")
+    said("dpkg-deb", "-x", f"{first}/libelfmap0_{version}_amd64.deb", f"{room}/own")
+    lines = said("nm", "-D", "--defined-only", f"{room}/own/{LIBRARIES}/libelfmap.so.0").stdout.splitlines()
+    exported = sorted(name.partition("@")[0] for _, kind, name in map(str.split, lines) if kind != "A")
+    tally.same("what the shared library exports", exported, sorted(calls()))
+    in_clean_root(tally, first)

@@ -15,7 +15,7 @@ import glob, os, re, shutil, statistics, sys
 from collections.abc import Iterator
 
 from .library import BOTH
-from .release import MAKERS, pack
+from .release import MAKERS, broken_links, pack
 from .suite import TESTS, Tally, Test, families
 from .tree import PROGRAM, TOP, Options, read_text, said, wanted, write
 
@@ -136,22 +136,6 @@ def is_as_shown(said: str, shown: str) -> bool:
         whole = re.escape(line.removesuffix(" .."))
         pattern += r"(?:.*\n)*" if line == ".." else rf"{whole}.*\n" if line.endswith(" ..") else rf"{whole}\n"
     return re.fullmatch(pattern, said + "\n" if said and not said.endswith("\n") else said) is not None
-
-
-def anchors(text: str) -> set[str]:
-    """The names of the places of a page that a link can lead to."""
-    heads = [re.sub(r"[^\w\- ]", "", it.lower()).replace(" ", "-") for it in re.findall(r"^#+ (.*)", text, re.M)]
-    return {*heads, *re.findall(r'<a id="([^"]*)"', text)}
-
-
-def broken_links(page: str, text: str) -> Iterator[str]:
-    """The links of a page that lead to no file of the repository, or to no place in it."""
-    for link in re.findall(r"\]\(([^)\s]+)\)", text):
-        path, _, anchor = link.partition("#")
-        target = os.path.join(os.path.dirname(page), path) if path else page
-        is_there = link.startswith("https://") or os.path.exists(target) and (not anchor or anchor in anchors(read_text(target)))
-        if not is_there:
-            yield link
 
 
 def foreign(commands: list[str]) -> Iterator[str]:
