@@ -7,7 +7,7 @@ option takes. All other words are files."""
 
 import re, subprocess
 
-from .tree import Options, cells, filled, read_text
+from .tree import cells, filled, read_text
 
 # Where the text is that the page is made of.
 MANUAL = "docs/MANUAL.md"
@@ -65,10 +65,6 @@ def page(version: str) -> str:
         text += [f"# {name}", *(it for it in PARTS[title] if not is_example(it))]
     others = re.sub(r"([\w-]+)\(", r"**\1**(", SEE_ALSO)
     return by_pandoc("elfmap", version, list(map(with_tags, [*text, *examples, "# SEE ALSO", others, PAGES])))
-
-
-def main(options: Options) -> None:
-    print(page(options.version or read_text("VERSION").strip()), end="")
 
 
 # ---- Completions

@@ -39,15 +39,15 @@ RELEASE: list[Command] = [
     ("pack", "pack what is built into one archive", lambda it: print(release.pack(it.folder, it.version)), [HERE, VERSION]),
     ("packages", "make all packages of what is built: of Debian, Python and Rust, and the archive", release.make_packages, [HERE]),
     ("library", "pack the library for C", lambda it: print(library.pack(os.path.abspath(it.folder))), [THERE]),
-    ("man", "print the manual page", man.main, [VERSION]),
-    ("page", "print the page for a browser", page.main, []),
+    ("man", "print the manual page", lambda it: print(man.page(release.version_of(it.version)), end=""), [VERSION]),
+    ("page", "print the page for a browser", lambda _: print(page.page(), end=""), []),
     ("page-picture", "take a picture of the page with a file on it (docs/page.png)", page.picture, PICTURE),
     ("tables", "write the tables of the rules' names, from docs/RULES.md", rules_tables.main, []),
     ("definitions", "write docs/DEFINITIONS.md, from the comments in crates/*/specs/", definitions.main, []),
 ]
 # The modules that have tests, in the order in which these are begun.
 MODULES = """hostile library instructions memory_faults linked names definitions guarantees doc doc_examples rules_tables cases
-    release shown_commands mutations fuzz page_test machine_files""".split()
+    release shown_commands mutations fuzz page machine_files""".split()
 
 ABOUT_DEV = "What you need while you change code. What is tested is in tools/test, and what a release has in tools/release."
 ABOUT_RELEASE = "What a release has, and what is generated."
