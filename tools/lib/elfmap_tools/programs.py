@@ -46,7 +46,7 @@ RELEASE: list[Command] = [
     ("definitions", "write docs/DEFINITIONS.md, from the comments in crates/*/specs/", definitions.main, []),
 ]
 # The modules that have tests, in the order in which these are begun.
-MODULES = """hostile library instructions memory_faults linked names definitions guarantees doc doc_examples rules_tables cases
+MODULES = """hostile library instructions memory_faults linked names definitions guarantees doc rules_tables cases
     release shown_commands mutations fuzz page machine_files""".split()
 
 ABOUT_DEV = "What you need while you change code. What is tested is in tools/test, and what a release has in tools/release."
