@@ -19,9 +19,8 @@ from collections.abc import Callable, Iterator
 from html import escape
 from typing import NamedTuple
 
-from . import definitions, guarantees
 from .building import kit
-from .rules_tables import by_anchor
+from .doc_tables import DEFINITIONS, ROW, by_anchor, guarantees_by_call, key_of
 from .sources import PUBLIC_CRATES, WORD, Definition, Item, Uses, definition, items_of, module_file, named_in, reach, source, sources_of
 from .suite import JINJA2, MARKDOWN, Tally, Test
 from .tree import LIBRARIES_OF, TOP, Options, below, is_program, read_text, said, write
@@ -112,7 +111,7 @@ def said_of(found: Definition) -> str:
 def table_words() -> dict[str, str]:
     """The sentence for each word of the tables of docs/RULES.md and docs/DEFINITIONS.md."""
     rules = {it.definition: f"rule {it.number}: {it.words}" for it in by_anchor().values()}
-    return rules | dict(definitions.ROW.findall(read_text(definitions.PAGE)))
+    return rules | dict(ROW.findall(read_text(DEFINITIONS)))
 
 
 def in_one_line(text: str) -> str:
@@ -185,7 +184,7 @@ class PublicCrate:
 
     def guarantees(self, item: Item) -> list[str]:
         """What docs/GUARANTEES.md says of a function."""
-        return [self.marked(it) for it in guarantees.by_call().get(guarantees.key_of(item), [])]
+        return [self.marked(it) for it in guarantees_by_call().get(key_of(item), [])]
 
     def contract(self, item: Item) -> str:
         """The clauses, or of a type what its value and its invariant are."""

@@ -7,11 +7,11 @@ from collections.abc import Iterator
 from typing import Any
 
 from .cases import case_files
+from .doc_tables import by_anchor
 from .reference import DYNAMIC, DYNAMIC_SECTION, DYNSYM, ENTRY_SIZE, HASH, HEADER, LOAD, NOBITS, NOTE, NULL, PROGRAM_HEADER, REL, RELA
 from .reference import RELOCATION, SECTION_HEADER, SYMBOL, SYMTAB, SYMTAB_SHNDX, XINDEX
 from .reference import Broken, File, check, elf_hash, entries_before_null, is_section, name_of, notes, padded, parts, rewritten, shown
 from .reference import signed, string, symbols, table_verdict, verdict
-from .rules_tables import by_anchor
 from .tree import Options, read_bytes, write
 
 # A line for bindings/c/test.c, and one for bindings/rust and bindings/python.

@@ -6,9 +6,9 @@ which rule one breaks the reference implementation says. Tools that are not inst
 import os, random, re, shutil, subprocess, tempfile
 
 from .cases import every_case
+from .doc_tables import file_rules
 from .machine_files import content_of, objects_of
 from .reference import SYMTAB, File, object_verdict, shown, symbols, verdict
-from .rules_tables import file_rules
 from .tree import TOP, Options, by_cc, read_bytes, read_text, run, side_by_side, write
 
 PAGE = "docs/PEERS.md"

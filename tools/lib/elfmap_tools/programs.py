@@ -1,9 +1,10 @@
 """The subcommands of `tools/dev` and `tools/release`, and the tests of `tools/test`."""
 
-import argparse, importlib, os, subprocess, sys
+import argparse, os, subprocess, sys
 from collections.abc import Callable
 
-from . import building, definitions, doc, dump, library, man, minutes, page, peers, release, rules_tables
+from . import building, cases, doc, doc_tables, dump, fuzz, hostile, instructions, library, linked, machine_files, man, memory_faults
+from . import minutes, mutations, page, peers, release, shown_commands, suite
 from .suite import TESTS, Option, add_command, main as run_tests, word
 from .tree import LIBRARIES_OF, PACKAGE, TOP, Options, progress
 
@@ -42,13 +43,12 @@ RELEASE: list[Command] = [
     ("man", "print the manual page", lambda it: print(man.page(release.version_of(it.version)), end=""), [VERSION]),
     ("page", "print the page for a browser", lambda _: print(page.page(), end=""), []),
     ("page-picture", "take a picture of the page with a file on it (docs/page.png)", page.picture, PICTURE),
-    ("tables", "write the tables of the rules' names, from docs/RULES.md", rules_tables.main, []),
-    ("definitions", "write docs/DEFINITIONS.md, from the comments in crates/*/specs/", definitions.main, []),
+    ("tables", "write the tables of the rules' names, from docs/RULES.md", doc_tables.write_tables, []),
+    ("definitions", "write docs/DEFINITIONS.md, from the comments in crates/*/specs/", doc_tables.write_definitions, []),
 ]
 # The modules that have tests, in the order in which these are begun.
-MODULES = """hostile library instructions memory_faults linked names definitions guarantees doc rules_tables cases
-    release shown_commands mutations fuzz page machine_files""".split()
-
+MODULES = [hostile, library, instructions, memory_faults, linked, suite, doc_tables, doc, cases, release, shown_commands, mutations, fuzz]
+MODULES += [page, machine_files]
 ABOUT_DEV = "What you need while you change code. What is tested is in tools/test, and what a release has in tools/release."
 ABOUT_RELEASE = "What a release has, and what is generated."
 
@@ -56,7 +56,7 @@ ABOUT_RELEASE = "What a release has, and what is generated."
 def main(tool: str, words: list[str]) -> int:
     """Runs `tools/dev`, `tools/release` or `tools/test` with these words."""
     if tool == "tools/test":
-        places = [importlib.import_module(f"{__package__}.{it}").__name__ for it in MODULES]
+        places = [it.__name__ for it in MODULES]
         return run_tests(sorted(TESTS, key=lambda it: places.index(it.function.__module__)), words)
     about, commands = (ABOUT_DEV, DEV) if tool == "tools/dev" else (ABOUT_RELEASE, RELEASE)
     parser = argparse.ArgumentParser(tool, description=about)

@@ -446,6 +446,17 @@ def try_release(tally: Tally, options: Options) -> None:
         part()
 
 
+@Test("launcher", "what ./elfmap builds and runs for which words")
+def launcher(tally: Tally, options: Options) -> None:
+    os.makedirs(f"{tally.folder}/crates/elf_field/src")
+    write(f"{tally.folder}/crates/elf_field/src/lib.rt", "\n")
+    shutil.copy(f"{TOP}/elfmap", tally.folder)
+    tally.try_steps(steps_of("launcher.steps"), lambda script: said("sh", "-c", script, folder=tally.folder).stdout)
+    # It looks at the times of these folders alone.
+    inner = [it for it in glob.glob(f"{TOP}/crates/elf*/src/*") if os.path.isdir(it)]
+    tally.check(not inner, f"./elfmap does not see changes in {inner}")
+
+
 # ---- the test of the packages
 
 SUITE = "bookworm"

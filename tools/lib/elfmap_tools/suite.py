@@ -9,7 +9,7 @@ from itertools import chain
 from typing import Any
 
 from .building import built
-from .tree import PROCESSORS, TOP, Options, Texts, filled, progress, read_text, run, said
+from .tree import PACKAGE, PROCESSORS, TOP, Options, Texts, filled, progress, read_text, run, said
 
 # ---- the commands that tests start, and the Debian packages that have them
 
@@ -275,3 +275,27 @@ def main(tests: list[Test], words: list[str]) -> int:
     if options.name in by_name:
         return run_one(by_name[options.name], options)
     return run_several(families(tests).get(options.name, tests), options.jobs)
+
+
+# ---- the tests of the tools themselves
+
+PROGRAMS = [f"{TOP}/tools/{it}" for it in ("dev", "test", "release")]
+SETTINGS = f"{TOP}/tools/pyproject.toml"
+
+
+@Test("types", "mypy --strict over tools/ and the Python package", commands="mypy")
+def types(tally: Tally, options: Options) -> None:
+    own = ["--config-file", SETTINGS, f"{TOP}/tools/lib/elfmap_tools", *PROGRAMS]
+    # The package runs by Python 3.9 too.
+    for folder, words in ((f"{TOP}/tools", own), (PACKAGE, ["--strict", "--python-version", "3.9", "elfmap"])):
+        ran = said("mypy", "--cache-dir", f"{TOP}/crates/elfmap/out/mypy", *words, folder=folder)
+        tally.check(ran.returncode == 0, ran.stdout)
+
+
+@Test("format", "black over tools/ and the Python package", commands="black", options=(flag("write", "format it"),))
+def format(tally: Tally, options: Options) -> None:
+    folders = (f"{TOP}/tools/lib/elfmap_tools", f"{PACKAGE}/elfmap", f"{PACKAGE}/tests")
+    # The tables of rules are generated.
+    files = [it for folder in folders for it in glob.glob(f"{folder}/*.py") if not it.endswith("/_rules.py")]
+    ran = said("black", "--config", SETTINGS, *([] if options.write else ["--check"]), "--quiet", *files, *PROGRAMS)
+    tally.check(ran.returncode == 0, "the Python is not formatted: `tools/test format --write` does it")
