@@ -29,8 +29,8 @@ from itertools import zip_longest
 from typing import IO, Any
 
 from .building import output_of
+from .cases import Chance, a_file, fuzzed
 from .hostile import files_by_hand
-from .making import Chance, a_file, fuzzed
 from .reference import RELA, answer, check, object_file, rewritten, text, verdict
 from .suite import Tally, Test, by_chance, flag
 from .tree import PROCESSORS, PROGRAM, RULES, Answer, Options, answer_of, compiled, ending, read_bytes, run, side_by_side, wanted, write

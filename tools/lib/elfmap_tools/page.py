@@ -18,10 +18,9 @@ from elfmap import _library, _names as names
 
 from . import library
 from .building import built_below, is_current, kit, words
-from .cases import case_files, cases_of
+from .cases import case_files, cases_of, fuzzed
 from .doc_tables import file_rules
 from .library import VERDICTS as CRATE
-from .making import fuzzed
 from .reference import verdict
 from .suite import SELENIUM, Tally, Test, number
 from .tree import PROGRAM, TOP, Options, filled, read_bytes, read_text, said, wanted, write

@@ -3,8 +3,8 @@
 import argparse, os, subprocess, sys
 from collections.abc import Callable
 
-from . import building, cases, doc, doc_tables, dump, fuzz, hostile, instructions, library, linked, machine_files, man, memory_faults
-from . import minutes, mutations, page, peers, release, shown_commands, suite
+from . import building, cases, doc, doc_tables, dump, fuzz, hostile, library, linked, man, measuring, memory_faults, mutations
+from . import page, peers, release, shown_commands, suite
 from .suite import TESTS, Option, add_command, main as run_tests, word
 from .tree import LIBRARIES_OF, PACKAGE, TOP, Options, progress
 
@@ -30,7 +30,7 @@ DEV: list[Command] = [
     ("picture", "draw the bytes of a file: elfmap-picture of the Python package", package_command, [OF_PACKAGE]),
     ("peers", "write the tables of docs/PEERS.md: what other tools say of files that elfmap refuses", peers.peers, []),
     ("shared-tails", "print how much shorter string tables are whose names share tails", peers.shared_tails, OBJECTS),
-    ("minutes", "print at its end the processor minutes of a process", minutes.main, [word("pid", "its number", type=int)]),
+    ("minutes", "print at its end the processor minutes of a process", measuring.print_minutes, [word("pid", "its number", type=int)]),
     ("told", "write the files that the tests of bindings/ try, and what they have to say", dump.main, [word("folder", "where to")]),
 ]
 VERSION, HERE = word("version", "the version", nargs="?", default=""), word("folder", "where to (here)", nargs="?", default=".")
@@ -47,8 +47,8 @@ RELEASE: list[Command] = [
     ("definitions", "write docs/DEFINITIONS.md, from the comments in crates/*/specs/", doc_tables.write_definitions, []),
 ]
 # The modules that have tests, in the order in which these are begun.
-MODULES = [hostile, library, instructions, memory_faults, linked, suite, doc_tables, doc, cases, release, shown_commands, mutations, fuzz]
-MODULES += [page, machine_files]
+MODULES = [hostile, library, measuring, memory_faults, linked, suite, doc_tables, doc, cases, release, shown_commands, mutations]
+MODULES += [fuzz, page, peers]
 ABOUT_DEV = "What you need while you change code. What is tested is in tools/test, and what a release has in tools/release."
 ABOUT_RELEASE = "What a release has, and what is generated."
 
