@@ -1,15 +1,16 @@
 """The subcommands of `tools/dev` and `tools/release`, and the tests of `tools/test`."""
 
-import argparse, os, subprocess, sys
-from collections.abc import Callable
+import argparse, contextlib, os, subprocess, sys
+from collections.abc import Callable, Iterable
+from functools import partial
 
 from . import building, cases, doc, doc_tables, dump, fuzz, hostile, library, linked, man, measuring, memory_faults, mutations
 from . import page, peers, release, shown_commands, suite
-from .suite import TESTS, Option, add_command, main as run_tests, word
-from .tree import LIBRARIES_OF, PACKAGE, TOP, Options, progress
+from .suite import TESTS, Option, Test, commands_of, families, run_one, run_several, setup, word
+from .tree import LIBRARIES_OF, PACKAGE, PROCESSORS, TOP, Options, progress
 
 # Its name, what it does, the function, whose answer is the status, and its words.
-Command = tuple[str, str, Callable[[Options], int | None], list[Option]]
+Command = tuple[str, str, Callable[[Options], int | None], Iterable[Option]]
 
 
 def package_command(options: Options) -> int:
@@ -24,7 +25,12 @@ TEST = word("--test", "the tests alone whose names hold this", metavar="NAME")
 OBJECTS = [word("program", "elfmap"), word("file", "an object, or an archive of objects", nargs="+")]
 DEV: list[Command] = [
     ("check", "prove a crate, or some functions of it, or a test, and print what is open", building.check, [CRATE, FUNCTION, TEST]),
-    ("prove", "prove the libraries below a crate; build it if it is a program or a library for C", building.prove, [CRATE]),
+    (
+        "prove",
+        "prove the libraries below a crate; build it if it is a program or a library for C",
+        lambda it: building.Build(it.crate).all(),
+        [CRATE],
+    ),
     ("doc", "print the page of the whole library, for a browser", doc.main, []),
     ("explain", "say in words why elfmap refused a file: elfmap-explain of the Python package", package_command, [OF_PACKAGE]),
     ("picture", "draw the bytes of a file: elfmap-picture of the Python package", package_command, [OF_PACKAGE]),
@@ -49,20 +55,43 @@ RELEASE: list[Command] = [
 # The modules that have tests, in the order in which these are begun.
 MODULES = [hostile, library, measuring, memory_faults, linked, suite, doc_tables, doc, cases, release, shown_commands, mutations]
 MODULES += [fuzz, page, peers]
-ABOUT_DEV = "What you need while you change code. What is tested is in tools/test, and what a release has in tools/release."
-ABOUT_RELEASE = "What a release has, and what is generated."
+ABOUTS = {
+    "tools/dev": "What you need while you change code. What is tested is in tools/test, and what a release has in tools/release.",
+    "tools/release": "What a release has, and what is generated.",
+    "tools/test": "Runs the tests of the repository: all, as the gate does after `rt ci`, or some by their names or the name of their family.",
+}
+
+
+def of_tests(tests: list[Test]) -> list[Command]:
+    """The commands of `tools/test`: each test, each family of them, and what installs what they need."""
+    found: list[Command] = [(it.name, it.about, partial(run_one, it), it.options) for it in tests]
+    for name, members in families(tests).items():
+        found.append((name, f"these: {', '.join(it.name for it in members)}", partial(run_several, members), []))
+    about = "install the Debian packages that the tests need, as root or by sudo"
+    return [*found, ("setup", about, lambda _: not setup(commands_of(tests)), [])]
 
 
 def main(tool: str, words: list[str]) -> int:
     """Runs `tools/dev`, `tools/release` or `tools/test` with these words."""
-    if tool == "tools/test":
-        places = [it.__name__ for it in MODULES]
-        return run_tests(sorted(TESTS, key=lambda it: places.index(it.function.__module__)), words)
-    about, commands = (ABOUT_DEV, DEV) if tool == "tools/dev" else (ABOUT_RELEASE, RELEASE)
-    parser = argparse.ArgumentParser(tool, description=about)
-    added = parser.add_subparsers(dest="command", required=True, metavar="COMMAND", title="commands")
-    for command, what, function, arguments in commands:
-        add_command(added, command, what, arguments).set_defaults(function=function)
-    options = parser.parse_args(words)
-    with progress(lambda: f"{tool} {options.command}"):
-        return int(options.function(options) or 0)
+    parser, is_test = argparse.ArgumentParser(tool, description=ABOUTS[tool]), tool == "tools/test"
+    added = parser.add_subparsers(dest="command", required=not is_test, metavar="NAME", title="commands")
+    tests = {it.name: it for module in MODULES for it in TESTS if it.function.__module__ == module.__name__}
+    if is_test:
+        parser.add_argument(
+            "-j", type=int, default=PROCESSORS, dest="jobs", metavar="N", help="so many tests side by side (one a processor)"
+        )
+        names = words[2:] if words[:1] == ["-j"] else words
+        if len(names) > 1 and tests.keys() >= {*names}:
+            # Several tests, by their names.
+            tests, words = {it: tests[it] for it in names}, words[: -len(names)]
+        parser.set_defaults(function=partial(run_several, [*tests.values()]))
+    commands = of_tests([*tests.values()]) if is_test else DEV if tool == "tools/dev" else RELEASE
+    for command, about, function, options in commands:
+        own = added.add_parser(command, help=about, description=f"{about[0].upper()}{about[1:]}.")
+        own.set_defaults(function=function)
+        for option, more in options:
+            own.add_argument(option, **more)  # type: ignore[arg-type]
+    given = parser.parse_args(words)
+    # Of tests is said which of them run.
+    with contextlib.nullcontext() if is_test else progress(lambda: f"{tool} {given.command}"):
+        return int(given.function(given) or 0)

@@ -1,15 +1,14 @@
 """The tests of `tools/test`: each by its name, with the commands and the built crates that it needs; alone or side by side. `tools/test setup`
 installs the Debian packages of the commands that are missing."""
 
-import argparse, glob, os, re, shutil, subprocess, sys, tempfile, time, traceback
+import glob, os, re, shutil, subprocess, sys, tempfile, time, traceback
 from collections.abc import Callable, Iterable
 from concurrent.futures import ThreadPoolExecutor, as_completed
 from dataclasses import dataclass
 from itertools import chain
-from typing import Any
 
 from .building import built
-from .tree import PACKAGE, PROCESSORS, TOP, Options, Texts, filled, progress, read_text, run, said
+from .tree import PACKAGE, TOP, Options, Texts, filled, progress, read_text, run, said
 
 # ---- the commands that tests start, and the Debian packages that have them
 
@@ -201,8 +200,15 @@ def run_one(test: Test, options: Options) -> int:
     return 1 if tally.failed else 0
 
 
-def run_all(tests: list[Test], jobs: int) -> int:
-    """Runs tests, each in a process of its own, so many side by side; prints what each printed, in one piece, and counts what it counted."""
+def run_several(tests: list[Test], options: Options) -> int:
+    """Installs what is missing, builds what is older than its texts, and runs these tests, each in a process of its own, so many side by
+    side; prints what each printed, in one piece, and counts what it counted."""
+    setup(commands_of(tests))
+    for crate in dict.fromkeys(crate for it in tests for crate in it.crates.split()):
+        try:
+            built(crate)
+        except SystemExit as error:
+            print(f"tools/test: {error}")
     running, all_passed, all_failed, last = list[str](), 0, 0, list[str]()
 
     def run_beside(test: Test) -> tuple[Test, float, Texts]:
@@ -211,7 +217,7 @@ def run_all(tests: list[Test], jobs: int) -> int:
         running.remove(test.name)
         return test, time.monotonic() - begun, ended
 
-    with progress(lambda: f"tools/test {', '.join(running)}"), ThreadPoolExecutor(jobs) as pool:
+    with progress(lambda: f"tools/test {', '.join(running)}"), ThreadPoolExecutor(options.jobs) as pool:
         beside = as_completed([pool.submit(run_beside, it) for it in tests if not it.alone])
         alone = map(run_beside, (it for it in tests if it.alone))
         for test, seconds, ended in chain((it.result() for it in beside), alone):
@@ -227,54 +233,8 @@ def run_all(tests: list[Test], jobs: int) -> int:
     return 1 if all_failed else 0
 
 
-def run_several(tests: list[Test], jobs: int) -> int:
-    """Installs what is missing, builds what is older than its texts, and runs these tests."""
-    setup(commands_of(tests))
-    for crate in dict.fromkeys(crate for it in tests for crate in it.crates.split()):
-        try:
-            built(crate)
-        except SystemExit as error:
-            print(f"tools/test: {error}")
-    return run_all(tests, jobs)
-
-
 def families(tests: list[Test]) -> dict[str, list[Test]]:
     return {family: [it for it in tests if it.family == family] for family in dict.fromkeys(it.family for it in tests) if family}
-
-
-def add_command(commands: Any, name: str, about: str, options: Iterable[Option]) -> argparse.ArgumentParser:
-    """Adds a subcommand, with its words and its help."""
-    own: argparse.ArgumentParser = commands.add_parser(name, help=about, description=f"{about[0].upper()}{about[1:]}.")
-    for option, words in options:
-        own.add_argument(option, **words)  # type: ignore[arg-type]
-    return own
-
-
-def parser_of(tests: list[Test]) -> argparse.ArgumentParser:
-    about = "Runs the tests of the repository: all, as the gate does after `rt ci`, or some by their names or the name of their family."
-    parser = argparse.ArgumentParser("tools/test", description=about)
-    parser.add_argument("-j", type=int, default=PROCESSORS, dest="jobs", metavar="N", help="so many tests side by side (one a processor)")
-    commands = parser.add_subparsers(dest="name", metavar="NAME", title="tests")
-    for it in tests:
-        add_command(commands, it.name, it.about, it.options)
-    for name, members in families(tests).items():
-        commands.add_parser(name, help=f"these: {', '.join(it.name for it in members)}")
-    commands.add_parser("setup", help="install the Debian packages that the tests need, as root or by sudo")
-    return parser
-
-
-def main(tests: list[Test], words: list[str]) -> int:
-    by_name = {it.name: it for it in tests}
-    is_counted = len(words) > 2 and words[0] == "-j" and words[1].isdecimal()
-    jobs, names = (int(words[1]), words[2:]) if is_counted else (PROCESSORS, words)
-    if len(names) > 1 and all(it in by_name for it in names):
-        return run_several([by_name[it] for it in names], jobs)
-    options = parser_of(tests).parse_args(words)
-    if options.name == "setup":
-        return 0 if setup(commands_of(tests)) else 1
-    if options.name in by_name:
-        return run_one(by_name[options.name], options)
-    return run_several(families(tests).get(options.name, tests), options.jobs)
 
 
 # ---- the tests of the tools themselves
