@@ -281,9 +281,6 @@ def a_file(chance: Chance, order: str | None = None) -> bytes:
     return edited(file, *header) + table
 
 
-# ---- changed ones
-
-
 def fields(f: Any, types: tuple[int, ...]) -> list[tuple[int, int]]:
     """Places of fields: those of the header, of each section header and program header, and the beginnings of contents; or of the
     contents of sections of some types alone."""

@@ -75,9 +75,6 @@ def must_fail_of(crate: str) -> list[Edit]:
     return [Edit(crate, os.path.basename(it), read_text(it), False) for it in paths]
 
 
-# ---- what the check says of planted bugs
-
-
 def came_to_its_end(said: str) -> bool:
     """Whether the checker could read the text and came to its end."""
     return bool(re.search(r"^only=", said, re.M))
@@ -112,9 +109,6 @@ def verdict(bug: Edit, said: str, others: Iterable[Edit]) -> str:
     inside = f"::{bug.function.rsplit('::', 1)[1]}::"
     is_own = "it calls" not in line or any(inside in name for name in re.findall("`([^`]+)`", line))
     return "refused" if is_own else "NOT REFUSED: another function than its own is open"
-
-
-# ---- many bugs
 
 
 def pick(bugs: list[Edit]) -> list[Edit]:

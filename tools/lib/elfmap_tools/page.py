@@ -50,9 +50,6 @@ def module() -> str:
     return MODULE
 
 
-# ---- what the page's scripts are given
-
-
 def layout() -> Structs:
     """The structs of include/elfmap.h, as the Python package declares them: the size of each, and its fields with their offsets."""
     tags = {getattr(_library, name): tag for name, tag in library.STRUCTS.items() if hasattr(_library, name)}
@@ -99,11 +96,8 @@ def picture(options: Options) -> None:
         write(options.picture, browser.screen(1000, 760))
 
 
-# ---- a headless Chromium, steered by Selenium, for the page's picture and its test
-
-
 class Browser:
-    """One page in a Chromium of its own."""
+    """One page in a headless Chromium of its own, steered by Selenium, for the page's picture and its test."""
 
     def __init__(self, path: str) -> None:
         from selenium import webdriver

@@ -39,9 +39,6 @@ def count_ends(tally: Tally, ends: list[str], good: str) -> None:
     tally.note(", ".join(f"{count} {it}" for it, count in sorted(Counter(ends).items()) if re.fullmatch(good, it)))
 
 
-# ---- whole files
-
-
 def files() -> Iterable[str]:
     """Each file once, by its device and number, that begins as an ELF file of class 64 does."""
     found: dict[tuple[int, int], str] = {}
@@ -287,9 +284,6 @@ def peers(options: Options) -> None:
     for rule, contents in sorted(found.items()):
         lines.append(row(f"{rule} `{names[rule]}`" + ("" if rule in changed else " *"), contents, tools))
     write(f"{TOP}/{PAGE}", "\n".join([*lines, "", f"{sum(map(len, found.values()))} files.", ""]))
-
-
-# ---- shared tails
 
 
 def lengths(content: bytes) -> tuple[int, int]:

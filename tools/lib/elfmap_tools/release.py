@@ -306,9 +306,6 @@ def deb(name: str, tree: str, folder: str, version: str) -> None:
         wanted("dpkg-deb", "--root-owner-group", "-Zxz", "--build", root, f"{folder}/{name}_{version}_{machine}.deb")
 
 
-# ---- the wheel and the crate
-
-
 def wheel(tree: str, folder: str) -> str:
     """The package with the library in it, for every Linux for x86-64 that has the C library that it needs: its path."""
     library = f"{tree}/lib/{SHARED}"

@@ -115,8 +115,6 @@ COMMAND_LIKE = re.compile(r"^(?:\./|scripts/|tools/|bench/|\.ci/|rt |tar |man |g
 # A command, which goes on in further lines, and the lines below it.
 COMMAND = re.compile(r"^\$ ((?:.*\\\n)*.*)\n((?:(?!\$ ).*\n)*)", re.M)
 
-# ---- the pages
-
 
 def blocks(text: str) -> Iterator[str]:
     for it in CODE.finditer(text):
