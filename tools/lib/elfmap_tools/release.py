@@ -363,63 +363,41 @@ MADE = [
 PLAIN = {"PATH": "/usr/bin:/bin", "LC_ALL": "C.UTF-8", "MANWIDTH": "80"}
 
 
-class Release:
-    """A release that is unpacked: its folder, and an empty one elsewhere."""
+def unpacked(tally: Tally) -> str:
+    """Packs a release twice, and unpacks it in an empty folder: its folder."""
+    room, folder = tally.folder, f"{tally.new_folder('empty')}/elfmap-{VERSION}-x86_64-linux"
+    # The first one may build the module of the page.
+    first, begun = pack(f"{room}/first", VERSION), sum(os.times()[:4])
+    second = pack(f"{room}/second", VERSION)
+    seconds = sum(os.times()[:4]) - begun
+    tally.check(seconds < MOST_SECONDS, f"a release is packed in {seconds:.0f} s of a processor")
+    tally.check(read_bytes(first) == read_bytes(second), "the archive is another one the second time")
+    tally.check(said("tar", "xf", first, folder=f"{room}/empty").returncode == 0, "tar does not unpack the archive")
+    names = {it[len(folder) + 1 :] for it in files_below(folder)}
+    # What git has in these folders; of the crate and the package without their tests.
+    listed = said("git", "ls-files", "[A-Z]*.md", "docs", "rules", "bindings", "examples").stdout.split()
+    wanted = {*MADE, *(it for it in listed if not re.search(r"^bindings/(rust|python)/tests/|^bindings/[^/]*$", it))}
+    tally.check(names == wanted, f"the archive lacks {sorted(wanted - names)}, and has beyond that {sorted(names - wanted)}")
+    tally.check(read_text(f"{folder}/VERSION") == f"{VERSION}\n", "the file VERSION has not the version")
+    return folder
 
-    def __init__(self, tally: Tally, room: str) -> None:
-        self.check, self.tally = tally.check, tally
-        self.folder, self.room = f"{room}/empty/elfmap-{VERSION}-x86_64-linux", f"{room}/elsewhere"
-        os.mkdir(f"{room}/empty")
-        os.mkdir(self.room)
-        # The first one may build the module of the page.
-        first, begun = pack(f"{room}/first", VERSION), sum(os.times()[:4])
-        second = pack(f"{room}/second", VERSION)
-        seconds = sum(os.times()[:4]) - begun
-        self.check(seconds < MOST_SECONDS, f"a release is packed in {seconds:.0f} s of a processor")
-        self.check(read_bytes(first) == read_bytes(second), "the archive is another one the second time")
-        self.check(said("tar", "xf", first, folder=f"{room}/empty").returncode == 0, "tar does not unpack the archive")
-        names = {it[len(self.folder) + 1 :] for it in files_below(self.folder)}
-        # What git has in these folders; of the crate and the package without their tests.
-        listed = said("git", "ls-files", "[A-Z]*.md", "docs", "rules", "bindings", "examples").stdout.split()
-        wanted = {*MADE, *(it for it in listed if not re.search(r"^bindings/(rust|python)/tests/|^bindings/[^/]*$", it))}
-        self.check(names == wanted, f"the archive lacks {sorted(wanted - names)}, and has beyond that {sorted(names - wanted)}")
-        self.check(self.text("VERSION") == f"{VERSION}\n", "the file VERSION has not the version")
 
-    def text(self, path: str) -> str:
-        return read_text(f"{self.folder}/{path}")
+def compare_usages(tally: Tally, folder: str) -> None:
+    """docs/MANUAL.md and the manual page have the usage of each command that the program has."""
 
-    def help(self, *words: str) -> str:
-        return said("./elfmap", *words, "--help", folder=self.folder, env=PLAIN).stdout
+    def help(*words: str) -> str:
+        return said("./elfmap", *words, "--help", folder=folder, env=PLAIN).stdout
 
-    def links(self) -> None:
-        """The relative links of the archive's pages."""
-        for page in sorted(glob.glob("**/*.md", root_dir=self.folder, recursive=True)):
-            broken = list(broken_links(f"{self.folder}/{page}", self.text(page)))
-            self.check(not broken, f"{page} has links to {broken}, which the archive lacks")
-
-    def usage(self) -> None:
-        """docs/MANUAL.md and the manual page have the usage of each command that the program has."""
-        listed = self.help().partition("Commands:")[2].partition("Options:")[0]
-        commands = re.findall(r"^  (\w+) ", listed, re.M)
-        usages = re.findall(r"^    (elfmap (\w+) .*)", self.text("docs/MANUAL.md").partition("\n## The commands\n")[2], re.M)
-        self.tally.same("the commands of docs/MANUAL.md, by the program", [it for _, it in usages], commands)
-        synopsis = self.text("share/man/man1/elfmap.1").replace(r"\-", "-").partition("\n.SH DESCRIPTION\n")[0].splitlines()
-        for usage, command in usages:
-            own = usage_by_help(self.help(command))
-            self.check(words_of(own) == words_of(usage), f"the program's usage is '{own}', and docs/MANUAL.md has '{usage}'")
-            self.check(usage in synopsis, f"the manual page has not the usage '{usage}'")
-
-    def rust(self) -> None:
-        """The crate's example by cargo, which builds outside of the archive."""
-        path = f"{os.path.dirname(shutil.which('cargo') or '')}:{PLAIN['PATH']}"
-        env = {**os.environ, "PATH": path, "CARGO_TARGET_DIR": f"{self.room}/target"}
-        built = said("cargo", "build", "--frozen", "--example", "symbols", folder=f"{self.folder}/bindings/rust", env=env)
-        self.check(built.returncode == 0, f"cargo build: {built.stdout}")
-
-    def steps(self) -> None:
-        marks = {"TOP": self.folder, "V": VERSION, "PACKAGE": version_of(), "COMMANDS": " ".join(it for it, *_ in COMMANDS)}
-        steps = steps_of("release.steps", **marks, PYTHON=os.path.dirname(sys.executable))
-        self.tally.try_steps(steps, lambda script: said("sh", "-c", script, folder=self.room, env=PLAIN).stdout)
+    commands = re.findall(r"^  (\w+) ", help().partition("Commands:")[2].partition("Options:")[0], re.M)
+    manual = read_text(f"{folder}/docs/MANUAL.md").partition("\n## The commands\n")[2]
+    usages = re.findall(r"^    (elfmap (\w+) .*)", manual, re.M)
+    tally.same("the commands of docs/MANUAL.md, by the program", [it for _, it in usages], commands)
+    page = read_text(f"{folder}/share/man/man1/elfmap.1").replace(r"\-", "-")
+    synopsis = page.partition("\n.SH DESCRIPTION\n")[0].splitlines()
+    for usage, command in usages:
+        own = usage_by_help(help(command))
+        tally.check(words_of(own) == words_of(usage), f"the program's usage is '{own}', and docs/MANUAL.md has '{usage}'")
+        tally.check(usage in synopsis, f"the manual page has not the usage '{usage}'")
 
 
 def words_of(usage: str) -> list[str]:
@@ -434,13 +412,21 @@ def usage_by_help(said: str) -> str:
     return re.sub(r"[<>]", "", usage.replace("[OPTIONS]", " ".join(f"[{it}]" for it in options)))
 
 
-@Test(
-    "release", "what a release has, and that all of it works", commands=f"{MAKERS} nm git pkg-config cargo groff", crates=f"elfmap {BOTH}"
-)
+@Test("release", "what a release has, and that all of it works", f"{MAKERS} nm git pkg-config cargo groff", f"elfmap {BOTH}")
 def try_release(tally: Tally, options: Options) -> None:
-    it = Release(tally, tally.folder)
-    for part in (it.links, it.usage, it.rust, it.steps):
-        part()
+    folder, room = unpacked(tally), tally.new_folder("elsewhere")
+    for page in sorted(glob.glob(f"{folder}/**/*.md", recursive=True)):
+        broken = list(broken_links(page, read_text(page)))
+        tally.check(not broken, f"{page} has links to {broken}, which the archive lacks")
+    compare_usages(tally, folder)
+    # The crate's example by cargo, which builds outside of the archive.
+    path = f"{os.path.dirname(shutil.which('cargo') or '')}:{PLAIN['PATH']}"
+    env = {**os.environ, "PATH": path, "CARGO_TARGET_DIR": f"{room}/target"}
+    built = said("cargo", "build", "--frozen", "--example", "symbols", folder=f"{folder}/bindings/rust", env=env)
+    tally.check(built.returncode == 0, f"cargo build: {built.stdout}")
+    marks = {"TOP": folder, "V": VERSION, "PACKAGE": version_of(), "COMMANDS": " ".join(it for it, *_ in COMMANDS)}
+    steps = steps_of("release.steps", **marks, PYTHON=os.path.dirname(sys.executable))
+    tally.try_steps(steps, lambda script: said("sh", "-c", script, folder=room, env=PLAIN).stdout)
 
 
 @Test("launcher", "what ./elfmap builds and runs for which words")
