@@ -260,14 +260,6 @@ def functions(path: str) -> list[Item]:
     return [item] if item.kind == "fn" else [it for it in item.members if it.kind == "fn"]
 
 
-def public_calls() -> Iterator[tuple[str, Item]]:
-    """Every function that a public crate shows, and every one that the library for C exports."""
-    for crate in [*(f"elf_{it}" for it in PUBLIC_CRATES), "elf_c", "elf_c_engines"]:
-        for name, item in items_in(crate).items():
-            if item.kind == "fn" and (name.startswith("elfmap_") or crate.removeprefix("elf_") in PUBLIC_CRATES):
-                yield f"{crate}::{name}", item
-
-
 @functools.cache
 def words_of(path: str) -> frozenset[str]:
     """The clauses that the contract of a call has, or the contracts of all calls of a type, and the definitions that they name."""
@@ -328,8 +320,11 @@ def try_guarantees(tally: Tally, options: Options) -> None:
         wrong = list(wrong_in(row))
         tally.check(not wrong, f"{row.said}: {'; '.join(wrong)}")
         named |= {key_of(it) for path in [*row.calls, *row.others] for it in functions(path)}
-    for path, item in public_calls():
-        tally.check(key_of(item) in named, f"{path} is in no row")
+    # Every function that a public crate shows, and every one that the library for C exports.
+    for crate in [*(f"elf_{it}" for it in PUBLIC_CRATES), "elf_c", "elf_c_engines"]:
+        for path, item in items_in(crate).items():
+            if item.kind == "fn" and (path.startswith("elfmap_") or crate.removeprefix("elf_") in PUBLIC_CRATES):
+                tally.check(key_of(item) in named, f"{crate}::{path} is in no row")
     for place in re.findall(r"^\| .* \| `([^`]*(?:\.edit|\.txt: \w+))` \|$", read_text(GUARANTEES), re.M):
         path, _, name = place.partition(": ")
         is_there = os.path.isfile(f"{TOP}/crates/{path}") and (not name or f"\n[{name}]\n" in "\n" + read_text(f"crates/{path}"))

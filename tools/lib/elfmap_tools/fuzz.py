@@ -95,17 +95,13 @@ def fuzzed_rules(rules: bytes, chance: Chance) -> bytes:
     return b"".join(chance.sample(rules.splitlines(True), chance.randrange(8))) if kind == 5 else rules
 
 
-def bad_line(rules: bytes) -> int:
-    """The number of the first line that is no rule, 0 if there is none."""
-    *lines, rest = rules.split(b"\n")
-    bad = (number > 256 or not RULE.fullmatch(it) or int(it.split(b" ")[0]) >= 1 << 32 for number, it in enumerate(lines, 1))
-    return next((number for number, is_bad in enumerate(bad, 1) if is_bad), len(lines) + 1 if rest else 0)
-
-
 def right_answer(words: list[str], files: dict[str, bytes]) -> Answer | None:
-    bad = bad_line(files["rules"]) if "--rules" in words else 0
-    if bad:
-        return 2, b"", b"bad rule line %d\n" % bad
+    """The answer of the reference, or that the first line of the rules that is none is bad, or that a file is missing."""
+    if "--rules" in words:
+        *lines, rest = files["rules"].split(b"\n")
+        bad = (k for k, it in enumerate(lines, 1) if k > 256 or not RULE.fullmatch(it) or int(it.split(b" ")[0]) >= 1 << 32)
+        if number := next(bad, len(lines) + 1 if rest else 0):
+            return 2, b"", b"bad rule line %d\n" % number
     return (3, b"", b"cannot open missing\n") if "missing" in words else answer(words, files)
 
 

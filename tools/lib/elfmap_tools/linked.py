@@ -46,13 +46,6 @@ class Workshop:
         self.wanted(compiler, *words, "-c", f"{SOURCES}/{source}", "-o", name)
         return name
 
-    def assembled(self, machine: str, source: str) -> str:
-        """Assembles a file of cases/sources/ for a machine, whose name is a macro there: the name of the object."""
-        words = f"-E -P -undef -D{machine} -x assembler-with-cpp -o source.s".split()
-        self.wanted("gcc", *words, f"{SOURCES}/{source}")
-        self.wanted(*TOOLS[machine][0], "source.s", "-o", f"{source}.o")
-        return f"{source}.o"
-
     def link(self, objects: list[str], base: str, page: str, entry: str, rules: str = RULES) -> None:
         """Links objects by elfmap as the file by-elfmap."""
         made = self.run(PROGRAM, "link", "--base", base, "--page", page, "--entry", entry, "--rules", rules, *objects)
@@ -208,13 +201,6 @@ RUNNERS = f"gcc g++ ld ar readelf eu-elflint {KLIBC}"
 PLACES = (("0x400000", "0x1000"), ("0x10000000", "0x200000"))
 
 
-def with_archive(shop: Workshop, objects: list[str]) -> list[str]:
-    """These objects, and those of klibc's archive that ld takes for them."""
-    shop.wanted("ar", "x", KLIBC)
-    traced = shop.wanted("ld", "-m", "elf_x86_64", "-static", "-e", "_start", "-t", "-t", "-o", "by-ld", *objects, KLIBC)
-    return [*objects, *dict.fromkeys(re.findall(r"^\(.*\)(.*)$", traced, re.M))]
-
-
 def difference(shop: Workshop, objects: list[str], entry: str, base: str, page: str) -> str:
     """What the program does otherwise where elfmap links it, and what others say against the executable."""
     shop.wanted("ld", "-m", "elf_x86_64", "-static", "-e", entry, "-o", "by-ld", *objects)
@@ -236,7 +222,11 @@ def linked_runs(tally: Tally, options: Options) -> None:
         shop = Workshop(tally.new_folder(title))
         objects = [shop.compiled(compiler, it, [*flags, *way.split()]) for it in sources]
         if entry == "_start":
-            objects = with_archive(shop, [CRT0, *objects])
+            # Of klibc's archive the objects that ld takes.
+            shop.wanted("ar", "x", KLIBC)
+            ld = ["ld", "-m", "elf_x86_64", "-static", "-e", "_start", "-t", "-t", "-o", "by-ld"]
+            traced = shop.wanted(*ld, CRT0, *objects, KLIBC)
+            objects = [CRT0, *objects, *dict.fromkeys(re.findall(r"^\(.*\)(.*)$", traced, re.M))]
         for place in PLACES:
             wrong = difference(shop, objects, entry, *place)
             tally.check(not wrong, f"{title}: {wrong}")
@@ -251,7 +241,12 @@ ELSEWHERE = " ".join(["gcc", *(f"{target}-as {target}-ld qemu-{qemu}" for qemu, 
 def linked_elsewhere(tally: Tally, options: Options) -> None:
     for machine, target in RUN_BY_QEMU.items():
         shop = Workshop(tally.new_folder(machine))
-        objects = [shop.assembled(machine, it) for it in ("elsewhere.S", "elsewhere_data.S")]
+        objects = ["elsewhere.o", "elsewhere_data.o"]
+        for it in objects:
+            # The machine's name is a macro in the source.
+            preprocess = f"-E -P -undef -D{machine} -x assembler-with-cpp -o source.s".split()
+            shop.wanted("gcc", *preprocess, f"{SOURCES}/{it[:-2]}.S")
+            shop.wanted(f"{target}-as", "source.s", "-o", it)
         shop.wanted(f"{target}-ld", "-Ttext-segment=0x400000", "-e", "start", *objects, "-o", "by-ld")
         shop.link(objects, "0x400000", "0x10000", "start", f"{TOP}/rules/{machine}.rules")
         ends = [it[:2] for it in shop.answers(f"qemu-{machine}")]

@@ -80,14 +80,6 @@ def came_to_its_end(said: str) -> bool:
     return bool(re.search(r"^only=", said, re.M))
 
 
-def split_by_lost_names(said: str) -> tuple[list[str], list[str]]:
-    """What the check has against the text: first that proof files name what it no longer has, which says nothing of a contract; then
-    the rest."""
-    told: list[str] = re.findall(r"^(?:note: \S+:\d+:\d+: |\S+:\d+:\d+: error: ).*$", said, re.M)
-    lost = [it for it in told if re.match(r"(\./)?proofs/.*(has no field|is not in scope|has no `|was not admitted)", it)]
-    return lost, [it for it in told if it not in lost]
-
-
 def verdict(bug: Edit, said: str, others: Iterable[Edit]) -> str:
     """ "refused", or why not; nothing if other bugs that were planted too leave it open."""
     found = re.search(rf"^fn {re.escape(bug.function)}: (.+)$", said, re.M)
@@ -96,14 +88,16 @@ def verdict(bug: Edit, said: str, others: Iterable[Edit]) -> str:
     line = found[1]
     if line == "proved":
         return "NOT REFUSED: its function is still proved"
-    lost, rest = split_by_lost_names(said)
+    # What the check has against the text: that proof files name what it no longer has, which says nothing of a contract; and the rest.
+    told: list[str] = re.findall(r"^(?:note: \S+:\d+:\d+: |\S+:\d+:\d+: error: ).*$", said, re.M)
+    lost = [it for it in told if re.match(r"(\./)?proofs/.*(has no field|is not in scope|has no `|was not admitted)", it)]
     proofs = [f"proofs/{it.function.removeprefix(f'{it.crate}::').replace('::', '/')}/" for it in others]
     if proofs:
         # A proof takes the functions that it calls by their contracts: what the check doesn't prove of this one is due to its own text.
         is_own = "it calls" not in line or "did not prove" in line
         is_lost = any(not any(own in it for own in proofs) for it in lost)
         return "refused" if is_own and not is_lost else ""
-    if lost and not rest:
+    if lost and lost == told:
         return "NOT REFUSED: proof files name what it took away, and no more"
     # What it calls and is open has to be a closure in it: no other function of the text has a bug.
     inside = f"::{bug.function.rsplit('::', 1)[1]}::"

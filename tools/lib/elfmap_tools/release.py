@@ -395,7 +395,11 @@ def compare_usages(tally: Tally, folder: str) -> None:
     page = read_text(f"{folder}/share/man/man1/elfmap.1").replace(r"\-", "-")
     synopsis = page.partition("\n.SH DESCRIPTION\n")[0].splitlines()
     for usage, command in usages:
-        own = usage_by_help(help(command))
+        said = help(command)
+        (own,) = re.findall(r"Usage: (.*)", said)
+        # Its options in place of [OPTIONS].
+        given = [it for it in re.findall(r"^ +(?:-\w, )?(--\w+(?: <\w+>)?)", said, re.M) if it != "--help" and it not in own]
+        own = re.sub(r"[<>]", "", own.replace("[OPTIONS]", " ".join(f"[{it}]" for it in given)))
         tally.check(words_of(own) == words_of(usage), f"the program's usage is '{own}', and docs/MANUAL.md has '{usage}'")
         tally.check(usage in synopsis, f"the manual page has not the usage '{usage}'")
 
@@ -403,13 +407,6 @@ def compare_usages(tally: Tally, folder: str) -> None:
 def words_of(usage: str) -> list[str]:
     """The words and options of a usage, in any order."""
     return sorted(re.findall(r"\[[^\]]*\]|--\w+ [A-Z]+|\S+", usage))
-
-
-def usage_by_help(said: str) -> str:
-    """The usage that the program prints, with its options in place of [OPTIONS]."""
-    (usage,) = re.findall(r"Usage: (.*)", said)
-    options = [it for it in re.findall(r"^ +(?:-\w, )?(--\w+(?: <\w+>)?)", said, re.M) if it != "--help" and it not in usage]
-    return re.sub(r"[<>]", "", usage.replace("[OPTIONS]", " ".join(f"[{it}]" for it in options)))
 
 
 @Test("release", "what a release has, and that all of it works", f"{MAKERS} nm git pkg-config cargo groff", f"elfmap {BOTH}")

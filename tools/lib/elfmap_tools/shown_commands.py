@@ -166,19 +166,6 @@ class Page:
         script = f'{before}\n{command}\nstatus=$?\n{{ export -p; printf "cd %q\\n" "$PWD"; }} > "{state}"\nexit $status'
         return said("bash", "-c", script, folder=self.folder, env=self.environment, timeout=LONGEST).stdout
 
-    def try_command(self, command: str, shown: str) -> None:
-        if command in SKIPPED:
-            return self.tally.note(f"skipped in {self.name}, {SKIPPED[command]}: {command}")
-        output = self.run(command)
-        self.tally.check(is_as_shown(output, shown), f"{self.name} shows below '{command}':\n{shown}\nand it says:\n{output}")
-
-    def try_python(self, block: str) -> None:
-        """A block of Python, as doctest has it."""
-        write(f"{self.folder}/shown.txt", re.sub(r" \.\.$", " ...", block, flags=re.M))
-        env = f'PYTHONDONTWRITEBYTECODE=1 PYTHONPATH="{self.folder}/bindings/python"'
-        output = self.run(f'{env} "{sys.executable}" -m doctest -o ELLIPSIS "{self.folder}/shown.txt"')
-        self.tally.check(not output, f"{self.name} shows other lines of Python than there are:\n{output}")
-
     def try_commands(self) -> None:
         every = [command for block in blocks(self.text) for command, _ in commands(block) if command not in SKIPPED]
         if others := list(foreign(every)):
@@ -188,10 +175,17 @@ class Page:
             if bare and not commands(block):
                 self.tally.fail(f"{self.name} has a command without its '$ ': {bare[0]}")
             for command, shown in commands(block):
-                self.try_command(command, shown)
-            # The pages of the bindings are tried by their own tests.
+                if command in SKIPPED:
+                    self.tally.note(f"skipped in {self.name}, {SKIPPED[command]}: {command}")
+                    continue
+                output = self.run(command)
+                self.tally.check(is_as_shown(output, shown), f"{self.name} shows below '{command}':\n{shown}\nand it says:\n{output}")
+            # Python is shown as doctest has it; the pages of the bindings are tried by their own tests.
             if re.search("^>>> ", block, re.M) and not self.name.startswith("bindings/"):
-                self.try_python(block)
+                write(f"{self.folder}/shown.txt", re.sub(r" \.\.$", " ...", block, flags=re.M))
+                env = f'PYTHONDONTWRITEBYTECODE=1 PYTHONPATH="{self.folder}/bindings/python"'
+                output = self.run(f'{env} "{sys.executable}" -m doctest -o ELLIPSIS "{self.folder}/shown.txt"')
+                self.tally.check(not output, f"{self.name} shows other lines of Python than there are:\n{output}")
 
     def try_all(self) -> None:
         self.try_commands()

@@ -138,9 +138,6 @@ class Tally:
     def note(self, text: str) -> None:
         print(f"{self.name}: {text}", flush=True)
 
-    def __str__(self) -> str:
-        return f"{self.passed} passed, {self.failed} failed"
-
 
 @dataclass
 class Test:
@@ -196,7 +193,7 @@ def run_one(test: Test, options: Options) -> int:
             tally.fail(f"it ended early: {error}\n{trace}".rstrip())
         if not tally.passed and not tally.failed:
             tally.fail("it tried nothing")
-    print(tally)
+    print(f"{tally.passed} passed, {tally.failed} failed")
     return 1 if tally.failed else 0
 
 
