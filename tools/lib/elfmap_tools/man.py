@@ -2,8 +2,8 @@
 command has a part of its own, whose text up to the first example comes below COMMANDS, and what follows below EXAMPLES. A row of a table
 becomes a paragraph with its first cell as the tag. pandoc makes the page of this.
 
-And completions of bash, zsh and fish for a command. They read the help that it prints: its subcommands, its options, and the words that an
-option takes. All other words are files."""
+And completions of bash, zsh and fish for a command (completions/). They read the help that it prints: its subcommands, its options, and the
+words that an option takes. All other words are files."""
 
 import re, subprocess
 
@@ -67,46 +67,15 @@ def page(version: str) -> str:
     return by_pandoc("elfmap", version, list(map(with_tags, [*text, *examples, "# SEE ALSO", others, PAGES])))
 
 
-# ---- Completions
-
 # The help of a command, in which each thing listed has one line; of these the words, with what is said of them; and the words that an option
 # takes.
 HELP = r"--help 2>&1 | sed -zE 's/\n {10,}/  /g'"
 LISTED = r"sed -nE 's/^ +(-., )?(--?[a-z0-9-]+|[a-z]+)( [^ ]+)*  +(.*)/\2\t\4/p'"
 CHOICES = r"sed -nE 's/^ +'$before' \{(.*)\}.*/\1/p'"
-BASH = r"""# bash completion of @NAME@
-@FUNCTION@() {
-    local word=${COMP_WORDS[COMP_CWORD]} before=${COMP_WORDS[COMP_CWORD-1]//[^-a-z0-9]/}
-    local sub=$( ((COMP_CWORD > 1)) && grep -x '[a-z]*' <<< "${COMP_WORDS[1]}")
-    local help=$(@NAME@ $sub @HELP@)
-    local words=$(@LISTED@ <<< "$help" | cut -f 1 | if [[ $word == -* ]]; then cat; else grep '^[a-z]'; fi)
-    COMPREPLY=($(compgen -W "$words $(@CHOICES@ <<< "$help" | tr , ' ')" -- "$word"))
-}
-complete -o default -F @FUNCTION@ @NAME@
-"""
-ZSH = r"""#compdef @NAME@
-local before=${words[CURRENT-1]//[^-a-z0-9]/} sub=""
-(( CURRENT > 2 )) && [[ $words[2] == [a-z]* ]] && sub=$words[2]
-local help="$(@NAME@ $sub @HELP@)"
-local -a listed=(${(f)"$(@LISTED@ <<< $help | tr '\t' :)"})
-local -a options=(${(M)listed:#-*}) commands=(${listed:#-*}) choices=(${(s:,:)"$(@CHOICES@ <<< $help)"})
-_describe -o option options && return
-_describe word choices || _describe command commands || _files
-"""
-FISH = r"""function @FUNCTION@
-    set -l words (commandline -opc)
-    set -l before (string replace -ra '[^-a-z0-9]' '' -- $words[-1])
-    set -l help (env $words[1] (string match -r '^[a-z]+$' -- $words[2]) @HELP@ | string collect)
-    set -l kind (string match -rq '^-' -- (commandline -ct); and echo '^-'; or echo '^[a-z]')
-    echo $help | @LISTED@ | string match -re $kind
-    echo $help | @CHOICES@ | string split ,
-end
-complete -c @NAME@ -a '(@FUNCTION@)'
-"""
 
 
 def completions(name: str) -> dict[str, str]:
     """The files of the completions of a command, by their places below /usr/share."""
     parts = {"NAME": name, "FUNCTION": "_" + re.sub(r"\W", "_", name), "HELP": HELP, "LISTED": LISTED, "CHOICES": CHOICES}
-    texts = {"bash-completion/completions/{}": BASH, "zsh/vendor-completions/_{}": ZSH, "fish/vendor_completions.d/{}.fish": FISH}
-    return {place.format(name): filled(text, **parts) for place, text in texts.items()}
+    shells = {"bash": "bash-completion/completions/{}", "zsh": "zsh/vendor-completions/_{}", "fish": "fish/vendor_completions.d/{}.fish"}
+    return {place.format(name): filled(read_text(f"completions/{shell}"), **parts) for shell, place in shells.items()}

@@ -47,16 +47,6 @@ if __name__ == "__main__":
 BESIDE = """
 top = os.path.dirname(os.path.dirname(os.path.realpath(__file__)))
 sys.path.insert(0, f"{top}/bindings/python")"""
-PKG_CONFIG = """prefix=@PREFIX@
-includedir=${prefix}/include
-libdir=${prefix}/@LIBDIR@
-
-Name: elfmap
-Description: ELF-64 files: verdict, records, tables, rewriting and linking
-Version: @VERSION@
-Cflags: -I${includedir}
-Libs: -L${libdir} -lelfmap
-"""
 # The files of the repository that it has: those of the bindings but for their tests, which need the repository.
 FILES = """README.md CONTRIBUTING.md CHANGELOG.md SECURITY.md docs/* rules/*.rules examples/* include/elfmap.h bindings/c/*.[ch]
     bindings/rust/Cargo.lock bindings/rust/Cargo.toml bindings/rust/README.md bindings/rust/build.rs bindings/rust/examples/*
@@ -167,7 +157,7 @@ def put_release(folder: str, version: str) -> None:
         "VERSION": f"{version}\n",
         "bin/elfmap": runner(version, "elfmap"),
         "doc/elfmap-doc.html": f"{library_page}\n",
-        "lib/pkgconfig/elfmap.pc": filled(PKG_CONFIG, PREFIX="${pcfiledir}/../..", LIBDIR="lib", VERSION=version),
+        "lib/pkgconfig/elfmap.pc": filled(read_text("include/elfmap.pc.in"), PREFIX="${pcfiledir}/../..", LIBDIR="lib", VERSION=version),
         "share/man/man1/elfmap.1": man.page(version),
     }
     for name, module, function in COMMANDS:
@@ -253,7 +243,10 @@ def put_dev(root: str, tree: str, version: str) -> None:
     copied(f"{tree}/lib/libelfmap.a", f"{root}/{LIBRARIES}/libelfmap.a")
     copied(f"{tree}/include/elfmap.h", f"{root}/usr/include/elfmap.h")
     os.symlink(SHARED, f"{root}/{LIBRARIES}/libelfmap.so")
-    put(f"{root}/{LIBRARIES}/pkgconfig/elfmap.pc", filled(PKG_CONFIG, PREFIX="/usr", LIBDIR=f"lib/{TRIPLET}", VERSION=version))
+    put(
+        f"{root}/{LIBRARIES}/pkgconfig/elfmap.pc",
+        filled(read_text("include/elfmap.pc.in"), PREFIX="/usr", LIBDIR=f"lib/{TRIPLET}", VERSION=version),
+    )
     for it in ("sections.c", "symbols.c"):
         copied(f"{tree}/bindings/c/{it}", f"{root}/usr/share/doc/libelfmap-dev/examples/{it}")
 
