@@ -15,8 +15,9 @@ It looks every two seconds at the processes below PID, until it is told to end (
 crate has the minutes of the checker's runs on it: its proof, its tests, the edits of its must-fail/, and its planted bugs. What a process
 did after the last look at it is lost, two seconds at most."""
 
-import collections, fcntl, os, re, shutil, signal, subprocess, time
+import collections, contextlib, fcntl, os, re, shutil, signal, subprocess, time
 from collections.abc import Callable
+from pathlib import Path
 from typing import Any
 
 import made
@@ -126,23 +127,13 @@ def instructions(tally: Tally, options: Options) -> None:
 TICKS = 60 * os.sysconf("SC_CLK_TCK")
 COLUMNS = ("all", "proof", "tests", "edits", "mutations")
 SCRIPTED = ("python3", "python", "bash", "sh", "env")
-# When a process began, the one that started it, and the processor time of itself and of those that it waited for.
-Process = tuple[str, int, int]
 
 
 def text_of(pid: int, name: str) -> str:
     """A file of /proc; nothing of a process that is gone."""
-    try:
-        with open(f"/proc/{pid}/{name}", encoding="utf-8", errors="replace") as it:
-            return it.read()
-    except OSError:
-        return ""
-
-
-def processes() -> dict[int, Process]:
-    # The name, in parentheses, may hold blanks and parentheses.
-    found = {int(pid): text_of(int(pid), "stat").rpartition(")")[2].split() for pid in filter(str.isdigit, os.listdir("/proc"))}
-    return {pid: (fields[19], int(fields[1]), sum(map(int, fields[11:15]))) for pid, fields in found.items() if fields}
+    with contextlib.suppress(OSError):
+        return Path(f"/proc/{pid}/{name}").read_text(encoding="utf-8", errors="replace")
+    return ""
 
 
 def name_of(words: list[str]) -> str:
@@ -168,15 +159,18 @@ class Minutes:
         self.works: dict[tuple[int, str], tuple[str, str, int]] = {}
 
     def look(self) -> None:
-        found, children = processes(), collections.defaultdict[int, list[int]](list)
-        for pid, (_, parent, _) in found.items():
-            children[parent].append(pid)
+        # Of each process what is behind its name, which is in parentheses, and may hold blanks and parentheses.
+        stats = {int(it): text_of(int(it), "stat").rpartition(")")[2].split() for it in filter(str.isdigit, os.listdir("/proc"))}
+        found, children = {pid: it for pid, it in stats.items() if it}, collections.defaultdict[int, list[int]](list)
+        for pid, it in found.items():
+            children[int(it[1])].append(pid)
 
         def total(pid: int) -> int:
-            return found[pid][2] + sum(map(total, children[pid]))
+            """The processor time of a process, of those that it waited for, and of those below it."""
+            return sum(map(int, found[pid][11:15])) + sum(map(total, children[pid]))
 
         def see(pid: int, part: str) -> None:
-            words, key = text_of(pid, "cmdline").split("\0")[:-1], (pid, found[pid][0])
+            words, key = text_of(pid, "cmdline").split("\0")[:-1], (pid, found[pid][19])
             # A run of all tests has a process for each of them.
             if not part and (part := name_of(words)):
                 self.parts[key] = part, total(pid)
