@@ -4,6 +4,7 @@ and builds it; and `tools/dev check`, the loop while one writes."""
 import fcntl, functools, glob, hashlib, os, re, resource, shutil, sys, tempfile, time
 from collections.abc import Callable, Iterable
 from concurrent.futures import Future, ThreadPoolExecutor
+from pathlib import Path
 
 from .tree import LIBRARIES_OF, PROCESSORS, STATIC_LIBRARIES, TOP
 from .tree import Options, below, deps, is_newer, is_program, read_bytes, read_text, said, texts_of, write
@@ -143,12 +144,11 @@ class Build:
             self.rlibs[dep].result()
         if is_built_by_prove(crate):
             return
-        made = f"{RLIBS}/{crate}.sum"
-        if os.path.exists(made):
-            os.remove(made)
+        made = Path(RLIBS, f"{crate}.sum")
+        made.unlink(missing_ok=True)
         command = [f"{kit()}/bin/rattle", "build", *words(crate, lambda _: RLIBS), "--statements"]
         run([*command, "--jobs", str(self.jobs_of(crate)), "-o", f"{RLIBS}/{crate}.rlib"], crate)
-        write(made, sum_of(crate))
+        made.write_text(sum_of(crate), encoding="ascii")
 
     def output(self, folder_of: FolderOf) -> None:
         """Builds the program, or the library for C."""
@@ -189,10 +189,6 @@ def built(crate: str) -> str:
     if not is_current(crate, path):
         Build(crate).all()
     return path
-
-
-def prove(options: Options) -> None:
-    Build(options.crate).all()
 
 
 # ---- the inner loop

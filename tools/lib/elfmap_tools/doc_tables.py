@@ -143,16 +143,13 @@ def rust() -> str:
     return "\n".join([*lines, *rust_table("TABLE", file_rules()), "", *rust_table("LINK_TABLE", rules_of("link")), ""])
 
 
-def python_table(name: str, words: str, rules: list[Rule]) -> str:
-    table = pprint.pformat({it.number: (it.name, it.sentence, it.advice) for it in rules}, width=88)
-    return f"\n# {words}\n{name} = {table}\n"
-
-
 def python() -> str:
-    files = python_table("RULES", "The name, the sentence and the advice of each rule of files.", file_rules())
-    return (
-        f'"""The rules by their numbers. {MADE}"""\n{files}{python_table("LINK_RULES", "Those of each rule of links.", rules_of("link"))}'
-    )
+    text = f'"""The rules by their numbers. {MADE}"""\n'
+    files = "RULES", "The name, the sentence and the advice of each rule of files.", file_rules()
+    for name, words, rules in (files, ("LINK_RULES", "Those of each rule of links.", rules_of("link"))):
+        table = pprint.pformat({it.number: (it.name, it.sentence, it.advice) for it in rules}, width=88)
+        text += f"\n# {words}\n{name} = {table}\n"
+    return text
 
 
 def rattle(words: str, rules: list[Rule]) -> str:

@@ -87,8 +87,7 @@ FOLDERS = ["bench", "cases", "crates", "reference", "tools"]
 ARCHIVE = "elfmap-VERSION-x86_64-linux"
 LONGEST = 60
 # Commands that are not run here, and why.
-LONG, MEASURED = "it proves, for minutes or seconds, with the Rattle kit", "it measures, for minutes"
-WHEEL = "tools/test packages installs the wheel"
+LONG, WHEEL = "it proves, for minutes or seconds, with the Rattle kit", "tools/test packages installs the wheel"
 SKIPPED = {
     "rt ci": LONG,
     "tools/dev prove elf_image_rules": LONG,
@@ -98,11 +97,9 @@ SKIPPED = {
     f"man -l {ARCHIVE}/share/man/man1/elfmap.1": "it shows a page; tools/test release has it formatted",
     "python3 -m venv venv && venv/bin/pip install elfmap-*.whl": WHEEL,
     "venv/bin/elfmap-gaps --most 20 /usr/lib": WHEEL,
-    "bench/run": MEASURED,
-    "bench/growth crates/elfmap/out/elfmap": MEASURED,
-    "bench/library": MEASURED,
-    "bench/lint": MEASURED,
 }
+MEASURED = ("bench/run", "bench/growth crates/elfmap/out/elfmap", "bench/library", "bench/lint")
+SKIPPED |= dict.fromkeys(MEASURED, "it measures, for minutes")
 # Tools whose output depends on their version, and the packages by which README.md names that.
 PACKAGES = {"gcc": "gcc", "readelf": "binutils", "objcopy": "binutils", "ld": "binutils", "eu-elflint": "elfutils"}
 PACKAGES |= {"llvm-objcopy": "LLVM", "llvm-readobj": "LLVM"}
@@ -111,7 +108,6 @@ TOOLS = " ".join([*PACKAGES, "pkg-config", MAKERS])
 MACHINE_FILES = {"/bin/true": 35664}
 # A code line that begins so is a command.
 COMMAND_LIKE = re.compile(r"^(?:\./|scripts/|tools/|bench/|\.ci/|rt |tar |man |gcc |cc |cargo |python3 ).*", re.M)
-
 # A command, which goes on in further lines, and the lines below it.
 COMMAND = re.compile(r"^\$ ((?:.*\\\n)*.*)\n((?:(?!\$ ).*\n)*)", re.M)
 
@@ -154,8 +150,7 @@ class Page:
 
     def __init__(self, tally: Tally, path: str, folder: str) -> None:
         self.tally, self.path, self.folder = tally, path, folder
-        self.name = os.path.relpath(path, TOP)
-        self.text = read_text(path)
+        self.name, self.text = os.path.relpath(path, TOP), read_text(path)
         own = {"PATH": f"{folder}/bin:{os.environ['PATH']}", "XDG_CACHE_HOME": f"{folder}/.cache", "HOME": folder}
         self.environment = os.environ | own | {"LC_ALL": "C.UTF-8", "ELFMAP": PROGRAM}
 
@@ -199,9 +194,7 @@ class Page:
         self.tally.check(not links, f"{self.name} has links that lead nowhere: {links}")
 
 
-@Test(
-    "shown-commands", "the commands that the pages show print what is below them", commands=TOOLS, crates=f"elfmap {BOTH} example_symbols"
-)
+@Test("shown-commands", "the commands that the pages show print what is below them", TOOLS, f"elfmap {BOTH} example_symbols")
 def shown_commands(tally: Tally, options: Options) -> None:
     pages = [f"{TOP}/{it}" for it in all_pages()]
     every = [command for path in pages for block in blocks(read_text(path)) for command, _ in commands(block)]
