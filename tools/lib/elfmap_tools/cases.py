@@ -363,28 +363,23 @@ def content_fields(f: Any, i: int) -> list[Field]:
     return found + ([("string end", begin, 1), ("string end", end - 1, 1)] if it.sh_type == STRTAB and end > begin else [])
 
 
-def named_fields(file: bytes) -> list[Field]:
-    """The fields of a sound file: the name, the offset and the width of each."""
-    f = File(file)
-    found = [(name, at, width) for name, (at, width) in IDENTIFICATION.items()] + record_fields(f.header)
-    for i, it in f.sections():
-        found += record_fields(it, "0 " if i == 0 else "") + content_fields(f, i)
-    return found + [field for it in f.segments() for field in record_fields(it)]
-
-
 def changed_field(chance: Chance, file: bytes, of_rule: int) -> bytes | None:
     """A sound file with one field changed of which a rule speaks: to a number at a border, to that of another field of its name, or to a
     small one; None where the file has no such field."""
     spoken, _, fixed = SPOKEN_OF[of_rule].partition("=")
-    found = [it for it in named_fields(file) if it[0] in spoken.split(", ")]
+    f: Any = File(file)
+    fields = [(name, at, width) for name, (at, width) in IDENTIFICATION.items()] + record_fields(f.header)
+    for i, it in f.sections():
+        fields += record_fields(it, "0 " if i == 0 else "") + content_fields(f, i)
+    fields += [field for it in f.segments() for field in record_fields(it)]
+    found = [it for it in fields if it[0] in spoken.split(", ")]
     if not found:
         return None
-    order: Any = File(file).order
     name, at, width = chance.choice(found)
     _, other, _ = chance.choice([it for it in found if it[0] == name])
-    old, another = (int.from_bytes(file[place : place + width], order) for place in (at, other))
+    old, another = (int.from_bytes(file[place : place + width], f.order) for place in (at, other))
     new = int(fixed) if fixed else chance.choice((value(chance, width, len(file), old), another, chance.randrange(20)))
-    return file[:at] + new.to_bytes(width, order) + file[at + width :]
+    return file[:at] + new.to_bytes(width, f.order) + file[at + width :]
 
 
 # ---- generated cases

@@ -5,13 +5,12 @@ definition, at the end of the page with its comment and text. It fails where an 
 `tools/test must-not-compile`: each function of cases/sources/outlives.rt.txt has an error of the borrow checker.
 
 `tools/test doc-examples`: each example in the docs of the libraries compiles: its names, types, moves and borrows are right. Nothing is
-proved of it, since what an example leaves out, as a check of a number, a proof would need.
-
-An example is a code block of a doc comment whose fence names no language. It is made the body of a function that returns any error, in a
-crate for this alone. There it sees what its own crate shows, before what crates below show, and what is named in `OF_STD`. What it uses
-and does not bind is a parameter, of the type in `GIVEN`; a name that is not there is an unknown one. The crates are read as they are, so
-none has to be built. Those functions are beside the examples: that they are refused shows that borrows are checked, and ends the compiler
-before the work of proofs, which takes ten times as long."""
+proved of it, since what an example leaves out, as a check of a number, a proof would need. An example is a code block of a doc comment
+whose fence names no language. It is made the body of a function that returns any error, in a crate for this alone. There it sees what its
+own crate shows, before what crates below show, and what is named in `OF_STD`. What it uses and does not bind is a parameter, of the type in
+`GIVEN`; a name that is not there is an unknown one. The crates are read as they are, so none has to be built. Those functions are beside
+the examples: that they are refused shows that borrows are checked, and ends the compiler before the work of proofs, which takes ten times
+as long."""
 
 import functools, os, re, sys
 from collections import Counter

@@ -10,10 +10,10 @@ others are of two objects that are linked, and of the rules of rules/x86-64.rule
 the rules is an error of status 2, a file that is not there one of status 3; else all say what the reference says, and `check` accepts what
 `link` wrote.
 
-`tools/test changed-files`: the beginnings of an object of 608 bytes, and the files that differ from it in one byte, each byte to each
-other value. The program `tests_calls` makes the calls of the library on all of them: `check` and `verdict` say what the reference
-implementation says; a file that is accepted is written back unchanged; it is an object, or breaks the rule of objects that the reference
-says; and `rewrite` of it is the reference's. (What `elfmap` says of such files by the rules is in cases/image_rules.txt.)
+`tools/test changed-files`: the beginnings of an object of 608 bytes, and the files that differ from it in one byte, each byte to each other
+value. The program `tests_calls` makes the calls of the library on all of them: `check` and `verdict` say what the reference implementation
+says; a file that is accepted is written back unchanged; it is an object, or breaks the rule of objects that the reference says; and
+`rewrite` of it is the reference's. (What `elfmap` says of such files by the rules is in cases/image_rules.txt.)
 
 `tools/test made-programs`: programs for Linux on x86-64, made of one to three objects, are linked by `elfmap link` and run: each ends by a
 system call, with the status that its steps come to. A step adds to a register a number, a word of memory, what a pointer leads to, or the
@@ -56,18 +56,16 @@ def count_tries(tally: Tally, options: Options, name: str, wrong_in: Callable[[i
 ABOUT_MUTANTS, COMPILERS = "files and links with fields changed, beside the reference implementation", "gcc g++ clang ld.lld rustc as"
 LONGEST = 1 << 19
 BIG = "--target=powerpc64-unknown-linux-gnu"
-BUILDS = (
-    "gcc -c -g defining.c -o part.o",
-    "gcc -c -ffunction-sections templates.cc -o templates.o",
-    "gcc -shared -nostdlib -fPIC defining.c -Wl,--hash-style=sysv -o part.so",
-    "gcc -nostdlib -static defining.c -o part",
-    f"clang -c {BIG} defining.c -o part-big.o",
-    f"clang -c {BIG} templates.cc -o templates-big.o",
-    "ld.lld -shared --hash-style=sysv part-big.o -o part-big.so",
-    "ld.lld part-big.o -o part-big",
-    "rustc --crate-type lib --emit obj -C opt-level=s -C codegen-units=1 held.rs -o held.o",
-    "as parts.s -o parts.o",
-)
+BUILDS = f"""gcc -c -g defining.c -o part.o
+gcc -c -ffunction-sections templates.cc -o templates.o
+gcc -shared -nostdlib -fPIC defining.c -Wl,--hash-style=sysv -o part.so
+gcc -nostdlib -static defining.c -o part
+clang -c {BIG} defining.c -o part-big.o
+clang -c {BIG} templates.cc -o templates-big.o
+ld.lld -shared --hash-style=sysv part-big.o -o part-big.so
+ld.lld part-big.o -o part-big
+rustc --crate-type lib --emit obj -C opt-level=s -C codegen-units=1 held.rs -o held.o
+as parts.s -o parts.o""".splitlines()
 PAIR = tuple(f"gcc -c -O1 -fno-pic -fno-pie -fcommon {it}.c -o linked-{it}.o" for it in ("caller", "defining"))
 SYSTEM = ("/usr/lib/x86_64-linux-gnu/crt1.o", "/usr/lib/x86_64-linux-gnu/libutil.so.1", "/usr/bin/true")
 # Bases and pages; the last pair breaks rule 1.

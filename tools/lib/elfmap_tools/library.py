@@ -7,9 +7,9 @@ which exports the calls of include/elfmap.h and nothing else.
 
 `tools/test c-library`: the libraries for C, of the crates elf_c (verdicts, records and tables, without memory) and elf_c_engines (show,
 rewrite, map and link, with the three functions of memory under the names that include/elfmap.h gives them), beside the header. By cc, and
-by clang with its checks of addresses and of undefined behavior, bindings/c/test.c passes, and says of each file of cases/*.txt, and of
-some of the machine's own, what the reference implementation says; and bindings/c/engines.c answers what each case of the commands show,
-rewrite, map and link says. C++ takes the header too.
+by clang with its checks of addresses and of undefined behavior, bindings/c/test.c passes, and says of each file of cases/*.txt, and of some
+of the machine's own, what the reference implementation says; and bindings/c/engines.c answers what each case of the commands show, rewrite,
+map and link says. C++ takes the header too.
 
 `tools/test bindings`: the crate in bindings/rust by `cargo test`, and the package in bindings/python by unittest, over the library of
 `tools/release library`; what both declare of the library is what include/elfmap.h declares. Nothing is fetched, and nothing is written but
@@ -127,6 +127,7 @@ def packed() -> str:
 # ---- the tests of the library, and the header beside its texts
 
 C = f"{TOP}/bindings/c"
+CHECKERS = f"cc c++ clang nm objcopy {SANITIZERS}"
 WARNINGS = ["-std=c99", "-pedantic", "-Wall", "-Wextra", "-Werror", f"-I{TOP}/include"]
 COMPILERS = {"cc": ["-O2"], "clang": ["-O1", "-g", "-fsanitize=address,undefined", "-fno-sanitize-recover=all"]}
 MACHINE_FILES = ["/bin/true", "/bin/ls", "/lib/x86_64-linux-gnu/libc.so.6", "/usr/lib/x86_64-linux-gnu/crt1.o"]
@@ -226,12 +227,7 @@ def try_engines(tally: Tally, program: str) -> None:
         tally.check((status, out) == (0, right), f"{call}: {why}")
 
 
-@Test(
-    "c-library",
-    "the libraries for C, and the header, by cc and by clang with its checks",
-    commands=f"cc c++ clang nm objcopy {SANITIZERS}",
-    crates=BOTH,
-)
+@Test("c-library", "the libraries for C, and the header, by cc and by clang with its checks", CHECKERS, BOTH)
 def c_library(tally: Tally, options: Options) -> None:
     room, verdicts = tally.folder, built(VERDICTS)
     compare_header(tally)

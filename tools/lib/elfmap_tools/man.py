@@ -1,9 +1,8 @@
 """`tools/release man`: the manual page of the program, from docs/MANUAL.md: its first paragraph, and its section "The commands". There each
 command has a part of its own, whose text up to the first example comes below COMMANDS, and what follows below EXAMPLES. A row of a table
-becomes a paragraph with its first cell as the tag. pandoc makes the page of this.
-
-And completions of bash, zsh and fish for a command (completions/). They read the help that it prints: its subcommands, its options, and the
-words that an option takes. All other words are files."""
+becomes a paragraph with its first cell as the tag. pandoc makes the page of this. And completions of bash, zsh and fish for a command
+(completions/). They read the help that it prints: its subcommands, its options, and the words that an option takes. All other words are
+files."""
 
 import re, subprocess
 

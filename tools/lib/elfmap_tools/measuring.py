@@ -2,18 +2,15 @@
 
 `tools/test instructions`: counts the instructions of each command on generated files (bench/made.py), and compares the counts with the
 numbers in bench/instructions, which `--store` stores (docs/PERFORMANCE.md). A row is a command and its input. It fails if its count is more
-than PERCENT above its number, or has none; and so do a number without a row, and a command of `elfmap --help` without one.
+than PERCENT above its number, or has none; and so do a number without a row, and a command of `elfmap --help` without one. valgrind counts
+(its tool callgrind). It interprets the program, so the same run always has the same count. The program runs in its own folder, with
+relative names, the same environment, and the same routines of the C library on every processor. With another version of the C library or of
+valgrind the counts are slightly different.
 
-valgrind counts (its tool callgrind). It interprets the program, so the same run always has the same count. The program runs in its own
-folder, with relative names, the same environment, and the same routines of the C library on every processor. With another version of the C
-library or of valgrind the counts are slightly different.
-
-`tools/dev minutes PID`: the processor minutes of what the process PID starts, by part (each program that it starts itself, and each test
-of `tools/test`) and by crate.
-
-It looks every two seconds at the processes below PID, until it is told to end (SIGTERM) or PID is gone, and then prints what it saw. A
-crate has the minutes of the checker's runs on it: its proof, its tests, the edits of its must-fail/, and its planted bugs. What a process
-did after the last look at it is lost, two seconds at most."""
+`tools/dev minutes PID`: the processor minutes of what the process PID starts, by part (each program that it starts itself, and each test of
+`tools/test`) and by crate. It looks every two seconds at the processes below PID, until it is told to end (SIGTERM) or PID is gone, and
+then prints what it saw. A crate has the minutes of the checker's runs on it: its proof, its tests, the edits of its must-fail/, and its
+planted bugs. What a process did after the last look at it is lost, two seconds at most."""
 
 import collections, contextlib, fcntl, os, re, shutil, signal, subprocess, time
 from collections.abc import Callable

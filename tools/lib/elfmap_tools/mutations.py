@@ -2,12 +2,10 @@
 
 Bugs are planted several at a time, each in a function of its own. If a check cannot tell, because all that it has against a function is
 that it calls another one that is open too, or because proof files name what the bug took away, the next check decides, and at last one of
-this bug alone.
-
-A check reads only the functions that have a bug, and those that they call: that is why it takes less than `rt ci` does for an edit in
-must-fail/, which costs a check of its crate. In the gate only those with the line `gate: yes` are planted, over the libraries as `rt ci`
-has just left them. A library of the program that has none of them, and no edit in must-fail/ either, has failed: nothing shows there that
-its contracts refuse a wrong body."""
+this bug alone. A check reads only the functions that have a bug, and those that they call: that is why it takes less than `rt ci` does for
+an edit in must-fail/, which costs a check of its crate. In the gate only those with the line `gate: yes` are planted, over the libraries as
+`rt ci` has just left them. A library of the program that has none of them, and no edit in must-fail/ either, has failed: nothing shows
+there that its contracts refuse a wrong body."""
 
 import glob, os, re, shutil, tempfile
 from collections import Counter
@@ -19,6 +17,8 @@ from .suite import Tally, Test, flag, word
 from .tree import LIBRARIES_OF, PROCESSORS, TOP, Options, below, read_text, write
 
 ABOUT = "the check refuses each bug of mutations.txt with 'gate: yes'; of CRATE.., or with --all of every crate, each bug"
+# What the checker prints if it could read the text and came to its end.
+ENDED = re.compile(r"^only=", re.M)
 CRATES = word("crates", "the crates whose bugs are planted, all of them", nargs="*", metavar="CRATE")
 FLAGS = flag("all", "plant all bugs"), flag("fit", "plant none: only say whether each edit fits the text that it changes")
 ONLY = word("--only", "plant the bug of this name alone", metavar="NAME", default="")
@@ -75,15 +75,10 @@ def must_fail_of(crate: str) -> list[Edit]:
     return [Edit(crate, os.path.basename(it), read_text(it), False) for it in paths]
 
 
-def came_to_its_end(said: str) -> bool:
-    """Whether the checker could read the text and came to its end."""
-    return bool(re.search(r"^only=", said, re.M))
-
-
 def verdict(bug: Edit, said: str, others: Iterable[Edit]) -> str:
     """ "refused", or why not; nothing if other bugs that were planted too leave it open."""
     found = re.search(rf"^fn {re.escape(bug.function)}: (.+)$", said, re.M)
-    if not found or not came_to_its_end(said):
+    if not found or not ENDED.search(said):
         return f"the check came to no verdict on {bug.function}: {said.strip()[-300:]}"
     line = found[1]
     if line == "proved":
@@ -126,7 +121,7 @@ def planted(picked: list[Edit], folder: str, folder_of: FolderOf) -> dict[Edit, 
         whys = {bug: why for bug, why in whys.items() if not why}
     said = "" if any(whys.values()) else checked(picked[0].crate, [bug.function for bug in whys], folder, folder_of, "kept")
     # A text that the check can't read says nothing of the other bugs in it: each is planted alone.
-    if not alone and not came_to_its_end(said):
+    if not alone and not ENDED.search(said):
         return {}
     return {bug: why or verdict(bug, said, whys.keys() - {bug}) for bug, why in whys.items()}
 

@@ -1,8 +1,7 @@
 """`tools/release page`: a page for a browser on which a file is dropped, and that shows its verdict and what each of its bytes belongs to.
-It is one file, which needs no network: the library for C as a WebAssembly module, and the scripts of page/.
-
-The module is made of the same proved crates as the library for C: the kit's compiler makes it for a memory of 64-bit addresses, which not
-every browser has, and wasm-opt (of binaryen) lowers it to one of 32-bit addresses.
+It is one file, which needs no network: the library for C as a WebAssembly module, and the scripts of page/. The module is made of the same
+proved crates as the library for C: the kit's compiler makes it for a memory of 64-bit addresses, which not every browser has, and wasm-opt
+(of binaryen) lowers it to one of 32-bit addresses.
 
 `tools/test page` tries it:
 
@@ -87,9 +86,7 @@ def page() -> str:
 
 def picture(options: Options) -> None:
     """`tools/release page-picture FILE PICTURE.png`: what the page looks like in chromium with a file on it."""
-    with tempfile.TemporaryDirectory(prefix="page-picture-") as room, contextlib.closing(
-        Browser(write(f"{room}/elfmap.html", page()))
-    ) as browser:
+    with tempfile.TemporaryDirectory() as room, contextlib.closing(Browser(write(f"{room}/elfmap.html", page()))) as browser:
         browser.choose("#chosen", os.path.abspath(options.file))
         if not browser.wait("document.body.dataset.ready"):
             raise SystemExit(f"page-picture: {options.file} is not shown: {browser.text('#said')}")

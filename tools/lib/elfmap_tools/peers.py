@@ -1,7 +1,7 @@
 """elfmap beside other tools.
 
-`tools/test real-files` and `tools/test real-objects`: files of this machine. A part of them is tried, the same each time: those whose
-paths have the least sums.
+`tools/test real-files` and `tools/test real-objects`: files of this machine. A part of them is tried, the same each time: those whose paths
+have the least sums.
 
 `tools/dev peers`: the tables of docs/PEERS.md, what other tools say of files that elfmap refuses. The page says how the files are made;
 which rule one breaks the reference implementation says. Tools that are not installed have no column.

@@ -6,6 +6,7 @@ from functools import partial
 
 from . import building, cases, doc, doc_tables, dump, fuzz, hostile, library, linked, man, measuring, memory_faults, mutations
 from . import page, peers, release, shown_commands, suite
+from .building import Build
 from .suite import TESTS, Option, Test, commands_of, families, run_one, run_several, setup, word
 from .tree import LIBRARIES_OF, PACKAGE, PROCESSORS, TOP, Options, progress
 
@@ -25,12 +26,7 @@ TEST = word("--test", "the tests alone whose names hold this", metavar="NAME")
 OBJECTS = [word("program", "elfmap"), word("file", "an object, or an archive of objects", nargs="+")]
 DEV: list[Command] = [
     ("check", "prove a crate, or some functions of it, or a test, and print what is open", building.check, [CRATE, FUNCTION, TEST]),
-    (
-        "prove",
-        "prove the libraries below a crate; build it if it is a program or a library for C",
-        lambda it: building.Build(it.crate).all(),
-        [CRATE],
-    ),
+    ("prove", "prove the libraries below a crate; build it if it is a program or library for C", lambda it: Build(it.crate).all(), [CRATE]),
     ("doc", "print the page of the whole library, for a browser", doc.main, []),
     ("explain", "say in words why elfmap refused a file: elfmap-explain of the Python package", package_command, [OF_PACKAGE]),
     ("picture", "draw the bytes of a file: elfmap-picture of the Python package", package_command, [OF_PACKAGE]),
@@ -77,14 +73,12 @@ def main(tool: str, words: list[str]) -> int:
     added = parser.add_subparsers(dest="command", required=not is_test, metavar="NAME", title="commands")
     tests = {it.name: it for module in MODULES for it in TESTS if it.function.__module__ == module.__name__}
     if is_test:
-        parser.add_argument(
-            "-j", type=int, default=PROCESSORS, dest="jobs", metavar="N", help="so many tests side by side (one a processor)"
-        )
+        parser.add_argument("-j", type=int, dest="jobs", metavar="N", help="so many tests side by side (one a processor)")
         names = words[2:] if words[:1] == ["-j"] else words
         if len(names) > 1 and tests.keys() >= {*names}:
             # Several tests, by their names.
             tests, words = {it: tests[it] for it in names}, words[: -len(names)]
-        parser.set_defaults(function=partial(run_several, [*tests.values()]))
+        parser.set_defaults(jobs=PROCESSORS, function=partial(run_several, [*tests.values()]))
     commands = of_tests([*tests.values()]) if is_test else DEV if tool == "tools/dev" else RELEASE
     for command, about, function, options in commands:
         own = added.add_parser(command, help=about, description=f"{about[0].upper()}{about[1:]}.")

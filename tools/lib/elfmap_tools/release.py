@@ -1,10 +1,9 @@
 """What people install, and the tests of it.
 
-`tools/release pack`: what is built in one archive, elfmap-VERSION-x86_64-linux.tar.gz, which is used on a Linux with the GNU C library
-and without the Rattle kit. docs/MANUAL.md lists what it has; elfmap.html is in it if wasm-opt is installed.
-
-A page's link to a file that the archive lacks becomes its words. VERSION is the first line of the file VERSION, unless another one is
-given. The same program, library, version, texts and commit make the same archive.
+`tools/release pack`: what is built in one archive, elfmap-VERSION-x86_64-linux.tar.gz, which is used on a Linux with the GNU C library and
+without the Rattle kit. docs/MANUAL.md lists what it has; elfmap.html is in it if wasm-opt is installed. A page's link to a file that the
+archive lacks becomes its words. VERSION is the first line of the file VERSION, unless another one is given. The same program, library,
+version, texts and commit make the same archive.
 
 `tools/release packages`: all that people install, made of what is built: the archive of `tools/release pack`, packages of Debian, the
 Python package as a wheel with the library in it, the Rust crate with the static library, and their SHA256SUMS. docs/MANUAL.md lists what
@@ -13,11 +12,10 @@ each has. The same build makes the same bytes: every file has the time of the co
 `tools/test release`: packs a release of what is built twice, and unpacks the archive in an empty folder. There all of it has to work, with
 nothing on the PATH but /usr/bin and /bin. MOST_SECONDS of a processor have to be enough to pack it.
 
-`tools/test packages`: makes the packages of `tools/release packages` twice, with the same bytes, and installs and tries each in a root
-of Debian 12 that has neither the kit nor anything of the repository. Each part of the repository has to have the version of VERSION.
-
-The root is made by debootstrap, once, and is kept in the cache; each run has a copy of it. Without root's rights, debootstrap or a mirror
-the tests in it are skipped by their names."""
+`tools/test packages`: makes the packages of `tools/release packages` twice, with the same bytes, and installs and tries each in a root of
+Debian 12 that has neither the kit nor anything of the repository. Each part of the repository has to have the version of VERSION. The root
+is made by debootstrap, once, and is kept in the cache; each run has a copy of it. Without root's rights, debootstrap or a mirror the tests
+in it are skipped by their names."""
 
 import functools, glob, gzip, os, re, shutil, sys, tempfile, zipfile, zlib
 from collections.abc import Iterator
@@ -47,6 +45,7 @@ if __name__ == "__main__":
 BESIDE = """
 top = os.path.dirname(os.path.dirname(os.path.realpath(__file__)))
 sys.path.insert(0, f"{top}/bindings/python")"""
+PKG_CONFIG = functools.partial(filled, read_text("include/elfmap.pc.in"))
 # The files of the repository that it has: those of the bindings but for their tests, which need the repository.
 FILES = """README.md CONTRIBUTING.md CHANGELOG.md SECURITY.md docs/* rules/*.rules examples/* include/elfmap.h bindings/c/*.[ch]
     bindings/rust/Cargo.lock bindings/rust/Cargo.toml bindings/rust/README.md bindings/rust/build.rs bindings/rust/examples/*
@@ -157,7 +156,7 @@ def put_release(folder: str, version: str) -> None:
         "VERSION": f"{version}\n",
         "bin/elfmap": runner(version, "elfmap"),
         "doc/elfmap-doc.html": f"{library_page}\n",
-        "lib/pkgconfig/elfmap.pc": filled(read_text("include/elfmap.pc.in"), PREFIX="${pcfiledir}/../..", LIBDIR="lib", VERSION=version),
+        "lib/pkgconfig/elfmap.pc": PKG_CONFIG(PREFIX="${pcfiledir}/../..", LIBDIR="lib", VERSION=version),
         "share/man/man1/elfmap.1": man.page(version),
     }
     for name, module, function in COMMANDS:
@@ -243,10 +242,7 @@ def put_dev(root: str, tree: str, version: str) -> None:
     copied(f"{tree}/lib/libelfmap.a", f"{root}/{LIBRARIES}/libelfmap.a")
     copied(f"{tree}/include/elfmap.h", f"{root}/usr/include/elfmap.h")
     os.symlink(SHARED, f"{root}/{LIBRARIES}/libelfmap.so")
-    put(
-        f"{root}/{LIBRARIES}/pkgconfig/elfmap.pc",
-        filled(read_text("include/elfmap.pc.in"), PREFIX="/usr", LIBDIR=f"lib/{TRIPLET}", VERSION=version),
-    )
+    put(f"{root}/{LIBRARIES}/pkgconfig/elfmap.pc", PKG_CONFIG(PREFIX="/usr", LIBDIR=f"lib/{TRIPLET}", VERSION=version))
     for it in ("sections.c", "symbols.c"):
         copied(f"{tree}/bindings/c/{it}", f"{root}/usr/share/doc/libelfmap-dev/examples/{it}")
 

@@ -1,10 +1,9 @@
-"""`tools/test shown-commands`: runs the commands that the pages show, and compares what they print with what is below them.
-
-A command is a line of a code block that begins with `$ `, or with `>>> ` for Python; below it are the lines that it prints, on standard
-output and standard error. There a line `..` means lines left out, and ` ..` at the end of a line the rest of it. A page's commands run in
-its order in a folder of their own. That is a release of the version VERSION, unpacked, whose bin/ is on the PATH, with its archive and the
-folders that the repository alone has. Commands within prose are not looked at. Skipped are those of SKIPPED, and those of a page of which
-one needs a tool of another version than README.md names, or a file of the machine of another length.
+"""`tools/test shown-commands`: runs the commands that the pages show, and compares what they print with what is below them. A command is a
+line of a code block that begins with `$ `, or with `>>> ` for Python; below it are the lines that it prints, on standard output and
+standard error. There a line `..` means lines left out, and ` ..` at the end of a line the rest of it. A page's commands run in its order in
+a folder of their own. That is a release of the version VERSION, unpacked, whose bin/ is on the PATH, with its archive and the folders that
+the repository alone has. Commands within prose are not looked at. Skipped are those of SKIPPED, and those of a page of which one needs a
+tool of another version than README.md names, or a file of the machine of another length.
 
 `tools/test pages`: how long the sentences of the pages are, those of each page (MEDIAN), but for what is generated or is all tables
 (TABLES), and all of them together (WORDS). Code, headings and the targets of links are no prose. A fenced block whose first line names a
