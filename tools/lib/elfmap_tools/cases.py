@@ -328,22 +328,8 @@ def fuzzed(file: bytes, chance: Chance, types: tuple[int, ...] = ()) -> bytes:
 IDENTIFICATION = {"magic 0": (0, 1), "magic 3": (3, 1), "class": (4, 1), "data": (5, 1), "version": (6, 1)}
 ENTRIES = {SYMTAB: SYMBOL, DYNSYM: SYMBOL, RELA: RELOCATION, REL: RELOCATION, DYNAMIC_SECTION: DYNAMIC}
 WORDS = {GROUP: "group word", HASH: "hash word", SYMTAB_SHNDX: "index word", NOTE: "note word"}
-# The fields that a rule speaks of, by its number, and the one value that breaks it, where there is one; those of section header 0 have a 0
-# before their names.
-SPOKEN_OF = {
-    3: "magic 0, magic 3", 4: "class", 5: "data", 6: "version", 7: "e_version", 8: "e_ehsize", 9: "e_shoff", 10: "e_shentsize",
-    11: "e_shnum", 12: "e_shoff", 13: "0 sh_name, 0 sh_type, 0 sh_flags, 0 sh_addr, 0 sh_offset, 0 sh_addralign, 0 sh_entsize",
-    14: "0 sh_size", 15: "e_shoff, e_shnum", 16: "e_shstrndx", 17: "0 sh_link", 18: "e_phoff, e_phnum", 19: "e_phentsize",
-    20: "0 sh_info", 21: "e_phoff, e_phnum", 22: "sh_addralign", 23: "sh_addr, sh_addralign", 24: "sh_offset, sh_size",
-    25: "p_offset, p_filesz", 26: "p_filesz, p_memsz", 27: "p_align", 28: "p_offset, p_vaddr", 29: "p_vaddr", 30: "sh_type, e_shstrndx",
-    31: "string end, sh_size", 32: "sh_name", 33: "sh_offset, sh_size, e_phoff", 41: "string end, sh_size", 42: "sh_entsize",
-    43: "sh_size", 44: "sh_link", 45: "st_value, st_info, sh_size", 46: "sh_info", 47: "st_info, sh_info", 48: "st_name",
-    49: "sh_type=18", 50: "sh_size, sh_entsize", 51: "st_shndx", 52: "index word", 53: "sh_info", 54: "r_info", 55: "sh_size=0",
-    56: "group word", 57: "sh_info", 58: "group word", 59: "sh_size, note word", 60: "note word", 61: "note word", 62: "note byte",
-    63: "d_tag", 64: "d_un", 65: "sh_size", 66: "sh_link", 67: "hash word", 68: "hash word", 69: "hash word", 70: "e_type",
-    71: "e_entry", 72: "sh_type=6", 73: "sh_type=2", 74: "sh_type=18", 75: "st_shndx", 76: "sh_info", 77: "group word", 78: "sh_link",
-    79: "sh_info",
-}  # fmt: skip
+# The fields that a rule speaks of, by its number, and the one value that breaks it, where there is one.
+SPOKEN_OF = {int(rule): fields for rule, fields in re.findall(r"^(\d+): (.*)", read_text("cases/rules.fields"), re.M)}
 
 
 def record_fields(it: Any, before: str = "") -> list[Field]:

@@ -42,7 +42,6 @@ FUNCTIONS = ("alloc", "dealloc", "realloc")
 # Of a struct its fields, each with its type in C; of a call the types of its parameters; and the tags of structs by their other names.
 Structs = dict[str, list[tuple[str, str]]]
 Calls = dict[str, list[str]]
-Tags = dict[str, str]
 # Rust's and Rattle's numbers as C has them.
 NUMBERS = {f"{kind[0]}{width}": f"{kind}{width}_t" for kind in ("int", "uint") for width in (8, 16, 32, 64)}
 NUMBERS |= {"usize": "size_t", "bool": "bool"}
@@ -75,7 +74,7 @@ def structs() -> Structs:
     return {tag: [(name, kind + count) for kind, name, count in own] for tag, own in fields.items()}
 
 
-def c_type(kind: str, tags: Tags) -> str:
+def c_type(kind: str, tags: dict[str, str]) -> str:
     """A type of Rust or Rattle as C has it, with the tags of structs by their names; a slice is a pointer, beside which C has a length."""
     ((pointer, name, count),) = re.findall(r"^(\*const |\*mut |&mut |&|)\[?(\w+)(?:; (\w+))?\]?$", kind)
     own = NUMBERS.get(name) or f"struct {tags[name]}"
@@ -84,14 +83,14 @@ def c_type(kind: str, tags: Tags) -> str:
     return f"{own}[{count}]" if count else own
 
 
-def structs_in(text: str, tags: Tags) -> Structs:
+def structs_in(text: str, tags: dict[str, str]) -> Structs:
     """The structs for C that a text in Rust or Rattle has."""
     found = re.findall(r"^#\[repr\(C\)\]\n(?:#[^\n]*\n)?pub\S* struct (\w+) \{(.*?)^\}", text, re.M | re.S)
     fields = {tags[name]: re.findall(r"^    pub (\w+): (.+),$", body, re.M) for name, body in found}
     return {tag: [(name, c_type(kind, tags)) for name, kind in own] for tag, own in fields.items()}
 
 
-def calls_in(text: str, tags: Tags) -> Calls:
+def calls_in(text: str, tags: dict[str, str]) -> Calls:
     """The calls that it has, and the types of their parameters: a slice is a pointer and a length; an allocator passes nothing in C."""
     calls = dict(re.findall(r" fn (elfmap_\w+)\((.*?)\) ->", text, re.S))
     kinds = {name: re.findall(r"\w+: (?!Global)([^,]+)", given) for name, given in calls.items()}
@@ -133,8 +132,6 @@ COMPILERS = {"cc": ["-O2"], "clang": ["-O1", "-g", "-fsanitize=address,undefined
 MACHINE_FILES = ["/bin/true", "/bin/ls", "/lib/x86_64-linux-gnu/libc.so.6", "/usr/lib/x86_64-linux-gnu/crt1.o"]
 # The result of the calls of each library.
 RESULTS = {VERDICTS: "bool", ENGINES: "uint32_t"}
-# The struct of the header that a program fills in itself.
-OF_PROGRAM = "elfmap_block"
 DONE, REFUSED, NOT_LINKED, TOO_LONG, BAD_RULES = 0, 1, 2, 3, 6
 COMMANDS = ("show", "rewrite", "map", "link")
 ON_BYTES = {"bcmp", "memchr", "memcmp", "memcpy", "memmove", "memset", "strlen"}
@@ -150,7 +147,8 @@ def compare_header(tally: Tally) -> None:
     """The header and the texts of the library say the same: so the fields of a struct are at the same offsets."""
     text, declared = text_of(it for it in LIBRARIES_OF if it == VERDICTS or it.startswith(f"{VERDICTS}_")), structs()
     tags = {name: tag for tag, name in STRUCT.findall(text)}
-    del declared[OF_PROGRAM]
+    # The struct that a program fills in itself.
+    del declared["elfmap_block"]
     tally.same("the structs of the header", declared, structs_in(text, tags))
     for crate, result in RESULTS.items():
         text = text_of([crate])
@@ -247,8 +245,6 @@ def c_library(tally: Tally, options: Options) -> None:
     try_engines(tally, f"{room}/over-malloc")
     wanted("c++", "-Wall", "-Wextra", "-Werror", "-fsyntax-only", "-x", "c++", f"{TOP}/include/elfmap.h")
 
-
-# ---- laws: what the library says of changed files agrees with itself
 
 # As many files as laws.c takes, and as long.
 MOST, LONGEST = 256, 1 << 16
