@@ -297,20 +297,19 @@ def lengths(content: bytes) -> tuple[int, int]:
     return len(strings) + len(names), sum(1 + sum(len(it) + 1 for it in found if it) for found in once.values())
 
 
-def rewritten(program: str, content: bytes) -> bytes | None:
-    """What is written for an object, or None for one that is refused."""
-    with tempfile.TemporaryDirectory() as room:
-        ran = run(program, "rewrite", write(f"{room}/f", content))
-    return None if ran.returncode else ran.stdout
-
-
 def shared_tails(options: Options) -> None:
     """Of each file, an object or an archive, a row of the table in docs/PERFORMANCE.md: how many of its objects `rewrite` takes, the bytes
     of the two string tables of all that it writes, and those of tables that hold each distinct name once."""
+
+    def rewritten(place: Place) -> bytes:
+        """What is written for an object, nothing for one that is refused."""
+        with tempfile.TemporaryDirectory() as room:
+            ran = run(os.path.abspath(options.program), "rewrite", write(f"{room}/f", content_of(place)))
+        return b"" if ran.returncode else ran.stdout
+
     print("| objects of | objects | each name once | tails shared | |")
     print("|---|---|---|---|---|")
     for path in options.file:
-        found = side_by_side(lambda it: rewritten(os.path.abspath(options.program), content_of(it)), objects_of(path))
-        written = [it for it in found if it is not None]
+        written = list(filter(None, side_by_side(rewritten, objects_of(path))))
         shared, once = (sum(it) for it in zip(*map(lengths, written)))
         print(f"| `{os.path.basename(path)}` | {len(written):,} | {once:,} | {shared:,} | {100 * (shared / once - 1):+.1f} % |")

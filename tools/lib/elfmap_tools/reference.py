@@ -21,9 +21,6 @@ DYNSYM, GROUP, SYMTAB_SHNDX, LOAD = 11, 17, 18, 1
 WRITE, ALLOC, EXEC, INFO_LINK, IN_GROUP = 1, 2, 4, 0x40, 0x200
 UNDEF, ABS, COMMON, XINDEX = 0, 0xFFF1, 0xFFF2, 0xFFFF
 
-
-# ---- what it answers
-
 # The names of the rules of images.
 RULE_NAMES: list[str] = [rule.__name__.upper() for _, rule in image.RULES]
 # The first rule that is broken, and where: by a file as an image or as an object, and by the table in a section.
@@ -76,9 +73,6 @@ def answer(words: Sequence[str], files: Mapping[str, bytes]) -> Answer | None:
         return (int(bool(found[0])), found[1], found[0].encode()) if found else None
     said = shown(contents[0]) if words[0] == "show" else check(contents[0]) + "\n"
     return int(verdict(contents[0]) is not None), said.encode("latin1"), b""
-
-
-# ---- objects by their parts
 
 
 def number_words(order: str, *numbers: int) -> bytes:

@@ -467,16 +467,6 @@ def inside(root: str, script: str) -> Texts:
     return said("unshare", "--mount", "--pid", "--fork", "sh", "-c", MOUNTED, "sh", root, script, env=AS_ROOT)
 
 
-def in_clean_root(tally: Tally, folder: str) -> None:
-    why, root, steps = make_root(), f"{tally.folder}/root", steps_of("packages.steps", V=version_of())
-    why = why or (f"{ROOT} is not copied" if said("cp", "-a", ROOT, root).returncode else "")
-    why = why or ("this machine lets nobody mount" if inside(root, "true").returncode else "")
-    if why:
-        return tally.note(f"skipped: without a clean root ({why}): {', '.join(title for title, *_ in steps)}")
-    shutil.copytree(folder, f"{root}/packages")
-    tally.try_steps(steps, lambda script: inside(root, script).stdout)
-
-
 def contents(folder: str) -> dict[str, bytes]:
     return {os.path.basename(it): read_bytes(it) for it in files_below(folder)}
 
@@ -501,4 +491,10 @@ def packages(tally: Tally, options: Options) -> None:
     lines = said("nm", "-D", "--defined-only", f"{room}/own/{LIBRARIES}/libelfmap.so.0").stdout.splitlines()
     exported = sorted(name.partition("@")[0] for _, kind, name in map(str.split, lines) if kind != "A")
     tally.same("what the shared library exports", exported, sorted(calls()))
-    in_clean_root(tally, first)
+    why, root, steps = make_root(), f"{room}/root", steps_of("packages.steps", V=version)
+    why = why or (f"{ROOT} is not copied" if said("cp", "-a", ROOT, root).returncode else "")
+    why = why or ("this machine lets nobody mount" if inside(root, "true").returncode else "")
+    if why:
+        return tally.note(f"skipped: without a clean root ({why}): {', '.join(title for title, *_ in steps)}")
+    shutil.copytree(first, f"{root}/packages")
+    tally.try_steps(steps, lambda script: inside(root, script).stdout)
