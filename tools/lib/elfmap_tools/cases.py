@@ -323,8 +323,6 @@ def fuzzed(file: bytes, chance: Chance, types: tuple[int, ...] = ()) -> bytes:
     return bytes(new)
 
 
-# ---- one thing wrong
-
 IDENTIFICATION = {"magic 0": (0, 1), "magic 3": (3, 1), "class": (4, 1), "data": (5, 1), "version": (6, 1)}
 ENTRIES = {SYMTAB: SYMBOL, DYNSYM: SYMBOL, RELA: RELOCATION, REL: RELOCATION, DYNAMIC_SECTION: DYNAMIC}
 WORDS = {GROUP: "group word", HASH: "hash word", SYMTAB_SHNDX: "index word", NOTE: "note word"}

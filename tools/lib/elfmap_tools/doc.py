@@ -16,7 +16,6 @@ import functools, os, re, sys
 from collections import Counter
 from collections.abc import Callable, Iterator
 from html import escape
-from typing import NamedTuple
 
 from .building import kit
 from .doc_tables import DEFINITIONS, ROW, by_anchor, guarantees_by_call, key_of
@@ -226,34 +225,22 @@ GIVEN = {
 OF_STD = "use std::{alloc::Global, hash::{BuildHasherDefault, FoldHasher}, io::{Print, Read, Seek, Write}, process::Abort};"
 OUTLIVES = read_text("cases/sources/outlives.rt.txt")
 FENCED = re.compile(r"^ *//[/!] ?```(?P<language>.*?) *\n(?P<lines>(?: *//[/!].*\n)*?) *//[/!] ?```", re.M)
-
-
-class Example(NamedTuple):
-    """A code block: its crate, its file, the line of its fence, and the lines in it."""
-
-    crate: str
-    path: str
-    at: int
-    lines: list[str]
+# An example: its crate, its file, and a file that has it as a function.
+Example = tuple[str, str, str]
 
 
 def examples_in(crate: str, path: str) -> Iterator[Example]:
+    """The examples of a file. In its function each line has the number that it has in the docs."""
     text = read_text(path)
-    for it in FENCED.finditer(text):
-        if not it["language"]:
-            yield Example(crate, path, text.count("\n", 0, it.start()) + 1, re.findall(r"^ *//[/!] ?(.*)", it["lines"], re.M))
-
-
-def function_of(example: Example) -> str:
-    """A file with the example as a function, each of whose lines has the number that it has in the docs."""
-    bare = re.sub(r'"(?:\\.|[^"\\])*"|//.*', "", "\n".join(example.lines))
-    # The names that can be values, but for members and fields, and those that are bound.
-    values = set(re.findall(r"(?<![.\w])[a-z_]\w*(?!\w|\s*:)", bare)) - set(re.findall(r"\blet (?:mut )?(\w+)", bare))
-    given = {name: kind for name, kind in GIVEN.items() if name in values}
-    parameters = ", ".join(f"mut {name}: {kind}" for name, kind in given.items())
-    imports = (f"use {it}::*;" for it in [example.crate, *below(example.crate)])
-    head = [*imports, OF_STD, f"pub fn example<'a>({parameters}) -> Result<(), std::test::Fail> {{ use {example.crate}::*;"]
-    return "\n".join([" ".join(head) + "\n" * (example.at - 1), *[f"    {it}" for it in example.lines], "    Ok(())", "}", ""])
+    for block in (it for it in FENCED.finditer(text) if not it["language"]):
+        lines, above = re.findall(r"^ *//[/!] ?(.*)", block["lines"], re.M), text.count("\n", 0, block.start())
+        bare = re.sub(r'"(?:\\.|[^"\\])*"|//.*', "", "\n".join(lines))
+        # The names that can be values, but for members and fields, and those that are bound.
+        values = set(re.findall(r"(?<![.\w])[a-z_]\w*(?!\w|\s*:)", bare)) - set(re.findall(r"\blet (?:mut )?(\w+)", bare))
+        parameters = ", ".join(f"mut {name}: {kind}" for name, kind in GIVEN.items() if name in values)
+        imports = (f"use {it}::*;" for it in [crate, *below(crate)])
+        head = [*imports, OF_STD, f"pub fn example<'a>({parameters}) -> Result<(), std::test::Fail> {{ use {crate}::*;"]
+        yield crate, path, "\n".join([" ".join(head) + "\n" * above, *[f"    {it}" for it in lines], "    Ok(())", "}", ""])
 
 
 def words(crates: list[str]) -> list[str]:
@@ -271,12 +258,12 @@ def words(crates: list[str]) -> list[str]:
 
 def output_of(examples: list[Example], room: str) -> str:
     """What the compiler says of these examples, and of the functions that must not compile; of borrows where names and types are right."""
-    files = {f"example_{number}": function_of(it) for number, it in enumerate(examples)}
+    files = {f"example_{number}": function for number, (_, _, function) in enumerate(examples)}
     files["lib"] = OUTLIVES + "".join(f"pub mod {name};\n" for name in files)
     os.makedirs(f"{room}/src")
     for name, text in files.items():
         write(f"{room}/src/{name}.rt", text)
-    crates = [*re.findall(r"^use (elf_\w+)::", OUTLIVES, re.M), *(it.crate for it in examples)]
+    crates = [*re.findall(r"^use (elf_\w+)::", OUTLIVES, re.M), *(crate for crate, *_ in examples)]
     return said(f"{kit()}/bin/rattle", *words(crates), folder=room).stdout
 
 
@@ -286,12 +273,12 @@ def doc_examples(tally: Tally, options: Options) -> None:
     examples = [it for crate in crates for path in sources_of(crate) for it in examples_in(crate, path)]
     output, faults = output_of(examples, tally.folder), dict[str, list[str]]()
     for name, number, line in re.findall(r"^(src/example_(\d+)\.rt)(:\d+:\d+: error.*)", output, re.M):
-        path = examples[int(number)].path
+        path = examples[int(number)][1]
         faults.setdefault(number, []).append(path + line.replace(name, path))
     if not faults and not re.search(r"^src/lib\.rt:\d+:.*borrow-e0", output, re.M):
         raise SystemExit(f"the compiler does not judge the examples:\n{output}")
     tally.count(len(examples), map("\n".join, faults.values()))
-    tally.note(", ".join(f"{crate} {count}" for crate, count in Counter(it.crate for it in examples).items()))
+    tally.note(", ".join(f"{crate} {count}" for crate, count in Counter(crate for crate, *_ in examples).items()))
 
 
 @Test("must-not-compile", "what borrows from a file's bytes and outlives them is refused by the borrow checker")

@@ -12,6 +12,8 @@ from .tree import cells, filled, read_text
 MANUAL = "docs/MANUAL.md"
 # Parts that are no command, and their names in the page.
 OTHERS = {"Exit status": "EXIT STATUS", "Files of rules": "FILES", "Limits": "LIMITS"}
+# How a block begins that shows a command.
+EXAMPLE = "    $ "
 LINK = re.compile(r"\[((?:`[^`]*`|[^\]`])*)\]\(([^)]*)\)")
 SEE_ALSO = "readelf(1), ld(1), elf(5), elfmap-lint(1), elfmap-explain(1), elfmap-same(1), elfmap-gaps(1), elfmap-picture(1)"
 PAGES = """In the directory of the release: `docs/MANUAL.md` has these texts and the libraries, `docs/RULES.md` every rule by its number, what it
@@ -27,10 +29,6 @@ def blocks(text: str) -> list[str]:
 # The blocks of the section "The commands": of its beginning, and of each part by its title.
 FIRST, *OTHER = re.split(r"^### (.*)\n", read_text(MANUAL).partition("\n## The commands\n")[2].partition("\n## ")[0], flags=re.M)
 PARTS = {"": blocks(FIRST), **dict(zip(OTHER[::2], map(blocks, OTHER[1::2])))}
-
-
-def is_example(block: str) -> bool:
-    return block.startswith("    $ ")
 
 
 def with_tags(block: str) -> str:
@@ -57,11 +55,11 @@ def page(version: str) -> str:
     text += ["# DESCRIPTION", summary, "# COMMANDS"]
     examples = ["# EXAMPLES"]
     for title, found in list(PARTS.items())[1:]:
-        first = next((at for at, it in enumerate(found) if is_example(it)), len(found))
+        first = next((at for at, it in enumerate(found) if it.startswith(EXAMPLE)), len(found))
         text += [f"## {title}", *found[:first]] if title not in OTHERS else []
         examples += [f"## {title}", *found[first:]] if found[first:] else []
     for title, name in OTHERS.items():
-        text += [f"# {name}", *(it for it in PARTS[title] if not is_example(it))]
+        text += [f"# {name}", *(it for it in PARTS[title] if not it.startswith(EXAMPLE))]
     others = re.sub(r"([\w-]+)\(", r"**\1**(", SEE_ALSO)
     return by_pandoc("elfmap", version, list(map(with_tags, [*text, *examples, "# SEE ALSO", others, PAGES])))
 

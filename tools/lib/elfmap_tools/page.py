@@ -19,15 +19,13 @@ from . import library
 from .building import built_below, is_current, kit, words
 from .cases import case_files, cases_of, fuzzed
 from .doc_tables import file_rules
-from .library import VERDICTS as CRATE
+from .library import FOLDER, VERDICTS as CRATE
 from .reference import verdict
 from .suite import SELENIUM, Tally, Test, number
 from .tree import PROGRAM, TOP, Options, filled, read_bytes, read_text, said, wanted, write
 
 Structs = dict[str, dict[str, Any]]
-TARGET = "wasm64-unknown-unknown"
-OUT = f"{TOP}/crates/{CRATE}/out"
-MODULE = f"{OUT}/{CRATE}.wasm"
+MODULE = f"{FOLDER}/{CRATE}.wasm"
 LOWERED = "--enable-memory64 --enable-bulk-memory --enable-sign-ext --enable-nontrapping-float-to-int --enable-mutable-globals".split()
 LOWERED += ["--enable-multivalue", "--memory64-lowering"]
 
@@ -41,11 +39,11 @@ def module() -> str:
         raise SystemExit(f"page: tools/dev prove {CRATE} builds {', '.join(lacking)} first")
     if not shutil.which("wasm-opt"):
         raise SystemExit("page: there is no wasm-opt, of the package binaryen")
-    os.makedirs(OUT, exist_ok=True)
-    target, folder = ["--target", TARGET, "--toolchain", f"{kit()}/toolchain"], f"{TOP}/crates/{CRATE}"
-    wanted(f"{kit()}/bin/rattle", "build", *words(CRATE, folder_of), *target, "-o", f"{OUT}/wide.a", folder=folder)
-    wanted(f"{kit()}/bin/rattle-link", *target, "-o", f"{OUT}/wide.wasm", f"{OUT}/wide.a", folder=folder)
-    wanted("wasm-opt", *LOWERED, f"{OUT}/wide.wasm", "-o", MODULE)
+    os.makedirs(FOLDER, exist_ok=True)
+    target, folder = ["--target", "wasm64-unknown-unknown", "--toolchain", f"{kit()}/toolchain"], f"{TOP}/crates/{CRATE}"
+    wanted(f"{kit()}/bin/rattle", "build", *words(CRATE, folder_of), *target, "-o", f"{FOLDER}/wide.a", folder=folder)
+    wanted(f"{kit()}/bin/rattle-link", *target, "-o", f"{FOLDER}/wide.wasm", f"{FOLDER}/wide.a", folder=folder)
+    wanted("wasm-opt", *LOWERED, f"{FOLDER}/wide.wasm", "-o", MODULE)
     return MODULE
 
 
@@ -186,8 +184,7 @@ def in_node(tally: Tally, room: str, count: int) -> None:
 
 # ---- in chromium
 
-SYMBOLS = 1_000_000
-MOST_MILLISECONDS = 200
+SYMBOLS, MOST_MILLISECONDS = 1_000_000, 200
 SOUND = "Sound: this file keeps all 33 rules of an ELF-64 file."
 ROWS = "[...document.querySelectorAll('#table tbody tr')]"
 # What the tree for readers of the screen has: names by their roles.

@@ -32,16 +32,11 @@ PARAGRAPHS = re.compile(r"\n\s*\n|\n(?= *(?:[-*]|\d+\.) )")
 SENTENCES = re.compile(r"(?<=[.!?])[\"')*]*\s+(?=[\"'(*`\[]*[A-Z`\[])")
 
 
-def prose(text: str) -> str:
-    """The text of a page without fenced and indented code, tables, headings, images and the targets of links."""
-    text = CODE.sub("\n", text)
-    text = re.sub(r"^(?:#|\||<|!\[).*$", "", text, flags=re.M)
-    return re.sub(r"\[([^\]]*)\]\([^)]*\)", r"\1", text)
-
-
 def sentences(text: str) -> list[str]:
-    """The sentences of a page, each in one line."""
-    lines = (re.sub(r"^(?:[-*]|\d+\.) ", "", " ".join(it.split())) for it in PARAGRAPHS.split(prose(text)))
+    """The sentences of a page, each in one line: no code, tables, headings, images and targets of links."""
+    text = re.sub(r"^(?:#|\||<|!\[).*$", "", CODE.sub("\n", text), flags=re.M)
+    text = re.sub(r"\[([^\]]*)\]\([^)]*\)", r"\1", text)
+    lines = (re.sub(r"^(?:[-*]|\d+\.) ", "", " ".join(it.split())) for it in PARAGRAPHS.split(text))
     return [it for line in lines for it in SENTENCES.split(line) if it]
 
 
