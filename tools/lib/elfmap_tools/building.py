@@ -58,7 +58,7 @@ def built_below(crates: Iterable[str]) -> tuple[FolderOf, list[str]]:
 
 
 def words(crate: str, folder_of: FolderOf) -> list[str]:
-    """The words with which `rattle check` and `rattle build` read a crate. `folder_of` returns the folder of the rlib of a crate below it."""
+    """The words with which `rattle check` and `rattle build` read a crate. `folder_of` returns the folder of a library below it."""
     rlibs = {name: folder_of(name) for name in below(crate)}
     found = ["--crate-name", crate, "src/main.rt" if is_program(crate) else "src/lib.rt"]
     for name in ["std", *LIBRARIES_OF[crate]]:
@@ -72,18 +72,15 @@ def words(crate: str, folder_of: FolderOf) -> list[str]:
 
 
 def checked(crate: str, functions: Iterable[str], folder: str, folder_of: FolderOf, kept: str) -> str:
-    """What the checker says of a crate as its text in a folder is, or of these functions of it and those that they call. What it has found
-    out so far is in the folder `kept`."""
+    """What the checker says of a crate's text in a folder, or of these functions and those that they call; it keeps its work in `kept`."""
     only = [word for it in functions for word in ("--only", it.removeprefix(f"{crate}::"))]
     return said(f"{kit()}/bin/rattle", "check", *words(crate, folder_of), "--incremental", kept, *only, folder=folder).stdout
 
 
 def link_words(output: str, source: str) -> list[str]:
     """The command that makes a program of what `rattle build` wrote."""
-    return [
-        *(f"{kit()}/bin/rattle-link", "--target", "x86_64-unknown-linux-gnu", "--toolchain", f"{kit()}/toolchain", "-o", output, source),
-        *(f"{kit()}/c/libos_c.a", f"{kit()}/c/liblibc_c.a"),
-    ]
+    found = [f"{kit()}/bin/rattle-link", "--target", "x86_64-unknown-linux-gnu", "--toolchain", f"{kit()}/toolchain", "-o", output, source]
+    return [*found, f"{kit()}/c/libos_c.a", f"{kit()}/c/liblibc_c.a"]
 
 
 def is_current(crate: str, path: str) -> bool:

@@ -279,8 +279,7 @@ def a_file(chance: Chance, order: str | None = None) -> bytes:
 
 
 def fields(f: Any, types: tuple[int, ...]) -> list[tuple[int, int]]:
-    """Places of fields: those of the header, of each section header and program header, and the beginnings of contents; or of the
-    contents of sections of some types alone."""
+    """The places of fields: of all headers, and at the beginnings of contents; or of the contents of sections of some types alone."""
     places = [(at, 2) for at in (16, 18, 52, 54, 56, 58, 60, 62)] + [(20, 4), (24, 8), (32, 8), (40, 8)]
     wanted = []
     for _, it in f.sections():
@@ -379,6 +378,9 @@ RULES = (
     b"2 pc 2 signed\n1 abs 1 wrap\n3 abs 2 wrap\n",
 )
 PLACES = (("0x400000", "0x1000"), ("0", "1"), ("4096", "1"), ("0xfffffffffffff000", "0x1000"), ("0x1001", "0x1000"))
+# A sound file and what one change made of it; and what finds the rules that a file breaks.
+Pair = tuple[bytes, bytes]
+Verdicts = Callable[[bytes], list[Broken | None]]
 # Rules on segments, which an object has none of; and on notes, dynamic sections and hash tables, which it has as bytes, or not at all.
 OF_SEGMENTS, NOT_OF_OBJECTS = [19, 21, *range(25, 30)], range(59, 70)
 
@@ -430,9 +432,7 @@ def of_tables(content: bytes) -> list[Broken | None]:
     return [table_verdict(f, i) for i, _ in f.sections()] if verdict(content) is None else []
 
 
-def wrong_in_one_thing(
-    text: Text, rules: list[int], made: Callable[[Chance, str], bytes], verdicts: Callable[[bytes], list[Broken | None]]
-) -> Iterator[tuple[bytes, bytes]]:
+def wrong_in_one_thing(text: Text, rules: list[int], made: Callable[[Chance, str], bytes], verdicts: Verdicts) -> Iterator[Pair]:
     """For each rule and byte order a sound file, and what one change made of it, by which it breaks the rule."""
     for order in ("little", "big"):
         chance, left = text.chance(f"{made.__name__} {order}", min(rules)), list(rules)
@@ -448,7 +448,7 @@ def wrong_in_one_thing(
                     yield sound, found
 
 
-def once(pairs: Iterable[tuple[bytes, bytes]]) -> Iterator[tuple[bytes, bytes]]:
+def once(pairs: Iterable[Pair]) -> Iterator[Pair]:
     """Each file of these pairs once, with the first of its pair."""
     seen = set[bytes]()
     for first, second in pairs:

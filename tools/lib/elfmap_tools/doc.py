@@ -9,8 +9,7 @@ proved of it, since what an example leaves out, as a check of a number, a proof 
 whose fence names no language. It is made the body of a function that returns any error, in a crate for this alone. There it sees what its
 own crate shows, before what crates below show, and what is named in `OF_STD`. What it uses and does not bind is a parameter, of the type in
 `GIVEN`; a name that is not there is an unknown one. The crates are read as they are, so none has to be built. Those functions are beside
-the examples: that they are refused shows that borrows are checked, and ends the compiler before the work of proofs, which takes ten times
-as long."""
+the examples: that they are refused shows that borrows are checked, and ends the compiler before proofs, which take ten times as long."""
 
 import functools, os, re, sys
 from collections import Counter
@@ -169,8 +168,7 @@ class PublicCrate:
         return linked("\n".join(item.text), lambda it: (self.anchor(it), "") if it[0].isupper() and it != own else None)
 
     def place_by(self, uses: Uses, word: str) -> Place:
-        """Where a word of a contract leads to, by the `ghost use` lines of its source. A definition is then on the page, as those are that
-        its text names."""
+        """Where a word of a contract leads to, by its source's `ghost use` lines. Definitions that it reaches get on the page."""
         place, name = uses.get(word, ("", ""))
         if ".declared." in place:
             return self.anchor(re.sub(r"\.TheVariants$", "", place).rsplit(".", 1)[-1]), ""

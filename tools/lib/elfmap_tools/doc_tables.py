@@ -34,8 +34,7 @@ def known() -> dict[str, Definition]:
 
 
 def section_of(found: Definition) -> str:
-    """The sections of the gABI that the comment of a definition's part of its file names, or else the comment at the head of the file. A
-    part's comment has an empty line below."""
+    """The sections of the gABI that the comment of a definition's part of its file names (it ends at an empty line), or else the file's."""
     front = read_text(found.path).partition(found.text)[0]
     comments = re.findall(r"((?:^--.*\n)+)(?=\n|(?:pub )?use )", front, re.M)
     for comment in comments[-1:] + comments[:1]:

@@ -30,8 +30,7 @@ def content_of(f: Any, i: int | None) -> bytes:
 
 
 def beside(f: Any, i: int) -> tuple[int | None, int | None]:
-    """The sections that the table in section i is read by beside its own, each None where there is none: its index table or its symbol
-    table, and its string table."""
+    """The sections beside which the table in section i is read, None where there is none: its index or symbol table, and its strings."""
     kind, link = f.section(i).sh_type, f.section(i).sh_link
     if kind in (SYMTAB, DYNSYM):
         return next((k for k, it in f.sections() if it.sh_type == SYMTAB_SHNDX and it.sh_link == i), None), link
@@ -42,8 +41,7 @@ def beside(f: Any, i: int) -> tuple[int | None, int | None]:
 
 def entries(f: Any, i: int) -> Iterator[Lines]:
     """The lines of a table of each type: of symbols the index of their section and their name too; of relocations their offset, addend,
-    symbol and kind; of dynamic entries also the string at their number; and of each whole note its type, where it ends, its name, and its
-    descriptor."""
+    symbol and kind; of dynamic entries also the string at their number; of whole notes type, end, name and descriptor."""
     kind, (index_table, strings) = f.section(i).sh_type, beside(f, i)
     names = content_of(f, strings)
     if kind in (SYMTAB, DYNSYM):

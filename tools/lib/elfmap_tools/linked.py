@@ -21,8 +21,7 @@ from .suite import BY_LLVM, KLIBC, MACHINES, RUN_BY_QEMU, Tally, Test
 from .tree import PROGRAM, RULES, TOP, Answer, Options, answer_of, ending, read_bytes, read_text, run, wanted, write
 
 SOURCES = f"{TOP}/cases/sources"
-# The assembler and the linker of a machine; of all others those of this one.
-HOST = (["as"], ["ld"])
+# The assembler and the linker of a machine, but for this one.
 TOOLS = {machine: ([f"{target}-as"], [f"{target}-ld"]) for machine, target in MACHINES.items()}
 LLVM = (["llvm-mc-19", "-filetype=obj"], ["ld.lld-19", "-m"])
 TOOLS |= {machine: ([*LLVM[0], f"-triple={triple}"], [*LLVM[1], name]) for machine, (triple, name) in BY_LLVM.items()}
@@ -196,7 +195,6 @@ RUNS: list[tuple[str, list[str], list[str], list[str], str]] = [
     ("g++", CXX_FLAGS, ["stack_main.cc", "stack_other.cc"], ["-O0", "-O2", "-Os -ffunction-sections"], "start"),
     ("gcc", C_FLAGS + KLIBC_FLAGS, ["library.c"], ["-O0", "-O2"], "_start"),
 ]
-RUNNERS = f"gcc g++ ld ar readelf eu-elflint {KLIBC}"
 # Where each program is placed, and with which page; the kernel maps by pages of 0x1000.
 PLACES = (("0x400000", "0x1000"), ("0x10000000", "0x200000"))
 
@@ -215,7 +213,7 @@ def difference(shop: Workshop, objects: list[str], entry: str, base: str, page: 
     return next((f"{os.path.basename(name)} {ending(it)}" for name, it in ends if it.returncode or it.stderr), "")
 
 
-@Test("linked-runs", "programs run the same by ld and by elfmap", commands=RUNNERS, crates="elfmap", family="linked")
+@Test("linked-runs", "programs run the same by ld and by elfmap", f"gcc g++ ld ar readelf eu-elflint {KLIBC}", "elfmap", family="linked")
 def linked_runs(tally: Tally, options: Options) -> None:
     for way, (compiler, flags, sources, _, entry) in ((way, it) for it in RUNS for way in it[3]):
         title = f"{' '.join(sources)} by {compiler} {way}"
@@ -275,7 +273,7 @@ def numbers_in(width: str, admitted: str) -> tuple[int, ...]:
 
 def kinds_differ(shop: Workshop, machine: str, lines: list[list[str]], names: dict[int, str]) -> list[str]:
     """What ld makes otherwise of an object that has fields of each kind with a name, with numbers near the ends of their range."""
-    assembler, linker = TOOLS.get(machine, HOST)
+    assembler, linker = TOOLS.get(machine, (["as"], ["ld"]))
     fields = [(names[int(kind)], form, it) for kind, form, *own in lines if int(kind) in names for it in numbers_in(*own)]
 
     def assemble(addends: list[int]) -> None:

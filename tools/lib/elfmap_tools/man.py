@@ -1,8 +1,7 @@
 """`tools/release man`: the manual page of the program, from docs/MANUAL.md: its first paragraph, and its section "The commands". There each
 command has a part of its own, whose text up to the first example comes below COMMANDS, and what follows below EXAMPLES. A row of a table
 becomes a paragraph with its first cell as the tag. pandoc makes the page of this. And completions of bash, zsh and fish for a command
-(completions/). They read the help that it prints: its subcommands, its options, and the words that an option takes. All other words are
-files."""
+(completions/): they read the help that it prints, its subcommands, options, and the words that an option takes. Other words are files."""
 
 import re, subprocess
 
@@ -16,9 +15,9 @@ OTHERS = {"Exit status": "EXIT STATUS", "Files of rules": "FILES", "Limits": "LI
 EXAMPLE = "    $ "
 LINK = re.compile(r"\[((?:`[^`]*`|[^\]`])*)\]\(([^)]*)\)")
 SEE_ALSO = "readelf(1), ld(1), elf(5), elfmap-lint(1), elfmap-explain(1), elfmap-same(1), elfmap-gaps(1), elfmap-picture(1)"
-PAGES = """In the directory of the release: `docs/MANUAL.md` has these texts and the libraries, `docs/RULES.md` every rule by its number, what it
-means and what to do, `docs/RULE_FILES.md` the files of rules line by line, `doc/elfmap-doc.html` the library, and `include/elfmap.h` the
-calls for C."""
+PAGES = """In the directory of the release: `docs/MANUAL.md` has these texts and the libraries, `docs/RULES.md` every rule by its number,
+what it means and what to do, `docs/RULE_FILES.md` the files of rules line by line, `doc/elfmap-doc.html` the library, and
+`include/elfmap.h` the calls for C."""
 
 
 def blocks(text: str) -> list[str]:
@@ -64,8 +63,7 @@ def page(version: str) -> str:
     return by_pandoc("elfmap", version, list(map(with_tags, [*text, *examples, "# SEE ALSO", others, PAGES])))
 
 
-# The help of a command, in which each thing listed has one line; of these the words, with what is said of them; and the words that an option
-# takes.
+# The help of a command, each thing listed in one line; the words of these, with what is said of them; and the words that an option takes.
 HELP = r"--help 2>&1 | sed -zE 's/\n {10,}/  /g'"
 LISTED = r"sed -nE 's/^ +(-., )?(--?[a-z0-9-]+|[a-z]+)( [^ ]+)*  +(.*)/\2\t\4/p'"
 CHOICES = r"sed -nE 's/^ +'$before' \{(.*)\}.*/\1/p'"

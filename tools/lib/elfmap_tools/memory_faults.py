@@ -10,8 +10,8 @@ A growth may not ask for a number of bytes that is in the text and above a MiB. 
 `Write` of another fault, an `Io` that has `written`. It may be made in a `From` and in a method `after`, which have a failed write; where a
 call of a writer failed or took nothing, the arm `_` on `write`; and where a call that writes failed, the arm `Err(..)` on it.
 
-Then the bodies of cases/memory_faults.bodies are planted, which make either fault thoughtlessly: in each library one, and in the first of
-them all. Each has to be refused."""
+Then the bodies of cases/memory_faults.bodies, which make either fault thoughtlessly, are planted, one in each library, all in the first.
+Each has to be refused."""
 
 import collections, functools, glob, re, textwrap
 from collections.abc import Iterator
@@ -204,8 +204,7 @@ def memory_faults(tally: Tally, options: Options) -> None:
             places.setdefault(crate, (it, it.fault if it.faults == "out" else f"{it.fault}::OutOfMemory"))
         if it.fault in WRITTEN:
             writers.setdefault(crate, (it, WRITTEN[it.fault]))
-    _, *bodies = re.split(r"^== (.*)\n", read_text("cases/memory_faults.bodies"), flags=re.M)
-    ways = dict(zip(bodies[::2], bodies[1::2]))
+    ways = dict(re.findall(r"^== (.*)\n((?:(?!== ).*\n)*)", read_text("cases/memory_faults.bodies"), re.M))
     for names, plants in ((list(ways), places), ([it for it in ways if it.endswith("*")], writers)):
         for k, (crate, (function, value)) in enumerate(sorted(plants.items())):
             path = function.path

@@ -53,13 +53,6 @@ class Edit:
             return {}, "it has no 'function:' line, or no pair"
         return made, ""
 
-    def plant(self, folder: str) -> str:
-        """Changes the crate's text, or says why it can't be changed so."""
-        made, why = self.texts(folder)
-        for file, text in made.items():
-            write(f"{folder}/{file}", text)
-        return why
-
 
 def bugs_of(crate: str) -> list[Edit]:
     path = f"{TOP}/crates/{crate}/mutations.txt"
@@ -115,7 +108,11 @@ def pick(bugs: list[Edit]) -> list[Edit]:
 def planted(picked: list[Edit], folder: str, folder_of: FolderOf) -> dict[Edit, str]:
     """How each of these bugs ended, planted together; nothing for one that is still open."""
     alone = len(picked) == 1
-    whys = {bug: bug.plant(folder) for bug in picked}
+    whys = dict[Edit, str]()
+    for bug in picked:
+        made, whys[bug] = bug.texts(folder)
+        for file, text in made.items():
+            write(f"{folder}/{file}", text)
     # What another bug made of the text may be why one can't be planted: it waits for its turn.
     if not alone:
         whys = {bug: why for bug, why in whys.items() if not why}

@@ -187,9 +187,8 @@ def real_objects(tally: Tally, options: Options) -> None:
 # ---- what other tools say of files that elfmap refuses
 
 PAGE = "docs/PEERS.md"
-FILES_A_RULE = 2
-# So many bytes are changed, one at a time.
-CHANGES = 30000
+# So many files break a rule; and so many bytes are changed, one at a time.
+FILES_A_RULE, CHANGES = 2, 30000
 # How cc makes the files that are changed: an object, one with groups and debug information, an executable, and a library with a hash table.
 MADE_BY_CC = {"an object": "-c -O1", "an object of C++": "-x c++ -c -O1 -g", "an executable": "-nostdlib -static -O1"}
 MADE_BY_CC |= {"a library": "-shared -nostdlib -fPIC -O1 -Wl,--hash-style=sysv -Wl,-soname,answer.so"}

@@ -52,9 +52,9 @@ RELEASE: list[Command] = [
 MODULES = [hostile, library, measuring, memory_faults, linked, suite, doc_tables, doc, cases, release, shown_commands, mutations]
 MODULES += [fuzz, page, peers]
 ABOUTS = {
-    "tools/dev": "What you need while you change code. What is tested is in tools/test, and what a release has in tools/release.",
-    "tools/release": "What a release has, and what is generated.",
-    "tools/test": "Runs the tests of the repository: all, as the gate does after `rt ci`, or some by their names or the name of their family.",
+    "dev": "What you need while you change code. What is tested is in tools/test, and what a release has in tools/release.",
+    "release": "What a release has, and what is generated.",
+    "test": "Runs the tests of the repository: all, as the gate does after `rt ci`, or some by their names or the name of their family.",
 }
 
 
@@ -68,8 +68,8 @@ def of_tests(tests: list[Test]) -> list[Command]:
 
 
 def main(tool: str, words: list[str]) -> int:
-    """Runs `tools/dev`, `tools/release` or `tools/test` with these words."""
-    parser, is_test = argparse.ArgumentParser(tool, description=ABOUTS[tool]), tool == "tools/test"
+    """Runs `tools/dev`, `tools/release` or `tools/test`, by its name there, with these words."""
+    parser, is_test = argparse.ArgumentParser(f"tools/{tool}", description=ABOUTS[tool]), tool == "test"
     added = parser.add_subparsers(dest="command", required=not is_test, metavar="NAME", title="commands")
     tests = {it.name: it for module in MODULES for it in TESTS if it.function.__module__ == module.__name__}
     if is_test:
@@ -79,7 +79,7 @@ def main(tool: str, words: list[str]) -> int:
             # Several tests, by their names.
             tests, words = {it: tests[it] for it in names}, words[: -len(names)]
         parser.set_defaults(jobs=PROCESSORS, function=partial(run_several, [*tests.values()]))
-    commands = of_tests([*tests.values()]) if is_test else DEV if tool == "tools/dev" else RELEASE
+    commands = of_tests([*tests.values()]) if is_test else DEV if tool == "dev" else RELEASE
     for command, about, function, options in commands:
         own = added.add_parser(command, help=about, description=f"{about[0].upper()}{about[1:]}.")
         own.set_defaults(function=function)
@@ -87,5 +87,5 @@ def main(tool: str, words: list[str]) -> int:
             own.add_argument(option, **more)  # type: ignore[arg-type]
     given = parser.parse_args(words)
     # Of tests is said which of them run.
-    with contextlib.nullcontext() if is_test else progress(lambda: f"{tool} {given.command}"):
+    with contextlib.nullcontext() if is_test else progress(lambda: f"tools/{tool} {given.command}"):
         return int(given.function(given) or 0)

@@ -13,9 +13,9 @@ each has. The same build makes the same bytes: every file has the time of the co
 nothing on the PATH but /usr/bin and /bin. MOST_SECONDS of a processor have to be enough to pack it.
 
 `tools/test packages`: makes the packages of `tools/release packages` twice, with the same bytes, and installs and tries each in a root of
-Debian 12 that has neither the kit nor anything of the repository. Each part of the repository has to have the version of VERSION. The root
-is made by debootstrap, once, and is kept in the cache; each run has a copy of it. Without root's rights, debootstrap or a mirror the tests
-in it are skipped by their names."""
+Debian 12 that has neither the kit nor anything of the repository. All parts of the repository have the version of VERSION. The root is made
+by debootstrap, once, and kept in the cache; each run has a copy. Without root's rights, debootstrap or a mirror the tests in it are
+skipped by their names."""
 
 import functools, glob, gzip, os, re, shutil, sys, tempfile, zipfile, zlib
 from collections.abc import Iterator
@@ -57,16 +57,6 @@ MAKERS = f"{PACKERS} {JINJA2} {MARKDOWN} pandoc wasm-opt"
 # The commands of the Python package: of each its name, its module and its function.
 COMMANDS = re.findall(r'^([\w-]+) = "([\w.]+):(\w+)"', read_text("bindings/python/pyproject.toml"), re.M)
 LINK = re.compile(r"(?<!!)\[((?:`[^`]*`|[^\]`])*)\]\((?!https?:|#)([^)#\s]+)[^)]*\)")
-
-
-def check_needs() -> None:
-    """The program itself says what it needs at run time: each entry NEEDED (tag 1) of its dynamic array."""
-    if run(PROGRAM, "check", PROGRAM).returncode:
-        raise SystemExit("release: the program does not accept itself")
-    lines = (it.split() for it in said(PROGRAM, "show", PROGRAM).stdout.splitlines())
-    others = {it[4] for it in lines if it[0] == "dynamic" and it[2] == "1"} - {"libc.so.6", "ld-linux-x86-64.so.2"}
-    if others:
-        raise SystemExit(f"release: the program needs {sorted(others)}, which is no part of the C library")
 
 
 def version_of(given: str | None = None) -> str:
@@ -145,7 +135,13 @@ def put_release(folder: str, version: str) -> None:
         if not is_current(crate, output_of(crate)):
             how = f"build it with tools/dev prove {crate}, which needs the Rattle kit's command rt"
             raise SystemExit(f"release: {output_of(crate)} is missing, or older than a text in crates/: {how}")
-    check_needs()
+    if run(PROGRAM, "check", PROGRAM).returncode:
+        raise SystemExit("release: the program does not accept itself")
+    # It says what it needs at run time: each entry NEEDED (tag 1) of its dynamic array.
+    lines = (it.split() for it in said(PROGRAM, "show", PROGRAM).stdout.splitlines())
+    others = {it[4] for it in lines if it[0] == "dynamic" and it[2] == "1"} - {"libc.so.6", "ld-linux-x86-64.so.2"}
+    if others:
+        raise SystemExit(f"release: the program needs {sorted(others)}, which is no part of the C library")
     library_page, faults = doc.made()
     if faults:
         raise SystemExit(f"release: the page of the library is not whole: {faults[0]}")

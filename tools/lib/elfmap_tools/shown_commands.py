@@ -142,9 +142,8 @@ def foreign(commands: list[str]) -> Iterator[str]:
 class Page:
     """A page, and the folder in which its commands run."""
 
-    def __init__(self, tally: Tally, path: str, folder: str) -> None:
-        self.tally, self.path, self.folder = tally, path, folder
-        self.name, self.text = os.path.relpath(path, TOP), read_text(path)
+    def __init__(self, tally: Tally, name: str, folder: str) -> None:
+        self.tally, self.name, self.folder, self.text = tally, name, folder, read_text(name)
         own = {"PATH": f"{folder}/bin:{os.environ['PATH']}", "XDG_CACHE_HOME": f"{folder}/.cache", "HOME": folder}
         self.environment = os.environ | own | {"LC_ALL": "C.UTF-8", "ELFMAP": PROGRAM}
 
@@ -184,21 +183,20 @@ class Page:
         named = {it.rstrip(".,:;") for it in re.findall(r"`((?:scripts|tools|bench|reference)/[\w./-]*)", self.text)}
         gone = sorted(it for it in named if not os.path.exists(f"{TOP}/{it}"))
         self.tally.check(not gone, f"{self.name} names what is not there: {gone}")
-        links = list(broken_links(self.path, self.text))
+        links = list(broken_links(f"{TOP}/{self.name}", self.text))
         self.tally.check(not links, f"{self.name} has links that lead nowhere: {links}")
 
 
 @Test("shown-commands", "the commands that the pages show print what is below them", TOOLS, f"elfmap {BOTH} example_symbols")
 def shown_commands(tally: Tally, options: Options) -> None:
-    pages = [f"{TOP}/{it}" for it in all_pages()]
-    every = [command for path in pages for block in blocks(read_text(path)) for command, _ in commands(block)]
+    every = [command for name in all_pages() for block in blocks(read_text(name)) for command, _ in commands(block)]
     for command in SKIPPED:
         tally.check(command in every, f"no page shows the command that is skipped: {command}")
     archive = pack(tally.folder, "VERSION")
-    for number, path in enumerate(pages):
+    for number, name in enumerate(all_pages()):
         folder = tally.new_folder(str(number))
         wanted("tar", "xf", archive, "--strip-components=1", folder=folder)
         for it in FOLDERS:
             os.symlink(f"{TOP}/{it}", f"{folder}/{it}")
         shutil.copy(archive, folder)
-        Page(tally, path, folder).try_all()
+        Page(tally, name, folder).try_all()

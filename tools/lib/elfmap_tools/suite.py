@@ -1,5 +1,5 @@
-"""The tests of `tools/test`: each by its name, with the commands and the built crates that it needs; alone or side by side. `tools/test setup`
-installs the Debian packages of the commands that are missing."""
+"""The tests of `tools/test`: each by its name, with the commands and the built crates that it needs; alone or side by side. `tools/test
+setup` installs the Debian packages of the commands that are missing."""
 
 import glob, os, re, shutil, subprocess, sys, tempfile, time, traceback
 from collections.abc import Callable, Iterable
