@@ -161,7 +161,6 @@ MACHINE_FILES = ["/bin/true", "/bin/ls", "/usr/lib/gcc/x86_64-linux-gnu/12/crtbe
 MACHINE_FILES += [f"/usr/lib/x86_64-linux-gnu/{it}" for it in ("crt1.o", "Scrt1.o", "crti.o", "libdl.so.2", "libutil.so.1")]
 LONGEST = 1 << 17
 ABOUT, TOOLS = "the page for a browser, in node beside `elfmap show`, and in chromium", f"node wasm-opt chromium chromedriver {SELENIUM} cc"
-COUNT = number("count", 3000, "so many changed files")
 
 
 def in_node(tally: Tally, room: str, count: int) -> None:
@@ -361,7 +360,7 @@ class InChromium(Browser):
         self.opens("symbols", "Symbols 1 to 100 of 1,000,")
 
 
-@Test("page", ABOUT, commands=TOOLS, crates=f"elfmap {CRATE}", alone=True, options=(COUNT,))
+@Test("page", ABOUT, TOOLS, f"elfmap {CRATE}", alone=True, options=(number("count", 3000, "so many changed files"),))
 def try_page(tally: Tally, options: Options) -> None:
     room = tally.folder
     in_node(tally, room, options.count)

@@ -76,7 +76,6 @@ SOURCES = ("main.c", "part.c", "templates.cc", "many.s")
 WAYS = ("-O0", "-O2 -g", "-Os -ffunction-sections -fdata-sections", "-O2 -fPIC -fcommon")
 MADE = product(enumerate(WAYS), ("gcc", "clang"), SOURCES)
 BUILDS = [f"{compiler} {words} -c {name} -o {name}.{compiler}.{way}.o" for (way, words), compiler, name in MADE]
-TOOLS = "gcc g++ clang readelf eu-elflint"
 ABOUT = "objects of this machine and its compilers through `rewrite`, beside readelf and eu-elflint"
 
 
@@ -174,7 +173,7 @@ def linked(folder: str) -> Iterator[str]:
             yield f"a program of rewritten files prints {after}, and not {own}"
 
 
-@Test("real-objects", ABOUT, commands=TOOLS, crates="elfmap", alone=True, options=OBJECTS)
+@Test("real-objects", ABOUT, "gcc g++ clang readelf eu-elflint", "elfmap", alone=True, options=OBJECTS)
 def real_objects(tally: Tally, options: Options) -> None:
     below = [it for it in files_below("/usr/lib") if it.endswith((".o", ".a"))]
     found = {f"{path}({at})": (path, at, size) for it in below for path, at, size in objects_of(it)}
