@@ -326,7 +326,7 @@ IDENTIFICATION = {"magic 0": (0, 1), "magic 3": (3, 1), "class": (4, 1), "data":
 ENTRIES = {SYMTAB: SYMBOL, DYNSYM: SYMBOL, RELA: RELOCATION, REL: RELOCATION, DYNAMIC_SECTION: DYNAMIC}
 WORDS = {GROUP: "group word", HASH: "hash word", SYMTAB_SHNDX: "index word", NOTE: "note word"}
 # The fields that a rule speaks of, by its number, and the one value that breaks it, where there is one.
-SPOKEN_OF = {int(rule): fields for rule, fields in re.findall(r"^(\d+): (.*)", read_text("cases/rules.fields"), re.M)}
+SPOKEN_OF = {int(rule): spoken for rule, spoken in re.findall(r"^(\d+): (.*)", read_text("cases/rules.fields"), re.M)}
 
 
 def record_fields(it: Any, before: str = "") -> list[Field]:
@@ -351,11 +351,11 @@ def changed_field(chance: Chance, file: bytes, of_rule: int) -> bytes | None:
     small one; None where the file has no such field."""
     spoken, _, fixed = SPOKEN_OF[of_rule].partition("=")
     f: Any = File(file)
-    fields = [(name, at, width) for name, (at, width) in IDENTIFICATION.items()] + record_fields(f.header)
+    all_fields = [(name, at, width) for name, (at, width) in IDENTIFICATION.items()] + record_fields(f.header)
     for i, it in f.sections():
-        fields += record_fields(it, "0 " if i == 0 else "") + content_fields(f, i)
-    fields += [field for it in f.segments() for field in record_fields(it)]
-    found = [it for it in fields if it[0] in spoken.split(", ")]
+        all_fields += record_fields(it, "0 " if i == 0 else "") + content_fields(f, i)
+    all_fields += [field for it in f.segments() for field in record_fields(it)]
+    found = [it for it in all_fields if it[0] in spoken.split(", ")]
     if not found:
         return None
     name, at, width = chance.choice(found)
