@@ -15,11 +15,10 @@ from typing import Any, cast
 
 from elfmap import _library, _names as names
 
-from . import library
 from .building import built_below, is_current, kit, words
 from .cases import case_files, cases_of, fuzzed
 from .doc_tables import file_rules
-from .library import FOLDER, VERDICTS as CRATE
+from .library import FOLDER, STRUCTS, VERDICTS as CRATE
 from .reference import verdict
 from .suite import SELENIUM, Tally, Test, number
 from .tree import PROGRAM, TOP, Options, filled, read_bytes, read_text, said, wanted, write
@@ -49,7 +48,7 @@ def module() -> str:
 
 def layout() -> Structs:
     """The structs of include/elfmap.h, as the Python package declares them: the size of each, and its fields with their offsets."""
-    tags = {getattr(_library, name): tag for name, tag in library.STRUCTS.items() if hasattr(_library, name)}
+    tags = {getattr(_library, name): tag for name, tag in STRUCTS.items() if hasattr(_library, name)}
     found: Structs = {}
     for made, tag in tags.items():
         found[tag] = {"size": ctypes.sizeof(made), "align": ctypes.alignment(made), "fields": []}
