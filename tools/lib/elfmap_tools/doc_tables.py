@@ -44,7 +44,7 @@ def section_of(found: Definition) -> str:
     return ""
 
 
-def row(own: re.Match[str]) -> str:
+def word_row(own: re.Match[str]) -> str:
     found = known()[own[1]]
     said = found.comment.replace("|", r"\|") or own[2] or ""
     name = os.path.basename(found.path).removesuffix(".antt")
@@ -52,7 +52,7 @@ def row(own: re.Match[str]) -> str:
 
 
 def write_definitions(options: Options) -> None:
-    write(f"{TOP}/{DEFINITIONS}", ROW.sub(row, read_text(DEFINITIONS)))
+    write(f"{TOP}/{DEFINITIONS}", ROW.sub(word_row, read_text(DEFINITIONS)))
 
 
 @Test("definitions", "docs/DEFINITIONS.md is what the comments of specs/ say")
@@ -63,7 +63,7 @@ def try_definitions(tally: Tally, options: Options) -> None:
         if tally.check(found, f"{word} is in no file of specs/"):
             tally.check(sentence or found and found.comment, f"{word} has no sentence: no comment in specs/, and none in its row")
     if not tally.failed:
-        tally.check(page == ROW.sub(row, page), f"{DEFINITIONS} is not what `tools/release definitions` makes")
+        tally.check(page == ROW.sub(word_row, page), f"{DEFINITIONS} is not what `tools/release definitions` makes")
 
 
 @Test("names", "each name of a definition is in one crate")

@@ -67,7 +67,7 @@ def real_files(tally: Tally, options: Options) -> None:
     count_ends(tally, side_by_side(try_file, some(files(), options)), "accepted|refused")
 
 
-# ---- objects
+# ---- real-objects
 
 # A file, and where the object begins in it and how long it is.
 Place = tuple[str, int, int]
