@@ -60,8 +60,7 @@ def pack(folder: str) -> str:
             if not os.path.isfile(output_of(crate)):
                 raise SystemExit(f"library: there is no {output_of(crate)}: tools/dev prove {crate} builds it")
             wanted("objcopy", *RENAMED, output_of(crate), f"{room}/{crate}.a")
-        memory = ["cc", "-std=c99", "-O2", "-fPIC", f"-I{TOP}/include", "-c", f"{TOP}/bindings/c/memory.c"]
-        wanted(*memory, "-o", f"{room}/memory.o")
+        wanted("cc", "-std=c99", "-O2", "-fPIC", f"-I{TOP}/include", "-c", f"{TOP}/bindings/c/memory.c", "-o", f"{room}/memory.o")
         write(f"{room}/script", f"create libelfmap.a\naddlib {VERDICTS}.a\naddlib {ENGINES}.a\naddmod memory.o\nsave\nend\n")
         wanted("sh", "-c", "ar -M < script", folder=room)
         return str(shutil.move(f"{room}/libelfmap.a", f"{folder}/libelfmap.a"))

@@ -185,9 +185,8 @@ def linked_like_ld(tally: Tally, options: Options) -> None:
 
 C_FLAGS = [*FLAGS, "-fno-asynchronous-unwind-tables"]
 CXX_FLAGS = C_FLAGS[1:] + "-fno-exceptions -fno-rtti -fno-threadsafe-statics -fno-gnu-unique".split()
-INCLUDES = [f"/usr/lib/klibc/include/{it}" for it in ("arch/x86_64", "bits64", "")]
 KLIBC_FLAGS = "-D__KLIBC__=2 -D__KLIBC_MINOR__=0 -D_BITSIZE=64 -nostdinc -iwithprefix include".split()
-KLIBC_FLAGS += [word for it in INCLUDES for word in ("-isystem", it)]
+KLIBC_FLAGS += [word for it in ("arch/x86_64", "bits64", "") for word in ("-isystem", f"/usr/lib/klibc/include/{it}")]
 CRT0 = f"{os.path.dirname(KLIBC)}/crt0.o"
 # The compiler and its words, the sources, the ways to compile them, and the entry: a program of C, one of C++, and one of C over klibc.
 RUNS: list[tuple[str, list[str], list[str], list[str], str]] = [
@@ -256,13 +255,6 @@ def linked_elsewhere(tally: Tally, options: Options) -> None:
 OF_KINDS = " ".join(["as ld llvm-mc-19 ld.lld-19", *(f"{target}-as {target}-ld" for target in MACHINES.values())])
 
 
-def named_kinds(machine: str) -> tuple[set[int], dict[int, str]]:
-    """The kinds that docs/RULE_FILES.md lists for a file of rules, and their names."""
-    part = read_text("docs/RULE_FILES.md").partition(f"(../rules/{machine}.rules)")[2].partition("\n## ")[0]
-    rows = [(it.split(", "), re.findall(r"`(\w+)`", names)) for it, names in re.findall(r"^\| ([\d, ]+) \| (.*?) \|", part, re.M)]
-    return {int(it) for numbers, _ in rows for it in numbers}, {int(it): name for row in rows for it, name in zip(*row)}
-
-
 def numbers_in(width: str, admitted: str) -> tuple[int, ...]:
     """Numbers at both ends of what a field admits, or near them, as an assembler wants addends of 32 bits; of a field that admits all, one
     that is long, or that assemblers and ld admit."""
@@ -294,7 +286,11 @@ def kinds_differ(shop: Workshop, machine: str, lines: list[list[str]], names: di
 def linked_kinds(tally: Tally, options: Options) -> None:
     for machine in sorted(os.path.basename(it)[:-6] for it in glob.glob(f"{TOP}/rules/*.rules")):
         lines = [it.split() for it in read_text(f"rules/{machine}.rules").splitlines()]
-        numbers, names = named_kinds(machine)
+        # The kinds that the page lists for it, and their names.
+        part = read_text("docs/RULE_FILES.md").partition(f"(../rules/{machine}.rules)")[2].partition("\n## ")[0]
+        rows = [(it.split(", "), re.findall(r"`(\w+)`", names)) for it, names in re.findall(r"^\| ([\d, ]+) \| (.*?) \|", part, re.M)]
+        names = {int(it): name for row in rows for it, name in zip(*row)}
+        numbers = {int(it) for listed, _ in rows for it in listed}
         tally.check(numbers == {int(it[0]) for it in lines}, f"docs/RULE_FILES.md lists other kinds than rules/{machine}.rules")
         wrong = kinds_differ(Workshop(tally.new_folder(machine)), machine, lines, names)
         tally.check(not wrong, f"{machine}: {'; '.join(wrong)}")

@@ -54,11 +54,9 @@ def layout() -> Structs:
         found[tag] = {"size": ctypes.sizeof(made), "align": ctypes.alignment(made), "fields": []}
         for name, kind in made._fields_:
             own = kind._type_ if issubclass(kind, ctypes.Array) else kind
-            place: dict[str, Any] = {"name": name, "at": getattr(made, name).offset, "width": ctypes.sizeof(own)}
-            place |= {"struct": tags[own]} if own in tags else {}
-            place |= {"count": kind._length_} if own is not kind else {}
-            place |= {"signed": True} if own is ctypes.c_int64 else {}
-            found[tag]["fields"].append(place)
+            place = {"name": name, "at": getattr(made, name).offset, "width": ctypes.sizeof(own)}
+            more = {"struct": tags.get(own), "count": own is not kind and kind._length_, "signed": own is ctypes.c_int64}
+            found[tag]["fields"].append(place | {key: it for key, it in more.items() if it})
     return found
 
 

@@ -76,9 +76,6 @@ def pages(tally: Tally, options: Options) -> None:
 
 # ---- the commands
 
-# The folders that a release has not.
-FOLDERS = ["bench", "cases", "crates", "reference", "tools"]
-ARCHIVE = "elfmap-VERSION-x86_64-linux"
 LONGEST = 60
 # Commands that are not run here, and why.
 LONG, WHEEL = "it proves, for minutes or seconds, with the Rattle kit", "tools/test packages installs the wheel"
@@ -88,12 +85,11 @@ SKIPPED = {
     "tools/dev check elf_extent  # a crate": LONG,
     "tools/dev check elf_extent members_by_start  # a function, and what it calls; here sorted by the index in place of the start": LONG,
     "tools/dev check tests_base --test finds_the_next_place": LONG,
-    f"man -l {ARCHIVE}/share/man/man1/elfmap.1": "it shows a page; tools/test release has it formatted",
+    "man -l elfmap-VERSION-x86_64-linux/share/man/man1/elfmap.1": "it shows a page; tools/test release has it formatted",
     "python3 -m venv venv && venv/bin/pip install elfmap-*.whl": WHEEL,
     "venv/bin/elfmap-gaps --most 20 /usr/lib": WHEEL,
 }
-MEASURED = ("bench/run", "bench/growth crates/elfmap/out/elfmap", "bench/library", "bench/lint")
-SKIPPED |= dict.fromkeys(MEASURED, "it measures, for minutes")
+SKIPPED |= dict.fromkeys(("bench/run", "bench/growth crates/elfmap/out/elfmap", "bench/library", "bench/lint"), "it measures, for minutes")
 # Tools whose output depends on their version, and the packages by which README.md names that.
 PACKAGES = {"gcc": "gcc", "readelf": "binutils", "objcopy": "binutils", "ld": "binutils", "eu-elflint": "elfutils"}
 PACKAGES |= {"llvm-objcopy": "LLVM", "llvm-readobj": "LLVM"}
@@ -196,7 +192,8 @@ def shown_commands(tally: Tally, options: Options) -> None:
     for number, name in enumerate(all_pages()):
         folder = tally.new_folder(str(number))
         wanted("tar", "xf", archive, "--strip-components=1", folder=folder)
-        for it in FOLDERS:
+        # The folders that a release has not.
+        for it in ("bench", "cases", "crates", "reference", "tools"):
             os.symlink(f"{TOP}/{it}", f"{folder}/{it}")
         shutil.copy(archive, folder)
         Page(tally, name, folder).try_all()

@@ -19,14 +19,12 @@ IMPORTS = "jinja2 jsonschema junitparser markdown selenium setuptools wheel".spl
 JINJA2, JSONSCHEMA, JUNITPARSER, MARKDOWN, SELENIUM, SETUPTOOLS, WHEEL = map(IMPORTED.format, IMPORTS)
 # Debian's clang brings its checks of addresses and of undefined behavior only as a recommended package.
 SANITIZERS = "/usr/lib/llvm-*/lib/clang/*/lib/linux/libclang_rt.asan-x86_64.a"
-# The commands of each package, by their first words, or a file that has to be there.
+# The commands of each package, by their first words, or a file that has to be there; but for those that have the name of their package.
 COMMANDS = {
-    "binaryen": "wasm-opt", "binutils": "ar as ld nm objcopy readelf", "binutils-x86-64-linux-gnu": "x86_64-linux-gnu-as", "black": "black",
-    "cargo-web": "cargo", "chromium": "chromium", "chromium-driver": "chromedriver", "clang": "clang", "debootstrap": "debootstrap",
-    "dpkg": "dpkg-deb", "elfutils": "eu-elflint", "g++": "c++ g++", "gcc": "cc gcc", "git": "git", "groff": "groff",
+    "binaryen": "wasm-opt", "binutils": "ar as ld nm objcopy readelf", "binutils-x86-64-linux-gnu": "x86_64-linux-gnu-as",
+    "cargo-web": "cargo", "chromium-driver": "chromedriver", "dpkg": "dpkg-deb", "elfutils": "eu-elflint", "g++": "c++ g++", "gcc": "cc gcc",
     "libclang-rt-14-dev": SANITIZERS, "libklibc-dev": KLIBC, "lld": "ld.lld", "lld-19": "ld.lld-19", "llvm": "llvm-objcopy llvm-readobj",
-    "llvm-19": "llvm-mc-19", "mypy": "mypy", "nodejs": "node", "pandoc": "pandoc", "pkg-config": "pkg-config", "pre-commit": "pre-commit",
-    "rustc-web": "rustc", "util-linux": "prlimit unshare", "valgrind": "valgrind",
+    "llvm-19": "llvm-mc-19", "nodejs": "node", "rustc-web": "rustc", "util-linux": "prlimit unshare",
 }  # fmt: skip
 PACKAGES = {command: package for package, commands in COMMANDS.items() for command in commands.split()}
 # The machines of rules/, by the names of qemu's program and of the tools; one that qemu has no program for; and those that LLVM alone has,
@@ -60,13 +58,13 @@ def missing(commands: Iterable[str]) -> list[str]:
 
 def words_of(lacking: Iterable[str]) -> str:
     """What to say of missing commands: the package of each, and how to get it."""
-    return ", ".join(f"there is no {it} (package {PACKAGES[it]})" for it in lacking) + "; `tools/test setup` installs it"
+    return ", ".join(f"there is no {it} (package {PACKAGES.get(it, it)})" for it in lacking) + "; `tools/test setup` installs it"
 
 
 def setup(commands: Iterable[str]) -> bool:
     """Installs the packages of the commands that are missing: whether all are there then."""
     lacking = missing(commands)
-    packages = sorted({PACKAGES[it] for it in lacking})
+    packages = sorted({PACKAGES.get(it, it) for it in lacking})
     if not packages:
         return True
     print(f"setup: installs {' '.join(packages)}", flush=True)
