@@ -4,11 +4,10 @@ and builds it; and `tools/dev check`, the loop while one writes."""
 import fcntl, functools, glob, hashlib, os, re, resource, shutil, sys, tempfile, time
 from collections.abc import Callable, Iterable
 from concurrent.futures import Future, ThreadPoolExecutor
+from pathlib import Path
 
-from .tree import (
-    LIBRARIES_OF, PROCESSORS, STATIC_LIBRARIES, TOP, Options, below, deps, is_newer, is_program, read_bytes, read_text, said, texts_of,
-    write,
-)  # fmt: skip
+from .tree import LIBRARIES_OF, PROCESSORS, STATIC_LIBRARIES, TOP
+from .tree import Options, below, deps, is_newer, is_program, read_bytes, read_text, said, texts_of, write
 
 # Where `tools/dev prove` puts the libraries that it proved, each beside a sum of what it was made from.
 RLIBS = f"{TOP}/crates/elfmap/out/rlibs"
@@ -59,7 +58,7 @@ def built_below(crates: Iterable[str]) -> tuple[FolderOf, list[str]]:
 
 
 def words(crate: str, folder_of: FolderOf) -> list[str]:
-    """The words with which `rattle check` and `rattle build` read a crate. `folder_of` returns the folder of the rlib of a crate below it."""
+    """The words with which `rattle check` and `rattle build` read a crate. `folder_of` returns the folder of a library below it."""
     rlibs = {name: folder_of(name) for name in below(crate)}
     found = ["--crate-name", crate, "src/main.rt" if is_program(crate) else "src/lib.rt"]
     for name in ["std", *LIBRARIES_OF[crate]]:
@@ -73,18 +72,15 @@ def words(crate: str, folder_of: FolderOf) -> list[str]:
 
 
 def checked(crate: str, functions: Iterable[str], folder: str, folder_of: FolderOf, kept: str) -> str:
-    """What the checker says of a crate as its text in a folder is, or of these functions of it and those that they call. What it has found
-    out so far is in the folder `kept`."""
+    """What the checker says of a crate's text in a folder, or of these functions and those that they call; it keeps its work in `kept`."""
     only = [word for it in functions for word in ("--only", it.removeprefix(f"{crate}::"))]
     return said(f"{kit()}/bin/rattle", "check", *words(crate, folder_of), "--incremental", kept, *only, folder=folder).stdout
 
 
 def link_words(output: str, source: str) -> list[str]:
     """The command that makes a program of what `rattle build` wrote."""
-    return [
-        *(f"{kit()}/bin/rattle-link", "--target", "x86_64-unknown-linux-gnu", "--toolchain", f"{kit()}/toolchain", "-o", output, source),
-        *(f"{kit()}/c/libos_c.a", f"{kit()}/c/liblibc_c.a"),
-    ]
+    found = [f"{kit()}/bin/rattle-link", "--target", "x86_64-unknown-linux-gnu", "--toolchain", f"{kit()}/toolchain", "-o", output, source]
+    return [*found, f"{kit()}/c/libos_c.a", f"{kit()}/c/liblibc_c.a"]
 
 
 def is_current(crate: str, path: str) -> bool:
@@ -145,12 +141,11 @@ class Build:
             self.rlibs[dep].result()
         if is_built_by_prove(crate):
             return
-        made = f"{RLIBS}/{crate}.sum"
-        if os.path.exists(made):
-            os.remove(made)
+        made = Path(RLIBS, f"{crate}.sum")
+        made.unlink(missing_ok=True)
         command = [f"{kit()}/bin/rattle", "build", *words(crate, lambda _: RLIBS), "--statements"]
         run([*command, "--jobs", str(self.jobs_of(crate)), "-o", f"{RLIBS}/{crate}.rlib"], crate)
-        write(made, sum_of(crate))
+        made.write_text(sum_of(crate), encoding="ascii")
 
     def output(self, folder_of: FolderOf) -> None:
         """Builds the program, or the library for C."""
@@ -191,10 +186,6 @@ def built(crate: str) -> str:
     if not is_current(crate, path):
         Build(crate).all()
     return path
-
-
-def prove(options: Options) -> None:
-    Build(options.crate).all()
 
 
 # ---- the inner loop

@@ -1,16 +1,26 @@
 """`tools/dev doc`: one page of the whole library, for a browser. For each of the crates that `elf` shows it has the front doc and each
 public item: signature, doc comment, and contract as it is in the source, where each word that is a definition of specs/ leads to that
-definition, at the end of the page with its comment and text. It fails where an item has no doc comment or is not in the page once."""
+definition, at the end of the page with its comment and text. It fails where an item has no doc comment or is not in the page once.
 
-import collections, functools, re, sys
-from collections.abc import Callable
+`tools/test must-not-compile`: each function of cases/sources/outlives.rt.txt has an error of the borrow checker.
+
+`tools/test doc-examples`: each example in the docs of the libraries compiles: its names, types, moves and borrows are right. Nothing is
+proved of it, since what an example leaves out, as a check of a number, a proof would need. An example is a code block of a doc comment
+whose fence names no language. It is made the body of a function that returns any error, in a crate for this alone. There it sees what its
+own crate shows, before what crates below show, and what is named in `OF_STD`. What it uses and does not bind is a parameter, of the type in
+`GIVEN`; a name that is not there is an unknown one. The crates are read as they are, so none has to be built. Those functions are beside
+the examples: that they are refused shows that borrows are checked, and ends the compiler before proofs, which take ten times as long."""
+
+import functools, os, re, sys
+from collections import Counter
+from collections.abc import Callable, Iterator
 from html import escape
 
-from . import definitions, guarantees
-from .rules_tables import by_anchor
-from .sources import PUBLIC_CRATES, WORD, Definition, Item, Uses, definition, items_of, module_file, named_in, reach, source
+from .building import kit
+from .doc_tables import DEFINITIONS, ROW, by_anchor, guarantees_by_call, key_of
+from .sources import PUBLIC_CRATES, WORD, Definition, Item, Uses, definition, items_of, module_file, named_in, reach, source, sources_of
 from .suite import JINJA2, MARKDOWN, Tally, Test
-from .tree import Options, read_text
+from .tree import LIBRARIES_OF, TOP, Options, below, is_program, read_text, said, write
 
 # Where a word leads to, and its title.
 Place = tuple[str, str] | None
@@ -63,21 +73,25 @@ def name_of(text: str) -> str:
     return re.sub(r"(?s)\W.*", "", text)
 
 
-def place_in(found: Definition, word: str) -> Place:
-    """Where a word of a definition leads to."""
-    other = named_in(found.path, word)
-    return (anchor_of(other), said_of(other) or other.text) if other and other is not found else None
+def place_of(found: Definition) -> Place:
+    return anchor_of(found), said_of(found) or found.text
 
 
 def text_of(found: Definition) -> str:
-    return linked(found.text, functools.partial(place_in, found))
+    """The text of a definition, where other definitions have their places."""
+
+    def place_in(word: str) -> Place:
+        other = named_in(found.path, word)
+        return place_of(other) if other and other is not found else None
+
+    return linked(found.text, place_in)
 
 
-def linked(text: str, place_of: Callable[[str], Place]) -> str:
+def linked(text: str, place: Callable[[str], Place]) -> str:
     """A text of code, each word of it with the anchor and the title that it has, if it has one."""
 
     def link(word: str) -> str:
-        anchor, title = place_of(word) or ("", "")
+        anchor, title = place(word) or ("", "")
         said = f' title="{escape(title)}"' if title else ""
         return f'<a href="#{escape(anchor)}"{said}>{escape(word)}</a>' if anchor else escape(word)
 
@@ -94,7 +108,7 @@ def said_of(found: Definition) -> str:
 def table_words() -> dict[str, str]:
     """The sentence for each word of the tables of docs/RULES.md and docs/DEFINITIONS.md."""
     rules = {it.definition: f"rule {it.number}: {it.words}" for it in by_anchor().values()}
-    return rules | dict(definitions.ROW.findall(read_text(definitions.PAGE)))
+    return rules | dict(ROW.findall(read_text(DEFINITIONS)))
 
 
 def in_one_line(text: str) -> str:
@@ -103,7 +117,7 @@ def in_one_line(text: str) -> str:
 
 
 def head_of_contract(item: Item) -> str:
-    kinds = collections.Counter(it.split()[0] for it in item.clauses)
+    kinds = Counter(it.split()[0] for it in item.clauses)
     return "what it is in the logic" if item.ghosts else "contract: " + ", ".join(f"{count} {kind}" for kind, count in kinds.items())
 
 
@@ -129,8 +143,6 @@ class PublicCrate:
         anchors = (self.page.anchors.get((public_crate, name), "") for name in names for public_crate in (self.name, *PUBLIC_CRATES))
         return next(filter(None, anchors), "")
 
-    # ---- doc comments
-
     def told(self, docs: list[str], owner: str = "") -> str:
         """A doc comment, whose links lead to what is on the page."""
         import markdown
@@ -150,16 +162,13 @@ class PublicCrate:
             return f"[{words}](#{anchor})"
         return words if mark[1] or mark[3] else mark[0]
 
-    # ---- signatures and contracts
-
     def signature(self, item: Item) -> str:
         """The signature, where the types of the library lead to their place."""
         own = item.name
         return linked("\n".join(item.text), lambda it: (self.anchor(it), "") if it[0].isupper() and it != own else None)
 
     def place_by(self, uses: Uses, word: str) -> Place:
-        """Where a word of a contract leads to, by the `ghost use` lines of its source. A definition is then on the page, as those are that
-        its text names."""
+        """Where a word of a contract leads to, by its source's `ghost use` lines. Definitions that it reaches get on the page."""
         place, name = uses.get(word, ("", ""))
         if ".declared." in place:
             return self.anchor(re.sub(r"\.TheVariants$", "", place).rsplit(".", 1)[-1]), ""
@@ -167,11 +176,11 @@ class PublicCrate:
         if not found:
             return None
         reach(found, self.page.wanted)
-        return anchor_of(found), said_of(found) or found.text
+        return place_of(found)
 
     def guarantees(self, item: Item) -> list[str]:
         """What docs/GUARANTEES.md says of a function."""
-        return [self.marked(it) for it in guarantees.by_call().get(guarantees.key_of(item), [])]
+        return [self.marked(it) for it in guarantees_by_call().get(key_of(item), [])]
 
     def contract(self, item: Item) -> str:
         """The clauses, or of a type what its value and its invariant are."""
@@ -185,7 +194,7 @@ def made() -> tuple[str, list[str]]:
     """The page, and what is wrong with it."""
     page = Page()
     text = page.whole()
-    ids = collections.Counter(re.findall(r' id="([^"]+)"', text))
+    ids = Counter(re.findall(r' id="([^"]+)"', text))
     wrong = [f"{anchor} is in the page {ids[anchor]} times" for anchor in sorted(set(page.anchors.values())) if ids[anchor] != 1]
     leads = set(re.findall(r' href="#([^"]+)"', text))
     return text, [*dict.fromkeys(page.faults), *wrong, *(f"{anchor} is nowhere in the page" for anchor in sorted(leads - set(ids)))]
@@ -201,3 +210,79 @@ def main(options: Options) -> int:
 @Test("doc", "each public item has a doc comment, and is in the page of `tools/dev doc` once", commands=f"{JINJA2} {MARKDOWN}")
 def doc(tally: Tally, options: Options) -> None:
     tally.count(1, made()[1][:1])
+
+
+# ---- the examples in doc comments, and what must not compile
+
+GIVEN = {
+    "rt": "&(impl Abort + Print)", "alloc": "Global", "hasher": "BuildHasherDefault<FoldHasher>", "reader": "impl Read + Drop",
+    "writer": "impl Write + Drop", "file": "impl Read + Seek + Drop", "files": "impl Opener + Drop", "out": "Vec<u8>", "err": "Vec<u8>",
+    "bytes": "&'a [u8]", "header": "[u8; 64]", "names": "Vec<&'a [u8]>", "symbols": "Vec<u32>", "object": "Object<'a>",
+    "objects": "&'a [Object<'a>]", "options": "Options<'a>", "rules": "&'a [RelocRule]",
+}  # fmt: skip
+OF_STD = "use std::{alloc::Global, hash::{BuildHasherDefault, FoldHasher}, io::{Print, Read, Seek, Write}, process::Abort};"
+OUTLIVES = read_text("cases/sources/outlives.rt.txt")
+FENCED = re.compile(r"^ *//[/!] ?```(?P<language>.*?) *\n(?P<lines>(?: *//[/!].*\n)*?) *//[/!] ?```", re.M)
+# An example: its crate, its file, and a file that has it as a function.
+Example = tuple[str, str, str]
+
+
+def examples_in(crate: str, path: str) -> Iterator[Example]:
+    """The examples of a file. In its function each line has the number that it has in the docs."""
+    text = read_text(path)
+    for block in (it for it in FENCED.finditer(text) if not it["language"]):
+        lines, above = re.findall(r"^ *//[/!] ?(.*)", block["lines"], re.M), text.count("\n", 0, block.start())
+        bare = re.sub(r'"(?:\\.|[^"\\])*"|//.*', "", "\n".join(lines))
+        # The names that can be values, but for members and fields, and those that are bound.
+        values = set(re.findall(r"(?<![.\w])[a-z_]\w*(?!\w|\s*:)", bare)) - set(re.findall(r"\blet (?:mut )?(\w+)", bare))
+        parameters = ", ".join(f"mut {name}: {kind}" for name, kind in GIVEN.items() if name in values)
+        imports = (f"use {it}::*;" for it in [crate, *below(crate)])
+        head = [*imports, OF_STD, f"pub fn example<'a>({parameters}) -> Result<(), std::test::Fail> {{ use {crate}::*;"]
+        yield crate, path, "\n".join([" ".join(head) + "\n" * above, *[f"    {it}" for it in lines], "    Ok(())", "}", ""])
+
+
+def words(crates: list[str]) -> list[str]:
+    """The words with which `rattle check` reads the examples over the sources of these crates and of those below them."""
+    found = ["check", "--crate-name", "doc_examples", "src/lib.rt", "--only", ""]
+    crates = list(dict.fromkeys(it for crate in crates for it in [*below(crate), crate]))
+    of_kit = {it for crate in crates for it in LIBRARIES_OF[crate] if it not in LIBRARIES_OF}
+    for name in ["core", "std", *sorted(of_kit)]:
+        found += ["--extern", f"{name}={kit()}/rlibs/{name}.rlib"]
+    for crate in crates:
+        found += ["--lib", f"{crate}:{','.join(['core', 'std', *LIBRARIES_OF[crate]])}={TOP}/crates/{crate}/src/lib.rt"]
+    found += ["-L", f"dependency={kit()}/rlibs", "--antt-project", f"{kit()}/rattle/logic/antt-project.json"]
+    return [*found, "--logic-built", f"{kit()}/logic_built"]
+
+
+def output_of(examples: list[Example], room: str) -> str:
+    """What the compiler says of these examples, and of the functions that must not compile; of borrows where names and types are right."""
+    files = {f"example_{number}": function for number, (_, _, function) in enumerate(examples)}
+    files["lib"] = OUTLIVES + "".join(f"pub mod {name};\n" for name in files)
+    os.makedirs(f"{room}/src")
+    for name, text in files.items():
+        write(f"{room}/src/{name}.rt", text)
+    crates = [*re.findall(r"^use (elf_\w+)::", OUTLIVES, re.M), *(crate for crate, *_ in examples)]
+    return said(f"{kit()}/bin/rattle", *words(crates), folder=room).stdout
+
+
+@Test("doc-examples", "each example in a doc comment compiles")
+def doc_examples(tally: Tally, options: Options) -> None:
+    crates = [it for it in LIBRARIES_OF if not is_program(it)]
+    examples = [it for crate in crates for path in sources_of(crate) for it in examples_in(crate, path)]
+    output, faults = output_of(examples, tally.folder), dict[str, list[str]]()
+    for name, number, line in re.findall(r"^(src/example_(\d+)\.rt)(:\d+:\d+: error.*)", output, re.M):
+        path = examples[int(number)][1]
+        faults.setdefault(number, []).append(path + line.replace(name, path))
+    if not faults and not re.search(r"^src/lib\.rt:\d+:.*borrow-e0", output, re.M):
+        raise SystemExit(f"the compiler does not judge the examples:\n{output}")
+    tally.count(len(examples), map("\n".join, faults.values()))
+    tally.note(", ".join(f"{crate} {count}" for crate, count in Counter(crate for crate, *_ in examples).items()))
+
+
+@Test("must-not-compile", "what borrows from a file's bytes and outlives them is refused by the borrow checker")
+def must_not_compile(tally: Tally, options: Options) -> None:
+    output = output_of([], tally.folder)
+    refused = [int(it) for it in re.findall(r"^src/lib\.rt:(\d+):.*borrow-e0(?:505|515|597)", output, re.M)]
+    for it in re.finditer(r"^pub fn (\w+)(?:.*\n)*?^}", OUTLIVES, re.M):
+        first, last = (OUTLIVES.count("\n", 0, place) + 1 for place in it.span())
+        tally.check(any(first <= line <= last for line in refused), f"the borrow checker did not refuse {it[1]}: {output[-2000:]}")

@@ -7,13 +7,11 @@ from collections.abc import Iterator
 from typing import Any
 
 from .cases import case_files
-
-from .reference import (
-    DYNAMIC, DYNAMIC_SECTION, DYNSYM, ENTRY_SIZE, HASH, HEADER, LOAD, NOBITS, NOTE, NULL, PROGRAM_HEADER, REL, RELA, RELOCATION,
-    SECTION_HEADER, SYMBOL, SYMTAB, SYMTAB_SHNDX, XINDEX, Broken, File, check, elf_hash, entries_before_null, is_section, name_of,
-    notes, padded, parts, rewritten, shown, signed, string, symbols, table_verdict, verdict,
-)  # fmt: skip
-from .rules_tables import by_anchor
+from .doc_tables import by_anchor
+from .reference import DYNAMIC, DYNAMIC_SECTION, DYNSYM, ENTRY_SIZE, HASH, HEADER, LOAD, NOBITS, NOTE, NULL, PROGRAM_HEADER, REL, RELA
+from .reference import RELOCATION, SECTION_HEADER, SYMBOL, SYMTAB, SYMTAB_SHNDX, XINDEX
+from .reference import Broken, File, check, elf_hash, entries_before_null, is_section, name_of, notes, padded, parts, rewritten, shown
+from .reference import signed, string, symbols, table_verdict, verdict
 from .tree import Options, read_bytes, write
 
 # A line for bindings/c/test.c, and one for bindings/rust and bindings/python.
@@ -23,6 +21,8 @@ OWNERS = {"header": 0, "sections": 1, "segments": 2, "content": 3, "gap": 2**64 
 
 # ---- the entries of tables: also of those that break a rule, as far as they lie in the file
 
+TABLES = (SYMTAB, DYNSYM, RELA, REL, DYNAMIC_SECTION, NOTE)
+
 
 def content_of(f: Any, i: int | None) -> bytes:
     """The bytes of section i; none where there is none of this index."""
@@ -30,8 +30,7 @@ def content_of(f: Any, i: int | None) -> bytes:
 
 
 def beside(f: Any, i: int) -> tuple[int | None, int | None]:
-    """The sections that the table in section i is read by beside its own, each None where there is none: its index table or its symbol
-    table, and its string table."""
+    """The sections beside which the table in section i is read, None where there is none: its index or symbol table, and its strings."""
     kind, link = f.section(i).sh_type, f.section(i).sh_link
     if kind in (SYMTAB, DYNSYM):
         return next((k for k, it in f.sections() if it.sh_type == SYMTAB_SHNDX and it.sh_link == i), None), link
@@ -40,46 +39,34 @@ def beside(f: Any, i: int) -> tuple[int | None, int | None]:
     return None, link if kind == DYNAMIC_SECTION else None
 
 
-def symbol_lines(f: Any, i: int) -> Iterator[Lines]:
-    """Of each symbol its numbers, the index of its section, and its name."""
-    index_table, strings = beside(f, i)
-    words, names = [] if index_table is None else f.words(index_table), content_of(f, strings)
-    for k, it in enumerate(symbols(f, i)):
-        if it.st_shndx != XINDEX or k < len(words):
-            section, name = words[k][1] if it.st_shndx == XINDEX else it.st_shndx, string(names, it.st_name).hex()
-            numbers = f"{it.st_value} {it.st_size} {section} {it.st_shndx} {it.st_info} {it.st_other}"
-            yield f"symbol {fields(it, SYMBOL)} {section} {name}", f"symbol {i} {numbers} ={name}"
-
-
-def relocation_lines(f: Any, i: int) -> Iterator[Lines]:
-    """Of each relocation its offset, addend, symbol and kind."""
-    kind = f.section(i).sh_type
-    for it in f.entries(i, RELOCATION, ENTRY_SIZE[kind]):
-        numbers = f"{it.r_offset} {signed(it.r_addend, 64) if kind == RELA else 0} {it.r_info // 2 ** 32} {it.r_info % 2 ** 32}"
-        yield f"relocation {numbers}", f"relocation {i} {numbers}"
-
-
-def dynamic_lines(f: Any, i: int) -> Iterator[Lines]:
-    """Of each dynamic entry its numbers, and the string at its number."""
-    strings, entries = content_of(f, f.section(i).sh_link), entries_before_null(f, i)
-    for it in f.entries(i, DYNAMIC, 16) if entries is None else entries:
-        numbers, name = f"{signed(it.d_tag, 64)} {it.d_un}", string(strings, it.d_un).hex() if it.d_un < len(strings) else None
-        yield f"dynamic {numbers} {'none' if name is None else name}", f"dynamic {i} {numbers} ={name or ''}"
-
-
-def note_lines(f: Any, i: int) -> Iterator[Lines]:
-    """Of each whole note its type, where it ends, its name, and its descriptor."""
-    for at, end, name, size in notes(f, i):
-        named, begin = at + 12, at + 12 + padded(name)
-        if begin + padded(size) <= end:
-            type, next_note = f.number(at + 8, 4), begin + padded(size) - f.section(i).sh_offset
-            own, descriptor = f.bytes[named : named + name][:-1].hex(), f.bytes[begin : begin + size].hex()
-            yield f"note {type} {next_note} {own} {descriptor}", f"note {i} {type} ={own} ={descriptor}"
-
-
-# What has the lines of a table, by its type.
-ENTRIES = dict.fromkeys((SYMTAB, DYNSYM), symbol_lines) | dict.fromkeys((RELA, REL), relocation_lines)
-ENTRIES |= {DYNAMIC_SECTION: dynamic_lines, NOTE: note_lines}
+def entries(f: Any, i: int) -> Iterator[Lines]:
+    """The lines of a table of each type: of symbols the index of their section and their name too; of relocations their offset, addend,
+    symbol and kind; of dynamic entries also the string at their number; of whole notes type, end, name and descriptor."""
+    kind, (index_table, strings) = f.section(i).sh_type, beside(f, i)
+    names = content_of(f, strings)
+    if kind in (SYMTAB, DYNSYM):
+        words = [] if index_table is None else f.words(index_table)
+        for k, it in enumerate(symbols(f, i)):
+            if it.st_shndx != XINDEX or k < len(words):
+                section, name = words[k][1] if it.st_shndx == XINDEX else it.st_shndx, string(names, it.st_name).hex()
+                numbers = f"{it.st_value} {it.st_size} {section} {it.st_shndx} {it.st_info} {it.st_other}"
+                yield f"symbol {fields(it, SYMBOL)} {section} {name}", f"symbol {i} {numbers} ={name}"
+    elif kind in (RELA, REL):
+        for it in f.entries(i, RELOCATION, ENTRY_SIZE[kind]):
+            numbers = f"{it.r_offset} {signed(it.r_addend, 64) if kind == RELA else 0} {it.r_info // 2 ** 32} {it.r_info % 2 ** 32}"
+            yield f"relocation {numbers}", f"relocation {i} {numbers}"
+    elif kind == DYNAMIC_SECTION:
+        found = entries_before_null(f, i)
+        for it in f.entries(i, DYNAMIC, 16) if found is None else found:
+            numbers, text = f"{signed(it.d_tag, 64)} {it.d_un}", string(names, it.d_un).hex() if it.d_un < len(names) else None
+            yield f"dynamic {numbers} {'none' if text is None else text}", f"dynamic {i} {numbers} ={text or ''}"
+    else:
+        for at, end, name_size, size in notes(f, i):
+            named, begin = at + 12, at + 12 + padded(name_size)
+            if begin + padded(size) <= end:
+                type, next_note = f.number(at + 8, 4), begin + padded(size) - f.section(i).sh_offset
+                own, descriptor = f.bytes[named : named + name_size][:-1].hex(), f.bytes[begin : begin + size].hex()
+                yield f"note {type} {next_note} {own} {descriptor}", f"note {i} {type} ={own} ={descriptor}"
 
 
 def fields(record: Any, layout: Any) -> str:
@@ -134,7 +121,7 @@ def table_lines(f: Any, i: int, kind: int) -> Iterator[str]:
     """Of a table whose linked sections are there: where it is and those beside it are, how many entries it has, and these."""
     link = f.section(i).sh_link
     if kind == NOTE or is_section(f, link) and (kind != HASH or is_section(f, f.section(link).sh_link)):
-        lines = list(found_lines(f, i)) if kind == HASH else [own for own, _ in ENTRIES[kind](f, i)]
+        lines = list(found_lines(f, i)) if kind == HASH else [own for own, _ in entries(f, i)]
         count = len(notes(f, i)) if kind == NOTE else len(lines) if kind == DYNAMIC_SECTION else f.section(i).sh_size // ENTRY_SIZE[kind]
         places = ("0 0" if it is None else f"{f.section(it).sh_offset} {len(content_of(f, it))}" for it in (i, *beside(f, i)))
         yield f"table {i} {' '.join(places)} {count} {kind} {f.bytes[5]}"
@@ -154,7 +141,7 @@ def kept_lines(f: Any) -> Iterator[str]:
         for address in ((it.p_vaddr + k) % 2**64 for k in (0, it.p_filesz - 1, it.p_filesz, it.p_memsz - 1, it.p_memsz)):
             yield f"load {address} {loaded(f, address)}"
     for i, it in f.sections():
-        if it.sh_type in (*ENTRIES, HASH):
+        if it.sh_type in (*TABLES, HASH):
             yield from table_lines(f, i, it.sh_type)
 
 
@@ -197,8 +184,8 @@ def lines_of(content: bytes) -> list[str]:
     if len(content) > LONG:
         return lines
     lines += [f"part {start} {size} {'gap' if owner.startswith('gap') else owner}" for start, size, owner in parts(f)]
-    for i, it in ((i, it) for i, it in f.sections() if it.sh_type in ENTRIES):
-        lines += [f"broken {i}"] if table_verdict(f, i) else [own for _, own in ENTRIES[it.sh_type](f, i)]
+    for i, it in ((i, it) for i, it in f.sections() if it.sh_type in TABLES):
+        lines += [f"broken {i}"] if table_verdict(f, i) else [own for _, own in entries(f, i)]
     refusal, written = rewritten(content) or ("", b"")
     return [*lines, f"show ={shown(content).encode().hex()}", f"rewrite {refusal.strip()}" if refusal else f"rewrite ={written.hex()}"]
 

@@ -21,8 +21,7 @@ from .suite import BY_LLVM, KLIBC, MACHINES, RUN_BY_QEMU, Tally, Test
 from .tree import PROGRAM, RULES, TOP, Answer, Options, answer_of, ending, read_bytes, read_text, run, wanted, write
 
 SOURCES = f"{TOP}/cases/sources"
-# The assembler and the linker of a machine; of all others those of this one.
-HOST = (["as"], ["ld"])
+# The assembler and the linker of a machine, but for this one.
 TOOLS = {machine: ([f"{target}-as"], [f"{target}-ld"]) for machine, target in MACHINES.items()}
 LLVM = (["llvm-mc-19", "-filetype=obj"], ["ld.lld-19", "-m"])
 TOOLS |= {machine: ([*LLVM[0], f"-triple={triple}"], [*LLVM[1], name]) for machine, (triple, name) in BY_LLVM.items()}
@@ -45,13 +44,6 @@ class Workshop:
         name = source.replace(".", "-") + ".o"
         self.wanted(compiler, *words, "-c", f"{SOURCES}/{source}", "-o", name)
         return name
-
-    def assembled(self, machine: str, source: str) -> str:
-        """Assembles a file of cases/sources/ for a machine, whose name is a macro there: the name of the object."""
-        words = f"-E -P -undef -D{machine} -x assembler-with-cpp -o source.s".split()
-        self.wanted("gcc", *words, f"{SOURCES}/{source}")
-        self.wanted(*TOOLS[machine][0], "source.s", "-o", f"{source}.o")
-        return f"{source}.o"
 
     def link(self, objects: list[str], base: str, page: str, entry: str, rules: str = RULES) -> None:
         """Links objects by elfmap as the file by-elfmap."""
@@ -193,9 +185,8 @@ def linked_like_ld(tally: Tally, options: Options) -> None:
 
 C_FLAGS = [*FLAGS, "-fno-asynchronous-unwind-tables"]
 CXX_FLAGS = C_FLAGS[1:] + "-fno-exceptions -fno-rtti -fno-threadsafe-statics -fno-gnu-unique".split()
-INCLUDES = [f"/usr/lib/klibc/include/{it}" for it in ("arch/x86_64", "bits64", "")]
 KLIBC_FLAGS = "-D__KLIBC__=2 -D__KLIBC_MINOR__=0 -D_BITSIZE=64 -nostdinc -iwithprefix include".split()
-KLIBC_FLAGS += [word for it in INCLUDES for word in ("-isystem", it)]
+KLIBC_FLAGS += [word for it in ("arch/x86_64", "bits64", "") for word in ("-isystem", f"/usr/lib/klibc/include/{it}")]
 CRT0 = f"{os.path.dirname(KLIBC)}/crt0.o"
 # The compiler and its words, the sources, the ways to compile them, and the entry: a program of C, one of C++, and one of C over klibc.
 RUNS: list[tuple[str, list[str], list[str], list[str], str]] = [
@@ -203,16 +194,8 @@ RUNS: list[tuple[str, list[str], list[str], list[str], str]] = [
     ("g++", CXX_FLAGS, ["stack_main.cc", "stack_other.cc"], ["-O0", "-O2", "-Os -ffunction-sections"], "start"),
     ("gcc", C_FLAGS + KLIBC_FLAGS, ["library.c"], ["-O0", "-O2"], "_start"),
 ]
-RUNNERS = f"gcc g++ ld ar readelf eu-elflint {KLIBC}"
 # Where each program is placed, and with which page; the kernel maps by pages of 0x1000.
 PLACES = (("0x400000", "0x1000"), ("0x10000000", "0x200000"))
-
-
-def with_archive(shop: Workshop, objects: list[str]) -> list[str]:
-    """These objects, and those of klibc's archive that ld takes for them."""
-    shop.wanted("ar", "x", KLIBC)
-    traced = shop.wanted("ld", "-m", "elf_x86_64", "-static", "-e", "_start", "-t", "-t", "-o", "by-ld", *objects, KLIBC)
-    return [*objects, *dict.fromkeys(re.findall(r"^\(.*\)(.*)$", traced, re.M))]
 
 
 def difference(shop: Workshop, objects: list[str], entry: str, base: str, page: str) -> str:
@@ -229,14 +212,18 @@ def difference(shop: Workshop, objects: list[str], entry: str, base: str, page: 
     return next((f"{os.path.basename(name)} {ending(it)}" for name, it in ends if it.returncode or it.stderr), "")
 
 
-@Test("linked-runs", "programs run the same by ld and by elfmap", commands=RUNNERS, crates="elfmap", family="linked")
+@Test("linked-runs", "programs run the same by ld and by elfmap", f"gcc g++ ld ar readelf eu-elflint {KLIBC}", "elfmap", family="linked")
 def linked_runs(tally: Tally, options: Options) -> None:
     for way, (compiler, flags, sources, _, entry) in ((way, it) for it in RUNS for way in it[3]):
         title = f"{' '.join(sources)} by {compiler} {way}"
         shop = Workshop(tally.new_folder(title))
         objects = [shop.compiled(compiler, it, [*flags, *way.split()]) for it in sources]
         if entry == "_start":
-            objects = with_archive(shop, [CRT0, *objects])
+            # Of klibc's archive the objects that ld takes.
+            shop.wanted("ar", "x", KLIBC)
+            ld = ["ld", "-m", "elf_x86_64", "-static", "-e", "_start", "-t", "-t", "-o", "by-ld"]
+            traced = shop.wanted(*ld, CRT0, *objects, KLIBC)
+            objects = [CRT0, *objects, *dict.fromkeys(re.findall(r"^\(.*\)(.*)$", traced, re.M))]
         for place in PLACES:
             wrong = difference(shop, objects, entry, *place)
             tally.check(not wrong, f"{title}: {wrong}")
@@ -251,7 +238,12 @@ ELSEWHERE = " ".join(["gcc", *(f"{target}-as {target}-ld qemu-{qemu}" for qemu, 
 def linked_elsewhere(tally: Tally, options: Options) -> None:
     for machine, target in RUN_BY_QEMU.items():
         shop = Workshop(tally.new_folder(machine))
-        objects = [shop.assembled(machine, it) for it in ("elsewhere.S", "elsewhere_data.S")]
+        objects = ["elsewhere.o", "elsewhere_data.o"]
+        for it in objects:
+            # The machine's name is a macro in the source.
+            preprocess = f"-E -P -undef -D{machine} -x assembler-with-cpp -o source.s".split()
+            shop.wanted("gcc", *preprocess, f"{SOURCES}/{it[:-2]}.S")
+            shop.wanted(f"{target}-as", "source.s", "-o", it)
         shop.wanted(f"{target}-ld", "-Ttext-segment=0x400000", "-e", "start", *objects, "-o", "by-ld")
         shop.link(objects, "0x400000", "0x10000", "start", f"{TOP}/rules/{machine}.rules")
         ends = [it[:2] for it in shop.answers(f"qemu-{machine}")]
@@ -261,13 +253,6 @@ def linked_elsewhere(tally: Tally, options: Options) -> None:
 # ---- linked-kinds
 
 OF_KINDS = " ".join(["as ld llvm-mc-19 ld.lld-19", *(f"{target}-as {target}-ld" for target in MACHINES.values())])
-
-
-def named_kinds(machine: str) -> tuple[set[int], dict[int, str]]:
-    """The kinds that docs/RULE_FILES.md lists for a file of rules, and their names."""
-    part = read_text("docs/RULE_FILES.md").partition(f"(../rules/{machine}.rules)")[2].partition("\n## ")[0]
-    rows = [(it.split(", "), re.findall(r"`(\w+)`", names)) for it, names in re.findall(r"^\| ([\d, ]+) \| (.*?) \|", part, re.M)]
-    return {int(it) for numbers, _ in rows for it in numbers}, {int(it): name for row in rows for it, name in zip(*row)}
 
 
 def numbers_in(width: str, admitted: str) -> tuple[int, ...]:
@@ -280,7 +265,7 @@ def numbers_in(width: str, admitted: str) -> tuple[int, ...]:
 
 def kinds_differ(shop: Workshop, machine: str, lines: list[list[str]], names: dict[int, str]) -> list[str]:
     """What ld makes otherwise of an object that has fields of each kind with a name, with numbers near the ends of their range."""
-    assembler, linker = TOOLS.get(machine, HOST)
+    assembler, linker = TOOLS.get(machine, (["as"], ["ld"]))
     fields = [(names[int(kind)], form, it) for kind, form, *own in lines if int(kind) in names for it in numbers_in(*own)]
 
     def assemble(addends: list[int]) -> None:
@@ -301,7 +286,11 @@ def kinds_differ(shop: Workshop, machine: str, lines: list[list[str]], names: di
 def linked_kinds(tally: Tally, options: Options) -> None:
     for machine in sorted(os.path.basename(it)[:-6] for it in glob.glob(f"{TOP}/rules/*.rules")):
         lines = [it.split() for it in read_text(f"rules/{machine}.rules").splitlines()]
-        numbers, names = named_kinds(machine)
+        # The kinds that the page lists for it, and their names.
+        part = read_text("docs/RULE_FILES.md").partition(f"(../rules/{machine}.rules)")[2].partition("\n## ")[0]
+        rows = [(it.split(", "), re.findall(r"`(\w+)`", names)) for it, names in re.findall(r"^\| ([\d, ]+) \| (.*?) \|", part, re.M)]
+        names = {int(it): name for row in rows for it, name in zip(*row)}
+        numbers = {int(it) for listed, _ in rows for it in listed}
         tally.check(numbers == {int(it[0]) for it in lines}, f"docs/RULE_FILES.md lists other kinds than rules/{machine}.rules")
         wrong = kinds_differ(Workshop(tally.new_folder(machine)), machine, lines, names)
         tally.check(not wrong, f"{machine}: {'; '.join(wrong)}")

@@ -1,23 +1,23 @@
 """`tools/release man`: the manual page of the program, from docs/MANUAL.md: its first paragraph, and its section "The commands". There each
 command has a part of its own, whose text up to the first example comes below COMMANDS, and what follows below EXAMPLES. A row of a table
-becomes a paragraph with its first cell as the tag. pandoc makes the page of this.
-
-And completions of bash, zsh and fish for a command. They read the help that it prints: its subcommands, its options, and the words that an
-option takes. All other words are files."""
+becomes a paragraph with its first cell as the tag. pandoc makes the page of this. And completions of bash, zsh and fish for a command
+(completions/): they read the help that it prints, its subcommands, options, and the words that an option takes. Other words are files."""
 
 import re, subprocess
 
-from .tree import Options, cells, filled, read_text
+from .tree import cells, filled, read_text
 
 # Where the text is that the page is made of.
 MANUAL = "docs/MANUAL.md"
 # Parts that are no command, and their names in the page.
 OTHERS = {"Exit status": "EXIT STATUS", "Files of rules": "FILES", "Limits": "LIMITS"}
+# How a block begins that shows a command.
+EXAMPLE = "    $ "
 LINK = re.compile(r"\[((?:`[^`]*`|[^\]`])*)\]\(([^)]*)\)")
 SEE_ALSO = "readelf(1), ld(1), elf(5), elfmap-lint(1), elfmap-explain(1), elfmap-same(1), elfmap-gaps(1), elfmap-picture(1)"
-PAGES = """In the directory of the release: `docs/MANUAL.md` has these texts and the libraries, `docs/RULES.md` every rule by its number, what it
-means and what to do, `docs/RULE_FILES.md` the files of rules line by line, `doc/elfmap-doc.html` the library, and `include/elfmap.h` the
-calls for C."""
+PAGES = """In the directory of the release: `docs/MANUAL.md` has these texts and the libraries, `docs/RULES.md` every rule by its number,
+what it means and what to do, `docs/RULE_FILES.md` the files of rules line by line, `doc/elfmap-doc.html` the library, and
+`include/elfmap.h` the calls for C."""
 
 
 def blocks(text: str) -> list[str]:
@@ -28,10 +28,6 @@ def blocks(text: str) -> list[str]:
 # The blocks of the section "The commands": of its beginning, and of each part by its title.
 FIRST, *OTHER = re.split(r"^### (.*)\n", read_text(MANUAL).partition("\n## The commands\n")[2].partition("\n## ")[0], flags=re.M)
 PARTS = {"": blocks(FIRST), **dict(zip(OTHER[::2], map(blocks, OTHER[1::2])))}
-
-
-def is_example(block: str) -> bool:
-    return block.startswith("    $ ")
 
 
 def with_tags(block: str) -> str:
@@ -58,59 +54,23 @@ def page(version: str) -> str:
     text += ["# DESCRIPTION", summary, "# COMMANDS"]
     examples = ["# EXAMPLES"]
     for title, found in list(PARTS.items())[1:]:
-        first = next((at for at, it in enumerate(found) if is_example(it)), len(found))
+        first = next((at for at, it in enumerate(found) if it.startswith(EXAMPLE)), len(found))
         text += [f"## {title}", *found[:first]] if title not in OTHERS else []
         examples += [f"## {title}", *found[first:]] if found[first:] else []
     for title, name in OTHERS.items():
-        text += [f"# {name}", *(it for it in PARTS[title] if not is_example(it))]
+        text += [f"# {name}", *(it for it in PARTS[title] if not it.startswith(EXAMPLE))]
     others = re.sub(r"([\w-]+)\(", r"**\1**(", SEE_ALSO)
     return by_pandoc("elfmap", version, list(map(with_tags, [*text, *examples, "# SEE ALSO", others, PAGES])))
 
 
-def main(options: Options) -> None:
-    print(page(options.version or read_text("VERSION").strip()), end="")
-
-
-# ---- Completions
-
-# The help of a command, in which each thing listed has one line; of these the words, with what is said of them; and the words that an option
-# takes.
+# The help of a command, each thing listed in one line; the words of these, with what is said of them; and the words that an option takes.
 HELP = r"--help 2>&1 | sed -zE 's/\n {10,}/  /g'"
 LISTED = r"sed -nE 's/^ +(-., )?(--?[a-z0-9-]+|[a-z]+)( [^ ]+)*  +(.*)/\2\t\4/p'"
 CHOICES = r"sed -nE 's/^ +'$before' \{(.*)\}.*/\1/p'"
-BASH = r"""# bash completion of @NAME@
-@FUNCTION@() {
-    local word=${COMP_WORDS[COMP_CWORD]} before=${COMP_WORDS[COMP_CWORD-1]//[^-a-z0-9]/}
-    local sub=$( ((COMP_CWORD > 1)) && grep -x '[a-z]*' <<< "${COMP_WORDS[1]}")
-    local help=$(@NAME@ $sub @HELP@)
-    local words=$(@LISTED@ <<< "$help" | cut -f 1 | if [[ $word == -* ]]; then cat; else grep '^[a-z]'; fi)
-    COMPREPLY=($(compgen -W "$words $(@CHOICES@ <<< "$help" | tr , ' ')" -- "$word"))
-}
-complete -o default -F @FUNCTION@ @NAME@
-"""
-ZSH = r"""#compdef @NAME@
-local before=${words[CURRENT-1]//[^-a-z0-9]/} sub=""
-(( CURRENT > 2 )) && [[ $words[2] == [a-z]* ]] && sub=$words[2]
-local help="$(@NAME@ $sub @HELP@)"
-local -a listed=(${(f)"$(@LISTED@ <<< $help | tr '\t' :)"})
-local -a options=(${(M)listed:#-*}) commands=(${listed:#-*}) choices=(${(s:,:)"$(@CHOICES@ <<< $help)"})
-_describe -o option options && return
-_describe word choices || _describe command commands || _files
-"""
-FISH = r"""function @FUNCTION@
-    set -l words (commandline -opc)
-    set -l before (string replace -ra '[^-a-z0-9]' '' -- $words[-1])
-    set -l help (env $words[1] (string match -r '^[a-z]+$' -- $words[2]) @HELP@ | string collect)
-    set -l kind (string match -rq '^-' -- (commandline -ct); and echo '^-'; or echo '^[a-z]')
-    echo $help | @LISTED@ | string match -re $kind
-    echo $help | @CHOICES@ | string split ,
-end
-complete -c @NAME@ -a '(@FUNCTION@)'
-"""
 
 
 def completions(name: str) -> dict[str, str]:
     """The files of the completions of a command, by their places below /usr/share."""
     parts = {"NAME": name, "FUNCTION": "_" + re.sub(r"\W", "_", name), "HELP": HELP, "LISTED": LISTED, "CHOICES": CHOICES}
-    texts = {"bash-completion/completions/{}": BASH, "zsh/vendor-completions/_{}": ZSH, "fish/vendor_completions.d/{}.fish": FISH}
-    return {place.format(name): filled(text, **parts) for place, text in texts.items()}
+    shells = {"bash": "bash-completion/completions/{}", "zsh": "zsh/vendor-completions/_{}", "fish": "fish/vendor_completions.d/{}.fish"}
+    return {place.format(name): filled(read_text(f"completions/{shell}"), **parts) for shell, place in shells.items()}

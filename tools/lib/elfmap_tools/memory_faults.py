@@ -10,8 +10,8 @@ A growth may not ask for a number of bytes that is in the text and above a MiB. 
 `Write` of another fault, an `Io` that has `written`. It may be made in a `From` and in a method `after`, which have a failed write; where a
 call of a writer failed or took nothing, the arm `_` on `write`; and where a call that writes failed, the arm `Err(..)` on it.
 
-Then the bodies of cases/memory_faults.bodies are planted, which make either fault thoughtlessly: in each library one, and in the first of
-them all. Each has to be refused."""
+Then the bodies of cases/memory_faults.bodies, which make either fault thoughtlessly, are planted, one in each library, all in the first.
+Each has to be refused."""
 
 import collections, functools, glob, re, textwrap
 from collections.abc import Iterator
@@ -65,6 +65,7 @@ class Function:
         source = re.match(r"impl.*\bFrom<(.*)> for ", self.outer)
         self.is_from = bool(source and re.search(r"OutOfMemory|AllocError|AllocFailed|\bError|Fault\b", source[1]))
         self.is_of_write = bool(source and source[1] in WRITTEN)
+        self.inner = range(self.begin + 1, self.end)
 
     def statements(self, at: int) -> list[str]:
         """The line, and what it is in: the heads of blocks and the beginnings of expressions, from inside to outside."""
@@ -113,7 +114,7 @@ class Reading:
     def __init__(self, function: Function, memory_calls: set[str], write_calls: set[str]) -> None:
         self.function, self.memory_calls, self.write_calls = function, memory_calls, write_calls
         self.places, self.written, self.sizes = list[tuple[int, str]](), list[tuple[int, str]](), list[tuple[int, str]]()
-        for at in range(function.begin + 1, function.end):
+        for at in function.inner:
             line = function.lines[at]
             made = re.sub(r"[!=]= [\w:]+", "", re.sub(r"^.*? => |\blet .*? = ", "", line))
             self.places += [(at, self.form(at))] * len(WANT.findall(made))
@@ -145,11 +146,6 @@ class Reading:
                 return "refused growth"
         return ""
 
-    def forms_of_calls(self, name: str) -> list[str]:
-        """Why out of memory may be made in each line that calls a function of this name."""
-        calls, own = re.compile(rf"\b{name}\("), self.function
-        return [self.form(at) for at in range(own.begin + 1, own.end) if calls.search(own.lines[at])]
-
     def failed(self, at: int) -> str:
         """Why a failed write may be made in a line, if it may."""
         for pattern, expression, is_else in self.branches(at):
@@ -173,7 +169,9 @@ def faults_in(found: dict[str, str]) -> tuple[collections.Counter[str], list[str
     for it in readings:
         by_callers = ""
         if not all(form for _, form in it.places):
-            calls = [form for own in readings for form in own.forms_of_calls(it.function.name)]
+            # Why it may be made in each line that calls a function of this name.
+            call = re.compile(rf"\b{it.function.name}\(")
+            calls = [own.form(at) for own in readings for at in own.function.inner if call.search(own.function.lines[at])]
             by_callers = "called where a growth was refused" if calls and all(calls) else ""
         made = [(at, form, "a failed write is made where no call of a writer failed") for at, form in it.written]
         made += [(at, form or by_callers, "out of memory is made where no growth was refused") for at, form in it.places]
@@ -206,8 +204,7 @@ def memory_faults(tally: Tally, options: Options) -> None:
             places.setdefault(crate, (it, it.fault if it.faults == "out" else f"{it.fault}::OutOfMemory"))
         if it.fault in WRITTEN:
             writers.setdefault(crate, (it, WRITTEN[it.fault]))
-    _, *bodies = re.split(r"^== (.*)\n", read_text("cases/memory_faults.bodies"), flags=re.M)
-    ways = dict(zip(bodies[::2], bodies[1::2]))
+    ways = dict(re.findall(r"^== (.*)\n((?:(?!== ).*\n)*)", read_text("cases/memory_faults.bodies"), re.M))
     for names, plants in ((list(ways), places), ([it for it in ways if it.endswith("*")], writers)):
         for k, (crate, (function, value)) in enumerate(sorted(plants.items())):
             path = function.path

@@ -2,12 +2,10 @@
 
 Bugs are planted several at a time, each in a function of its own. If a check cannot tell, because all that it has against a function is
 that it calls another one that is open too, or because proof files name what the bug took away, the next check decides, and at last one of
-this bug alone.
-
-A check reads only the functions that have a bug, and those that they call: that is why it takes less than `rt ci` does for an edit in
-must-fail/, which costs a check of its crate. In the gate only those with the line `gate: yes` are planted, over the libraries as `rt ci`
-has just left them. A library of the program that has none of them, and no edit in must-fail/ either, has failed: nothing shows there that
-its contracts refuse a wrong body."""
+this bug alone. A check reads only the functions that have a bug, and those that they call: that is why it takes less than `rt ci` does for
+an edit in must-fail/, which costs a check of its crate. In the gate only those with the line `gate: yes` are planted, over the libraries as
+`rt ci` has just left them. A library of the program that has none of them, and no edit in must-fail/ either, has failed: nothing shows
+there that its contracts refuse a wrong body."""
 
 import glob, os, re, shutil, tempfile
 from collections import Counter
@@ -19,6 +17,8 @@ from .suite import Tally, Test, flag, word
 from .tree import LIBRARIES_OF, PROCESSORS, TOP, Options, below, read_text, write
 
 ABOUT = "the check refuses each bug of mutations.txt with 'gate: yes'; of CRATE.., or with --all of every crate, each bug"
+# What the checker prints if it could read the text and came to its end.
+ENDED = re.compile(r"^only=", re.M)
 CRATES = word("crates", "the crates whose bugs are planted, all of them", nargs="*", metavar="CRATE")
 FLAGS = flag("all", "plant all bugs"), flag("fit", "plant none: only say whether each edit fits the text that it changes")
 ONLY = word("--only", "plant the bug of this name alone", metavar="NAME", default="")
@@ -53,13 +53,6 @@ class Edit:
             return {}, "it has no 'function:' line, or no pair"
         return made, ""
 
-    def plant(self, folder: str) -> str:
-        """Changes the crate's text, or says why it can't be changed so."""
-        made, why = self.texts(folder)
-        for file, text in made.items():
-            write(f"{folder}/{file}", text)
-        return why
-
 
 def bugs_of(crate: str) -> list[Edit]:
     path = f"{TOP}/crates/{crate}/mutations.txt"
@@ -75,46 +68,29 @@ def must_fail_of(crate: str) -> list[Edit]:
     return [Edit(crate, os.path.basename(it), read_text(it), False) for it in paths]
 
 
-# ---- what the check says of planted bugs
-
-
-def came_to_its_end(said: str) -> bool:
-    """Whether the checker could read the text and came to its end."""
-    return bool(re.search(r"^only=", said, re.M))
-
-
-def split_by_lost_names(said: str) -> tuple[list[str], list[str]]:
-    """What the check has against the text: first that proof files name what it no longer has, which says nothing of a contract; then
-    the rest."""
-    told: list[str] = re.findall(r"^(?:note: \S+:\d+:\d+: |\S+:\d+:\d+: error: ).*$", said, re.M)
-    lost = [it for it in told if re.match(r"(\./)?proofs/.*(has no field|is not in scope|has no `|was not admitted)", it)]
-    return lost, [it for it in told if it not in lost]
-
-
 def verdict(bug: Edit, said: str, others: Iterable[Edit]) -> str:
     """ "refused", or why not; nothing if other bugs that were planted too leave it open."""
     found = re.search(rf"^fn {re.escape(bug.function)}: (.+)$", said, re.M)
-    if not found or not came_to_its_end(said):
+    if not found or not ENDED.search(said):
         return f"the check came to no verdict on {bug.function}: {said.strip()[-300:]}"
     line = found[1]
     if line == "proved":
         return "NOT REFUSED: its function is still proved"
-    lost, rest = split_by_lost_names(said)
+    # What the check has against the text: that proof files name what it no longer has, which says nothing of a contract; and the rest.
+    told: list[str] = re.findall(r"^(?:note: \S+:\d+:\d+: |\S+:\d+:\d+: error: ).*$", said, re.M)
+    lost = [it for it in told if re.match(r"(\./)?proofs/.*(has no field|is not in scope|has no `|was not admitted)", it)]
     proofs = [f"proofs/{it.function.removeprefix(f'{it.crate}::').replace('::', '/')}/" for it in others]
     if proofs:
         # A proof takes the functions that it calls by their contracts: what the check doesn't prove of this one is due to its own text.
         is_own = "it calls" not in line or "did not prove" in line
         is_lost = any(not any(own in it for own in proofs) for it in lost)
         return "refused" if is_own and not is_lost else ""
-    if lost and not rest:
+    if lost and lost == told:
         return "NOT REFUSED: proof files name what it took away, and no more"
     # What it calls and is open has to be a closure in it: no other function of the text has a bug.
     inside = f"::{bug.function.rsplit('::', 1)[1]}::"
     is_own = "it calls" not in line or any(inside in name for name in re.findall("`([^`]+)`", line))
     return "refused" if is_own else "NOT REFUSED: another function than its own is open"
-
-
-# ---- many bugs
 
 
 def pick(bugs: list[Edit]) -> list[Edit]:
@@ -132,13 +108,17 @@ def pick(bugs: list[Edit]) -> list[Edit]:
 def planted(picked: list[Edit], folder: str, folder_of: FolderOf) -> dict[Edit, str]:
     """How each of these bugs ended, planted together; nothing for one that is still open."""
     alone = len(picked) == 1
-    whys = {bug: bug.plant(folder) for bug in picked}
+    whys = dict[Edit, str]()
+    for bug in picked:
+        made, whys[bug] = bug.texts(folder)
+        for file, text in made.items():
+            write(f"{folder}/{file}", text)
     # What another bug made of the text may be why one can't be planted: it waits for its turn.
     if not alone:
         whys = {bug: why for bug, why in whys.items() if not why}
     said = "" if any(whys.values()) else checked(picked[0].crate, [bug.function for bug in whys], folder, folder_of, "kept")
     # A text that the check can't read says nothing of the other bugs in it: each is planted alone.
-    if not alone and not came_to_its_end(said):
+    if not alone and not ENDED.search(said):
         return {}
     return {bug: why or verdict(bug, said, whys.keys() - {bug}) for bug, why in whys.items()}
 

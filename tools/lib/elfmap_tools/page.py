@@ -1,24 +1,30 @@
 """`tools/release page`: a page for a browser on which a file is dropped, and that shows its verdict and what each of its bytes belongs to.
-It is one file, which needs no network: the library for C as a WebAssembly module, and the scripts of page/.
+It is one file, which needs no network: the library for C as a WebAssembly module, and the scripts of page/. The module is made of the same
+proved crates as the library for C: the kit's compiler makes it for a memory of 64-bit addresses, which not every browser has, and wasm-opt
+(of binaryen) lowers it to one of 32-bit addresses.
 
-The module is made of the same proved crates as the library for C: the kit's compiler makes it for a memory of 64-bit addresses, which not
-every browser has, and wasm-opt (of binaryen) lowers it to one of 32-bit addresses."""
+`tools/test page` tries it:
 
-import base64, contextlib, ctypes, json, os, shutil, tempfile, time
+- In node: what the page's reader and its check of tables say of files of this machine, of cases/ and of changed copies of them is what
+  `elfmap show` prints, line by line, but for the lines of groups.
+- In chromium, by Selenium: what a person sees of sound and refused files, with a mouse, by keys alone, and by a reader of the screen."""
+
+import base64, contextlib, ctypes, json, os, random, shutil, tempfile, time
+from collections.abc import Iterator
 from typing import Any, cast
 
 from elfmap import _library, _names as names
 
-from . import library
 from .building import built_below, is_current, kit, words
-from .library import VERDICTS as CRATE
-from .rules_tables import file_rules
-from .tree import TOP, Options, filled, read_bytes, read_text, wanted, write
+from .cases import case_files, cases_of, fuzzed
+from .doc_tables import file_rules
+from .library import FOLDER, STRUCTS, VERDICTS as CRATE
+from .reference import verdict
+from .suite import SELENIUM, Tally, Test, number
+from .tree import PROGRAM, TOP, Options, filled, read_bytes, read_text, said, wanted, write
 
 Structs = dict[str, dict[str, Any]]
-TARGET = "wasm64-unknown-unknown"
-OUT = f"{TOP}/crates/{CRATE}/out"
-MODULE = f"{OUT}/{CRATE}.wasm"
+MODULE = f"{FOLDER}/{CRATE}.wasm"
 LOWERED = "--enable-memory64 --enable-bulk-memory --enable-sign-ext --enable-nontrapping-float-to-int --enable-mutable-globals".split()
 LOWERED += ["--enable-multivalue", "--memory64-lowering"]
 
@@ -32,30 +38,25 @@ def module() -> str:
         raise SystemExit(f"page: tools/dev prove {CRATE} builds {', '.join(lacking)} first")
     if not shutil.which("wasm-opt"):
         raise SystemExit("page: there is no wasm-opt, of the package binaryen")
-    os.makedirs(OUT, exist_ok=True)
-    target, folder = ["--target", TARGET, "--toolchain", f"{kit()}/toolchain"], f"{TOP}/crates/{CRATE}"
-    wanted(f"{kit()}/bin/rattle", "build", *words(CRATE, folder_of), *target, "-o", f"{OUT}/wide.a", folder=folder)
-    wanted(f"{kit()}/bin/rattle-link", *target, "-o", f"{OUT}/wide.wasm", f"{OUT}/wide.a", folder=folder)
-    wanted("wasm-opt", *LOWERED, f"{OUT}/wide.wasm", "-o", MODULE)
+    os.makedirs(FOLDER, exist_ok=True)
+    target, folder = ["--target", "wasm64-unknown-unknown", "--toolchain", f"{kit()}/toolchain"], f"{TOP}/crates/{CRATE}"
+    wanted(f"{kit()}/bin/rattle", "build", *words(CRATE, folder_of), *target, "-o", f"{FOLDER}/wide.a", folder=folder)
+    wanted(f"{kit()}/bin/rattle-link", *target, "-o", f"{FOLDER}/wide.wasm", f"{FOLDER}/wide.a", folder=folder)
+    wanted("wasm-opt", *LOWERED, f"{FOLDER}/wide.wasm", "-o", MODULE)
     return MODULE
-
-
-# ---- what the page's scripts are given
 
 
 def layout() -> Structs:
     """The structs of include/elfmap.h, as the Python package declares them: the size of each, and its fields with their offsets."""
-    tags = {getattr(_library, name): tag for name, tag in library.STRUCTS.items() if hasattr(_library, name)}
+    tags = {getattr(_library, name): tag for name, tag in STRUCTS.items() if hasattr(_library, name)}
     found: Structs = {}
     for made, tag in tags.items():
         found[tag] = {"size": ctypes.sizeof(made), "align": ctypes.alignment(made), "fields": []}
         for name, kind in made._fields_:
             own = kind._type_ if issubclass(kind, ctypes.Array) else kind
-            place: dict[str, Any] = {"name": name, "at": getattr(made, name).offset, "width": ctypes.sizeof(own)}
-            place |= {"struct": tags[own]} if own in tags else {}
-            place |= {"count": kind._length_} if own is not kind else {}
-            place |= {"signed": True} if own is ctypes.c_int64 else {}
-            found[tag]["fields"].append(place)
+            place = {"name": name, "at": getattr(made, name).offset, "width": ctypes.sizeof(own)}
+            more = {"struct": tags.get(own), "count": own is not kind and kind._length_, "signed": own is ctypes.c_int64}
+            found[tag]["fields"].append(place | {key: it for key, it in more.items() if it})
     return found
 
 
@@ -78,27 +79,19 @@ def page() -> str:
     return filled(read_text("page/page.html"), STYLE=read_text("page/style.css"), WORKER=worker, SCRIPT=script)
 
 
-def main(options: Options) -> None:
-    print(page(), end="")
-
-
 def picture(options: Options) -> None:
     """`tools/release page-picture FILE PICTURE.png`: what the page looks like in chromium with a file on it."""
-    with tempfile.TemporaryDirectory(prefix="page-picture-") as room, contextlib.closing(Browser()) as browser:
-        browser.open(write(f"{room}/elfmap.html", page()))
+    with tempfile.TemporaryDirectory() as room, contextlib.closing(Browser(write(f"{room}/elfmap.html", page()))) as browser:
         browser.choose("#chosen", os.path.abspath(options.file))
         if not browser.wait("document.body.dataset.ready"):
             raise SystemExit(f"page-picture: {options.file} is not shown: {browser.text('#said')}")
         write(options.picture, browser.screen(1000, 760))
 
 
-# ---- a headless Chromium, steered by Selenium, for the page's picture and its test
-
-
 class Browser:
-    """One page in a Chromium of its own."""
+    """One page in a headless Chromium of its own, steered by Selenium, for the page's picture and its test."""
 
-    def __init__(self) -> None:
+    def __init__(self, path: str) -> None:
         from selenium import webdriver
 
         options = webdriver.ChromeOptions()
@@ -110,6 +103,7 @@ class Browser:
         self.left = tempfile.TemporaryDirectory(prefix="browser-", ignore_cleanup_errors=True)
         service = webdriver.chrome.service.Service("chromedriver", env={**os.environ, "TMPDIR": self.left.name})
         self.selenium, self.driver = webdriver, webdriver.Chrome(service=service, options=options)
+        self.driver.get(f"file://{path}")
 
     def close(self) -> None:
         self.driver.quit()
@@ -119,25 +113,16 @@ class Browser:
         """A call of the browser's debugger."""
         return self.driver.execute_cdp_cmd(method, words)
 
-    def messages(self) -> list[str]:
-        """What the console said, and what scripts threw, since the last call."""
-        return [it["message"] for it in self.driver.get_log("browser")]
-
-    def open(self, path: str) -> None:
-        self.driver.get(f"file://{path}")
-
     def value(self, expression: str) -> Any:
         """What an expression is in the page."""
         return self.driver.execute_script("return eval(arguments[0])", expression)
 
-    def wait(self, expression: str, seconds: float = 60) -> bool:
-        """Waits until an expression is true: whether it is in time."""
-        end = time.monotonic() + seconds
-        while time.monotonic() < end:
-            if self.value(f"!!({expression})"):
-                return True
+    def wait(self, expression: str) -> bool:
+        """Waits for a minute until an expression is true: whether it is."""
+        end = time.monotonic() + 60
+        while not (is_true := self.value(f"!!({expression})")) and time.monotonic() < end:
             time.sleep(0.02)
-        return False
+        return bool(is_true)
 
     def text(self, selector: str) -> Any:
         return self.value(f"document.querySelector({json.dumps(selector)})?.textContent")
@@ -159,11 +144,6 @@ class Browser:
         """Presses a key, by its name in Selenium."""
         self.selenium.ActionChains(self.driver).send_keys(getattr(self.selenium.Keys, key)).perform()
 
-    def tree(self) -> list[tuple[str, str]]:
-        """What the tree for readers of the screen has: the role and the name of each node that is not left out."""
-        nodes = self.call("Accessibility.getFullAXTree")["nodes"]
-        return [(it["role"]["value"], it.get("name", {}).get("value", "")) for it in nodes if not it["ignored"]]
-
     def screen(self, width: int, height: int, dark: bool = False) -> bytes:
         """A picture of the page, as PNG."""
         self.call("Emulation.setDeviceMetricsOverride", width=width, height=height, deviceScaleFactor=1, mobile=False)
@@ -171,6 +151,226 @@ class Browser:
         time.sleep(0.5)
         return cast(bytes, self.driver.get_screenshot_as_png())
 
-    def colours(self, picture: bytes) -> dict[str, int]:
-        """How many points of each colour, as digits, a picture has."""
-        return cast(dict[str, int], self.value(f"{read_text('page/colours.js')}\ncolours('{base64.b64encode(picture).decode()}')"))
+
+# ---- the test of the page
+
+MACHINE_FILES = ["/bin/true", "/bin/ls", "/usr/lib/gcc/x86_64-linux-gnu/12/crtbegin.o"]
+MACHINE_FILES += [f"/usr/lib/x86_64-linux-gnu/{it}" for it in ("crt1.o", "Scrt1.o", "crti.o", "libdl.so.2", "libutil.so.1")]
+LONGEST = 1 << 17
+ABOUT, TOOLS = "the page for a browser, in node beside `elfmap show`, and in chromium", f"node wasm-opt chromium chromedriver {SELENIUM} cc"
+
+
+def in_node(tally: Tally, room: str, count: int) -> None:
+    write(f"{room}/layout.json", json.dumps(layout()))
+    os.mkdir(f"{room}/files")
+    contents = dict(case_files())
+    for path in filter(os.path.isfile, MACHINE_FILES):
+        contents.setdefault(read_bytes(path), path.replace("/", "-"))
+    files = [write(f"{room}/files/{name}", content) for content, name in contents.items()]
+    chance, sound = random.Random(48), [it for it in map(read_bytes, files) if len(it) <= LONGEST and verdict(it) is None]
+    files += [write(f"{room}/files/changed-{k}", fuzzed(chance.choice(sound), chance)) for k in range(count)]
+    told: dict[str, str] = {}
+    for k in range(0, len(files), 500):
+        text = wanted("node", f"{TOP}/page/lines.js", module(), f"{room}/layout.json", *files[k : k + 500])
+        told |= dict(it.split("\n", 1) for it in f"\n{text}".split("\n-- ")[1:])
+    for path in files:
+        own, lines = told[path].splitlines(), [it for it in said(PROGRAM, "show", path).stdout.splitlines() if not it.startswith("group ")]
+        tally.check(own == lines, f"{path}: {[pair for pair in zip(own, lines) if pair[0] != pair[1]][:2] or (len(own), len(lines))}")
+
+
+# ---- in chromium
+
+SYMBOLS, MOST_MILLISECONDS = 1_000_000, 200
+SOUND = "Sound: this file keeps all 33 rules of an ELF-64 file."
+ROWS = "[...document.querySelectorAll('#table tbody tr')]"
+# What the tree for readers of the screen has: names by their roles.
+READ = {
+    "heading": ("Verdict", "Map of the file", "Tables", "Bytes"), "tablist": ("Kinds of tables",), "searchbox": ("Filter",),
+    "columnheader": ("name",), "group": ("The parts of the file, to scale",),
+}  # fmt: skip
+PRESSED = ("button", "tab", "link", "textbox", "searchbox", "combobox")
+SOURCE = 'int limit = 3; int work(int); const char *name(void) { return "answer"; } int answer(int x) { return x < limit ? work(x) : 42; }'
+
+
+def explained(kind: str) -> Iterator[tuple[str, bytes, str]]:
+    """The cases of explain.txt of this kind of rule: the number of its rule, its file, and what the program prints."""
+    for it in (it for it in cases_of(f"{TOP}/cases/explain.txt") if it.note.startswith(kind)):
+        yield it.note.split(" ", 2)[1], bytes(it.files[it.needs[0].partition("=")[2]]), it.out.decode()
+
+
+class InChromium(Browser):
+    """The page in a browser, and what is tried there."""
+
+    def __init__(self, tally: Tally, room: str) -> None:
+        super().__init__(write(f"{room}/elfmap.html", page()))
+        self.check, self.note, self.room = tally.check, tally.note, room
+
+    def waits(self, expression: str, why: str) -> None:
+        self.check(self.wait(expression), why)
+
+    def opens(self, tab: str, words: str) -> None:
+        """Chooses a tab, and waits until its table is there."""
+        self.click(f"#tab-{tab}")
+        is_open = f"document.querySelector('#table-words').textContent.startsWith('{words}')"
+        self.waits(is_open, f"the tab {tab}: {self.text('#table-words')}")
+
+    def show(self, path: str, is_dropped: bool = False) -> None:
+        """Opens a file in the page, and waits until it is shown."""
+        before = self.value("document.body.dataset.ready ?? '0'")
+        self.drop(path) if is_dropped else self.choose("#chosen", path)
+        self.waits(f"(document.body.dataset.ready ?? '0') !== '{before}'", f"{path} is not shown")
+
+    def sound_file(self, path: str) -> None:
+        self.show(path)
+        self.check(self.text("#verdict") == SOUND, f"{path}: {self.text('#verdict')}")
+        lines = said(PROGRAM, "show", path).stdout.splitlines()
+        parts = sum(it.startswith("part ") for it in lines)
+        self.check(f"{parts} parts." in self.text("#map-words"), f"{path} has {parts} parts: {self.text('#map-words')}")
+        sections = [it.split()[-1] for it in lines if it.startswith("section ")]
+        rows = self.value(f"{ROWS}.map((it) => it.children[1].textContent)")
+        self.check(rows == [{"-": "(no name)"}.get(it, it) for it in sections[:100]], f"{path} has the sections {sections}: {rows}")
+        self.check(self.text("#findings-words") == "No table breaks a rule of tables.", f"{path}: {self.text('#findings-words')}")
+        front = self.text("#bytes tbody tr td")
+        self.check(front.startswith("7f 45 4c 46 02"), f"the bytes of {path}: {front}")
+
+    def links(self) -> None:
+        """A relocation leads to its symbol, a symbol to its section, a section to its bytes."""
+        self.opens("relocations", "Relocations")
+        name = self.text("#table tbody tr td:nth-child(4)").split(" ", 1)
+        self.click("#table tbody tr td:nth-child(4) a")
+        selected = "document.querySelector('#tab-symbols').ariaSelected === 'true'"
+        self.waits(f"document.querySelector('tr.shown') && {selected}", "no symbol is shown")
+        self.check(self.text("tr.shown td") == name[0], f"the relocation's symbol is {name}, and {self.text('tr.shown')} is shown")
+        row = self.value(f"{ROWS}.findIndex((it) => it.children[6].querySelector('a'))") + 1
+        place = self.text(f"#table tbody tr:nth-child({row}) td:nth-child(7)").split()[0]
+        self.click(f"#table tbody tr:nth-child({row}) td:nth-child(7) a")
+        self.waits(f"document.querySelector('tr.shown td')?.textContent === '{place}'", f"section {place} is not shown")
+        self.click("tr.shown td a")
+        self.waits("document.querySelector('#bytes mark')", "the bytes of the section are not marked")
+
+    def filtered(self) -> None:
+        self.opens("symbols", "Symbols")
+        self.value("const it = document.querySelector('#filter'); it.value = 'global'; it.dispatchEvent(new Event('input'))")
+        self.waits("document.querySelector('#table-words').textContent.includes('found among')", "nothing is found")
+        bindings = self.value(f"{ROWS}.map((it) => it.children[5].textContent)")
+        self.check(bindings and set(bindings) == {"GLOBAL"}, f"the filter finds {bindings}")
+
+    def by_keys(self) -> None:
+        """To the map, along it, into a part and out again, without a mouse."""
+        self.value("document.querySelector('#chosen').focus()")
+        self.press("TAB")
+        self.check(self.value("document.activeElement.parentElement.id") == "map", "the tabulator does not lead to the map")
+        self.press("ARROW_RIGHT")
+        label, words = self.value("document.activeElement.ariaLabel"), self.text("#map-words")
+        self.check(words == label, f"the arrow leads to {label}, and the words are {words}")
+        self.press("ENTER")
+        self.waits("document.querySelector('#map [aria-current=true]')", "the part is not chosen")
+        scale, before = "document.querySelector('#map-scale').textContent", self.text("#map-scale")
+        self.click("#zoom-in")
+        self.waits(f"{scale} !== '{before}'", "there is no zoom")
+        self.value("document.querySelector('#map button').focus()")
+        self.press("ESCAPE")
+        self.press("ESCAPE")
+        self.click("#zoom-whole")
+        self.waits(f"{scale} === '{before}'", "there is no way back")
+
+    def for_readers(self) -> None:
+        """What a reader of the screen is told."""
+        nodes = [it for it in self.call("Accessibility.getFullAXTree")["nodes"] if not it["ignored"]]
+        tree = [(it["role"]["value"], it.get("name", {}).get("value", "")) for it in nodes]
+        missing = {(role, name) for role, names in READ.items() for name in names} - {*tree}
+        self.check(not missing, f"the tree has no {missing}")
+        nameless = [it for it in tree if it[0] in PRESSED and not it[1]]
+        self.check(not nameless, f"the tree has {len(nameless)} things to press without a name: {nameless[:3]}")
+
+    def on_screens(self) -> None:
+        """The colours of the map are seen, light and dark; and a screen of 360 points is wide enough."""
+        for dark in (False, True):
+            picture = base64.b64encode(self.screen(1200, 1000, dark)).decode()
+            # How many points of each colour, as digits, the picture has.
+            seen: dict[str, int] = self.value(f"{read_text('page/colours.js')}\ncolours('{picture}')")
+            for colour in ("6b7689", "c0504d", "4f81bd"):
+                self.check(seen.get(colour, 0) > 100, f"the colour {colour} is not seen, dark: {dark}")
+            ground = max(seen, key=seen.__getitem__)
+            self.check((sum(bytes.fromhex(ground)) < 200) == dark, f"the ground is {ground}, dark: {dark}")
+        self.screen(360, 800)
+        self.check(self.value("document.documentElement.scrollWidth") <= 360, "a screen of 360 points is too small")
+        self.screen(1200, 1000)
+
+    def refused_files(self, path: str) -> None:
+        content = read_bytes(path)
+        size = content[:52] + b"\x3f" + content[53:]
+        files = {"magic": b"\0" + content[1:], "empty": b"", "size": size, "picture": b"<svg xmlns='http://www.w3.org/2000/svg'/>" * 4}
+        for name, made in files.items():
+            file = write(f"{self.room}/{name}", made)
+            _, rule, at = said(PROGRAM, "check", file).stdout.split()
+            self.show(file, is_dropped=True)
+            verdict = self.text("#verdict")
+            is_said = verdict.startswith(f"Refused by rule {rule}, ") and f" at {int(at):#x}: " in verdict
+            self.check(is_said, f"{name}: {verdict}, and check says {rule} {at}")
+            self.check(rule == {"magic": "3", "empty": "2", "picture": "3"}.get(name, rule), f"{name} breaks rule {rule}")
+            mark = self.value("document.querySelector('#bytes mark')?.textContent ?? ''")
+            self.check(name != "size" or "e_ehsize" in self.text("#advice") + mark, f"{name}: {self.text('#advice')}")
+            # As digits and as letters.
+            marks = self.value("document.querySelectorAll('#bytes mark').length")
+            self.check(marks == (2 if made else 0), f"{name}: {marks} marks, and one field")
+
+    def shared_byte(self) -> None:
+        """A byte of two sections: both are named, and a link leads to it."""
+        _, content, out = next(explained("image 33 "))
+        at = out.split()[2]
+        self.show(write(f"{self.room}/shared", content))
+        words = self.text("#advice")
+        for name in ("section 1 .text", "section 2 .data"):
+            self.check(f"the content of {name} [0x" in words, f"a byte of two sections: {words}")
+        self.check("share this byte" in words and "(EM_X86_64)" in self.text("#facts"), f"{words} {self.text('#facts')}")
+        self.value("document.querySelector('#offset').value = '0'; document.querySelector('#go').click()")
+        self.waits("document.querySelector('#bytes tbody th').textContent === '0x0'", "the first bytes are not shown")
+        self.click("#advice a")
+        self.waits("document.querySelector('#bytes mark')", "the link leads to no byte")
+        self.check(self.text("#bytes tbody th") == hex(int(at)), f"the link leads to {self.text('#bytes tbody th')}")
+
+    def broken_tables(self) -> None:
+        """Each rule of tables that a file of the cases breaks is told, with its name, its place and what to do."""
+        for rule, content, out in explained("table "):
+            self.show(write(f"{self.room}/table-{rule}", content))
+            _, section, _, at = next(line.split() for line in out.splitlines() if line.startswith("refused "))
+            found = self.text("#findings li")
+            is_told = f": rule {rule}, " in found and f" at {int(at):#x}, " in found and "What to do: " in found
+            self.check(is_told and self.text("#verdict") == SOUND, f"rule {rule} of the table in section {section}: {found}")
+        self.click("#findings li a:nth-of-type(2)")
+        self.waits("document.querySelector('#bytes mark')", "the finding leads to no byte")
+
+    def folder(self) -> None:
+        os.mkdir(f"{self.room}/folder")
+        self.drop(f"{self.room}/folder")
+        self.waits("/folder/.test(document.querySelector('#said').textContent)", f"of a folder is said: {self.text('#said')}")
+
+    def million(self) -> None:
+        path = f"{self.room}/million.o"
+        write(f"{self.room}/million.s", "".join(f".globl name_{k}\nname_{k}={k}\n" for k in range(SYMBOLS)))
+        wanted("cc", "-c", f"{self.room}/million.s", "-o", path)
+        self.show(path)
+        took = float(self.value("document.body.dataset.took"))
+        self.note(f"an object of {SYMBOLS:,} symbols, {os.path.getsize(path) / 2**20:.0f} MiB, was validated in {took:.1f} ms")
+        self.check(took < MOST_MILLISECONDS, f"that took {took} ms")
+        self.opens("symbols", "Symbols 1 to 100 of 1,000,")
+
+
+@Test("page", ABOUT, TOOLS, f"elfmap {CRATE}", alone=True, options=(number("count", 3000, "so many changed files"),))
+def try_page(tally: Tally, options: Options) -> None:
+    room = tally.folder
+    in_node(tally, room, options.count)
+    wanted("cc", "-c", "-O1", write(f"{room}/object.c", SOURCE), "-o", file := f"{room}/object.o")
+    with contextlib.closing(InChromium(tally, room)) as it:
+        it.sound_file(file)
+        for part in (it.links, it.filtered, it.by_keys, it.for_readers, it.on_screens):
+            part()
+        it.sound_file("/bin/true")
+        tally.check(not it.value("document.querySelector('#memory-section').hidden"), "an executable has no bar by address")
+        it.refused_files(file)
+        for part in (it.shared_byte, it.broken_tables, it.folder, it.million):
+            part()
+        # What the console said, and what scripts threw.
+        messages = [entry["message"] for entry in it.driver.get_log("browser")]
+        tally.check(not messages, f"the console says {messages[:3]}")

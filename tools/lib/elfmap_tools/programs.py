@@ -1,24 +1,17 @@
 """The subcommands of `tools/dev` and `tools/release`, and the tests of `tools/test`."""
 
-import argparse, importlib, os, subprocess, sys
-from collections.abc import Callable
+import argparse, contextlib, os, subprocess, sys
+from collections.abc import Callable, Iterable
+from functools import partial
 
-from . import building, definitions, doc, dump, library, man, minutes, page, peers, release as releasing, rules_tables
-from .suite import TESTS, Option, add_command, main as run_tests, word
-from .tree import LIBRARIES_OF, PACKAGE, TOP, Options, progress
+from . import building, cases, doc, doc_tables, dump, fuzz, hostile, library, linked, man, measuring, memory_faults, mutations
+from . import page, peers, release, shown_commands, suite
+from .building import Build
+from .suite import TESTS, Option, Test, commands_of, families, run_one, run_several, setup, word
+from .tree import LIBRARIES_OF, PACKAGE, PROCESSORS, TOP, Options, progress
 
 # Its name, what it does, the function, whose answer is the status, and its words.
-Command = tuple[str, str, Callable[[Options], int | None], list[Option]]
-
-
-def run(name: str, about: str, commands: list[Command], words: list[str]) -> int:
-    parser = argparse.ArgumentParser(name, description=about)
-    added = parser.add_subparsers(dest="command", required=True, metavar="COMMAND", title="commands")
-    for command, what, main, arguments in commands:
-        add_command(added, command, what, arguments).set_defaults(main=main)
-    options = parser.parse_args(words)
-    with progress(lambda: f"{name} {options.command}"):
-        return int(options.main(options) or 0)
+Command = tuple[str, str, Callable[[Options], int | None], Iterable[Option]]
 
 
 def package_command(options: Options) -> int:
@@ -33,42 +26,66 @@ TEST = word("--test", "the tests alone whose names hold this", metavar="NAME")
 OBJECTS = [word("program", "elfmap"), word("file", "an object, or an archive of objects", nargs="+")]
 DEV: list[Command] = [
     ("check", "prove a crate, or some functions of it, or a test, and print what is open", building.check, [CRATE, FUNCTION, TEST]),
-    ("prove", "prove the libraries below a crate; build it if it is a program or a library for C", building.prove, [CRATE]),
+    ("prove", "prove the libraries below a crate; build it if it is a program or library for C", lambda it: Build(it.crate).all(), [CRATE]),
     ("doc", "print the page of the whole library, for a browser", doc.main, []),
     ("explain", "say in words why elfmap refused a file: elfmap-explain of the Python package", package_command, [OF_PACKAGE]),
     ("picture", "draw the bytes of a file: elfmap-picture of the Python package", package_command, [OF_PACKAGE]),
     ("peers", "write the tables of docs/PEERS.md: what other tools say of files that elfmap refuses", peers.peers, []),
     ("shared-tails", "print how much shorter string tables are whose names share tails", peers.shared_tails, OBJECTS),
-    ("minutes", "print at its end the processor minutes of a process", minutes.main, [word("pid", "its number", type=int)]),
+    ("minutes", "print at its end the processor minutes of a process", measuring.print_minutes, [word("pid", "its number", type=int)]),
     ("told", "write the files that the tests of bindings/ try, and what they have to say", dump.main, [word("folder", "where to")]),
 ]
 VERSION, HERE = word("version", "the version", nargs="?", default=""), word("folder", "where to (here)", nargs="?", default=".")
 THERE = word("folder", "where to (crates/elf_c/out)", nargs="?", default=library.FOLDER)
 PICTURE = [word("file", "an ELF file"), word("picture", "the picture, as PNG")]
 RELEASE: list[Command] = [
-    ("pack", "pack what is built into one archive", releasing.main, [HERE, VERSION]),
-    ("packages", "make all packages of what is built: of Debian, Python and Rust, and the archive", releasing.make_packages, [HERE]),
-    ("library", "pack the library for C", library.main, [THERE]),
-    ("man", "print the manual page", man.main, [VERSION]),
-    ("page", "print the page for a browser", page.main, []),
+    ("pack", "pack what is built into one archive", lambda it: print(release.pack(it.folder, it.version)), [HERE, VERSION]),
+    ("packages", "make all packages of what is built: of Debian, Python and Rust, and the archive", release.make_packages, [HERE]),
+    ("library", "pack the library for C", lambda it: print(library.pack(os.path.abspath(it.folder))), [THERE]),
+    ("man", "print the manual page", lambda it: print(man.page(release.version_of(it.version)), end=""), [VERSION]),
+    ("page", "print the page for a browser", lambda _: print(page.page(), end=""), []),
     ("page-picture", "take a picture of the page with a file on it (docs/page.png)", page.picture, PICTURE),
-    ("tables", "write the tables of the rules' names, from docs/RULES.md", rules_tables.main, []),
-    ("definitions", "write docs/DEFINITIONS.md, from the comments in crates/*/specs/", definitions.main, []),
+    ("tables", "write the tables of the rules' names, from docs/RULES.md", doc_tables.write_tables, []),
+    ("definitions", "write docs/DEFINITIONS.md, from the comments in crates/*/specs/", doc_tables.write_definitions, []),
 ]
 # The modules that have tests, in the order in which these are begun.
-MODULES = """failing_calls c_library bindings instructions memory_faults linked names definitions guarantees doc doc_examples rules_tables cases
-    release_test distribution_test shown_commands mutations changed_files hostile_files mutants made_programs page_test machine_files""".split()
+MODULES = [hostile, library, measuring, memory_faults, linked, suite, doc_tables, doc, cases, release, shown_commands, mutations]
+MODULES += [fuzz, page, peers]
+ABOUTS = {
+    "dev": "What you need while you change code. What is tested is in tools/test, and what a release has in tools/release.",
+    "release": "What a release has, and what is generated.",
+    "test": "Runs the tests of the repository: all, as the gate does after `rt ci`, or some by their names or the name of their family.",
+}
 
 
-def dev(words: list[str]) -> int:
-    about = "What you need while you change code. What is tested is in tools/test, and what a release has in tools/release."
-    return run("tools/dev", about, DEV, words)
+def of_tests(tests: list[Test]) -> list[Command]:
+    """The commands of `tools/test`: each test, each family of them, and what installs what they need."""
+    found: list[Command] = [(it.name, it.about, partial(run_one, it), it.options) for it in tests]
+    for name, members in families(tests).items():
+        found.append((name, f"these: {', '.join(it.name for it in members)}", partial(run_several, members), []))
+    about = "install the Debian packages that the tests need, as root or by sudo"
+    return [*found, ("setup", about, lambda _: not setup(commands_of(tests)), [])]
 
 
-def release(words: list[str]) -> int:
-    return run("tools/release", "What a release has, and what is generated.", RELEASE, words)
-
-
-def test(words: list[str]) -> int:
-    places = [importlib.import_module(f"{__package__}.{it}").__name__ for it in MODULES]
-    return run_tests(sorted(TESTS, key=lambda it: places.index(it.function.__module__)), words)
+def main(tool: str, words: list[str]) -> int:
+    """Runs `tools/dev`, `tools/release` or `tools/test`, by its name there, with these words."""
+    parser, is_test = argparse.ArgumentParser(f"tools/{tool}", description=ABOUTS[tool]), tool == "test"
+    added = parser.add_subparsers(dest="command", required=not is_test, metavar="NAME", title="commands")
+    tests = {it.name: it for module in MODULES for it in TESTS if it.function.__module__ == module.__name__}
+    if is_test:
+        parser.add_argument("-j", type=int, dest="jobs", metavar="N", help="so many tests side by side (one a processor)")
+        names = words[2:] if words[:1] == ["-j"] else words
+        if len(names) > 1 and tests.keys() >= {*names}:
+            # Several tests, by their names.
+            tests, words = {it: tests[it] for it in names}, words[: -len(names)]
+        parser.set_defaults(jobs=PROCESSORS, function=partial(run_several, [*tests.values()]))
+    commands = of_tests([*tests.values()]) if is_test else DEV if tool == "dev" else RELEASE
+    for command, about, function, options in commands:
+        own = added.add_parser(command, help=about, description=f"{about[0].upper()}{about[1:]}.")
+        own.set_defaults(function=function)
+        for option, more in options:
+            own.add_argument(option, **more)  # type: ignore[arg-type]
+    given = parser.parse_args(words)
+    # Of tests is said which of them run.
+    with contextlib.nullcontext() if is_test else progress(lambda: f"tools/{tool} {given.command}"):
+        return int(given.function(given) or 0)

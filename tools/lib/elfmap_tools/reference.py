@@ -21,9 +21,6 @@ DYNSYM, GROUP, SYMTAB_SHNDX, LOAD = 11, 17, 18, 1
 WRITE, ALLOC, EXEC, INFO_LINK, IN_GROUP = 1, 2, 4, 0x40, 0x200
 UNDEF, ABS, COMMON, XINDEX = 0, 0xFFF1, 0xFFF2, 0xFFFF
 
-
-# ---- what it answers
-
 # The names of the rules of images.
 RULE_NAMES: list[str] = [rule.__name__.upper() for _, rule in image.RULES]
 # The first rule that is broken, and where: by a file as an image or as an object, and by the table in a section.
@@ -78,10 +75,7 @@ def answer(words: Sequence[str], files: Mapping[str, bytes]) -> Answer | None:
     return int(verdict(contents[0]) is not None), said.encode("latin1"), b""
 
 
-# ---- objects by their parts
-
-
-def words(order: str, *numbers: int) -> bytes:
+def number_words(order: str, *numbers: int) -> bytes:
     return b"".join(it.to_bytes(4, cast(Any, order)) for it in numbers)
 
 

@@ -1,20 +1,30 @@
-"""`tools/release pack`: what is built in one archive, elfmap-VERSION-x86_64-linux.tar.gz, which is used on a Linux with the GNU C library
-and without the Rattle kit. docs/MANUAL.md lists what it has; elfmap.html is in it if wasm-opt is installed.
+"""What people install, and the tests of it.
 
-A page's link to a file that the archive lacks becomes its words. VERSION is the first line of the file VERSION, unless another one is
-given. The same program, library, version, texts and commit make the same archive.
+`tools/release pack`: what is built in one archive, elfmap-VERSION-x86_64-linux.tar.gz, which is used on a Linux with the GNU C library and
+without the Rattle kit. docs/MANUAL.md lists what it has; elfmap.html is in it if wasm-opt is installed. A page's link to a file that the
+archive lacks becomes its words. VERSION is the first line of the file VERSION, unless another one is given. The same program, library,
+version, texts and commit make the same archive.
 
 `tools/release packages`: all that people install, made of what is built: the archive of `tools/release pack`, packages of Debian, the
 Python package as a wheel with the library in it, the Rust crate with the static library, and their SHA256SUMS. docs/MANUAL.md lists what
-each has. The same build makes the same bytes: every file has the time of the commit."""
+each has. The same build makes the same bytes: every file has the time of the commit.
 
-import functools, glob, gzip, os, re, shutil, sys, tempfile, zipfile
+`tools/test release`: packs a release of what is built twice, and unpacks the archive in an empty folder. There all of it has to work, with
+nothing on the PATH but /usr/bin and /bin. MOST_SECONDS of a processor have to be enough to pack it.
+
+`tools/test packages`: makes the packages of `tools/release packages` twice, with the same bytes, and installs and tries each in a root of
+Debian 12 that has neither the kit nor anything of the repository. All parts of the repository have the version of VERSION. The root is made
+by debootstrap, once, and kept in the cache; each run has a copy. Without root's rights, debootstrap or a mirror the tests in it are
+skipped by their names."""
+
+import functools, glob, gzip, os, re, shutil, sys, tempfile, zipfile, zlib
+from collections.abc import Iterator
 
 from . import doc, library, man, page
 from .building import is_current, output_of
-from .library import PACKERS, SHARED
-from .suite import JINJA2, MARKDOWN
-from .tree import PACKAGE, PROGRAM, TOP, Options, files_below, filled, read_bytes, read_text, run, said, wanted, write
+from .library import BOTH, PACKERS, SHARED, calls
+from .suite import JINJA2, MARKDOWN, SETUPTOOLS, WHEEL, Tally, Test, setup, steps_of
+from .tree import PACKAGE, PROGRAM, TOP, Options, Texts, files_below, filled, read_bytes, read_text, run, said, wanted, write
 
 RUNNER = """#!/bin/sh
 # elfmap WORDS..: the program elfmap, with settings of the C library's memory.
@@ -35,16 +45,7 @@ if __name__ == "__main__":
 BESIDE = """
 top = os.path.dirname(os.path.dirname(os.path.realpath(__file__)))
 sys.path.insert(0, f"{top}/bindings/python")"""
-PKG_CONFIG = """prefix=@PREFIX@
-includedir=${prefix}/include
-libdir=${prefix}/@LIBDIR@
-
-Name: elfmap
-Description: ELF-64 files: verdict, records, tables, rewriting and linking
-Version: @VERSION@
-Cflags: -I${includedir}
-Libs: -L${libdir} -lelfmap
-"""
+PKG_CONFIG = functools.partial(filled, read_text("include/elfmap.pc.in"))
 # The files of the repository that it has: those of the bindings but for their tests, which need the repository.
 FILES = """README.md CONTRIBUTING.md CHANGELOG.md SECURITY.md docs/* rules/*.rules examples/* include/elfmap.h bindings/c/*.[ch]
     bindings/rust/Cargo.lock bindings/rust/Cargo.toml bindings/rust/README.md bindings/rust/build.rs bindings/rust/examples/*
@@ -56,16 +57,6 @@ MAKERS = f"{PACKERS} {JINJA2} {MARKDOWN} pandoc wasm-opt"
 # The commands of the Python package: of each its name, its module and its function.
 COMMANDS = re.findall(r'^([\w-]+) = "([\w.]+):(\w+)"', read_text("bindings/python/pyproject.toml"), re.M)
 LINK = re.compile(r"(?<!!)\[((?:`[^`]*`|[^\]`])*)\]\((?!https?:|#)([^)#\s]+)[^)]*\)")
-
-
-def check_needs() -> None:
-    """The program itself says what it needs at run time: each entry NEEDED (tag 1) of its dynamic array."""
-    if run(PROGRAM, "check", PROGRAM).returncode:
-        raise SystemExit("release: the program does not accept itself")
-    lines = (it.split() for it in said(PROGRAM, "show", PROGRAM).stdout.splitlines())
-    others = {it[4] for it in lines if it[0] == "dynamic" and it[2] == "1"} - {"libc.so.6", "ld-linux-x86-64.so.2"}
-    if others:
-        raise SystemExit(f"release: the program needs {sorted(others)}, which is no part of the C library")
 
 
 def version_of(given: str | None = None) -> str:
@@ -123,12 +114,34 @@ def without_dead_links(folder: str) -> None:
         write(page, LINK.sub(kept, read_text(page)))
 
 
+def anchors(text: str) -> set[str]:
+    """The names of the places of a page that a link can lead to."""
+    heads = [re.sub(r"[^\w\- ]", "", it.lower()).replace(" ", "-") for it in re.findall(r"^#+ (.*)", text, re.M)]
+    return {*heads, *re.findall(r'<a id="([^"]*)"', text)}
+
+
+def broken_links(page: str, text: str) -> Iterator[str]:
+    """The links of a page that lead to no file of the repository, or to no place in it."""
+    for link in re.findall(r"\]\(([^)\s]+)\)", text):
+        path, _, anchor = link.partition("#")
+        target = os.path.join(os.path.dirname(page), path) if path else page
+        is_there = link.startswith("https://") or os.path.exists(target) and (not anchor or anchor in anchors(read_text(target)))
+        if not is_there:
+            yield link
+
+
 def put_release(folder: str, version: str) -> None:
     for crate in ("elfmap", library.VERDICTS, library.ENGINES):
         if not is_current(crate, output_of(crate)):
             how = f"build it with tools/dev prove {crate}, which needs the Rattle kit's command rt"
             raise SystemExit(f"release: {output_of(crate)} is missing, or older than a text in crates/: {how}")
-    check_needs()
+    if run(PROGRAM, "check", PROGRAM).returncode:
+        raise SystemExit("release: the program does not accept itself")
+    # It says what it needs at run time: each entry NEEDED (tag 1) of its dynamic array.
+    lines = (it.split() for it in said(PROGRAM, "show", PROGRAM).stdout.splitlines())
+    others = {it[4] for it in lines if it[0] == "dynamic" and it[2] == "1"} - {"libc.so.6", "ld-linux-x86-64.so.2"}
+    if others:
+        raise SystemExit(f"release: the program needs {sorted(others)}, which is no part of the C library")
     library_page, faults = doc.made()
     if faults:
         raise SystemExit(f"release: the page of the library is not whole: {faults[0]}")
@@ -139,7 +152,7 @@ def put_release(folder: str, version: str) -> None:
         "VERSION": f"{version}\n",
         "bin/elfmap": runner(version, "elfmap"),
         "doc/elfmap-doc.html": f"{library_page}\n",
-        "lib/pkgconfig/elfmap.pc": filled(PKG_CONFIG, PREFIX="${pcfiledir}/../..", LIBDIR="lib", VERSION=version),
+        "lib/pkgconfig/elfmap.pc": PKG_CONFIG(PREFIX="${pcfiledir}/../..", LIBDIR="lib", VERSION=version),
         "share/man/man1/elfmap.1": man.page(version),
     }
     for name, module, function in COMMANDS:
@@ -171,10 +184,6 @@ def pack(folder: str, given: str | None = None) -> str:
     with tempfile.TemporaryDirectory(prefix="elfmap-release-") as work:
         put_release(f"{work}/{name}", version)
         return archived(f"{work}/{name}", f"{folder}/{name}.tar.gz")
-
-
-def main(options: Options) -> None:
-    print(pack(options.folder, options.version))
 
 
 # ---- the packages of Debian
@@ -229,7 +238,7 @@ def put_dev(root: str, tree: str, version: str) -> None:
     copied(f"{tree}/lib/libelfmap.a", f"{root}/{LIBRARIES}/libelfmap.a")
     copied(f"{tree}/include/elfmap.h", f"{root}/usr/include/elfmap.h")
     os.symlink(SHARED, f"{root}/{LIBRARIES}/libelfmap.so")
-    put(f"{root}/{LIBRARIES}/pkgconfig/elfmap.pc", filled(PKG_CONFIG, PREFIX="/usr", LIBDIR=f"lib/{TRIPLET}", VERSION=version))
+    put(f"{root}/{LIBRARIES}/pkgconfig/elfmap.pc", PKG_CONFIG(PREFIX="/usr", LIBDIR=f"lib/{TRIPLET}", VERSION=version))
     for it in ("sections.c", "symbols.c"):
         copied(f"{tree}/bindings/c/{it}", f"{root}/usr/share/doc/libelfmap-dev/examples/{it}")
 
@@ -282,9 +291,6 @@ def deb(name: str, tree: str, folder: str, version: str) -> None:
         wanted("dpkg-deb", "--root-owner-group", "-Zxz", "--build", root, f"{folder}/{name}_{version}_{machine}.deb")
 
 
-# ---- the wheel and the crate
-
-
 def wheel(tree: str, folder: str) -> str:
     """The package with the library in it, for every Linux for x86-64 that has the C library that it needs: its path."""
     library = f"{tree}/lib/{SHARED}"
@@ -329,3 +335,162 @@ def make_packages(options: Options) -> None:
         write(f"{made}/SHA256SUMS", wanted("sha256sum", *names, folder=made))
         for it in [*names, "SHA256SUMS"]:
             print(shutil.move(f"{made}/{it}", f"{folder}/{it}"))
+
+
+# ---- the test of a release
+
+VERSION, MOST_SECONDS = "0-test", 30
+MADE = [
+    "elfmap.html", "VERSION", "bin/elfmap", "doc/elfmap-doc.html", "elfmap", "include/elfmap.h",
+    "lib/libelfmap.a", "lib/libelfmap.so.0", "lib/pkgconfig/elfmap.pc", "share/man/man1/elfmap.1",
+    *(f"bin/{it}" for it, *_ in COMMANDS), *(f"share/man/man1/{it}.1" for it, *_ in COMMANDS),
+]  # fmt: skip
+PLAIN = {"PATH": "/usr/bin:/bin", "LC_ALL": "C.UTF-8", "MANWIDTH": "80"}
+
+
+def unpacked(tally: Tally) -> str:
+    """Packs a release twice, and unpacks it in an empty folder: its folder."""
+    room, folder = tally.folder, f"{tally.new_folder('empty')}/elfmap-{VERSION}-x86_64-linux"
+    # The first one may build the module of the page.
+    first, begun = pack(f"{room}/first", VERSION), sum(os.times()[:4])
+    second = pack(f"{room}/second", VERSION)
+    seconds = sum(os.times()[:4]) - begun
+    tally.check(seconds < MOST_SECONDS, f"a release is packed in {seconds:.0f} s of a processor")
+    tally.check(read_bytes(first) == read_bytes(second), "the archive is another one the second time")
+    tally.check(said("tar", "xf", first, folder=f"{room}/empty").returncode == 0, "tar does not unpack the archive")
+    names = {it[len(folder) + 1 :] for it in files_below(folder)}
+    # What git has in these folders; of the crate and the package without their tests.
+    listed = said("git", "ls-files", "[A-Z]*.md", "docs", "rules", "bindings", "examples").stdout.split()
+    wanted = {*MADE, *(it for it in listed if not re.search(r"^bindings/(rust|python)/tests/|^bindings/[^/]*$", it))}
+    tally.check(names == wanted, f"the archive lacks {sorted(wanted - names)}, and has beyond that {sorted(names - wanted)}")
+    tally.check(read_text(f"{folder}/VERSION") == f"{VERSION}\n", "the file VERSION has not the version")
+    return folder
+
+
+def compare_usages(tally: Tally, folder: str) -> None:
+    """docs/MANUAL.md and the manual page have the usage of each command that the program has."""
+
+    def help(*words: str) -> str:
+        return said("./elfmap", *words, "--help", folder=folder, env=PLAIN).stdout
+
+    commands = re.findall(r"^  (\w+) ", help().partition("Commands:")[2].partition("Options:")[0], re.M)
+    manual = read_text(f"{folder}/docs/MANUAL.md").partition("\n## The commands\n")[2]
+    usages = re.findall(r"^    (elfmap (\w+) .*)", manual, re.M)
+    tally.same("the commands of docs/MANUAL.md, by the program", [it for _, it in usages], commands)
+    page = read_text(f"{folder}/share/man/man1/elfmap.1").replace(r"\-", "-")
+    synopsis = page.partition("\n.SH DESCRIPTION\n")[0].splitlines()
+    for usage, command in usages:
+        said = help(command)
+        (own,) = re.findall(r"Usage: (.*)", said)
+        # Its options in place of [OPTIONS].
+        given = [it for it in re.findall(r"^ +(?:-\w, )?(--\w+(?: <\w+>)?)", said, re.M) if it != "--help" and it not in own]
+        own = re.sub(r"[<>]", "", own.replace("[OPTIONS]", " ".join(f"[{it}]" for it in given)))
+        tally.check(words_of(own) == words_of(usage), f"the program's usage is '{own}', and docs/MANUAL.md has '{usage}'")
+        tally.check(usage in synopsis, f"the manual page has not the usage '{usage}'")
+
+
+def words_of(usage: str) -> list[str]:
+    """The words and options of a usage, in any order."""
+    return sorted(re.findall(r"\[[^\]]*\]|--\w+ [A-Z]+|\S+", usage))
+
+
+@Test("release", "what a release has, and that all of it works", f"{MAKERS} nm git pkg-config cargo groff", f"elfmap {BOTH}")
+def try_release(tally: Tally, options: Options) -> None:
+    folder, room = unpacked(tally), tally.new_folder("elsewhere")
+    for page in sorted(glob.glob(f"{folder}/**/*.md", recursive=True)):
+        broken = list(broken_links(page, read_text(page)))
+        tally.check(not broken, f"{page} has links to {broken}, which the archive lacks")
+    compare_usages(tally, folder)
+    # The crate's example by cargo, which builds outside of the archive.
+    path = f"{os.path.dirname(shutil.which('cargo') or '')}:{PLAIN['PATH']}"
+    env = {**os.environ, "PATH": path, "CARGO_TARGET_DIR": f"{room}/target"}
+    built = said("cargo", "build", "--frozen", "--example", "symbols", folder=f"{folder}/bindings/rust", env=env)
+    tally.check(built.returncode == 0, f"cargo build: {built.stdout}")
+    marks = {"TOP": folder, "V": VERSION, "PACKAGE": version_of(), "COMMANDS": " ".join(it for it, *_ in COMMANDS)}
+    steps = steps_of("release.steps", **marks, PYTHON=os.path.dirname(sys.executable))
+    tally.try_steps(steps, lambda script: said("sh", "-c", script, folder=room, env=PLAIN).stdout)
+
+
+@Test("launcher", "what ./elfmap builds and runs for which words")
+def launcher(tally: Tally, options: Options) -> None:
+    os.makedirs(f"{tally.folder}/crates/elf_field/src")
+    write(f"{tally.folder}/crates/elf_field/src/lib.rt", "\n")
+    shutil.copy(f"{TOP}/elfmap", tally.folder)
+    tally.try_steps(steps_of("launcher.steps"), lambda script: said("sh", "-c", script, folder=tally.folder).stdout)
+    # It looks at the times of these folders alone.
+    inner = [it for it in glob.glob(f"{TOP}/crates/elf*/src/*") if os.path.isdir(it)]
+    tally.check(not inner, f"./elfmap does not see changes in {inner}")
+
+
+# ---- the test of the packages
+
+SUITE = "bookworm"
+INSTALLERS = f"{MAKERS} readelf nm git dpkg-deb unshare {SETUPTOOLS} {WHEEL}"
+INCLUDED = "python3,python3-venv,gcc,libc6-dev,pkg-config,man-db,fish,zsh,cargo"
+CACHE = os.environ.get("XDG_CACHE_HOME") or os.path.expanduser("~/.cache")
+# Of other packages it is another root.
+ROOT = f"{CACHE}/elfmap-tools/{SUITE}-{zlib.crc32(INCLUDED.encode()):08x}"
+AS_ROOT = {"PATH": "/usr/sbin:/usr/bin:/sbin:/bin", "LC_ALL": "C.UTF-8", "HOME": "/root", "DEBIAN_FRONTEND": "noninteractive"}
+# The places of the version.
+VERSIONS = {
+    "bindings/python/pyproject.toml": r'^version = "(.*)"', "bindings/python/elfmap/__init__.py": r'^__version__ = "(.*)"',
+    "bindings/rust/Cargo.toml": r'^version = "(.*)"', "bindings/rust/Cargo.lock": r'name = "elfmap"\nversion = "(.*)"',
+    "bindings/rust/README.md": r"elfmap-([\d.]+)\.crate", "bindings/python/README.md": r"elfmap-([\d.]+)-py3",
+}  # fmt: skip
+# Terminals too, for zsh.
+MOUNTED = 'mount -t proc proc "$1/proc" && mount --bind /dev/pts "$1/dev/pts" && exec chroot "$1" sh -c "$2"'
+
+
+def make_root() -> str:
+    """Makes the root where there is none: why that can't be done."""
+    if os.path.isdir(ROOT):
+        return ""
+    if os.geteuid() != 0:
+        return "only root can make one"
+    if not setup(["debootstrap"]):
+        return "there is no debootstrap"
+    os.makedirs(os.path.dirname(ROOT), exist_ok=True)
+    with tempfile.TemporaryDirectory(dir=os.path.dirname(ROOT)) as room:
+        made = said("timeout", "900", "debootstrap", "--variant=minbase", f"--include={INCLUDED}", SUITE, f"{room}/root")
+        if made.returncode:
+            return f"debootstrap fails: {made.stdout.strip().splitlines()[-1:]}"
+        os.rename(f"{room}/root", ROOT)
+    return ""
+
+
+def inside(root: str, script: str) -> Texts:
+    """Runs a script in a root, with processes and mounts of its own."""
+    return said("unshare", "--mount", "--pid", "--fork", "sh", "-c", MOUNTED, "sh", root, script, env=AS_ROOT)
+
+
+def contents(folder: str) -> dict[str, bytes]:
+    return {os.path.basename(it): read_bytes(it) for it in files_below(folder)}
+
+
+@Test("packages", "what people install is the same twice, and works in a clean root", commands=INSTALLERS, crates=f"elfmap {BOTH}")
+def packages(tally: Tally, options: Options) -> None:
+    version, room = version_of(), tally.folder
+    for path, pattern in VERSIONS.items():
+        found = re.findall(pattern, read_text(path), re.M)[:1]
+        tally.same(f"the version in {path}", found, [version])
+    tally.same("./elfmap --version", said("./elfmap", "--version").stdout, f"elfmap {version}\n")
+    first, second = f"{room}/first", f"{room}/second"
+    for it, mask, zone in ((first, "022", "UTC"), (second, "077", "Asia/Tokyo")):
+        words = ["sh", "-c", f'umask {mask} && TZ={zone} exec "$@"', "sh", sys.executable, f"{TOP}/tools/release", "packages", it]
+        wanted(*words, folder=room)
+    tally.check(contents(first) == contents(second), "the packages have other bytes the second time")
+    summed, names = said("sha256sum", "-c", "--quiet", "SHA256SUMS", folder=first), contents(first).keys() - {"SHA256SUMS"}
+    is_whole = summed.returncode == 0 and names == set(read_text(f"{first}/SHA256SUMS").split()[1::2])
+    tally.check(is_whole, f"SHA256SUMS, beside {names}: {summed.stdout}")
+    tally.check(all(re.search(rf"[-_]{re.escape(version)}[-_.]", it) for it in names), f"not all have the version {version}: {names}")
+    said("dpkg-deb", "-x", f"{first}/libelfmap0_{version}_amd64.deb", f"{room}/own")
+    lines = said("nm", "-D", "--defined-only", f"{room}/own/{LIBRARIES}/libelfmap.so.0").stdout.splitlines()
+    exported = sorted(name.partition("@")[0] for _, kind, name in map(str.split, lines) if kind != "A")
+    tally.same("what the shared library exports", exported, sorted(calls()))
+    why, root, steps = make_root(), f"{room}/root", steps_of("packages.steps", V=version)
+    why = why or (f"{ROOT} is not copied" if said("cp", "-a", ROOT, root).returncode else "")
+    why = why or ("this machine lets nobody mount" if inside(root, "true").returncode else "")
+    if why:
+        return tally.note(f"skipped: without a clean root ({why}): {', '.join(title for title, *_ in steps)}")
+    shutil.copytree(first, f"{root}/packages")
+    tally.try_steps(steps, lambda script: inside(root, script).stdout)

@@ -1,10 +1,9 @@
-"""`tools/test shown-commands`: runs the commands that the pages show, and compares what they print with what is below them.
-
-A command is a line of a code block that begins with `$ `, or with `>>> ` for Python; below it are the lines that it prints, on standard
-output and standard error. There a line `..` means lines left out, and ` ..` at the end of a line the rest of it. A page's commands run in
-its order in a folder of their own. That is a release of the version VERSION, unpacked, whose bin/ is on the PATH, with its archive and the
-folders that the repository alone has. Commands within prose are not looked at. Skipped are those of SKIPPED, and those of a page of which
-one needs a tool of another version than README.md names, or a file of the machine of another length.
+"""`tools/test shown-commands`: runs the commands that the pages show, and compares what they print with what is below them. A command is a
+line of a code block that begins with `$ `, or with `>>> ` for Python; below it are the lines that it prints, on standard output and
+standard error. There a line `..` means lines left out, and ` ..` at the end of a line the rest of it. A page's commands run in its order in
+a folder of their own. That is a release of the version VERSION, unpacked, whose bin/ is on the PATH, with its archive and the folders that
+the repository alone has. Commands within prose are not looked at. Skipped are those of SKIPPED, and those of a page of which one needs a
+tool of another version than README.md names, or a file of the machine of another length.
 
 `tools/test pages`: how long the sentences of the pages are, those of each page (MEDIAN), but for what is generated or is all tables
 (TABLES), and all of them together (WORDS). Code, headings and the targets of links are no prose. A fenced block whose first line names a
@@ -15,7 +14,7 @@ import glob, os, re, shutil, statistics, sys
 from collections.abc import Iterator
 
 from .library import BOTH
-from .release import MAKERS, pack
+from .release import MAKERS, broken_links, pack
 from .suite import TESTS, Tally, Test, families
 from .tree import PROGRAM, TOP, Options, read_text, said, wanted, write
 
@@ -33,16 +32,11 @@ PARAGRAPHS = re.compile(r"\n\s*\n|\n(?= *(?:[-*]|\d+\.) )")
 SENTENCES = re.compile(r"(?<=[.!?])[\"')*]*\s+(?=[\"'(*`\[]*[A-Z`\[])")
 
 
-def prose(text: str) -> str:
-    """The text of a page without fenced and indented code, tables, headings, images and the targets of links."""
-    text = CODE.sub("\n", text)
-    text = re.sub(r"^(?:#|\||<|!\[).*$", "", text, flags=re.M)
-    return re.sub(r"\[([^\]]*)\]\([^)]*\)", r"\1", text)
-
-
 def sentences(text: str) -> list[str]:
-    """The sentences of a page, each in one line."""
-    lines = (re.sub(r"^(?:[-*]|\d+\.) ", "", " ".join(it.split())) for it in PARAGRAPHS.split(prose(text)))
+    """The sentences of a page, each in one line: no code, tables, headings, images and targets of links."""
+    text = re.sub(r"^(?:#|\||<|!\[).*$", "", CODE.sub("\n", text), flags=re.M)
+    text = re.sub(r"\[([^\]]*)\]\([^)]*\)", r"\1", text)
+    lines = (re.sub(r"^(?:[-*]|\d+\.) ", "", " ".join(it.split())) for it in PARAGRAPHS.split(text))
     return [it for line in lines for it in SENTENCES.split(line) if it]
 
 
@@ -82,27 +76,20 @@ def pages(tally: Tally, options: Options) -> None:
 
 # ---- the commands
 
-# The folders that a release has not.
-FOLDERS = ["bench", "cases", "crates", "reference", "tools"]
-ARCHIVE = "elfmap-VERSION-x86_64-linux"
 LONGEST = 60
 # Commands that are not run here, and why.
-LONG, MEASURED = "it proves, for minutes or seconds, with the Rattle kit", "it measures, for minutes"
-WHEEL = "tools/test packages installs the wheel"
+LONG, WHEEL = "it proves, for minutes or seconds, with the Rattle kit", "tools/test packages installs the wheel"
 SKIPPED = {
     "rt ci": LONG,
     "tools/dev prove elf_image_rules": LONG,
     "tools/dev check elf_extent  # a crate": LONG,
     "tools/dev check elf_extent members_by_start  # a function, and what it calls; here sorted by the index in place of the start": LONG,
     "tools/dev check tests_base --test finds_the_next_place": LONG,
-    f"man -l {ARCHIVE}/share/man/man1/elfmap.1": "it shows a page; tools/test release has it formatted",
+    "man -l elfmap-VERSION-x86_64-linux/share/man/man1/elfmap.1": "it shows a page; tools/test release has it formatted",
     "python3 -m venv venv && venv/bin/pip install elfmap-*.whl": WHEEL,
     "venv/bin/elfmap-gaps --most 20 /usr/lib": WHEEL,
-    "bench/run": MEASURED,
-    "bench/growth crates/elfmap/out/elfmap": MEASURED,
-    "bench/library": MEASURED,
-    "bench/lint": MEASURED,
 }
+SKIPPED |= dict.fromkeys(("bench/run", "bench/growth crates/elfmap/out/elfmap", "bench/library", "bench/lint"), "it measures, for minutes")
 # Tools whose output depends on their version, and the packages by which README.md names that.
 PACKAGES = {"gcc": "gcc", "readelf": "binutils", "objcopy": "binutils", "ld": "binutils", "eu-elflint": "elfutils"}
 PACKAGES |= {"llvm-objcopy": "LLVM", "llvm-readobj": "LLVM"}
@@ -111,11 +98,8 @@ TOOLS = " ".join([*PACKAGES, "pkg-config", MAKERS])
 MACHINE_FILES = {"/bin/true": 35664}
 # A code line that begins so is a command.
 COMMAND_LIKE = re.compile(r"^(?:\./|scripts/|tools/|bench/|\.ci/|rt |tar |man |gcc |cc |cargo |python3 ).*", re.M)
-
 # A command, which goes on in further lines, and the lines below it.
 COMMAND = re.compile(r"^\$ ((?:.*\\\n)*.*)\n((?:(?!\$ ).*\n)*)", re.M)
-
-# ---- the pages
 
 
 def blocks(text: str) -> Iterator[str]:
@@ -138,22 +122,6 @@ def is_as_shown(said: str, shown: str) -> bool:
     return re.fullmatch(pattern, said + "\n" if said and not said.endswith("\n") else said) is not None
 
 
-def anchors(text: str) -> set[str]:
-    """The names of the places of a page that a link can lead to."""
-    heads = [re.sub(r"[^\w\- ]", "", it.lower()).replace(" ", "-") for it in re.findall(r"^#+ (.*)", text, re.M)]
-    return {*heads, *re.findall(r'<a id="([^"]*)"', text)}
-
-
-def broken_links(page: str, text: str) -> Iterator[str]:
-    """The links of a page that lead to no file of the repository, or to no place in it."""
-    for link in re.findall(r"\]\(([^)\s]+)\)", text):
-        path, _, anchor = link.partition("#")
-        target = os.path.join(os.path.dirname(page), path) if path else page
-        is_there = link.startswith("https://") or os.path.exists(target) and (not anchor or anchor in anchors(read_text(target)))
-        if not is_there:
-            yield link
-
-
 def foreign(commands: list[str]) -> Iterator[str]:
     """Tools and files of the machine that these commands need, and that are others where what the pages show was printed."""
     words = {it for command in commands for it in re.findall(r"[^\s|&;<>()]+", command)}
@@ -170,10 +138,8 @@ def foreign(commands: list[str]) -> Iterator[str]:
 class Page:
     """A page, and the folder in which its commands run."""
 
-    def __init__(self, tally: Tally, path: str, folder: str) -> None:
-        self.tally, self.path, self.folder = tally, path, folder
-        self.name = os.path.relpath(path, TOP)
-        self.text = read_text(path)
+    def __init__(self, tally: Tally, name: str, folder: str) -> None:
+        self.tally, self.name, self.folder, self.text = tally, name, folder, read_text(name)
         own = {"PATH": f"{folder}/bin:{os.environ['PATH']}", "XDG_CACHE_HOME": f"{folder}/.cache", "HOME": folder}
         self.environment = os.environ | own | {"LC_ALL": "C.UTF-8", "ELFMAP": PROGRAM}
 
@@ -184,19 +150,6 @@ class Page:
         script = f'{before}\n{command}\nstatus=$?\n{{ export -p; printf "cd %q\\n" "$PWD"; }} > "{state}"\nexit $status'
         return said("bash", "-c", script, folder=self.folder, env=self.environment, timeout=LONGEST).stdout
 
-    def try_command(self, command: str, shown: str) -> None:
-        if command in SKIPPED:
-            return self.tally.note(f"skipped in {self.name}, {SKIPPED[command]}: {command}")
-        output = self.run(command)
-        self.tally.check(is_as_shown(output, shown), f"{self.name} shows below '{command}':\n{shown}\nand it says:\n{output}")
-
-    def try_python(self, block: str) -> None:
-        """A block of Python, as doctest has it."""
-        write(f"{self.folder}/shown.txt", re.sub(r" \.\.$", " ...", block, flags=re.M))
-        env = f'PYTHONDONTWRITEBYTECODE=1 PYTHONPATH="{self.folder}/bindings/python"'
-        output = self.run(f'{env} "{sys.executable}" -m doctest -o ELLIPSIS "{self.folder}/shown.txt"')
-        self.tally.check(not output, f"{self.name} shows other lines of Python than there are:\n{output}")
-
     def try_commands(self) -> None:
         every = [command for block in blocks(self.text) for command, _ in commands(block) if command not in SKIPPED]
         if others := list(foreign(every)):
@@ -206,10 +159,17 @@ class Page:
             if bare and not commands(block):
                 self.tally.fail(f"{self.name} has a command without its '$ ': {bare[0]}")
             for command, shown in commands(block):
-                self.try_command(command, shown)
-            # The pages of the bindings are tried by their own tests.
+                if command in SKIPPED:
+                    self.tally.note(f"skipped in {self.name}, {SKIPPED[command]}: {command}")
+                    continue
+                output = self.run(command)
+                self.tally.check(is_as_shown(output, shown), f"{self.name} shows below '{command}':\n{shown}\nand it says:\n{output}")
+            # Python is shown as doctest has it; the pages of the bindings are tried by their own tests.
             if re.search("^>>> ", block, re.M) and not self.name.startswith("bindings/"):
-                self.try_python(block)
+                write(f"{self.folder}/shown.txt", re.sub(r" \.\.$", " ...", block, flags=re.M))
+                env = f'PYTHONDONTWRITEBYTECODE=1 PYTHONPATH="{self.folder}/bindings/python"'
+                output = self.run(f'{env} "{sys.executable}" -m doctest -o ELLIPSIS "{self.folder}/shown.txt"')
+                self.tally.check(not output, f"{self.name} shows other lines of Python than there are:\n{output}")
 
     def try_all(self) -> None:
         self.try_commands()
@@ -219,23 +179,21 @@ class Page:
         named = {it.rstrip(".,:;") for it in re.findall(r"`((?:scripts|tools|bench|reference)/[\w./-]*)", self.text)}
         gone = sorted(it for it in named if not os.path.exists(f"{TOP}/{it}"))
         self.tally.check(not gone, f"{self.name} names what is not there: {gone}")
-        links = list(broken_links(self.path, self.text))
+        links = list(broken_links(f"{TOP}/{self.name}", self.text))
         self.tally.check(not links, f"{self.name} has links that lead nowhere: {links}")
 
 
-@Test(
-    "shown-commands", "the commands that the pages show print what is below them", commands=TOOLS, crates=f"elfmap {BOTH} example_symbols"
-)
+@Test("shown-commands", "the commands that the pages show print what is below them", TOOLS, f"elfmap {BOTH} example_symbols")
 def shown_commands(tally: Tally, options: Options) -> None:
-    pages = [f"{TOP}/{it}" for it in all_pages()]
-    every = [command for path in pages for block in blocks(read_text(path)) for command, _ in commands(block)]
+    every = [command for name in all_pages() for block in blocks(read_text(name)) for command, _ in commands(block)]
     for command in SKIPPED:
         tally.check(command in every, f"no page shows the command that is skipped: {command}")
     archive = pack(tally.folder, "VERSION")
-    for number, path in enumerate(pages):
+    for number, name in enumerate(all_pages()):
         folder = tally.new_folder(str(number))
         wanted("tar", "xf", archive, "--strip-components=1", folder=folder)
-        for it in FOLDERS:
+        # The folders that a release has not.
+        for it in ("bench", "cases", "crates", "reference", "tools"):
             os.symlink(f"{TOP}/{it}", f"{folder}/{it}")
         shutil.copy(archive, folder)
-        Page(tally, path, folder).try_all()
+        Page(tally, name, folder).try_all()

@@ -183,9 +183,6 @@ def with_impls(item: Item, crate: str) -> Item:
     return item
 
 
-# ---- what a crate shows
-
-
 def shown_by(path: str) -> Iterator[tuple[str, str]]:
     """What a file shows, modules of its own and what others have: each name with its path."""
     for line in re.finditer(r"^pub (?:use ([\w:]+)::\{([^}]*)\}|(?:use|mod) ([\w:]+(?: as \w+)?));", read_text(path), re.M):
@@ -229,9 +226,6 @@ def module(crate: str, words: tuple[str, ...]) -> Item:
 def items_of(crate: str) -> Iterator[Item]:
     """The items that a crate shows, in the order of its lib.rt."""
     return (item_at(*home_of(crate, (), place)) for _, place in shown_by(module_file(crate, ())))
-
-
-# ---- the definitions
 
 
 class Definition(NamedTuple):

@@ -1,15 +1,14 @@
-"""The tests of `tools/test`: each by its name, with the commands and the built crates that it needs; alone or side by side. `tools/test setup`
-installs the Debian packages of the commands that are missing."""
+"""The tests of `tools/test`: each by its name, with the commands and the built crates that it needs; alone or side by side. `tools/test
+setup` installs the Debian packages of the commands that are missing."""
 
-import argparse, functools, glob, os, re, shutil, subprocess, sys, tempfile, time, traceback
+import glob, os, re, shutil, subprocess, sys, tempfile, time, traceback
 from collections.abc import Callable, Iterable
 from concurrent.futures import ThreadPoolExecutor, as_completed
 from dataclasses import dataclass
 from itertools import chain
-from typing import Any
 
 from .building import built
-from .tree import PROCESSORS, TOP, Options, Texts, filled, progress, read_text, run, said, side_by_side
+from .tree import PACKAGE, TOP, Options, Texts, filled, progress, read_text, run, said
 
 # ---- the commands that tests start, and the Debian packages that have them
 
@@ -20,14 +19,12 @@ IMPORTS = "jinja2 jsonschema junitparser markdown selenium setuptools wheel".spl
 JINJA2, JSONSCHEMA, JUNITPARSER, MARKDOWN, SELENIUM, SETUPTOOLS, WHEEL = map(IMPORTED.format, IMPORTS)
 # Debian's clang brings its checks of addresses and of undefined behavior only as a recommended package.
 SANITIZERS = "/usr/lib/llvm-*/lib/clang/*/lib/linux/libclang_rt.asan-x86_64.a"
-# The commands of each package, by their first words, or a file that has to be there.
+# The commands of each package, by their first words, or a file that has to be there; but for those that have the name of their package.
 COMMANDS = {
-    "binaryen": "wasm-opt", "binutils": "ar as ld nm objcopy readelf", "binutils-x86-64-linux-gnu": "x86_64-linux-gnu-as", "black": "black",
-    "cargo-web": "cargo", "chromium": "chromium", "chromium-driver": "chromedriver", "clang": "clang", "debootstrap": "debootstrap",
-    "dpkg": "dpkg-deb", "elfutils": "eu-elflint", "g++": "c++ g++", "gcc": "cc gcc", "git": "git", "groff": "groff",
+    "binaryen": "wasm-opt", "binutils": "ar as ld nm objcopy readelf", "binutils-x86-64-linux-gnu": "x86_64-linux-gnu-as",
+    "cargo-web": "cargo", "chromium-driver": "chromedriver", "dpkg": "dpkg-deb", "elfutils": "eu-elflint", "g++": "c++ g++", "gcc": "cc gcc",
     "libclang-rt-14-dev": SANITIZERS, "libklibc-dev": KLIBC, "lld": "ld.lld", "lld-19": "ld.lld-19", "llvm": "llvm-objcopy llvm-readobj",
-    "llvm-19": "llvm-mc-19", "mypy": "mypy", "nodejs": "node", "pandoc": "pandoc", "pkg-config": "pkg-config", "pre-commit": "pre-commit",
-    "rustc-web": "rustc", "util-linux": "prlimit unshare", "valgrind": "valgrind",
+    "llvm-19": "llvm-mc-19", "nodejs": "node", "rustc-web": "rustc", "util-linux": "prlimit unshare",
 }  # fmt: skip
 PACKAGES = {command: package for package, commands in COMMANDS.items() for command in commands.split()}
 # The machines of rules/, by the names of qemu's program and of the tools; one that qemu has no program for; and those that LLVM alone has,
@@ -61,13 +58,13 @@ def missing(commands: Iterable[str]) -> list[str]:
 
 def words_of(lacking: Iterable[str]) -> str:
     """What to say of missing commands: the package of each, and how to get it."""
-    return ", ".join(f"there is no {it} (package {PACKAGES[it]})" for it in lacking) + "; `tools/test setup` installs it"
+    return ", ".join(f"there is no {it} (package {PACKAGES.get(it, it)})" for it in lacking) + "; `tools/test setup` installs it"
 
 
 def setup(commands: Iterable[str]) -> bool:
     """Installs the packages of the commands that are missing: whether all are there then."""
     lacking = missing(commands)
-    packages = sorted({PACKAGES[it] for it in lacking})
+    packages = sorted({PACKAGES.get(it, it) for it in lacking})
     if not packages:
         return True
     print(f"setup: installs {' '.join(packages)}", flush=True)
@@ -139,9 +136,6 @@ class Tally:
     def note(self, text: str) -> None:
         print(f"{self.name}: {text}", flush=True)
 
-    def __str__(self) -> str:
-        return f"{self.passed} passed, {self.failed} failed"
-
 
 @dataclass
 class Test:
@@ -170,6 +164,10 @@ def number(name: str, default: int, about: str) -> Option:
     return word(f"--{name}", f"{about} ({default})", type=int, default=default, metavar="N")
 
 
+def by_chance(count: int, what: str) -> tuple[Option, ...]:
+    return number("count", count, f"so many {what}"), number("seed", 1, f"the same seed makes the same {what}")
+
+
 def flag(name: str, about: str) -> Option:
     return word(f"--{name}", about, action="store_true")
 
@@ -193,12 +191,19 @@ def run_one(test: Test, options: Options) -> int:
             tally.fail(f"it ended early: {error}\n{trace}".rstrip())
         if not tally.passed and not tally.failed:
             tally.fail("it tried nothing")
-    print(tally)
+    print(f"{tally.passed} passed, {tally.failed} failed")
     return 1 if tally.failed else 0
 
 
-def run_all(tests: list[Test], jobs: int) -> int:
-    """Runs tests, each in a process of its own, so many side by side; prints what each printed, in one piece, and counts what it counted."""
+def run_several(tests: list[Test], options: Options) -> int:
+    """Installs what is missing, builds what is older than its texts, and runs these tests, each in a process of its own, so many side by
+    side; prints what each printed, in one piece, and counts what it counted."""
+    setup(commands_of(tests))
+    for crate in dict.fromkeys(crate for it in tests for crate in it.crates.split()):
+        try:
+            built(crate)
+        except SystemExit as error:
+            print(f"tools/test: {error}")
     running, all_passed, all_failed, last = list[str](), 0, 0, list[str]()
 
     def run_beside(test: Test) -> tuple[Test, float, Texts]:
@@ -207,7 +212,7 @@ def run_all(tests: list[Test], jobs: int) -> int:
         running.remove(test.name)
         return test, time.monotonic() - begun, ended
 
-    with progress(lambda: f"tools/test {', '.join(running)}"), ThreadPoolExecutor(jobs) as pool:
+    with progress(lambda: f"tools/test {', '.join(running)}"), ThreadPoolExecutor(options.jobs) as pool:
         beside = as_completed([pool.submit(run_beside, it) for it in tests if not it.alone])
         alone = map(run_beside, (it for it in tests if it.alone))
         for test, seconds, ended in chain((it.result() for it in beside), alone):
@@ -223,66 +228,29 @@ def run_all(tests: list[Test], jobs: int) -> int:
     return 1 if all_failed else 0
 
 
-def run_several(tests: list[Test], jobs: int) -> int:
-    """Installs what is missing, builds what is older than its texts, and runs these tests."""
-    setup(commands_of(tests))
-    for crate in dict.fromkeys(crate for it in tests for crate in it.crates.split()):
-        try:
-            built(crate)
-        except SystemExit as error:
-            print(f"tools/test: {error}")
-    return run_all(tests, jobs)
-
-
 def families(tests: list[Test]) -> dict[str, list[Test]]:
     return {family: [it for it in tests if it.family == family] for family in dict.fromkeys(it.family for it in tests) if family}
 
 
-def add_command(commands: Any, name: str, about: str, options: Iterable[Option]) -> argparse.ArgumentParser:
-    """Adds a subcommand, with its words and its help."""
-    own: argparse.ArgumentParser = commands.add_parser(name, help=about, description=f"{about[0].upper()}{about[1:]}.")
-    for option, words in options:
-        own.add_argument(option, **words)  # type: ignore[arg-type]
-    return own
+# ---- the tests of the tools themselves
+
+PROGRAMS = [f"{TOP}/tools/{it}" for it in ("dev", "test", "release")]
+SETTINGS = f"{TOP}/tools/pyproject.toml"
 
 
-def parser_of(tests: list[Test]) -> argparse.ArgumentParser:
-    about = "Runs the tests of the repository: all, as the gate does after `rt ci`, or some by their names or the name of their family."
-    parser = argparse.ArgumentParser("tools/test", description=about)
-    parser.add_argument("-j", type=int, default=PROCESSORS, dest="jobs", metavar="N", help="so many tests side by side (one a processor)")
-    commands = parser.add_subparsers(dest="name", metavar="NAME", title="tests")
-    for it in tests:
-        add_command(commands, it.name, it.about, it.options)
-    for name, members in families(tests).items():
-        commands.add_parser(name, help=f"these: {', '.join(it.name for it in members)}")
-    commands.add_parser("setup", help="install the Debian packages that the tests need, as root or by sudo")
-    return parser
+@Test("types", "mypy --strict over tools/ and the Python package", commands="mypy")
+def types(tally: Tally, options: Options) -> None:
+    own = ["--config-file", SETTINGS, f"{TOP}/tools/lib/elfmap_tools", *PROGRAMS]
+    # The package runs by Python 3.9 too.
+    for folder, words in ((f"{TOP}/tools", own), (PACKAGE, ["--strict", "--python-version", "3.9", "elfmap"])):
+        ran = said("mypy", "--cache-dir", f"{TOP}/crates/elfmap/out/mypy", *words, folder=folder)
+        tally.check(ran.returncode == 0, ran.stdout)
 
 
-def main(tests: list[Test], words: list[str]) -> int:
-    by_name = {it.name: it for it in tests}
-    is_counted = len(words) > 2 and words[0] == "-j" and words[1].isdecimal()
-    jobs, names = (int(words[1]), words[2:]) if is_counted else (PROCESSORS, words)
-    if len(names) > 1 and all(it in by_name for it in names):
-        return run_several([by_name[it] for it in names], jobs)
-    options = parser_of(tests).parse_args(words)
-    if options.name == "setup":
-        return 0 if setup(commands_of(tests)) else 1
-    if options.name in by_name:
-        return run_one(by_name[options.name], options)
-    return run_several(families(tests).get(options.name, tests), options.jobs)
-
-
-def tried_in_folder(name: str, wrong_in: Callable[[int, int, str], str], seed: int, k: int) -> str:
-    """What is wrong with try K of a seed, which has a folder of its own; if something is, the folder is kept here, as NAME-SEED-K."""
-    with tempfile.TemporaryDirectory(prefix=f"{name}-{seed}-{k}.") as folder:
-        wrong = wrong_in(seed, k, folder)
-        if wrong:
-            shutil.copytree(folder, f"{name}-{seed}-{k}", dirs_exist_ok=True)
-        return f"{name}-{seed}-{k}: {wrong}" if wrong else ""
-
-
-def count_tries(tally: Tally, options: Options, name: str, wrong_in: Callable[[int, int, str], str]) -> None:
-    """Counts so many tries of a seed, side by side."""
-    tries = functools.partial(tried_in_folder, name, wrong_in, options.seed)
-    tally.count(options.count, filter(None, side_by_side(tries, range(options.count), True)))
+@Test("format", "black over tools/ and the Python package", commands="black", options=(flag("write", "format it"),))
+def format(tally: Tally, options: Options) -> None:
+    folders = (f"{TOP}/tools/lib/elfmap_tools", f"{PACKAGE}/elfmap", f"{PACKAGE}/tests")
+    # The tables of rules are generated.
+    files = [it for folder in folders for it in glob.glob(f"{folder}/*.py") if not it.endswith("/_rules.py")]
+    ran = said("black", "--config", SETTINGS, *([] if options.write else ["--check"]), "--quiet", *files, *PROGRAMS)
+    tally.check(ran.returncode == 0, "the Python is not formatted: `tools/test format --write` does it")

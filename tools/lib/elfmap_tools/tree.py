@@ -3,6 +3,7 @@
 import argparse, contextlib, functools, os, re, shutil, subprocess, sys, threading, time
 from collections.abc import Callable, Iterable, Iterator, Mapping
 from concurrent.futures import ProcessPoolExecutor, ThreadPoolExecutor
+from pathlib import Path
 from typing import Any, TypeVar
 
 from . import TOP as TOP
@@ -22,20 +23,17 @@ R = TypeVar("R")
 
 
 def read_bytes(path: str) -> bytes:
-    with open(path, "rb") as file:
-        return file.read()
+    return Path(path).read_bytes()
 
 
 def read_text(path: str) -> str:
     """The text of a file; a relative path is one of the repository."""
-    with open(os.path.join(TOP, path), encoding="utf-8") as file:
-        return file.read()
+    return Path(TOP, path).read_text(encoding="utf-8")
 
 
 def write(path: str, content: bytes | str) -> str:
     """Writes a file, and returns its path."""
-    with open(path, "wb") as file:
-        file.write(content.encode() if isinstance(content, str) else content)
+    Path(path).write_bytes(content.encode() if isinstance(content, str) else content)
     return path
 
 
@@ -125,7 +123,6 @@ def progress(what: Callable[[], str]) -> Iterator[None]:
 
 
 # ---- the crates, by their lines in crates.txt
-
 
 LINES = [line.split("#")[0].partition(":") for line in read_text("crates.txt").splitlines()]
 # The libraries that each crate of the repository names.

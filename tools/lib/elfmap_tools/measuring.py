@@ -1,13 +1,20 @@
-"""`tools/test instructions`: counts the instructions of each command on generated files (bench/made.py), and compares the counts with the
+"""What commands and the gate take.
+
+`tools/test instructions`: counts the instructions of each command on generated files (bench/made.py), and compares the counts with the
 numbers in bench/instructions, which `--store` stores (docs/PERFORMANCE.md). A row is a command and its input. It fails if its count is more
-than PERCENT above its number, or has none; and so do a number without a row, and a command of `elfmap --help` without one.
+than PERCENT above its number, or has none; and so do a number without a row, and a command of `elfmap --help` without one. valgrind counts
+(its tool callgrind). It interprets the program, so the same run always has the same count. The program runs in its own folder, with
+relative names, the same environment, and the same routines of the C library on every processor. With another version of the C library or of
+valgrind the counts are slightly different.
 
-valgrind counts (its tool callgrind). It interprets the program, so the same run always has the same count. The program runs in its own
-folder, with relative names, the same environment, and the same routines of the C library on every processor. With another version of the C
-library or of valgrind the counts are slightly different."""
+`tools/dev minutes PID`: the processor minutes of what the process PID starts, by part (each program that it starts itself, and each test of
+`tools/test`) and by crate. It looks every two seconds at the processes below PID, until it is told to end (SIGTERM) or PID is gone, and
+then prints what it saw. A crate has the minutes of the checker's runs on it: its proof, its tests, the edits of its must-fail/, and its
+planted bugs. What a process did after the last look at it is lost, two seconds at most."""
 
-import fcntl, os, re, shutil, subprocess
+import collections, contextlib, fcntl, os, re, shutil, signal, subprocess, time
 from collections.abc import Callable
+from pathlib import Path
 from typing import Any
 
 import made
@@ -110,3 +117,90 @@ def instructions(tally: Tally, options: Options) -> None:
     used = {COMMANDS[it][0] for _, _, commands in ROWS for it in commands}
     tally.check(listed and not set(listed) - used, f"commands of --help without a row: {set(listed) - used or 'none is listed'}")
     tally.note(f"{sum(counts.values()):,} in {len(counts)} rows")
+
+
+# ---- the minutes of a run
+
+TICKS = 60 * os.sysconf("SC_CLK_TCK")
+COLUMNS = ("all", "proof", "tests", "edits", "mutations")
+SCRIPTED = ("python3", "python", "bash", "sh", "env")
+
+
+def text_of(pid: int, name: str) -> str:
+    """A file of /proc; nothing of a process that is gone."""
+    with contextlib.suppress(OSError):
+        return Path(f"/proc/{pid}/{name}").read_text(encoding="utf-8", errors="replace")
+    return ""
+
+
+def name_of(words: list[str]) -> str:
+    """The program that these words start, by its file's name: an interpreter stands for its script, `tools/test` for its one test."""
+    names = [os.path.basename(it) for it in words]
+    names = names[1:] if names and names[0] in SCRIPTED else names
+    return "".join(names[1:2] if names[:1] == ["test"] else names[:1])
+
+
+def work_of(words: list[str]) -> tuple[str, str] | None:
+    """What a run of the checker is for, and of which crate; None of any other process."""
+    if name_of(words) != "rattle" or "--crate-name" not in words:
+        return None
+    kind = "tests" if "--test" in words else "proof" if words[1] == "build" else "edits"
+    return kind, words[words.index("--crate-name") + 1]
+
+
+class Minutes:
+    def __init__(self, top: int) -> None:
+        self.top = top
+        # By process and when it began: which part it is, or which crate and kind of work the checker is run for, with the time seen last.
+        self.parts: dict[tuple[int, str], tuple[str, int]] = {}
+        self.works: dict[tuple[int, str], tuple[str, str, int]] = {}
+
+    def look(self) -> None:
+        # Of each process what is behind its name, which is in parentheses, and may hold blanks and parentheses.
+        stats = {int(it): text_of(int(it), "stat").rpartition(")")[2].split() for it in filter(str.isdigit, os.listdir("/proc"))}
+        found, children = {pid: it for pid, it in stats.items() if it}, collections.defaultdict[int, list[int]](list)
+        for pid, it in found.items():
+            children[int(it[1])].append(pid)
+
+        def total(pid: int) -> int:
+            """The processor time of a process, of those that it waited for, and of those below it."""
+            return sum(map(int, found[pid][11:15])) + sum(map(total, children[pid]))
+
+        def see(pid: int, part: str) -> None:
+            words, key = text_of(pid, "cmdline").split("\0")[:-1], (pid, found[pid][19])
+            # A run of all tests has a process for each of them.
+            if not part and (part := name_of(words)):
+                self.parts[key] = part, total(pid)
+            work = work_of(words) if part else None
+            if work and part in ("rt", "mutations"):
+                self.works[key] = work[1], part if part == "mutations" else work[0], total(pid)
+            # The checker's copies of itself belong to the run that made them.
+            for child in [] if work else children[pid]:
+                see(child, part)
+
+        for pid in children[self.top]:
+            if pid != os.getpid():
+                see(pid, "")
+
+    def print(self) -> None:
+        parts, crates = collections.Counter[str](), collections.defaultdict[str, collections.Counter[str]](collections.Counter)
+        for part, ticks in self.parts.values():
+            parts[part] += ticks
+        for crate, kind, ticks in self.works.values():
+            crates[crate].update({kind: ticks, "all": ticks})
+        shown = (f"{part} {ticks / TICKS:.1f}" for part, ticks in parts.most_common() if ticks >= TICKS / 20)
+        print(f"processor minutes: {', '.join(shown)}")
+        print(f"{'processor minutes by crate:':30}" + "".join(f"{it:>11}" for it in COLUMNS))
+        for crate, counts in sorted(crates.items(), key=lambda it: -it[1]["all"]):
+            cells = (f"{counts[it] / TICKS:.1f}" if counts[it] else "-" for it in COLUMNS)
+            print(f"{f'  {crate}':30}" + "".join(f"{it:>11}" for it in cells))
+
+
+def print_minutes(options: Options) -> None:
+    ended: list[bool] = []
+    signal.signal(signal.SIGTERM, lambda *_: ended.append(True))
+    minutes = Minutes(options.pid)
+    while not ended and os.path.isdir(f"/proc/{options.pid}"):
+        minutes.look()
+        time.sleep(2)
+    minutes.print()
