@@ -1,3 +1,5 @@
+-- After the parts so far one more is written (`flat_more`); if it fails, a beginning of all parts is (`parts_err`). All parts, joined, are the
+-- file (`joined_parts`).
 use Rattle.std.proofs.Common.{List, ℕ, ap, map, subst, sym, take, take_all, ◌∙◌}
 use Rattle.std.proofs.KnownBytes.{Appends-trans}
 use Rattle.std.proofs.lemmas.List.{get_or_default}

@@ -1,3 +1,4 @@
+-- A byte of a part is one of the header, of a table or of a content: each is as long as its part, so the byte is in it.
 use Rattle.std.proofs.Common.{List, ℕ, ap, arith, get_or, length, sym}
 use Rattle.elf_field.specs.Headers.{ehdr_laws, phdr_laws, shdr_laws}
 use Rattle.elf_field.proofs.RecordTableLaws.{length-table}

@@ -1,3 +1,4 @@
+-- One pass of the loop adds the part of one more section. A section that is there has no wrong type, because an object keeps the rules.
 use Rattle.std.proofs.Common.{◌∷◌, ◌++◌, ℕ, List, [], map, take_all, ap, ap₂, subst, sym, ◌∙◌}
 use Rattle.std.proofs.lemmas.List.{map_more}
 use Rattle.elf_object_type.specs.declared.parts.Section.{Section}
