@@ -1,9 +1,9 @@
 -- There is one image of a byte list, and its accessors return what the file has.
-use Rattle.std.proofs.Common.{◌≡◌, ◌<◌, Bor, ℕ, List, length, take, sym, ap, subst, ◌∙◌, arith, zero, suc, Option, None, Some, [], ◌∷◌, map, refl, ◌≤◌, ◌+◌, ◌-◌, ◌*◌, ◌/◌, ◌%◌, ◌++◌, drop, get_or, inl, inr, length-append, length-drop, Bool, true, false, min}
+use Rattle.std.proofs.Common.{◌≡◌, ◌<◌, ℕ, List, length, take, sym, ap, subst, ◌∙◌, arith, zero, suc, Option, None, Some, [], ◌∷◌, map, refl, ◌≤◌, ◌+◌, ◌-◌, ◌*◌, ◌/◌, ◌%◌, ◌++◌, drop, get_or, inl, inr, length-append, length-drop, Bool, true, false, min}
 use Rattle.std.specs.List.{AllByRecursion, range_with_len, flat_map, before_first}
 use Rattle.std.proofs.Math.Nat.{mul-div-le, mul-le-mul_left}
 use Rattle.std.proofs.lemmas.Bool.{cases_lt}
-use Rattle.std.proofs.lemmas.List.{get_or-drop, get_or-take, get_or_past, length-take, length-take-le, take_more, take_all, take_rest}
+use Rattle.std.proofs.lemmas.List.{get_or-drop, get_or-take, length-take, length-take-le, take_more, take_all, take_rest}
 use Rattle.std.proofs.lemmas.Grind.{flat_map-append}
 use Rattle.std.proofs.lemmas.List.Concat.{get_or-flat_map}
 use Rattle.std.specs.Prelude.{◌==◌, slice_index}
@@ -289,27 +289,6 @@ pub segment_at_within : (v : ImageValue) (segments : List Phdr) (j x : ℕ) (seg
 segment_at_within v segments j x segment sound same first is =
     let first_of : IsFirstWithAddress v.segments x j = subst (λ (gs : List Phdr). IsFirstWithAddress gs x j) same first in
     subst (λ (g : Phdr). x - g.p_vaddr < g.p_filesz → g.p_offset + (x - g.p_vaddr) < v.len) (sym is) (segment_within v j x sound first_of.0 first_of.1)
-
--- A content of a list of slices is that slice's bytes, and none past the last one (`content_at`).
-
-abbrev no_slice : Bor (List ℕ)
-no_slice = record { ref_ptr = (0, 0); now = [] }
-
-pub content_at : (contents : List (Bor (List ℕ))) (i : ℕ) → get_or (map (λ c. c.now) contents) i [] ≡ (get_or contents i no_slice).now
-content_at [] i = refl
-content_at (c ∷ contents) zero = refl
-content_at (c ∷ contents) (suc i) = content_at contents i
-
--- one with bytes is there
-pub content_there : (contents : List (Bor (List ℕ))) (i : ℕ) → 0 < length (get_or (map (λ c. c.now) contents) i []) → i < length contents
-content_there contents i some =
-    elim (cases_lt i (length contents)) [
-      | inl lt ↦ lt
-      | inr past ↦ (
-          let empty = ap (λ (c : Bor (List ℕ)). length c.now) (get_or_past contents i no_slice past) in
-          let same = ap length (content_at contents i) in
-          absurd (omega arith))
-    ]
 
 -- The bytes up to the first zero of a list, or the whole list without a zero, are `before_first` of it (`before_zero`, `no_zero`). Both
 -- follow from `position_or_len_is`. `rest_from` cuts a list at an offset, or at its end if the offset is past it.

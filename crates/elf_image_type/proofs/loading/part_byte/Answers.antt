@@ -1,9 +1,12 @@
+<<<<<<< HEAD
 -- A byte of a part is one of the header, of a table or of a content: each is as long as its part, so the byte is in it.
 use Rattle.std.proofs.Common.{List, ℕ, ap, arith, get_or, length, sym}
+=======
+use Rattle.std.proofs.Common.{ap, arith, length}
+>>>>>>> l2
 use Rattle.elf_field.specs.Headers.{ehdr_laws, phdr_laws, shdr_laws}
 use Rattle.elf_field.proofs.RecordTableLaws.{length-table}
 use Rattle.elf_image_rules.specs.Tables.{order_of}
-use Rattle.elf_image_type.proofs.ImageLemmas.{content_at, content_there}
 use Rattle.elf_image_type.proofs.loading.part_byte.Goals as goal
 
 pub record_byte-requires-clause-within : goal.record_byte-requires-clause-within
@@ -28,19 +31,3 @@ table_byte-requires-in-ProgramTable-clause-within c =
     let size = length-table phdr_laws (order_of outline.header.e_ident) outline.segments in
     let same = ap length c.segments.ensures in
     omega arith
-
-pub bounds-contents-i : goal.bounds-contents-i
-bounds-contents-i c =
-    let whole = rw c.in-Content.is at c.requires.whole in
-    let within = c.requires.within in
-    content_there c.args.contents.now c.in-Content.i (omega arith)
-
-pub bounds-contents-k : goal.bounds-contents-k
-bounds-contents-k c =
-    let whole = rw c.in-Content.is at c.requires.whole in
-    let within = c.requires.within in
-    let same = ap length (content_at c.args.contents.now c.in-Content.i) in
-    omega arith
-
-pub returns-in-Content : goal.returns-in-Content
-returns-in-Content c = rw c.in-Content.is (ap (λ (content : List ℕ). get_or content c.args.k 0) (sym (content_at c.args.contents.now c.in-Content.i)))

@@ -1,8 +1,6 @@
--- One pass of the loop writes one more name where it is its own owner, and notes its end, one below the length then (`written_more`). After
--- the last pass all names are written (`written_all`).
-use Rattle.std.proofs.Common.{◌≡◌, ◌<◌, Bor, List, [], ap, arith, get_or, length, nat_eq, rules, subst, sym, ℕ, ◌-◌}
+use Rattle.std.proofs.Common.{◌≡◌, ◌<◌, Bor, List, [], ap, arith, get_or, length, nat_eq, rules, sym, ℕ, ◌-◌}
 use Rattle.std.proofs.lemmas.List.{get_or-map, length-map}
-use Rattle.elf_object_strings.specs.StringTable.{HasEnds, texts, with_name}
+use Rattle.elf_object_strings.specs.StringTable.{texts, with_name}
 use Rattle.elf_object_strings.proofs.Written.{written_all, written_more}
 use Rattle.elf_object_strings.proofs.table.write_names.Goals as goal
 
@@ -29,11 +27,3 @@ returns-clause-bytes c =
     let test = c.loop-i-test.false in
     let end = c.loop-i.auto.i-end in
     (written_all (texts c.args.names.now) c.loop-i.i _ _ (omega arith) c.loop-i.invariant).0
-
-pub returns-clause-ends : goal.returns-clause-ends
-returns-clause-ends c =
-    let many = length-map c.args.names.now now_of in
-    let test = c.loop-i-test.false in
-    let end = c.loop-i.auto.i-end in
-    subst (λ (n : ℕ). HasEnds (texts c.args.names.now) n c.loop-i.ends.items) many
-    (written_all (texts c.args.names.now) c.loop-i.i _ _ (omega arith) c.loop-i.invariant).1

@@ -1,4 +1,4 @@
-use Rattle.std.proofs.Common.{◌∙◌, ◌++◌, List, ℕ, ap, map, refl, sym}
+use Rattle.std.proofs.Common.{◌∙◌, ◌++◌, ap, map, refl, sym}
 use Rattle.elf_object_writer.specs.PlacedObject.{last_names}
 use Rattle.elf_object_writer.proofs.PlainSections.{names_with_index_table, names_without_index_table, now_of}
 use Rattle.elf_object_writer.proofs.name_tables.push_last_names.Goals.{then-has_index_table+in_ok-push-2, else-has_index_table}
