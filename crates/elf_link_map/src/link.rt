@@ -3,6 +3,8 @@ ghost use Rattle.std.specs.Prelude.{ℕ, ◌+◌, ◌^◌, ◌<◌, MatchOption,
 ghost use Rattle.elf_link_files.specs.Files.{IsSymbolIn};
 ghost use Rattle.elf_link_names.specs.Resolution.{name_in};
 ghost use Rattle.elf_link_outputs.specs.Addresses.{IsTargetBelow};
+ghost use Rattle.elf_link_outputs.specs.Outputs.{placed as placed_sites, plan_parts};
+ghost use Rattle.elf_link_outputs.specs.Placed.{AreAddresses, ArePlacedCommons, ArePlacedOutputs, common_value, output_value};
 ghost use Rattle.elf_link_map.specs.Entry.{HasSite, IsBoundTarget, IsEntrySymbolTarget, IsNameTarget, IsSectionTarget, IsSymbolTarget};
 ghost use Rattle.elf_link_map.specs.LinkMap.{FirstOfLink, IsLinkFault, IsLinkMap, IsAddressedFor, IsAddressingFault};
 ghost use Rattle.elf_link_map.specs.Naming.{AreBindingNumbers};
@@ -15,9 +17,9 @@ use elf_link_files::{LinkFault, Options, Site, SymbolId, is_at};
 use elf_link_names::judge::judge;
 use elf_link_names::{Choice, Resolution};
 use elf_link_outputs::addresses::Target;
-use elf_link_outputs::{Addressed, Outputs, Plan};
+use elf_link_outputs::{Addressed, Common, Output, Outputs, Plan};
 use elf_object_type::{Object, Place};
-use std::alloc::Global;
+use std::alloc::{AllocError, Global};
 use std::hash::BuildHasher;
 
 // What the entry symbol's value is made of (gABI chapter 4, ELF Header: `e_entry`; Symbol Table: `st_value`).
@@ -128,6 +130,36 @@ fn placed<'l, 'a, S: BuildHasher + Drop>(
     Addressed::new(alloc, plan, options.base, target)
 }
 
+/// What a link map keeps of where everything is.
+#[derive(Drop)]
+struct PlacedParts<'a> {
+    addresses: Vec<Vec<Option<u64>>>,
+    outputs: Vec<Output<'a>>,
+    commons: Vec<Common<'a>>,
+    entry: u64,
+}
+
+/// What a link map keeps of where everything is. Fails only when out of memory.
+fn placed_parts<'a>(
+    alloc: Global,
+    placed: &Addressed<'_, 'a>,
+) -> Result<PlacedParts<'a>, AllocError>
+    ensures addresses { IfOk result (λ parts. AreAddresses placed.now.plan.objects (placed_sites placed.now.plan.plan) placed.now.places (map_list (λ row. row.items) parts.addresses.items)) }
+    ensures outputs { IfOk result (λ parts. ArePlacedOutputs placed.now.plan.objects placed.now.plan.plan.outputs (plan_parts placed.now.plan) placed.now.places (length placed.now.plan.plan.outputs) (map_list output_value parts.outputs.items)) }
+    ensures commons { IfOk result (λ parts. ArePlacedCommons placed.now.plan.objects placed.now.plan.plan.commons placed.now.places (length (placed_sites placed.now.plan.plan)) (length placed.now.plan.plan.commons) (map_list common_value parts.commons.items)) }
+    ensures entry { IfOk result (λ parts. parts.entry ≡ placed.now.entry) }
+{
+    let addresses = placed.section_addresses(alloc)?;
+    let outputs = placed.outputs(alloc)?;
+    let commons = placed.commons(alloc)?;
+    Ok(PlacedParts {
+        addresses,
+        outputs,
+        commons,
+        entry: placed.entry(),
+    })
+}
+
 /// The link map of these objects, as [`map`] returns it, with the number of the name of each symbol, which its making takes anyway.
 ///
 /// Returns what `map` does where one of the link's rules is broken, or an allocation fails.
@@ -144,21 +176,18 @@ pub fn map_numbered<'a, S: BuildHasher + Drop>(
 {
     let resolution = judge(alloc, objects, options)?;
     let placed = placed(alloc, &resolution, options, hasher)?;
-    let addresses = placed.section_addresses(alloc)?;
-    let outputs = placed.outputs(alloc)?;
-    let commons = placed.commons(alloc)?;
-    let entry = placed.entry();
+    let parts = placed_parts(alloc, &placed)?;
     drop(placed);
-    let bound = all_bindings(alloc, resolution, &commons)?;
+    let bound = all_bindings(alloc, resolution, &parts.commons)?;
     let map = LinkMap {
-        addresses,
+        addresses: parts.addresses,
         discarded: bound.marks,
         names: bound.names,
-        outputs,
-        commons,
+        outputs: parts.outputs,
+        commons: parts.commons,
         base: options.base,
         page: options.page,
-        entry,
+        entry: parts.entry,
     };
     Ok(NumberedMap {
         map,

@@ -1,9 +1,4 @@
-<<<<<<< HEAD
--- A byte of a part is one of the header, of a table or of a content: each is as long as its part, so the byte is in it.
-use Rattle.std.proofs.Common.{List, ℕ, ap, arith, get_or, length, sym}
-=======
 use Rattle.std.proofs.Common.{ap, arith, length}
->>>>>>> l2
 use Rattle.elf_field.specs.Headers.{ehdr_laws, phdr_laws, shdr_laws}
 use Rattle.elf_field.proofs.RecordTableLaws.{length-table}
 use Rattle.elf_image_rules.specs.Tables.{order_of}

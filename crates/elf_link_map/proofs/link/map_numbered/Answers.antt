@@ -25,7 +25,7 @@ all_bindings-requires g c =
     let fs = c.in_ok-resolution.resolution.objects in
     let (t, is) = c.in_ok-placed.ensures.ok in
     rw (← c.in_ok-placed.ensures.commons) (subst (λ (xs : List Common). AreCommonNames fs a.plan.plan.commons (map common_value xs)) (sym c.deref.ensures.value)
-    (common_names fs a.plan.plan.commons a.places _ (map common_value c.in_ok-commons.commons.items) (rw is.objects at c.in_ok-commons.ensures)))
+    (common_names fs a.plan.plan.commons a.places _ (map common_value c.in_ok-parts.parts.commons.items) (rw is.objects at c.in_ok-parts.ensures.commons)))
 
 pub returns-clause-sound : goal.returns-clause-sound
 returns-clause-sound g c =
@@ -40,16 +40,16 @@ returns-clause-map g c =
       is.plan,
       record {
         fits = is.fits;
-        addresses = rw is.objects at c.in_ok-addresses.ensures;
+        addresses = rw is.objects at c.in_ok-parts.ensures.addresses;
         discarded = rw c.in_ok-resolution.ensures.objects at c.in_ok-bound.ensures.marks;
         bindings = subst (λ (xs : List Common). AreBindings fs (map common_value xs) c.in_ok-bound.bound.names) c.deref.ensures.value
             (rw c.in_ok-resolution.ensures.objects at c.in_ok-bound.ensures.bindings);
         names = rw c.in_ok-resolution.ensures.objects at c.in_ok-bound.ensures.names;
-        outputs = rw (is.objects, is.page) at c.in_ok-outputs.ensures;
-        commons = rw is.objects at c.in_ok-commons.ensures;
+        outputs = rw (is.objects, is.page) at c.in_ok-parts.ensures.outputs;
+        commons = rw is.objects at c.in_ok-parts.ensures.commons;
         base = refl;
         page = refl;
-        entry = rw c.entry-entry.ensures is.entry;
+        entry = rw c.in_ok-parts.ensures.entry is.entry;
       },
     )
 
