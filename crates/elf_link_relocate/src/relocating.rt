@@ -52,6 +52,20 @@ impl Values<'_, '_, '_> {
             None => Ok(()),
         }
     }
+
+    /// Returns the first of rules 13 to 16 that a field breaks.
+    fn refuse_fields(&self, alloc: Global, found: &Found) -> Result<(), LinkFault>
+        requires found { AreFoundInOrder self.now.objects self.now.map self.now.rules found.now }
+        requires ruled { NoneUnruled self.now.objects self.now.rules }
+        ensures ok { OnOk result (FirstAmong (applied_entry_rules self.now.objects self.now.map self.now.rules) None) }
+        ensures err { IfErr result (IsRelocationFault self.now.objects self.now.map self.now.rules) }
+    {
+        refuse(FieldTest::Unplaced, found.seen.unplaced)?;
+        refuse(FieldTest::FieldOutOfRange, found.seen.out_of_range)?;
+        self.refuse_overlap(alloc, found)?;
+        refuse(FieldTest::ValueOutOfRange, found.seen.refused)?;
+        Ok(())
+    }
 }
 
 /// What one pass over all entries finds, or a second one, with the list of the fields, if these do not ascend. Returns rule 12, at the
@@ -76,10 +90,7 @@ fn relocated_copies(alloc: Global, values: Values<'_, '_, '_>) -> Result<Copies,
     ensures err { IfErr result (IsRelocationFault values.entry.objects values.entry.map values.entry.rules) }
 {
     let found = found_in_order(alloc, &values)?;
-    refuse(FieldTest::Unplaced, found.seen.unplaced)?;
-    refuse(FieldTest::FieldOutOfRange, found.seen.out_of_range)?;
-    values.refuse_overlap(alloc, &found)?;
-    refuse(FieldTest::ValueOutOfRange, found.seen.refused)?;
+    values.refuse_fields(alloc, &found)?;
     Ok(found.copies)
 }
 

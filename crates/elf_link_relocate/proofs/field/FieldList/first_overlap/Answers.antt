@@ -1,4 +1,5 @@
-use Rattle.std.proofs.Common.{◌≡◌, ◌∙◌, ap, false, true, arith}
+-- Field by field: the marks are those of the fields so far, none of which shares a byte with one before it.
+use Rattle.std.proofs.Common.{◌≡◌, ◌∙◌, ap, false, refl, true, arith}
 use Rattle.elf_link_relocate.specs.Passes.{LinkingValue, SharesBefore, marks_view}
 use Rattle.elf_link_relocate.proofs.Collected.{none_more}
 use Rattle.elf_link_relocate.proofs.Marked.{marks_none}
@@ -18,6 +19,18 @@ loop-k-preserved c = record {
   none = none_more (SharesBefore c.args.self.now.objects c.args.self.now.fields) c.loop-k.k c.loop-k.invariant.none
       (λ here. (let never : false ≡ true = c.if-mark_field.ensures.taken.1 here in absurd (cc)));
 }
+
+pub mark_field-requires-clause-below : goal.mark_field-requires-clause-below
+mark_field-requires-clause-below c =
+    let below = c.loop-k-test.true in
+    let count = c.count-k-end.ensures in
+    omega arith
+
+pub returns-then-mark_field : goal.returns-then-mark_field
+returns-then-mark_field c =
+    let below = c.loop-k-test.true in
+    let count = c.count-k-end.ensures in
+    (omega arith, c.if-mark_field.ensures.taken.0 refl, c.loop-k.invariant.none)
 
 pub returns : goal.returns
 returns c k lt =
