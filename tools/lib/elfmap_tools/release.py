@@ -380,10 +380,10 @@ def compare_usages(tally: Tally, folder: str) -> None:
     page = read_text(f"{folder}/share/man/man1/elfmap.1").replace(r"\-", "-")
     synopsis = page.partition("\n.SH DESCRIPTION\n")[0].splitlines()
     for usage, command in usages:
-        said = help(command)
-        (own,) = re.findall(r"Usage: (.*)", said)
+        listed = help(command)
+        (own,) = re.findall(r"Usage: (.*)", listed)
         # Its options in place of [OPTIONS].
-        given = [it for it in re.findall(r"^ +(?:-\w, )?(--\w+(?: <\w+>)?)", said, re.M) if it != "--help" and it not in own]
+        given = [it for it in re.findall(r"^ +(?:-\w, )?(--\w+(?: <\w+>)?)", listed, re.M) if it != "--help" and it not in own]
         own = re.sub(r"[<>]", "", own.replace("[OPTIONS]", " ".join(f"[{it}]" for it in given)))
         tally.check(words_of(own) == words_of(usage), f"the program's usage is '{own}', and docs/MANUAL.md has '{usage}'")
         tally.check(usage in synopsis, f"the manual page has not the usage '{usage}'")
