@@ -43,14 +43,17 @@ class Case:
     def __str__(self) -> str:
         return f"{self.source}: elfmap {' '.join(self.words)} with {' '.join(self.needs)}"
 
+    def put_needs(self, folder: str) -> None:
+        for place, _, name in (it.partition("=") for it in self.needs):
+            if name:
+                write(f"{folder}/{place}", self.files[name])
+            else:
+                os.mkdir(f"{folder}/{place}")
+
     def found(self, *program: str, **more: Any) -> Answer:
         """What a program answers, in a folder with the files that the case needs."""
         with tempfile.TemporaryDirectory(prefix="case-") as room:
-            for place, _, name in (it.partition("=") for it in self.needs):
-                if name:
-                    write(f"{room}/{place}", self.files[name])
-                else:
-                    os.mkdir(f"{room}/{place}")
+            self.put_needs(room)
             return answer_of(run(*program, *self.words, folder=room, timeout=60, **more))
 
 
