@@ -82,8 +82,8 @@ fn put_entries<E: Entries>(order: Order, entries: &E, from: usize, several: usiz
 
 /// Records at hand are the entries of their table.
 #[derive(Drop)]
-pub(crate) struct RecordEntries<'r, T: Record + Copy> {
-    pub(crate) records: &'r [T],
+struct RecordEntries<'r, T: Record + Copy> {
+    records: &'r [T],
 }
 
 impl<'r, T: Record + Copy> Entries for RecordEntries<'r, T> {

@@ -4,9 +4,9 @@
 //! be read at any offset, as those of a file on a disk, are a [`Source`]. A call reads at one offset, and the source remembers its
 //! [`Failures`]. [`Bytes`] is one over memory, [`Seeking`] one over a file that can seek. [`read_exactly`] fills a buffer from it.
 //!
-//! **Out**: [`write_whole`] writes bytes, and [`output`] zeros too. Each counts the bytes that are written. A text that is written chunk by chunk, without memory, is *sent*: a call takes
-//! how many bytes are written, and returns how many are written after it. [`send`] sends bytes, [`send_zeros`] zeros without a list of
-//! them, and [`send_all`] the texts of a [`Chunks`], which are made as they are sent.
+//! **Out**: [`write_whole`] writes bytes, and [`output`] zeros too. Each counts the bytes that are written. A text that is written chunk by
+//! chunk, without memory, is *sent*: a call takes how many bytes are written, and returns how many are written after it. [`send`] sends
+//! bytes, [`send_zeros`] zeros without a list of them, and [`send_all`] the texts of a [`Chunks`], which are made as they are sent.
 //!
 //! [`Fault`], [`ReadFault`] and [`WriteFault`] say what can stop them.
 #![tactic(auto)]

@@ -139,7 +139,7 @@ struct PlacedParts<'a> {
     entry: u64,
 }
 
-/// What a link map keeps of where everything is. Fails only when out of memory.
+/// Collects those parts, once everything has its address. Fails only when out of memory.
 fn placed_parts<'a>(
     alloc: Global,
     placed: &Addressed<'_, 'a>,
