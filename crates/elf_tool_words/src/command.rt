@@ -1,11 +1,11 @@
 //! The program's command line, defined once. A further command is one more item of `elfmap`, here
 //! and in `specs/Command.antt`, and a function for its arguments where it takes more than one file.
-ghost use Rattle.std.specs.Prelude.{◌≡◌, false, IfOk};
+ghost use Rattle.std.specs.Prelude.{◌≡◌, false, IfOk, IsOkAnd};
 ghost use Rattle.clap.specs.Simple.{with_subcommand};
 ghost use Rattle.clap.specs.Words.{app_of, shape_of};
 ghost use Rattle.clap.specs.declared.builder.command.Command.TheViews.{out-Command as fields_of};
 ghost use Rattle.clap.specs.Walk.{rule_of};
-ghost use Rattle.elf_tool_words.specs.Command.{base as base_rule, check as check_shape, elfmap as elfmap_app, entry_word as entry_rule, file_command as file_shape, files as files_rule, link_command as link_shape, map_command as map_shape, needed_rules_file as needed_rules_rule, page as page_rule, rules_file as rules_rule, seek as seek_rule};
+ghost use Rattle.elf_tool_words.specs.Command.{base as base_rule, check as check_shape, elfmap as elfmap_app, entry_word as entry_rule, file_command as file_shape, files as files_rule, link_command as link_shape, map_command as map_shape, needed_rules_file as needed_rules_rule, page as page_rule, rewrite as rewrite_shape, rules_file as rules_rule, seek as seek_rule, show as show_shape};
 
 use clap::{Arg, ArgAction, Command};
 use std::alloc::{AllocError, Global};
@@ -18,30 +18,22 @@ pub(crate) fn elfmap<'a>(alloc: Global) -> Result<Command<'a>, AllocError>
         .about("Checks, shows, rewrites and links ELF-64 object files")
         .subcommand_required(true)
         .disable_help_subcommand(true);
-    let command = with_check_command(alloc, command)?;
-    let command = with_file_command(
-        alloc,
-        command,
-        "show",
-        "Shows the header, the parts, the sections, the segments and the tables of FILE",
-        "The file to show",
-    )?;
-    let command = with_file_command(
-        alloc,
-        command,
-        "rewrite",
-        "Writes the object of FILE in canonical layout on standard output",
-        "The relocatable file to rewrite",
-    )?;
-    let command = with_map_command(alloc, command)?;
-    command.subcommand(link_command(alloc)?)
+    let command = with(command, check_command(alloc))?;
+    let command = with(command, show_command(alloc))?;
+    let command = with(command, rewrite_command(alloc))?;
+    let command = with(command, map_command(alloc))?;
+    with(command, link_command(alloc))
 }
 
-// The command with the subcommand `check`.
-fn with_check_command<'a>(alloc: Global, command: Command<'a>) -> Result<Command<'a>, AllocError>
-    ensures { IfOk result (λ more. app_of more ≡ with_subcommand (app_of command.entry) check_shape) }
+// The command with one more subcommand, if that could be made.
+fn with<'a>(
+    command: Command<'a>,
+    made: Result<Command<'a>, AllocError>,
+) -> Result<Command<'a>, AllocError>
+    requires { IfOk made (λ sub. (fields_of sub).has_globals ≡ false) }
+    ensures { IfOk result (λ more. IsOkAnd made.entry (λ sub. app_of more ≡ with_subcommand (app_of command.entry) (shape_of sub))) }
 {
-    command.subcommand(check_command(alloc)?)
+    command.subcommand(made?)
 }
 
 fn check_command<'a>(alloc: Global) -> Result<Command<'a>, AllocError>
@@ -67,19 +59,7 @@ fn seek<'a>(alloc: Global) -> Arg<'a>
         .action(ArgAction::SetTrue)
 }
 
-// The command with one more subcommand, whose one argument is a file.
-fn with_file_command<'a>(
-    alloc: Global,
-    command: Command<'a>,
-    name: &'a str,
-    about: &'a str,
-    help: &'a str,
-) -> Result<Command<'a>, AllocError>
-    ensures { IfOk result (λ more. app_of more ≡ with_subcommand (app_of command.entry) (file_shape name.entry.now)) }
-{
-    command.subcommand(file_command(alloc, name, about, help)?)
-}
-
+// A subcommand whose one argument is a file.
 fn file_command<'a>(
     alloc: Global,
     name: &'a str,
@@ -93,11 +73,30 @@ fn file_command<'a>(
     Command::new(alloc, name).about(about).arg(file)
 }
 
-// The command with the subcommand `map`.
-fn with_map_command<'a>(alloc: Global, command: Command<'a>) -> Result<Command<'a>, AllocError>
-    ensures { IfOk result (λ more. app_of more ≡ with_subcommand (app_of command.entry) map_shape) }
+#[tactic(auto, unfolding(crate::specs::Command::show))]
+fn show_command<'a>(alloc: Global) -> Result<Command<'a>, AllocError>
+    ensures shape { IfOk result (λ command. shape_of command ≡ show_shape) }
+    ensures local { IfOk result (λ command. (fields_of command).has_globals ≡ false) }
 {
-    command.subcommand(map_command(alloc)?)
+    file_command(
+        alloc,
+        "show",
+        "Shows the header, the parts, the sections, the segments and the tables of FILE",
+        "The file to show",
+    )
+}
+
+#[tactic(auto, unfolding(crate::specs::Command::rewrite))]
+fn rewrite_command<'a>(alloc: Global) -> Result<Command<'a>, AllocError>
+    ensures shape { IfOk result (λ command. shape_of command ≡ rewrite_shape) }
+    ensures local { IfOk result (λ command. (fields_of command).has_globals ≡ false) }
+{
+    file_command(
+        alloc,
+        "rewrite",
+        "Writes the object of FILE in canonical layout on standard output",
+        "The relocatable file to rewrite",
+    )
 }
 
 fn map_command<'a>(alloc: Global) -> Result<Command<'a>, AllocError>

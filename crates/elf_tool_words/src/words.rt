@@ -1,10 +1,11 @@
 //! What the words of a command line ask for.
-ghost use Rattle.std.specs.Prelude.{◌≡◌, [], IfErr, IfOk, OnOk, codes, map, option_copied};
+ghost use Rattle.std.specs.Prelude.{◌≡◌, ◌<◌, ◌≤◌, [], IfErr, IfOk, OnOk, codes, length, map, option_copied};
 ghost use Rattle.std.specs.List.{list_all};
 ghost use Rattle.clap.specs.Walk.{first_of};
 ghost use Rattle.clap.specs.Words.{fault_of, found_of, rows_of, subcommand_of, subcommand_rows_of};
 ghost use Rattle.elf_tool_words.specs.Words.{decimal_number, hexadecimal_number, is_decimal_digit, is_hexadecimal_digit as is_hexadecimal, number_of as number_in, AreLinkWords, Asks, CommandRefuses, IsAskedBy, IsRefusedBy, RefusesLinkWords, is_set as is_set_in, text_of, texts_of};
 ghost use Rattle.elf_tool_words.specs.Command.{IsNameIn, elfmap as elfmap_app};
+ghost use Rattle.elf_tool_words.specs.declared.words.WordsFault.TheVariants.{TooManyFiles};
 
 use crate::command::elfmap;
 use clap::error::ErrorKind;
@@ -234,14 +235,23 @@ struct LinkWords<'a> {
     files: Vec<&'a str>,
 }
 
+// Refuses more files than a command takes.
+fn judge_count(files: &[&str]) -> Result<(), WordsFault>
+    ensures ok { OnOk result (length files.now ≤ 64) }
+    ensures err { IfErr result (λ fault. (fault ≡ TooManyFiles) × (64 < length files.now)) }
+{
+    if files.len() > MOST_FILES {
+        return Err(WordsFault::TooManyFiles);
+    }
+    Ok(())
+}
+
 fn link_words<'a>(alloc: Global, matches: &ArgMatches<'a>) -> Result<LinkWords<'a>, WordsFault>
     ensures ok { IfOk result (λ words. AreLinkWords (rows_of (found_of matches.now)) words.base words.page (map (λ f. f.now) words.files.items)) }
     ensures err { IfErr result (RefusesLinkWords (rows_of (found_of matches.now))) }
 {
     let files = texts_at(alloc, matches, "FILE")?;
-    if files.len() > MOST_FILES {
-        return Err(WordsFault::TooManyFiles);
-    }
+    judge_count(&files)?;
     let Some(base) = number_of(text_at(matches, "B")) else {
         return Err(WordsFault::BadNumber);
     };

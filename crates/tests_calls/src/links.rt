@@ -36,14 +36,19 @@ fn by_rules<W: Write>(alloc: Global, files: &[Vec<u8>], rules: &[RelocRule], out
 fn objects_of<'a>(alloc: Global, files: &'a [Vec<u8>]) -> Result<Vec<Object<'a>>, Fault> {
     let mut objects = Vec::new(alloc);
     for file in files {
-        let image = parse(alloc, file.as_slice())?;
-        objects.push(object_of(alloc, &image)?)?;
+        objects.push(object_in(alloc, file.as_slice())?)?;
     }
     Ok(objects)
 }
 
+/// The object of a file.
+pub fn object_in(alloc: Global, bytes: &[u8]) -> Result<Object<'_>, Fault> {
+    let image = parse(alloc, bytes)?;
+    object_of(alloc, &image)
+}
+
 /// The link map of these objects, each output at a multiple of a page.
-fn mapped<'a>(alloc: Global, objects: &[Object<'a>]) -> Result<LinkMap<'a>, LinkFault>
+pub fn mapped<'a>(alloc: Global, objects: &[Object<'a>]) -> Result<LinkMap<'a>, LinkFault>
     ensures { IfOk result (λ m. IsMapOfSome objects.now m) }
 {
     let options = Options {

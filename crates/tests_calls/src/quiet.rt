@@ -2,23 +2,21 @@
 //! where none of them is made.
 ghost use Rattle.std.specs.Prelude.{◌<◌, length};
 
+use crate::links::{mapped, object_in};
 use elf_extent::{Counted, Extent, next_place, sweep};
 use elf_field::{Order, Record, Shdr};
 use elf_image_outline::{Outline, copy_image, scan};
 use elf_image_rules::verdict;
-use elf_image_stream::{Bytes, Fault, Seeking, Source};
+use elf_image_stream::{Bytes, Seeking, Source};
 use elf_image_type::{Image, parse, write};
-use elf_link_field::RelocRule;
-use elf_link_map::{LinkMap, Options, map};
+use elf_link_map::LinkMap;
 use elf_link_relocate::{Linked, relocate};
-use elf_object_reader::object_of;
 use elf_object_type::Object;
 use elf_object_writer::{Layout, lay_out};
 use elf_table_hash::{Hash, elf_hash};
 use elf_table_lists::{Dynamic, Group, Notes, Relocs};
 use elf_table_symbols::{Strings, Symbols};
 use std::alloc::Global;
-use std::hash::{BuildHasherDefault, DefaultHasher};
 use std::io::{Cursor, sink};
 
 /// The calls on these files, which link by no rule where they have no relocations.
@@ -67,12 +65,6 @@ fn on_scanned(outline: Outline, bytes: &[u8], times: u32) {
         let _ = outline.set_flags(1, 2);
         outline.zero_gaps();
     }
-}
-
-/// The object of a file.
-fn object_in(alloc: Global, bytes: &[u8]) -> Result<Object<'_>, Fault> {
-    let image = parse(alloc, bytes)?;
-    object_of(alloc, &image)
 }
 
 /// The calls on its layout.
@@ -218,35 +210,28 @@ fn on_layout(layout: &Layout) {
 
 /// The link of objects, and what it reports.
 fn on_objects(alloc: Global, objects: &[Object<'_>], times: u32) {
-    let options = Options {
-        base: 0x40_0000,
-        page: 0x1000,
-        entry: None,
-    };
-    let rules: [RelocRule; 0] = [];
-    let hasher = BuildHasherDefault::<DefaultHasher>::new();
-    let Ok(link) = map(alloc, objects, &options, hasher) else {
+    let Ok(link) = mapped(alloc, objects) else {
         return;
     };
+    on_link(&link, times);
+    if let Ok(linked) = relocate(alloc, &link, objects, &[]) {
+        on_linked(&linked, times);
+    }
+}
+
+fn on_link(link: &LinkMap<'_>, times: u32) {
     for _ in 0..times {
-        on_link(&link);
-    }
-    if let Ok(linked) = relocate(alloc, &link, objects, &rules) {
-        for _ in 0..times {
-            on_linked(&linked);
-        }
+        let _ = (link.address(0, 0), link.discarded(0, 0));
+        let _ = (link.binding(b"main"), link.names().len());
+        let _ = (link.outputs().len(), link.commons().len());
+        let _ = (link.base(), link.page(), link.entry());
     }
 }
 
-fn on_link(link: &LinkMap<'_>) {
-    let _ = (link.address(0, 0), link.discarded(0, 0));
-    let _ = (link.binding(b"main"), link.names().len());
-    let _ = (link.outputs().len(), link.commons().len());
-    let _ = (link.base(), link.page(), link.entry());
-}
-
-fn on_linked(linked: &Linked<'_, '_>) {
-    let _ = linked.bytes(0, 0).is_some();
-    let _ = linked.objects().len();
-    let _ = (linked.rules().len(), linked.identity());
+fn on_linked(linked: &Linked<'_, '_>, times: u32) {
+    for _ in 0..times {
+        let _ = linked.bytes(0, 0).is_some();
+        let _ = linked.objects().len();
+        let _ = (linked.rules().len(), linked.identity());
+    }
 }

@@ -1,6 +1,7 @@
 //! Files copied whole, as read and edited.
 ghost use Rattle.std.specs.Prelude.{◌≤◌, length};
 
+use crate::asserts::assert_same;
 use crate::image_faults::{Written, written};
 use elf_field::{Order, Rela};
 use elf_image_outline::{CopyFault, NoSection, Outline, copy_image, scan, write_records};
@@ -114,7 +115,7 @@ fn zeroed_copy(alloc: Global, file: &[u8], expected: &[u8]) -> Result<Copied, Fa
 #[test]
 fn a_filled_gap_is_zeroed(rt: HostRuntime) {
     let copied = zeroed_copy(rt.alloc(), &filled_gap(), &empty_object());
-    assert_eq!(rt; copied, Ok((Ok(()), true)));
+    assert_same(&rt, copied, Ok((Ok(()), true)));
 }
 
 /// Sets the entry of a file and the flags of its section 1, and copies it: what the second edit answers, and the copy.
@@ -143,7 +144,7 @@ fn edited_section() -> [u8; 456] {
 fn edits_are_copied(rt: HostRuntime) {
     let file = one_section(Order::Little);
     let copied = edited_copy(rt.alloc(), &file, &edited_section());
-    assert_eq!(rt; copied, Ok((Ok(()), (Ok(()), true))));
+    assert_same(&rt, copied, Ok((Ok(()), (Ok(()), true))));
 }
 
 /// What a copy answers of a file that is scanned and not edited.
@@ -173,7 +174,7 @@ fn copied_byte_by_byte(alloc: Global, file: &[u8]) -> (Answer, bool, [u64; 3]) {
 #[test]
 fn a_file_is_copied_byte_by_byte(rt: HostRuntime) {
     let copied = copied_byte_by_byte(rt.alloc(), &two_of_each(Order::Big));
-    assert_eq!(rt; copied, (Ok(Ok(())), true, [4 + 4 + 8, 384, 0]));
+    assert_same(&rt, copied, (Ok(Ok(())), true, [4 + 4 + 8, 384, 0]));
 }
 
 /// A copy in few calls: whether the file is written, the calls of the source, and the most bytes of a call of either.
@@ -189,7 +190,7 @@ fn copied_in_blocks(alloc: Global, file: &[u8]) -> (Answer, bool, u64, [usize; 2
 #[test]
 fn long_parts_go_through_one_array(rt: HostRuntime) {
     let copied = copied_in_blocks(rt.alloc(), &long_parts());
-    assert_eq!(rt; copied, (Ok(Ok(())), true, 6, [4096; 2]));
+    assert_same(&rt, copied, (Ok(Ok(())), true, 6, [4096; 2]));
 }
 
 /// The object of a call, with other fields.
@@ -223,7 +224,7 @@ fn copied_from(alloc: Global, changed: &[u8], expected: &[u8]) -> (Answer, bool)
 fn a_source_that_changed_is_copied(rt: HostRuntime) {
     let changed = caller_with(&CONTENTS_AND_RECORDS);
     let copied = copied_from(rt.alloc(), &changed, &caller_with(&CONTENTS));
-    assert_eq!(rt; copied, (Ok(Ok(())), true));
+    assert_same(&rt, copied, (Ok(Ok(())), true));
 }
 
 // Copies of the object of a call, stopped by a call of the source or of the writer.
@@ -272,7 +273,11 @@ fn each_failed_read_is_answered(rt: HostRuntime) {
     for k in 0..2 * ASKED.len() {
         let (at, written) = ASKED[k / 2];
         let copied = copy_to_a_read(rt.alloc(), k as u64 / 2 + 1, k % 2 == 1, written);
-        assert_eq!(rt; copied, (Ok(Err(CopyFault::Read { at, written })), true));
+        assert_same(
+            &rt,
+            copied,
+            (Ok(Err(CopyFault::Read { at, written })), true),
+        );
     }
 }
 
@@ -292,9 +297,10 @@ fn each_failed_write_is_answered(rt: HostRuntime) {
     for k in 0..2 * OUT.len() {
         let written = OUT[k / 2];
         let copied = copy_to_a_write(rt.alloc(), k as u64 / 2 + 1, k % 2 == 1);
-        assert_eq!(rt;
+        assert_same(
+            &rt,
             copied,
-            (Ok(Err(CopyFault::Write { written })), true, written)
+            (Ok(Err(CopyFault::Write { written })), true, written),
         );
     }
 }
@@ -315,9 +321,10 @@ fn copy_to_a_full_writer(
 #[test]
 fn a_full_writer_has_the_first_bytes(rt: HostRuntime) {
     let copied = copy_to_a_full_writer(rt.alloc(), 100);
-    assert_eq!(rt;
+    assert_same(
+        &rt,
         copied,
-        Ok((Err(CopyFault::Write { written: 100 }), true, 100))
+        Ok((Err(CopyFault::Write { written: 100 }), true, 100)),
     );
 }
 
@@ -331,7 +338,7 @@ fn a_source_that_got_shorter_is_told(rt: HostRuntime) {
         at: 100,
         written: 96,
     };
-    assert_eq!(rt; copied, (Ok(Err(fault)), true));
+    assert_same(&rt, copied, (Ok(Err(fault)), true));
 }
 
 // Zeros, padding and records of more than one block, onto a writer of which one call alone fails: exactly what is reported is out, and no
@@ -379,7 +386,11 @@ fn assert_ends(
     bytes: &[u8],
     outs: &[usize],
 ) {
-    assert_eq!(rt; written(writer, answer), ended(writer.failing, bytes, outs));
+    assert_same(
+        rt,
+        written(writer, answer),
+        ended(writer.failing, bytes, outs),
+    );
 }
 
 /// Relocations at 0, 1, 2, .. by symbol 1, of type 2, with the addend -1.

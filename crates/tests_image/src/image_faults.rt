@@ -1,6 +1,7 @@
 //! Readers and writers that move little, fail, or meet a failed allocation.
 ghost use Rattle.std.specs.Prelude.{◌<◌, ◌≤◌, ◌^◌};
 
+use crate::asserts::assert_same;
 use elf_image_stream::{Fault, WriteFault, read_to_end, resume, write_whole};
 use elf_image_type::{Image, parse, write};
 use std::alloc::Global;
@@ -61,7 +62,7 @@ fn a_refused_growth_loses_no_byte(rt: HostRuntime) {
     // Of the longer file capacity is asked for well ahead.
     for whole in [300_000, 6_000_000] {
         let read = read_all_or_as_many_as_fit(rt.alloc(), whole);
-        assert_eq!(rt; read, (true, Some(whole), true));
+        assert_same(&rt, read, (true, Some(whole), true));
     }
 }
 
@@ -85,14 +86,15 @@ fn read_once_failing(rt: &impl Abort, alloc: Global, before: usize, failure: Fai
     let first = read_to_end(&mut reader, &mut buf);
     let seen = (buf.len(), reader.calls, reader.empty_calls);
     let second = resume(&mut reader, &mut buf);
-    assert_eq!(rt;
+    assert_same(
+        rt,
         (first, seen, second, buf.as_slice()),
         (
             answer_behind(before, failure),
             (before, before + 1, 0),
             Ok(()),
-            TEXT
-        )
+            TEXT,
+        ),
     );
 }
 
@@ -111,9 +113,10 @@ fn read_in_calls(rt: &impl Abort, alloc: Global, piece: usize, calls: usize) {
     reader.piece = piece;
     let mut buf = Vec::new(alloc);
     let answer = read_to_end(&mut reader, &mut buf);
-    assert_eq!(rt;
+    assert_same(
+        rt,
         (answer, buf.as_slice(), (reader.calls, reader.empty_calls)),
-        (Ok(()), TEXT, (calls, 0))
+        (Ok(()), TEXT, (calls, 0)),
     );
 }
 
@@ -151,9 +154,10 @@ fn assert_stopped(
         written: before as u64,
     };
     let out = &bytes[..before.min(bytes.len())];
-    assert_eq!(rt;
+    assert_same(
+        rt,
         written(writer, answer),
-        (Err(fault), out, [before + 1, 0], false)
+        (Err(fault), out, [before + 1, 0], false),
     );
 }
 
@@ -223,9 +227,10 @@ fn assert_offers(
     let mut writer = OnceFailingWriter::new(alloc, usize::MAX, 0, None);
     let answer = write(image, &mut writer);
     let is_written = writer.bytes.as_slice() == bytes;
-    assert_eq!(rt;
+    assert_same(
+        rt,
         (answer, is_written, writer.offers.as_slice(), writer.flushes),
-        (Ok(()), true, offers, 0)
+        (Ok(()), true, offers, 0),
     );
 }
 
@@ -252,5 +257,5 @@ fn parts_are_offered(rt: HostRuntime) -> Result<(), Fault> {
 fn no_bytes_are_no_write(rt: HostRuntime) {
     let mut writer = OnceFailingWriter::new(rt.alloc(), usize::MAX, 0, None);
     let answer = write_whole(&mut writer, &[]);
-    assert_eq!(rt; (answer, writer.offers.len()), (Ok(()), 0));
+    assert_same(&rt, (answer, writer.offers.len()), (Ok(()), 0));
 }

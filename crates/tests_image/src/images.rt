@@ -1,6 +1,7 @@
 //! Images of the hand-written files: read, edited and written.
 ghost use Rattle.std.specs.Prelude.{◌<◌};
 
+use crate::asserts::assert_same;
 use elf_field::Order;
 use elf_image_outline::{NoSection, Owner, Part, ReplaceFault, scan};
 use elf_image_stream::{Failures, Fault, read_to_end};
@@ -67,14 +68,15 @@ fn a_scan_reads_no_content(rt: HostRuntime) {
         scanned(alloc, &one_segment(LITTLE), 4096),
         scanned(alloc, &empty_contents(Order::Big), 4096),
     ];
-    assert_eq!(rt;
+    assert_same(
+        &rt,
         scans,
         [
             Ok((true, [5, 0], 456, 64 + 64 + 5 * 64 + 2)),
             Ok((true, [5, 0], 456, 5)),
             Ok((false, [0, 1], 120, 2)),
-            Ok((false, [3, 0], 256, 3))
-        ]
+            Ok((false, [3, 0], 256, 3)),
+        ],
     );
 }
 
@@ -88,9 +90,10 @@ fn each_failed_call_is_answered_with_its_offset(rt: HostRuntime) {
         source.failing = k as u64 / 2 + 1;
         source.gives_none = k % 2 == 1;
         let fault = scan(rt.alloc(), &mut source).err();
-        assert_eq!(rt;
+        assert_same(
+            &rt,
             (fault, source.failures),
-            (Some(Fault::Io { at }), Failures { count: 1, last: at })
+            (Some(Fault::Io { at }), Failures { count: 1, last: at }),
         );
     }
 }
@@ -101,7 +104,7 @@ const LITTLE: Order = Order::Little;
 fn assert_written(rt: &impl Abort, alloc: Global, image: &Image<'_>, bytes: &[u8]) {
     let mut out = Vec::new(alloc);
     let answer = write(image, &mut out);
-    assert_eq!(rt; (answer, out.as_slice()), (Ok(()), bytes));
+    assert_same(rt, (answer, out.as_slice()), (Ok(()), bytes));
 }
 
 /// The image of this file, which is read a byte a call, is written as the file.
@@ -198,7 +201,7 @@ fn tells_the_header_sections_and_segments_of_a_file(rt: HostRuntime) {
         told(rt.alloc(), &one_section(LITTLE)),
         told(rt.alloc(), &two_of_each(Order::Big)),
     ];
-    assert_eq!(rt; found, TOLD);
+    assert_same(&rt, found, TOLD);
 }
 
 /// The name and the content of section 1.
@@ -222,7 +225,11 @@ fn name_and_content<'a>(
 fn a_name_and_a_content_outlive_the_image(rt: HostRuntime) {
     let file = one_section(LITTLE);
     let told = name_and_content(rt.alloc(), &file);
-    assert_eq!(rt; told, Ok(Some((b".text".as_slice(), [0xc3].as_slice()))));
+    assert_same(
+        &rt,
+        told,
+        Ok(Some((b".text".as_slice(), [0xc3].as_slice()))),
+    );
 }
 
 /// The bytes that a reader gives of this file.
@@ -317,7 +324,7 @@ fn assert_replaces(rt: &impl Abort, alloc: Global, image: &mut Image<'_>, file: 
     assert_written(rt, alloc, image, file);
     let replaced = image.replace(1, &[0x90]);
     assert_written(rt, alloc, image, &with_another_byte());
-    assert_eq!(rt; (refused, replaced), (REFUSALS, Ok(())));
+    assert_same(rt, (refused, replaced), (REFUSALS, Ok(())));
 }
 
 #[test]
@@ -337,7 +344,7 @@ fn replaces_empty_ones(alloc: Global, file: &[u8]) -> Result<[Result<(), Replace
 #[test]
 fn replaces_an_empty_content_and_none_that_is_not_in_the_file(rt: HostRuntime) {
     let answers = replaces_empty_ones(rt.alloc(), &empty_contents(LITTLE));
-    assert_eq!(rt; answers, Ok([Ok(()), Err(ReplaceFault::NoSection)]));
+    assert_same(&rt, answers, Ok([Ok(()), Err(ReplaceFault::NoSection)]));
 }
 
 /// Sets the entry, and flags of sections that are not there and of one that is.
@@ -348,7 +355,7 @@ fn assert_sets(rt: &impl Abort, alloc: Global, image: &mut Image<'_>) {
         image.set_flags(5, 7),
         image.set_flags(1, 7),
     ];
-    assert_eq!(rt; answers, [Err(NoSection), Err(NoSection), Ok(())]);
+    assert_same(rt, answers, [Err(NoSection), Err(NoSection), Ok(())]);
     let mut want = one_section(Order::Big);
     set(&mut want, Order::Big, &[(24, 8, 0x1234), (208, 8, 7)]);
     assert_written(rt, alloc, image, &want);
@@ -377,7 +384,7 @@ fn assert_told(rt: &impl Abort, alloc: Global, order: Order, at: usize, byte: u8
 {
     let mut file = one_section(order);
     file[at] = byte;
-    assert_eq!(rt; rule_broken(alloc, &file), Ok(verdict(&file)));
+    assert_same(rt, rule_broken(alloc, &file), Ok(verdict(&file)));
 }
 
 // So it does with each of four bytes at each offset, in either order.
@@ -440,7 +447,8 @@ fn loads_each_part_of_a_file(rt: HostRuntime) {
         loaded(rt.alloc(), &file, parts),
         loaded_of_edited(rt.alloc(), &file, edits),
     ];
-    assert_eq!(rt;
+    assert_same(
+        &rt,
         told,
         [
             Ok([
@@ -449,7 +457,7 @@ fn loads_each_part_of_a_file(rt: HostRuntime) {
                 Some(b't'),
                 Some(b'g'),
                 Some(6),
-                Some(0)
+                Some(0),
             ]),
             Ok([
                 Some(0x34),
@@ -457,9 +465,9 @@ fn loads_each_part_of_a_file(rt: HostRuntime) {
                 Some(b'T'),
                 Some(0),
                 Some(7),
-                Some(b'd')
-            ])
-        ]
+                Some(b'd'),
+            ]),
+        ],
     );
 }
 
@@ -524,14 +532,15 @@ fn loads_by_segments(rt: HostRuntime) {
         loaded(alloc, &one_segment_at_the_end(), last),
         loaded(alloc, &data_and_commons(), commons),
     ];
-    assert_eq!(rt;
+    assert_same(
+        &rt,
         told,
         [
             Ok([None, Some(0xe8), Some(1), Some(0xc3), None, None]),
             Ok([Some(b't'), Some(0), Some(0), Some(0), Some(0), None]),
             Ok([None, None, Some(b'd'), Some(b'a'), Some(0), None]),
             Ok([None, None, None, Some(0x7f), Some(0), Some(0)]),
-            Ok([None, Some(1), Some(0), None, Some(0), None])
-        ]
+            Ok([None, Some(1), Some(0), None, Some(0), None]),
+        ],
     );
 }

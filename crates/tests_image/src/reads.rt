@@ -1,6 +1,7 @@
 //! Records and whole files that are read.
 ghost use Rattle.std.specs.Prelude.{◌≤◌};
 
+use crate::asserts::assert_same;
 use elf_field::{Order, Rel};
 use elf_image_outline::{RecordsFault, read_ends, read_record, read_records};
 use elf_image_rules::TableEnds;
@@ -38,7 +39,7 @@ fn a_record_is_read(rt: HostRuntime) {
         r_offset: 5,
         r_info: 0,
     };
-    assert_eq!(rt; record(&table(), 3 + 16 * 5), Ok(relocation));
+    assert_same(&rt, record(&table(), 3 + 16 * 5), Ok(relocation));
 }
 
 /// Whether the offsets are 0, 1 and so on, of the whole table.
@@ -65,7 +66,7 @@ fn a_table_is_read_in_three_calls_or_a_byte_a_call(rt: HostRuntime) {
         table_read(rt.alloc(), &bytes, 4096),
         table_read(rt.alloc(), &bytes, 1),
     ];
-    assert_eq!(rt; reads, [Ok((true, 3)), Ok((true, 16 * COUNT as u64))]);
+    assert_same(&rt, reads, [Ok((true, 3)), Ok((true, 16 * COUNT as u64))]);
 }
 
 /// Why the table is not read whose second call fails, and how many calls there were.
@@ -85,7 +86,7 @@ fn table_fault(alloc: Global, bytes: &[u8]) -> (Option<RecordsFault>, u64) {
 #[test]
 fn a_fault_is_told_with_its_offset(rt: HostRuntime) {
     let fault = RecordsFault::Io { at: 4099 };
-    assert_eq!(rt; table_fault(rt.alloc(), &table()), (Some(fault), 2));
+    assert_same(&rt, table_fault(rt.alloc(), &table()), (Some(fault), 2));
 }
 
 // Whole reads.
@@ -113,13 +114,14 @@ fn bytes_are_read_at_any_offset(rt: HostRuntime) {
     let mut front = [0; 2];
     let answers = [file.read_at(3, &mut end), file.read_at(0, &mut front)];
     let given = [given(1), given(4), given(5), given(u64::MAX)];
-    assert_eq!(rt;
+    assert_same(
+        &rt,
         (
             [Bytes(b"abcde").length(), file.length()],
             given,
-            (answers, end, front)
+            (answers, end, front),
         ),
-        ([Ok(5); 2], GIVEN, ([Ok(2); 2], [b'd', b'e'], [b'a', b'b']))
+        ([Ok(5); 2], GIVEN, ([Ok(2); 2], [b'd', b'e'], [b'a', b'b'])),
     );
 }
 
@@ -130,7 +132,7 @@ fn a_byte_a_call_is_read_whole(rt: HostRuntime) {
     let mut buf = [0; 4];
     let none = (read_exactly(&mut source, 2, &mut []), source.calls);
     let four = (read_exactly(&mut source, 2, &mut buf), source.calls);
-    assert_eq!(rt; (none, four, buf), ((Ok(()), 0), (Ok(()), 4), *b"cdef"));
+    assert_same(&rt, (none, four, buf), ((Ok(()), 0), (Ok(()), 4), *b"cdef"));
 }
 
 /// What a read of four bytes comes to whose call of this number fails, or gives none, and how many calls there were.
@@ -146,13 +148,14 @@ fn failed(failing: u64, gives_none: bool) -> (Result<(), ReadFault>, u64) {
 #[test]
 fn a_failed_call_is_not_tried_again(rt: HostRuntime) {
     let past = read_exactly(&mut Bytes(b"abcde"), 3, &mut [0; 4]);
-    assert_eq!(rt;
+    assert_same(
+        &rt,
         (failed(3, false), failed(2, true), past),
         (
             (Err(ReadFault { at: 4 }), 3),
             (Err(ReadFault { at: 3 }), 2),
-            Err(ReadFault { at: 5 })
-        )
+            Err(ReadFault { at: 5 }),
+        ),
     );
 }
 
@@ -193,7 +196,7 @@ const ENDS: [(Result<TableEnds, ReadFault>, u64); 3] = [
 
 #[test]
 fn the_ends_of_a_table_are_two_bytes(rt: HostRuntime) {
-    assert_eq!(rt; [ends(1, 3), ends(4, 1), ends(9, 0)], ENDS);
+    assert_same(&rt, [ends(1, 3), ends(4, 1), ends(9, 0)], ENDS);
 }
 
 #[test]
@@ -202,7 +205,7 @@ fn a_failed_call_is_told(rt: HostRuntime) {
     source.failing = 1;
     let mut buf = [0; 2];
     let answers = [source.read_at(0, &mut buf), source.read_at(0, &mut buf)];
-    assert_eq!(rt; answers, [Err(Failed), Ok(2)]);
+    assert_same(&rt, answers, [Err(Failed), Ok(2)]);
 }
 
 // A read of no byte is a failure if the buffer is not empty. Failures are counted modulo 2^64.
@@ -223,5 +226,5 @@ fn failures_are_counted(rt: HostRuntime) {
         most.and_one_at(7),
     ];
     let over = Failures { count: 0, last: 7 };
-    assert_eq!(rt; counted, [none, none, one, one, one, over]);
+    assert_same(&rt, counted, [none, none, one, one, one, over]);
 }

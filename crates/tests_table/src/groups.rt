@@ -1,4 +1,5 @@
 //! Rules 40, 42 to 44 and 55 to 58: section groups, of a file of one group.
+use crate::asserts::assert_same;
 use crate::verdicts::{Row, Table, assert_breaks};
 use elf_field::Order;
 use elf_field::abi::*;
@@ -117,9 +118,10 @@ fn tells_a_group_its_name_and_its_members(rt: HostRuntime) {
     let file = group();
     let told = told(rt.alloc(), &file);
     let refused = is_refused_without_names(rt.alloc());
-    assert_eq!(rt;
+    assert_same(
+        &rt,
         (told, refused),
-        (Ok((true, Some(b"f".as_slice()))), Ok(true))
+        (Ok((true, Some(b"f".as_slice()))), Ok(true)),
     );
 }
 

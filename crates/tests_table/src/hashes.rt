@@ -1,6 +1,7 @@
 //! Rules 40, 42 to 45 and 65 to 69: hash tables, of three names.
 ghost use Rattle.std.specs.Prelude.{◌<◌, length};
 
+use crate::asserts::assert_same;
 use crate::verdicts::{Row, Table, assert_breaks};
 use elf_field::Order;
 use elf_field::abi::*;
@@ -107,9 +108,10 @@ fn hashes_and_finds_each_name(rt: HostRuntime) {
         elf_hash(b"exit"),
         elf_hash(b"syscall"),
     ];
-    assert_eq!(rt;
+    assert_same(
+        &rt,
         (hashes, told(rt.alloc(), &hash())),
-        ([0, 0x0779_05a6, 0x0006_cf04, 0x0b09_985c], Ok([true; 2]))
+        ([0, 0x0779_05a6, 0x0006_cf04, 0x0b09_985c], Ok([true; 2])),
     );
 }
 
@@ -193,13 +195,14 @@ fn builds_a_hash_table(rt: HostRuntime) {
         are_built(alloc, NO_NAMES, 0, &[]),
         are_built(alloc, NO_NAMES, 0x0100_0001, &[]),
     ];
-    assert_eq!(rt;
+    assert_same(
+        &rt,
         built,
         [
             Ok(true),
             Ok(true),
             Err(HashFault::NoBuckets),
-            Err(HashFault::TooMany)
-        ]
+            Err(HashFault::TooMany),
+        ],
     );
 }

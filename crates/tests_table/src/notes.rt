@@ -1,4 +1,5 @@
 //! Rules 40 and 59 to 62: note sections, of a file of one note.
+use crate::asserts::assert_same;
 use crate::verdicts::{Row, Table, assert_breaks};
 use elf_field::Order;
 use elf_field::abi::*;
@@ -66,7 +67,7 @@ fn tells_each_note_and_notes_outlive_the_image(rt: HostRuntime) {
         name: b"GNU",
         desc: b"\xaa\xbb\xcc",
     };
-    assert_eq!(rt; told, Ok((Some(note), None)));
+    assert_same(&rt, told, Ok((Some(note), None)));
 }
 
 const ROWS: &[Row] = &[

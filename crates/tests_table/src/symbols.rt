@@ -1,4 +1,5 @@
 //! Rules 40 to 54: symbol tables and relocations, of an object of a call, and of a file that has every part of a symbol table.
+use crate::asserts::assert_same;
 use crate::verdicts::{Row, Table, assert_breaks, fault_in};
 use elf_field::Order;
 use elf_field::abi::*;
@@ -172,9 +173,10 @@ fn tells_each_relocation_symbol_and_string(rt: HostRuntime) {
     let told = told(rt.alloc(), &file);
     let kept = are_kept_with_the_other_tables(rt.alloc(), &file);
     let fault = fault_in(rt.alloc(), &file, 4, Table::Symbols);
-    assert_eq!(rt;
+    assert_same(
+        &rt,
         (told, kept, fault),
-        (Ok([true; 3]), Ok(Some([true; 2])), Ok(Some(OTHER_TYPE)))
+        (Ok([true; 3]), Ok(Some([true; 2])), Ok(Some(OTHER_TYPE))),
     );
 }
 
@@ -202,9 +204,10 @@ fn names_outlive_the_image(rt: HostRuntime) {
     let file = symbols(Order::Little);
     let names = names_told(rt.alloc(), &file);
     let fault = fault_in(rt.alloc(), &symbols(Order::Big), 1, Table::Symbols);
-    assert_eq!(rt;
+    assert_same(
+        &rt,
         (names, fault),
-        (Ok((b"b".as_slice(), Some(b"ab".as_slice()))), Ok(None))
+        (Ok((b"b".as_slice(), Some(b"ab".as_slice()))), Ok(None)),
     );
 }
 

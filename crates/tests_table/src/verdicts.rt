@@ -1,4 +1,5 @@
 //! Verdicts on one table of a file.
+use crate::asserts::assert_same;
 use elf_image_stream::Fault;
 use elf_image_type::{Image, parse};
 use elf_table_all::{Dynamic, Group, Hash, Notes, Relocs, Strings, Symbols};
@@ -59,5 +60,5 @@ pub(crate) fn assert_breaks(
 ) {
     let (_, rule, at) = *row;
     let fault = fault_in(alloc, file, index, table);
-    assert_eq!(rt; fault, Ok(Some(Fault::Rule { rule, at })));
+    assert_same(rt, fault, Ok(Some(Fault::Rule { rule, at })));
 }

@@ -3,6 +3,7 @@
 ghost use Rattle.std.specs.Prelude.{◌≡◌};
 ghost use Rattle.elf_image_stream.specs.Source.{no_failures};
 
+use crate::asserts::assert_same;
 use crate::program::{
     HEADER, LimitedWriter, Outcome, ROOM, assert_line_or_out_of_memory, assert_ran,
 };
@@ -56,7 +57,7 @@ fn assert_read_fails(rt: &impl Abort, alloc: Global, call: usize, kind: ErrorKin
     let at = call.saturating_mul(PIECE) as u64;
     let calls = [call.saturating_add(1), 0, 0, 0];
     let checked = check_of_failing(alloc, call, kind);
-    assert_eq!(rt; checked, (Err(ToolFault::Read { at }), calls));
+    assert_same(rt, checked, (Err(ToolFault::Read { at }), calls));
 }
 
 // Eight calls give the header's bytes, and a ninth asks for the end, once.
@@ -80,9 +81,10 @@ fn assert_ends(rt: &impl Abort, alloc: Global, call: usize, line: &str) {
     let mut writer = Sink::new(100, None);
     let checked = check_of_ending(alloc, call, &mut writer);
     let calls = [call.saturating_add(1), 0];
-    assert_eq!(rt;
+    assert_same(
+        rt,
         (checked, writer.text()),
-        ((call == 8, calls), line.as_bytes())
+        ((call == 8, calls), line.as_bytes()),
     );
 }
 
@@ -122,13 +124,14 @@ fn assert_stopped(
         writer.flushes,
         writer.longest,
     ];
-    assert_eq!(rt;
+    assert_same(
+        rt,
         (answer, writer.text(), calls),
         (
             Err(ToolFault::Write { written }),
             &text[..out.min(text.len())],
-            [call.saturating_add(1), 0, 0, text.len()]
-        )
+            [call.saturating_add(1), 0, 0, text.len()],
+        ),
     );
 }
 
@@ -182,9 +185,10 @@ fn shown(alloc: Global, writer: &mut Sink) -> (Result<Verdict, ToolFault>, [usiz
 fn a_text_that_goes_out_is_not_flushed(rt: HostRuntime) {
     let mut writer = Sink::new(100, None);
     let shown = shown(rt.alloc(), &mut writer);
-    assert_eq!(rt;
+    assert_same(
+        &rt,
         (shown, writer.text()),
-        ((Ok(Verdict::Done), [9, 0, 6, 0, 0]), HEADER_TEXT.as_slice())
+        ((Ok(Verdict::Done), [9, 0, 6, 0, 0]), HEADER_TEXT.as_slice()),
     );
 }
 
@@ -279,7 +283,7 @@ fn a_call_that_fails_once_is_not_tried_again(rt: HostRuntime) {
     for (k, at) in ASKED.iter().enumerate() {
         let calls = k as u64;
         let checked = check_once_failing(rt.alloc(), calls + 1);
-        assert_eq!(rt; checked, (Err(ToolFault::Read { at: *at }), (calls, 0)));
+        assert_same(&rt, checked, (Err(ToolFault::Read { at: *at }), (calls, 0)));
     }
 }
 
@@ -313,7 +317,7 @@ fn assert_written(
     let mut writer = Sink::new(fails_at, None);
     let ended = check_source(alloc, &mut failing_source(HEADER, 0), &mut writer);
     let calls = [writer.empty_calls, writer.flushes];
-    assert_eq!(rt; (ended, writer.text(), calls), (answer, text, [0, 0]));
+    assert_same(rt, (ended, writer.text(), calls), (answer, text, [0, 0]));
 }
 
 /// The call that fails, what the check answers then, and what is out.

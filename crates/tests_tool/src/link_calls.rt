@@ -1,5 +1,6 @@
 //! `map` and `link` over readers and writers that fail at one call alone, over files that don't open, and over what they reject: what is
 //! reported is exact, and what was written is the text or its beginning.
+use crate::asserts::assert_same;
 use elf_image_stream::Bytes;
 use elf_tool_program::{
     Form, OpenFault, Opener, Options, Range, Refusal, RelocRule, ToolFault, Verdict, Width, link,
@@ -64,7 +65,7 @@ fn a_read_that_fails_is_told_with_its_place_in_its_file(rt: HostRuntime) {
     for call in 0..20 {
         let at = (call * PIECE) as u64;
         let answers = answers_of_failing(rt.alloc(), call);
-        assert_eq!(rt; answers, ([Err(ToolFault::Read { at }); 2], 0));
+        assert_same(&rt, answers, ([Err(ToolFault::Read { at }); 2], 0));
     }
 }
 
@@ -83,7 +84,7 @@ fn calls_behind_failing(alloc: Global) -> (Result<Verdict, ToolFault>, [usize; 2
 #[test]
 fn no_reader_behind_one_that_fails_is_called(rt: HostRuntime) {
     let called = calls_behind_failing(rt.alloc());
-    assert_eq!(rt; called, (Err(ToolFault::Read { at: 24 }), [4, 0]));
+    assert_same(&rt, called, (Err(ToolFault::Read { at: 24 }), [4, 0]));
 }
 
 /// The two commands, and the first of them by the rule of the call.
@@ -153,9 +154,10 @@ fn assert_write_fails(
     let fault = ToolFault::Write {
         written: writer.text().len() as u64,
     };
-    assert_eq!(rt;
+    assert_same(
+        rt,
         (answer, begins(command, writer.text()), writer.calls),
-        (Err(fault), true, call.saturating_add(1))
+        (Err(fault), true, call.saturating_add(1)),
     );
 }
 
@@ -178,9 +180,10 @@ fn a_write_that_fails_is_told_with_what_is_out(rt: HostRuntime) {
 fn the_executable_goes_out_without_a_flush(rt: HostRuntime) {
     let mut writer = Sink::new(1000, None);
     let answer = link_both(rt.alloc(), &mut writer);
-    assert_eq!(rt;
+    assert_same(
+        &rt,
         (answer, writer.text(), writer.empty_calls, writer.flushes),
-        (Ok(Verdict::Done), executable_of_a_call().as_slice(), 0, 0)
+        (Ok(Verdict::Done), executable_of_a_call().as_slice(), 0, 0),
     );
 }
 
@@ -193,7 +196,7 @@ fn a_refused_growth_leaves_nothing_out(rt: HostRuntime) {
         Ok(Verdict::Done) => (Ok(Verdict::Done), LINES),
         _ => (Err(ToolFault::OutOfMemory), b"".as_slice()),
     };
-    assert_eq!(rt; (answer, writer.text()), (answers, whole));
+    assert_same(&rt, (answer, writer.text()), (answers, whole));
 }
 
 /// An entry that no file has, and how it is refused.
@@ -214,12 +217,13 @@ const REFUSAL: Refusal = Refusal::Link {
 fn an_entry_that_no_file_has_is_refused(rt: HostRuntime) {
     let mut writer = Sink::new(1000, None);
     let answer = map_both(rt.alloc(), &NOT_ENTERED, None, &mut writer);
-    assert_eq!(rt;
+    assert_same(
+        &rt,
         (answer, writer.text()),
         (
             Ok(Verdict::Refused(REFUSAL)),
-            b"refused 10 0 0 0\n".as_slice()
-        )
+            b"refused 10 0 0 0\n".as_slice(),
+        ),
     );
 }
 
@@ -391,9 +395,10 @@ fn assert_ends(rt: &impl Abort, alloc: Global, object: &[u8], row: &Row) {
     let mut out = Sink::new(1000, None);
     let mut err = Sink::new(1000, None);
     let status = run(alloc, words, &mut files, &mut out, &mut err);
-    assert_eq!(rt;
+    assert_same(
+        rt,
         (status == 0, out.calls, files.asked, err.text()),
-        (false, 0, asked, told.as_bytes())
+        (false, 0, asked, told.as_bytes()),
     );
 }
 
@@ -431,5 +436,5 @@ fn calls_of_map(alloc: Global) -> (u8, [usize; 4]) {
 
 #[test]
 fn each_file_is_opened_once_and_nothing_is_flushed(rt: HostRuntime) {
-    assert_eq!(rt; calls_of_map(rt.alloc()), (0, [2, 0, 0, 0]));
+    assert_same(&rt, calls_of_map(rt.alloc()), (0, [2, 0, 0, 0]));
 }

@@ -1,4 +1,5 @@
 //! Files of many sections and segments.
+use crate::asserts::assert_same;
 use elf_field::Order;
 use elf_image_stream::Fault;
 use elf_image_type::{Image, parse, verdict, write};
@@ -12,9 +13,10 @@ use tests_files::{Field, OnceFailingWriter, PartialSource, Sink, set, set_header
 /// A long text has this many lines, and begins and ends so.
 pub(crate) fn assert_lines(rt: &impl Abort, text: &[u8], lines: usize, front: &[u8], end: &[u8]) {
     let ends = text.iter().filter(|byte| **byte == b'\n').count();
-    assert_eq!(rt;
+    assert_same(
+        rt,
         (ends, text.starts_with(front), text.ends_with(end)),
-        (lines, true, true)
+        (lines, true, true),
     );
 }
 
@@ -119,9 +121,10 @@ fn image_told(alloc: Global, bytes: &[u8]) -> Result<(u64, u32, bool), Fault> {
 fn assert_accepted(rt: &impl Abort, alloc: Global, mut file: &[u8], line: &str) {
     let mut said = Vec::new(alloc);
     let checked = check(alloc, &mut file, &mut said);
-    assert_eq!(rt;
+    assert_same(
+        rt,
         (checked, said.as_slice()),
-        (Ok(Verdict::Done), line.as_bytes())
+        (Ok(Verdict::Done), line.as_bytes()),
     );
 }
 
@@ -138,7 +141,7 @@ fn assert_object(
     assert_accepted(rt, alloc, &file, line);
     let told = (file.len(), verdict(&file), image_told(alloc, &file));
     let image = (u64::from(count) + 4, names, true);
-    assert_eq!(rt; told, (len, None, Ok(image)));
+    assert_same(rt, told, (len, None, Ok(image)));
     Ok(())
 }
 
@@ -165,7 +168,7 @@ fn is_sought_by_a_byte_a_call(rt: HostRuntime) -> Result<(), AllocError> {
     let mut source = PartialSource::new(&file, 1);
     let answer = check_source(rt.alloc(), &mut source, &mut out);
     let line = b"ok 4178104 65281 0\n".as_slice();
-    assert_eq!(rt; (answer, out.text()), (Ok(Verdict::Done), line));
+    assert_same(&rt, (answer, out.text()), (Ok(Verdict::Done), line));
     Ok(())
 }
 
@@ -183,7 +186,7 @@ fn assert_shown_in_pieces(rt: &impl Abort, alloc: Global, mut file: &[u8], piece
     let mut out = OnceFailingWriter::new(alloc, usize::MAX, 0, None);
     let answer = show(alloc, &mut file, &mut out);
     let are_short = out.offers.iter().max() < Some(&piece);
-    assert_eq!(rt; (answer, are_short), (Ok(Verdict::Done), true));
+    assert_same(rt, (answer, are_short), (Ok(Verdict::Done), true));
     assert_lines(rt, &out.bytes, LINES, FRONT_LINES, END_LINES);
 }
 

@@ -1,6 +1,7 @@
 //! The whole program over fakes: what it answers, writes and says for each way that it can end.
 ghost use Rattle.std.specs.Prelude.{◌<◌};
 
+use crate::asserts::assert_same;
 use elf_field::Order;
 use elf_image_stream::Bytes;
 use elf_tool_program::{MachineFiles, OpenFault, Opener, ToolFault, refuse_words, run, show};
@@ -137,9 +138,10 @@ fn run_onto(
 
 /// It came to this status, and to these texts on the output and on standard error.
 pub(crate) fn assert_ran(rt: &impl Abort, ran: &Outcome, status: u8, said: &str, complained: &str) {
-    assert_eq!(rt;
+    assert_same(
+        rt,
         (ran.status, ran.out.text(), ran.err.text()),
-        (status, said.as_bytes(), complained.as_bytes())
+        (status, said.as_bytes(), complained.as_bytes()),
     );
 }
 
@@ -169,9 +171,10 @@ fn refuses_other_words(rt: HostRuntime) {
     for &words in OTHER_WORDS {
         let ran = run_on(rt.alloc(), words, &mut OneFile::header(7));
         let told = ran.err.text().ends_with(b"try '--help'.\n");
-        assert_eq!(rt;
+        assert_same(
+            &rt,
             (ran.status, ran.out.text(), told),
-            (2, b"".as_slice(), true)
+            (2, b"".as_slice(), true),
         );
     }
 }
@@ -201,9 +204,10 @@ fn assert_write_fails(rt: &impl Abort, alloc: Global, room: usize, failure: Opti
     let ran = run_onto(alloc, CHECK, &mut OneFile::header(1), out, ROOM);
     let mut told = *b"write failed after N\n";
     told[19] = b"0123456789"[room];
-    assert_eq!(rt;
+    assert_same(
+        rt,
         (ran.status, ran.out.text(), ran.err.text()),
-        (3, &b"ok 64 0 0\n"[..room], told.as_slice())
+        (3, &b"ok 64 0 0\n"[..room], told.as_slice()),
     );
 }
 
@@ -219,7 +223,7 @@ fn a_failed_write_is_told_with_what_is_out(rt: HostRuntime) {
 fn assert_refused(rt: &impl Abort, kind: ErrorKind, status: u8, told: &str) {
     let mut err = LimitedWriter::new(ROOM, None);
     let ended = refuse_words(&io::Error::from(kind), &mut err);
-    assert_eq!(rt; (ended, err.text()), (status, told.as_bytes()));
+    assert_same(rt, (ended, err.text()), (status, told.as_bytes()));
 }
 
 #[test]
@@ -259,9 +263,10 @@ fn assert_show_fails(rt: &impl Abort, alloc: Global, mut file: &[u8], room: usiz
     let answer = show(alloc, &mut file, &mut writer);
     let written = room as u64;
     let out = ONE_SEGMENT_TEXT.as_bytes().get(..room);
-    assert_eq!(rt;
+    assert_same(
+        rt,
         (answer, Some(writer.text())),
-        (Err(ToolFault::Write { written }), out)
+        (Err(ToolFault::Write { written }), out),
     );
 }
 
@@ -325,9 +330,10 @@ fn assert_runs(
     let mut out = Vec::new(alloc);
     let mut err = Vec::new(alloc);
     let ended = run(alloc, words, files, &mut out, &mut err);
-    assert_eq!(rt;
+    assert_same(
+        rt,
         (ended, files.asked, out.as_slice(), err.as_slice()),
-        (status, 1, said.as_bytes(), complained.as_bytes())
+        (status, 1, said.as_bytes(), complained.as_bytes()),
     );
 }
 
@@ -405,7 +411,7 @@ const MACHINE_NAMES: &[(&str, (Option<OpenFault>, bool))] = &[
 #[test]
 fn the_files_of_the_machine(rt: HostRuntime) {
     for &(name, told) in MACHINE_NAMES {
-        assert_eq!(rt; (name, machine_fault(&rt, name)), (name, told));
+        assert_same(&rt, (name, machine_fault(&rt, name)), (name, told));
     }
 }
 
@@ -425,6 +431,6 @@ fn a_line_is_its_words(rt: HostRuntime) -> Result<(), Fail> {
     push_hexadecimal(&mut text, 64)?;
     push_decimal(&mut text, 24)?;
     end_line(&mut text)?;
-    assert_eq!(rt; text.as_slice(), b"part 0x40 24\n".as_slice());
+    assert_same(&rt, text.as_slice(), b"part 0x40 24\n".as_slice());
     Ok(())
 }

@@ -1,4 +1,5 @@
 //! `rewrite` over readers and writers that fail at one call alone: the answer is exact, and no call comes after it.
+use crate::asserts::assert_same;
 use elf_tool_program::{ToolFault, Verdict, rewrite};
 use std::alloc::Global;
 use std::io::ErrorKind;
@@ -22,9 +23,10 @@ fn a_read_that_fails_is_told_with_its_place(rt: HostRuntime) {
     for call in 0..READS + 1 {
         let at = (call * PIECE) as u64;
         let calls = [call + 1, 0, 0];
-        assert_eq!(rt;
+        assert_same(
+            &rt,
             rewrite_failing(rt.alloc(), call),
-            (Err(ToolFault::Read { at }), calls)
+            (Err(ToolFault::Read { at }), calls),
         );
     }
 }
@@ -55,7 +57,7 @@ fn assert_write_fails(rt: &impl Abort, alloc: Global, call: usize, failure: Fail
         written: out as u64,
     };
     let calls = [call.saturating_add(1), 0];
-    assert_eq!(rt; rewritten, (Err(fault), out, true, calls));
+    assert_same(rt, rewritten, (Err(fault), out, true, calls));
 }
 
 #[test]
@@ -78,5 +80,9 @@ fn a_refused_growth_leaves_nothing_out(rt: HostRuntime) {
         _ => (Err(ToolFault::OutOfMemory), b"".as_slice()),
     };
     let calls = [writer.empty_calls, writer.flushes];
-    assert_eq!(rt; (answer, writer.text(), calls), (answers, whole, [0, 0]));
+    assert_same(
+        &rt,
+        (answer, writer.text(), calls),
+        (answers, whole, [0, 0]),
+    );
 }

@@ -291,6 +291,16 @@ def deb(name: str, tree: str, folder: str, version: str) -> None:
         wanted("dpkg-deb", "--root-owner-group", "-Zxz", "--build", root, f"{folder}/{name}_{version}_{machine}.deb")
 
 
+# setuptools can't see that the package has a library: it would tell installers that its files serve every machine.
+BINARY_WHEEL = """
+import setuptools
+from wheel.bdist_wheel import bdist_wheel
+setuptools.Distribution.has_ext_modules = lambda self: True
+bdist_wheel.get_tag = lambda self: ("py3", "none", self.plat_name)
+setuptools.setup()
+"""
+
+
 def wheel(tree: str, folder: str) -> str:
     """The package with the library in it, for every Linux for x86-64 that has the C library that it needs: its path."""
     library = f"{tree}/lib/{SHARED}"
@@ -300,7 +310,7 @@ def wheel(tree: str, folder: str) -> str:
         copied(library, f"{own}/elfmap/libelfmap.so")
         without_dead_links(own)
         settle(own)
-        build = ["/usr/bin/python3", "-c", "import setuptools; setuptools.setup()", "bdist_wheel", "--dist-dir", folder]
+        build = ["/usr/bin/python3", "-c", BINARY_WHEEL, "bdist_wheel", "--dist-dir", folder]
         wanted(*build, "--plat-name", f"manylinux_{glibc_of(library).replace('.', '_')}_x86_64", folder=own)
     return glob.glob(f"{folder}/*.whl")[0]
 
