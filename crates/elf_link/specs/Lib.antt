@@ -3,6 +3,7 @@ pub use Rattle.elf_link_field.specs.Field
 pub use Rattle.elf_link_files.specs.Rows
 pub use Rattle.elf_link_files.specs.Files
 pub use Rattle.elf_link_files.specs.FileRules
+pub use Rattle.elf_link_files.specs.KnownBefore
 pub use Rattle.elf_link_map.specs.Standing
 pub use Rattle.elf_link_map.specs.Entry
 pub use Rattle.elf_link_map.specs.LinkMap

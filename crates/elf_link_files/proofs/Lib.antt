@@ -1,4 +1,5 @@
 -- `Public` is for the proofs of the crates above, the others are for those of this one.
 pub mod MarkedFiles
 pub mod SiteLists
+pub mod KnownBefore
 pub mod Public

@@ -3,3 +3,4 @@
 -- its file's index, and its symbols are in its sections; and that two values are one or not.
 pub use Rattle.elf_link_files.proofs.SiteLists.{first_earlier, first_same, first_in_row, each_more, one_each, table_read, listed_more, listed_past, lists_more, lists_same, once_of, one_before, position_before, site_is, one_first, one_found, one_site_list, earlier_more, earlier_next, file_before, some_site}
 pub use Rattle.elf_link_files.proofs.MarkedFiles.{object_is, symbol_placed, match_map, not_true, same_bool, same_name}
+pub use Rattle.elf_link_files.proofs.KnownBefore.{first_here, known_none, known_other, known_reference, strong_entry, weak_entry}

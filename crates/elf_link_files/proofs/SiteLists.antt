@@ -1,10 +1,10 @@
 -- Sites of a link in order: lists of them, the first one, and that there is at most one.
-use Rattle.std.proofs.Common.{◌≡◌, ℕ, ◌+◌, ◌⊎◌, inl, inr, arith, sym, ◌<◌, List, [], ◌∷◌, ◌++◌, get_or, length, map, ◌∙◌, ap, subst, length-append, refl, Option, zero, suc, ◌≤◌}
+use Rattle.std.proofs.Common.{◌≡◌, ℕ, ◌+◌, ◌⊎◌, inl, inr, arith, sym, ◌<◌, List, [], ◌∷◌, ◌++◌, get_or, length, map, ◌∙◌, ap, subst, length-append, refl, Option, zero, suc}
 use Rattle.std.proofs.lemmas.Bool.{cases_lt}
 use Rattle.std.specs.Global.{Vec}
 use Rattle.std.proofs.lemmas.List.{get_or-map, get_or_default, get_or_push, ext_get_or, length-map}
 use Rattle.std.proofs.Math.ListN.{get_or-append}
-use Rattle.elf_extent.specs.Extent.{IsLeast, Never}
+use Rattle.elf_extent.specs.Extent.{IsLeast}
 use Rattle.elf_image_rules.proofs.Public.{one_fault_by, HasFirst, least_or_never, some_first}
 use Rattle.elf_image_rules.specs.Rows.{Row, Ruled}
 use Rattle.elf_link_files.specs.Files.{IsEarlier, object_at}

@@ -1,4 +1,5 @@
 -- The words of this crate's contracts.
 pub mod Files
 pub mod Rows
+pub mod KnownBefore
 pub mod FileRules

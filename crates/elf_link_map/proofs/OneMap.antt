@@ -19,7 +19,8 @@ use Rattle.elf_link_map.specs.Naming.{AreBindingPositions, AreNamedAt, AreBindin
 use Rattle.elf_link_map.specs.declared.bindings.Binding.TheVariants.{Common as CommonBinding, Strong, Common, Weak, Zero}
 use Rattle.elf_link_map.specs.declared.bindings.Binding.{Binding}
 use Rattle.elf_link_names.proofs.Public.{names_once, entry_listed, one_choice, one_common}
-use Rattle.elf_link_names.specs.Binds.{entries, first_entries, Binds}
+use Rattle.elf_link_files.specs.KnownBefore.{entries}
+use Rattle.elf_link_names.specs.Binds.{first_entries, Binds}
 use Rattle.elf_link_names.specs.KnownNames.{ArePositionsOf, AreNameNumbers}
 use Rattle.elf_link_names.specs.Resolution.{IsCommonOf, AreChosen}
 use Rattle.elf_link_names.specs.declared.name_rules.Choice.TheVariants.{Common as CommonChoice, Strong as StrongChoice, Weak as WeakChoice, Zero as ZeroChoice}

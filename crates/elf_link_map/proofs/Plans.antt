@@ -20,7 +20,8 @@ use Rattle.elf_link_map.specs.Entry.{HasSite, IsChoiceTarget, IsEntrySymbolTarge
 use Rattle.elf_link_map.specs.LinkMap.{IsLinkPlan, LinkPlan, link_parts, IsPlan, FirstOfAddresses, FirstOfLink, IsLinkFault, IsPlacedAt, IsAddressingFault}
 use Rattle.elf_link_names.proofs.ChosenCommons.{have_chosen}
 use Rattle.elf_link_names.proofs.Public.{bound_excludes, one_choice, one_chosen, one_common}
-use Rattle.elf_link_names.specs.Binds.{input_rules, Binds, IsLargest, IsUnbound, align_at, commons, entries, not_weak, size_at, strong, weak, IsChosen}
+use Rattle.elf_link_files.specs.KnownBefore.{IsLargest, align_at, commons, entries, not_weak, size_at, strong, weak}
+use Rattle.elf_link_names.specs.Binds.{input_rules, Binds, IsUnbound, IsChosen}
 use Rattle.elf_link_names.specs.Resolution.{AreChosen, HaveChosen, IsOfLargest}
 use Rattle.elf_link_names.specs.declared.name_rules.Choice.TheVariants.{Strong, Common, Weak, Zero}
 use Rattle.elf_link_names.specs.declared.name_rules.Choice.{Choice}

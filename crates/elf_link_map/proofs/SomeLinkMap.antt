@@ -15,7 +15,8 @@ use Rattle.elf_link_files.specs.Rows.{chosen_at, AreEach, Lists, name_at, site, 
 use Rattle.elf_link_files.specs.Files.{AreDiscardMarks, Discarded, object_at}
 use Rattle.elf_link_names.specs.declared.name_rules.Choice.{Choice}
 use Rattle.elf_link_names.specs.declared.name_rules.Choice.TheVariants.{Strong, Common, Weak, Zero}
-use Rattle.elf_link_names.specs.Binds.{AllBound, Binds, entries, input_rules, IsFirstEntry, first_entries}
+use Rattle.elf_link_files.specs.KnownBefore.{entries}
+use Rattle.elf_link_names.specs.Binds.{AllBound, Binds, input_rules, IsFirstEntry, first_entries}
 use Rattle.elf_link_names.specs.Resolution.{HaveChosen}
 use Rattle.elf_link_names.proofs.ChosenCommons.{have_chosen}
 use Rattle.elf_link_names.proofs.Public.{all_bound, entry_listed, entry_there}

@@ -17,7 +17,8 @@ use Rattle.elf_link_map.specs.declared.bindings.Binding.TheVariants.{Strong, Com
 use Rattle.elf_link_map.specs.declared.bindings.Binding.{Binding}
 use Rattle.elf_link_map.specs.declared.bindings.Named.{Named}
 use Rattle.elf_link_map.specs.declared.link_map.LinkMap.TheInside.{Inside}
-use Rattle.elf_link_names.specs.Binds.{Binds, entries, first_entries, input_rules}
+use Rattle.elf_link_files.specs.KnownBefore.{entries}
+use Rattle.elf_link_names.specs.Binds.{Binds, first_entries, input_rules}
 use Rattle.elf_link_names.specs.Resolution.{AreChosen}
 use Rattle.elf_link_names.specs.declared.name_rules.Choice.TheVariants.{Strong as StrongChoice, Common as CommonChoice, Weak as WeakChoice, Zero as ZeroChoice}
 use Rattle.elf_link_outputs.specs.Addresses.{HasValue, address_rules}

@@ -10,7 +10,8 @@ use Rattle.elf_link_files.specs.Rows.{FirstAmong, Lists, site, site_at, name_at,
 use Rattle.elf_link_files.specs.declared.fault.Options.{Options}
 use Rattle.elf_link_files.specs.declared.site.Chosen.{Chosen}
 use Rattle.elf_link_files.specs.declared.site.Site.{Site}
-use Rattle.elf_link_names.specs.Binds.{Binds, IsUnbound, AllBound, input_rules, IsLargest, align_at, commons, size_at, strong, weak, chosen_commons}
+use Rattle.elf_link_files.specs.KnownBefore.{IsLargest, align_at, commons, size_at, strong, weak}
+use Rattle.elf_link_names.specs.Binds.{Binds, IsUnbound, AllBound, input_rules, chosen_commons}
 use Rattle.elf_link_names.specs.Resolution.{IsCommonOf, AreChosen, AreChosenAt, IsOfLargest}
 use Rattle.elf_link_names.specs.declared.name_rules.Choice.TheVariants.{Strong, Common, Weak, Zero}
 use Rattle.elf_link_names.specs.declared.name_rules.Choice.{Choice}

@@ -14,11 +14,12 @@ use Rattle.elf_link_files.specs.declared.inputs.SymbolId.{SymbolId}
 use Rattle.elf_link_files.specs.declared.site.Chosen.{Chosen}
 use Rattle.elf_link_files.specs.declared.site.Site.{Site}
 use Rattle.elf_link_names.proofs.KnownNames.{listed_file, names_once, found_none, placed_at, whole_firsts}
-use Rattle.elf_link_names.specs.Binds.{IsLargest, align_at, commons, size_at, strong, IsChosen, chosen_commons, entries, first_entries}
-use Rattle.elf_link_names.specs.KnownNames.{IsWholeBlock, id_site, AreAllKnown, first_site}
+use Rattle.elf_link_files.specs.KnownBefore.{IsLargest, align_at, commons, size_at, strong, entries, id_site}
+use Rattle.elf_link_names.specs.Binds.{IsChosen, chosen_commons, first_entries}
+use Rattle.elf_link_names.specs.KnownNames.{IsWholeBlock, AreAllKnown, first_site}
 use Rattle.elf_link_names.specs.Resolution.{AreChosen, AreChosenAt, AreChosenIn, HaveChosen, IsBlockOf, IsChosenFor, IsOfLargest, IsCommonOf, AreRanks, IsNameCount, IsNumber, IsNumberOf, numbered}
-use Rattle.elf_link_names.specs.declared.known_names.Block.{Block}
-use Rattle.elf_link_names.specs.declared.known_names.Known.{Known}
+use Rattle.elf_link_files.specs.declared.known.Block.{Block}
+use Rattle.elf_link_files.specs.declared.known.Known.{Known}
 use Rattle.elf_object_type.specs.Object.{ObjectValue, binding}
 
 same_id : (a b : SymbolId) → a.file ≡ b.file → a.index ≡ b.index → a ≡ b

@@ -12,7 +12,7 @@ use Rattle.std.proofs.lemmas.Slice.Eq.{bytes_eq-Decides}
 use Rattle.std.proofs.lemmas.Option.{slice_get_read}
 use Rattle.elf_link_names.specs.KnownNames.{known_at, no_known}
 use Rattle.elf_link_names.specs.Tables.{IsPlaced, AreTables, AreSlotsTaken, IsEnd, IsFound, IsInNone, LeadsTo, SlotsTell, numbered_entry, entry_position, free_slot, home, entry_name, name_hash, no_name_entry, or_else, place_among, slot_from, upper_of, KeepsOthers, is_of, known_by, known_from, known_in, small_known}
-use Rattle.elf_link_names.specs.declared.known_names.Known.{Known}
+use Rattle.elf_link_files.specs.declared.known.Known.{Known}
 use Rattle.elf_link_names.specs.declared.known_table.Large.{Large}
 use Rattle.elf_link_names.specs.declared.known_table.Row.{Row as KnownRow}
 use Rattle.elf_link_names.specs.declared.slots.Entry.{Entry}

@@ -1,11 +1,12 @@
 -- What a name is bound to, over the set of all its entries.
 -- (gABI chapter 4, Symbol Table: STB_GLOBAL, STB_WEAK, SHN_COMMON.)
-use Rattle.std.specs.Prelude.{◌≡◌, ℕ, ◌≤◌, ◌⊎◌, List, ◌<◌, [], ◌∷◌, length, None, Some, ◌++◌}
+use Rattle.std.specs.Prelude.{◌≡◌, ℕ, ◌⊎◌, List, ◌<◌, [], ◌∷◌, length, None, Some, ◌++◌}
 use Rattle.elf_extent.specs.Extent.{Never}
 use Rattle.elf_field.specs.Abi.{STB_GLOBAL}
 use Rattle.elf_image_rules.specs.Rows.{Row, Ruled, rule}
 use Rattle.elf_link_files.specs.FileRules.{link_section_rules, link_symbol_rules, option_rules}
-use Rattle.elf_link_files.specs.Files.{symbol_in, IsCommon, IsEntry, IsNotWeak, IsStrong, IsWeak, IsEarlier, object_at, IsUndefinedAt, Live}
+use Rattle.elf_link_files.specs.Files.{symbol_in, IsCommon, IsEntry, IsStrong, IsEarlier, object_at, IsUndefinedAt, Live}
+use Rattle.elf_link_files.specs.KnownBefore.{strong, weak, commons, entries, not_weak, size_at, align_at, IsLargest}
 use Rattle.elf_link_files.specs.Rows.{AtSymbol, IsFirstAt, FirstAmong, AtSection, site}
 use Rattle.elf_link_files.specs.declared.fault.LinkFault.TheVariants.{Rule, OutOfMemory}
 use Rattle.elf_link_files.specs.declared.fault.LinkFault.{LinkFault}
@@ -16,34 +17,6 @@ use Rattle.elf_link_names.specs.declared.name_rules.Choice.{Choice}
 use Rattle.elf_link_names.specs.declared.name_rules.NameRule.TheVariants.{TwoDefinitions, UndefinedName}
 use Rattle.elf_link_names.specs.declared.name_rules.NameRule.{NameRule}
 use Rattle.elf_object_type.specs.Object.{ObjectValue, binding}
-
--- the sites of a name's GLOBAL definitions, its WEAK ones, its commons, its entries, and its entries that are not WEAK
-abbrev pub strong : List ObjectValue → List ℕ → Row Site
-strong fs name = AtSymbol fs (IsStrong fs name)
-
-abbrev pub weak : List ObjectValue → List ℕ → Row Site
-weak fs name = AtSymbol fs (IsWeak fs name)
-
-abbrev pub commons : List ObjectValue → List ℕ → Row Site
-commons fs name = AtSymbol fs (IsCommon fs name)
-
-abbrev pub entries : List ObjectValue → List ℕ → Row Site
-entries fs name = AtSymbol fs (IsEntry fs name)
-
-abbrev pub not_weak : List ObjectValue → List ℕ → Row Site
-not_weak fs name = AtSymbol fs (IsNotWeak fs name)
-
--- the size of a common, and its alignment, which is its value
-abbrev pub size_at : List ObjectValue → ℕ → ℕ → ℕ
-size_at fs f i = (symbol_in fs f i).size
-
-abbrev pub align_at : List ObjectValue → ℕ → ℕ → ℕ
-align_at fs f i = (symbol_in fs f i).value
-
--- n is the largest at the sites of the row
-pub record IsLargest (row : Row Site) (measure : ℕ → ℕ → ℕ) (n : ℕ) : Type 0 where
-  pub above : (p : Site) → row p → measure p.file p.index ≤ n
-  pub attained : (p : Site) × row p × (measure p.file p.index ≡ n)
 
 -- a GLOBAL definition; else a common of the largest size and the largest alignment; else the first WEAK definition; else zero,
 -- where all entries are WEAK

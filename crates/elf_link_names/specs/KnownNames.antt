@@ -1,17 +1,18 @@
 -- What is known of each name on the way through all symbols: the first definition of each binding, the commons, and whether an entry that
 -- isn't WEAK is.
-use Rattle.std.specs.Prelude.{◌≡◌, ℕ, ◌<◌, Option, MatchOption, List, ◌≢◌, Some, [], length, ◌↔◌, ◌≤◌, ◌⊎◌, if◌then◌else◌, Bool, true, false, None, get_or, map, set}
+use Rattle.std.specs.Prelude.{◌≡◌, ℕ, ◌<◌, Option, MatchOption, List, ◌≢◌, Some, [], length, ◌↔◌, Bool, true, false, None, get_or, map, set}
 use Rattle.elf_extent.specs.Extent.{Never}
 use Rattle.elf_field.specs.Abi.{STB_LOCAL}
 use Rattle.elf_image_rules.specs.Rows.{Row}
-use Rattle.elf_link_files.specs.Files.{object_at, symbol_in, IsSymbolIn, symbol_with, IsEarlier}
-use Rattle.elf_link_files.specs.Rows.{site_at, name_at, AreEach, Lists, UpTo, site, IsFirstAt}
+use Rattle.elf_link_files.specs.Files.{object_at, symbol_in, IsSymbolIn, symbol_with}
+use Rattle.elf_link_files.specs.Rows.{site_at, name_at, AreEach, Lists, UpTo, IsFirstAt}
 use Rattle.elf_link_files.specs.declared.inputs.SymbolId.{SymbolId}
 use Rattle.elf_link_files.specs.declared.site.Site.{Site}
-use Rattle.elf_link_names.specs.Binds.{Binds, IsLargest, IsUnbound, align_at, commons, entries, not_weak, size_at, strong, weak, first_entries, HasEarlier}
+use Rattle.elf_link_files.specs.KnownBefore.{IsLargest, align_at, commons, entries, not_weak, size_at, strong, weak, id_in, id_site, IsKnownBefore}
+use Rattle.elf_link_names.specs.Binds.{Binds, IsUnbound, first_entries, HasEarlier}
 use Rattle.elf_link_names.specs.Tables.{name_position}
-use Rattle.elf_link_names.specs.declared.known_names.Block.{Block}
-use Rattle.elf_link_names.specs.declared.known_names.Known.{Known}
+use Rattle.elf_link_files.specs.declared.known.Block.{Block}
+use Rattle.elf_link_files.specs.declared.known.Known.{Known}
 use Rattle.elf_link_names.specs.declared.name_rules.Choice.{Choice}
 use Rattle.elf_link_names.specs.declared.name_table.NameTable.TheInside.{Inside}
 use Rattle.elf_object_type.specs.Object.{ObjectValue, binding}
@@ -50,63 +51,12 @@ AreNameNumbers fs position = AreNumberRows fs position (length fs)
 abbrev pub KeepsPositions : (List ℕ → Option ℕ) → (List ℕ → Option ℕ) → Type 0
 KeepsPositions old now = (q : List ℕ) (k : ℕ) → old q ≡ Some k → now q ≡ Some k
 
-abbrev pub id_in : ℕ → ℕ → SymbolId
-id_in file index = record { file = file; index = index }
-
-abbrev pub id_site : SymbolId → Site
-id_site s = site s.file s.index
-
--- no site of the row is before position i of file f
-abbrev pub NoneBefore : Row Site → ℕ → ℕ → Type 0
-NoneBefore row f i = (p : Site) → row p → IsEarlier p.file p.index f i → ⊥
-
--- a site of the row is before it
-abbrev pub SomeBefore : Row Site → ℕ → ℕ → Type 0
-SomeBefore row f i = (p : Site) × row p × IsEarlier p.file p.index f i
-
--- a symbol is the first site of the row, and is before it
-abbrev pub IsFirstBefore : Row Site → ℕ → ℕ → SymbolId → Type 0
-IsFirstBefore row f i s = IsFirstAt row (id_site s) × IsEarlier s.file s.index f i
-
--- the first site of the row, where one is before it
-abbrev pub IsBest : Row Site → ℕ → ℕ → Option SymbolId → Type 0
-IsBest row f i best = MatchOption best (NoneBefore row f i) (IsFirstBefore row f i)
-
--- what was first stays; else the next symbol does, where it passes
-abbrev pub first_or : Option SymbolId → Bool → SymbolId → Option SymbolId
-first_or (Some s) passes next = Some s
-first_or None passes next = if passes then Some next else None
-
--- the larger one of two numbers
-abbrev pub IsLargerOf : ℕ → ℕ → ℕ → Type 0
-IsLargerOf a b n = (a ≤ n) × (b ≤ n) × ((n ≡ a) ⊎ (n ≡ b))
-
--- the commons of the name before position i of file f: the first one, and the largest size and alignment
-pub record IsBlock (fs : List ObjectValue) (name : List ℕ) (f i : ℕ) (b : Block) : Type 0 where
-  pub first : IsFirstBefore (commons fs name) f i b.first
-  pub size : IsLargest (UpTo (commons fs name) f i) (size_at fs) b.size
-  pub align : IsLargest (UpTo (commons fs name) f i) (align_at fs) b.align
-
-abbrev pub IsCommonBest : List ObjectValue → List ℕ → ℕ → ℕ → Option Block → Type 0
-IsCommonBest fs name f i best = MatchOption best (NoneBefore (commons fs name) f i) (IsBlock fs name f i)
-
--- the entries of the name before position i of file f
-pub record IsKnownBefore (fs : List ObjectValue) (name : List ℕ) (f i : ℕ) (k : Known) : Type 0 where
-  pub strong : IsBest (strong fs name) f i k.strong
-  pub weak : IsBest (weak fs name) f i k.weak
-  pub common : IsCommonBest fs name f i k.common
-  pub not_weak : (k.not_weak ≡ true) ↔ SomeBefore (not_weak fs name) f i
-
 -- that which represents one that isn't there
 abbrev pub no_known : Known
 no_known = record { first = id_in 0 0; strong = None; weak = None; common = None; not_weak = false }
 
 abbrev pub known_at : List Known → ℕ → Known
 known_at ks k = get_or ks k no_known
-
--- the same, where there is an entry that isn't WEAK
-abbrev pub marked_known : Known → Known
-marked_known k = record { first = k.first; strong = k.strong; weak = k.weak; common = k.common; not_weak = true }
 
 -- the first entry of the name
 abbrev pub first_site : Known → Site

@@ -6,11 +6,12 @@ use Rattle.elf_link_files.specs.Rows.{IsFirstAt, Lists, site_at, name_at, AreEac
 use Rattle.elf_link_files.specs.declared.inputs.SymbolId.{SymbolId}
 use Rattle.elf_link_files.specs.declared.site.Chosen.{Chosen}
 use Rattle.elf_link_files.specs.declared.site.Site.{Site}
-use Rattle.elf_link_names.specs.Binds.{IsLargest, align_at, commons, size_at, strong, Binds, IsChosen, chosen_commons, first_entries, AllBound}
-use Rattle.elf_link_names.specs.KnownNames.{IsKnownWhole, id_site, AreAllKnown, first_site, AreNameNumbers}
+use Rattle.elf_link_files.specs.KnownBefore.{IsLargest, align_at, commons, size_at, strong, id_site}
+use Rattle.elf_link_names.specs.Binds.{Binds, IsChosen, chosen_commons, first_entries, AllBound}
+use Rattle.elf_link_names.specs.KnownNames.{IsKnownWhole, AreAllKnown, first_site, AreNameNumbers}
 use Rattle.elf_link_names.specs.Tables.{name_position}
-use Rattle.elf_link_names.specs.declared.known_names.Block.{Block}
-use Rattle.elf_link_names.specs.declared.known_names.Known.{Known}
+use Rattle.elf_link_files.specs.declared.known.Block.{Block}
+use Rattle.elf_link_files.specs.declared.known.Known.{Known}
 use Rattle.elf_link_names.specs.declared.name_rules.Choice.TheVariants.{Common}
 use Rattle.elf_link_names.specs.declared.resolution.Resolution.TheInside.{Inside}
 use Rattle.elf_object_type.specs.Object.{ObjectValue}

@@ -9,7 +9,7 @@ use Rattle.std.specs.Str.{bytes_eq}
 use Rattle.elf_field.specs.Abi.{STB_LOCAL}
 use Rattle.elf_link_files.specs.Files.{symbol_in}
 use Rattle.elf_link_files.specs.declared.inputs.SymbolId.{SymbolId}
-use Rattle.elf_link_names.specs.declared.known_names.Known.{Known}
+use Rattle.elf_link_files.specs.declared.known.Known.{Known}
 use Rattle.elf_link_names.specs.declared.known_table.KnownTable.TheInside.{Inside as KnownTableInside}
 use Rattle.elf_link_names.specs.declared.known_table.Large.{Large}
 use Rattle.elf_link_names.specs.declared.known_table.Row.{Row as KnownRow}

@@ -5,9 +5,8 @@ ghost use Rattle.elf_link_files.specs.Rows.{UpTo};
 ghost use Rattle.elf_link_names.specs.Resolution.{AreChosen, AreChosenIn, IsBlockOf, IsChosenOf, IsPlacedFor, AreAllRanks};
 ghost use Rattle.elf_link_names.specs.Binds.{IsChosen, chosen_commons as chosen_row};
 
-use crate::known_names::{Block, Known};
 use crate::name_table::{NameTable, NamedSymbol};
-use elf_link_files::{Chosen, SymbolId, site_in};
+use elf_link_files::{Block, Chosen, Known, SymbolId, site_in};
 use std::alloc::{AllocError, Global};
 
 /// Whether two symbols are one.

@@ -1,10 +1,10 @@
 //! What is known of each name, from one pass over all symbols: its first definitions, its commons, and what else needs it
 //! (gABI chapter 4, Symbol Table).
-ghost use Rattle.std.specs.Prelude.{◌≡◌, ◌↔◌, ◌+◌, ◌<◌, ◌≤◌, None, Some, false, IfOk, IsTrue, OnOk, length, map};
+ghost use Rattle.std.specs.Prelude.{◌≡◌, ◌↔◌, ◌+◌, ◌<◌, ◌≤◌, None, Some, IfOk, IsTrue, OnOk, length, map};
 ghost use Rattle.elf_object_type.specs.ObjectView.{symbol_value};
 ghost use Rattle.elf_link_files.specs.Files.{object_at, symbol_with, IsCommon, IsNotWeak, IsStrong};
-ghost use Rattle.elf_link_names.specs.Binds.{not_weak as not_weak_row};
-ghost use Rattle.elf_link_names.specs.KnownNames.{AreAllKnown, AreKnownBefore, IsBlock, IsCommonBest, IsKnownBefore, IsLargerOf, IsNotedAt, SomeBefore, first_or, known_at, AreNameNumbers, IsNameNumber, IsNumberRow, KeepsPositions};
+ghost use Rattle.elf_link_files.specs.KnownBefore.{IsKnownBefore};
+ghost use Rattle.elf_link_names.specs.KnownNames.{AreAllKnown, AreKnownBefore, IsNotedAt, known_at, AreNameNumbers, IsNameNumber, IsNumberRow, KeepsPositions};
 ghost use Rattle.elf_link_names.specs.Tables.{IsSymbolLookup, name_position};
 ghost use Rattle.elf_field.specs.Abi.{STB_LOCAL};
 ghost use Rattle.elf_object_type.specs.Object.{binding as binding_of};
@@ -13,35 +13,9 @@ use crate::known_table::KnownTable;
 use crate::name_index::{BLOCK, Lookup, NameIndex, block_lookups};
 use elf_field::abi::*;
 use elf_link_files::files::symbol_count;
-use elf_link_files::{InputSymbol, Inputs, SymbolId};
+use elf_link_files::{InputSymbol, Inputs, Known, SymbolId};
 use elf_object_type::Symbol;
 use std::alloc::{AllocError, Global};
-
-/// The commons of a name: the first one, and the largest size and alignment of all.
-#[derive(Clone, Copy)]
-pub struct Block {
-    /// The first one.
-    pub first: SymbolId,
-    /// The largest size.
-    pub size: u64,
-    /// The largest alignment.
-    pub align: u64,
-}
-
-/// What is known of a name.
-#[derive(Clone, Copy)]
-pub struct Known {
-    /// Its first entry.
-    pub first: SymbolId,
-    /// Whether it has an entry that is not weak.
-    pub not_weak: bool,
-    /// Its first global definition.
-    pub strong: Option<SymbolId>,
-    /// Its first weak definition.
-    pub weak: Option<SymbolId>,
-    /// Its commons.
-    pub common: Option<Block>,
-}
 
 /// What is known of each name, in the order of the first entries, and the position of each there: one item for each name that is not local.
 #[derive(Drop)]
@@ -50,77 +24,6 @@ pub struct KnownNames<'a> {
     pub positions: NameIndex<'a>,
     /// What is known of each.
     pub known: KnownTable,
-}
-
-/// Notes a symbol as the first one, where it passes and none has been noted.
-fn note_first(best: &mut Option<SymbolId>, passes: bool, id: SymbolId)
-    ensures { best.new ≡ first_or best.old passes id }
-{
-    if passes && best.is_none() {
-        *best = Some(id);
-    }
-}
-
-/// The larger one of two numbers.
-fn larger(most: u64, other: u64) -> u64
-    ensures { IsLargerOf most other result }
-{
-    if most < other { other } else { most }
-}
-
-/// The commons of a name, where this symbol is one more.
-fn joined(symbol: &InputSymbol<'_, '_, '_>, block: Option<Block>) -> Block
-    requires common { IsCommon symbol.now.inputs.now (symbol_with symbol.now.inputs.now symbol.now.id).name symbol.now.id.file symbol.now.id.index }
-    requires before { IsCommonBest symbol.now.inputs.now (symbol_with symbol.now.inputs.now symbol.now.id).name symbol.now.id.file symbol.now.id.index block }
-    ensures { IsBlock symbol.now.inputs.now (symbol_with symbol.now.inputs.now symbol.now.id).name symbol.now.id.file (symbol.now.id.index + 1) result }
-{
-    let own = symbol.symbol();
-    match block {
-        Some(block) => Block {
-            first: block.first,
-            size: larger(block.size, own.size),
-            align: larger(block.align, own.value),
-        },
-        None => Block {
-            first: symbol.id,
-            size: own.size,
-            align: own.value,
-        },
-    }
-}
-
-/// Adds a symbol to the commons of its name, where it is one.
-fn note_common(symbol: &InputSymbol<'_, '_, '_>, block: &mut Option<Block>)
-    requires { IsCommonBest symbol.now.inputs.now (symbol_with symbol.now.inputs.now symbol.now.id).name symbol.now.id.file symbol.now.id.index block.old }
-    ensures { IsCommonBest symbol.now.inputs.now (symbol_with symbol.now.inputs.now symbol.now.id).name symbol.now.id.file (symbol.now.id.index + 1) block.new }
-{
-    if symbol.is_common() {
-        *block = Some(joined(symbol, *block));
-    }
-}
-
-/// Notes that a symbol's name has an entry that is not weak, where the symbol is one.
-fn note_not_weak(symbol: &InputSymbol<'_, '_, '_>, found: &mut bool)
-    requires { IsTrue found.old ↔ SomeBefore (not_weak_row symbol.now.inputs.now (symbol_with symbol.now.inputs.now symbol.now.id).name) symbol.now.id.file symbol.now.id.index }
-    ensures { IsTrue found.new ↔ SomeBefore (not_weak_row symbol.now.inputs.now (symbol_with symbol.now.inputs.now symbol.now.id).name) symbol.now.id.file (symbol.now.id.index + 1) }
-{
-    if symbol.is_not_weak() {
-        *found = true;
-    }
-}
-
-/// Adds a symbol to what is known of its name.
-fn note_symbol(symbol: &InputSymbol<'_, '_, '_>, known: &mut Known)
-    requires { IsKnownBefore symbol.now.inputs.now (symbol_with symbol.now.inputs.now symbol.now.id).name symbol.now.id.file symbol.now.id.index known.old }
-    ensures known { IsKnownBefore symbol.now.inputs.now (symbol_with symbol.now.inputs.now symbol.now.id).name symbol.now.id.file (symbol.now.id.index + 1) known.new }
-    ensures first { known.new.first ≡ known.old.first }
-{
-    let strong = symbol.is_definition(STB_GLOBAL);
-    let weak = symbol.is_definition(STB_WEAK);
-    note_first(&mut known.strong, strong, symbol.id);
-    note_first(&mut known.weak, weak, symbol.id);
-    note_common(symbol, &mut known.common);
-    note_not_weak(symbol, &mut known.not_weak);
 }
 
 /// Whether a symbol is an entry that is not weak, and neither a common nor a definition. It changes one mark of what is known of its name.
@@ -147,21 +50,8 @@ fn note_again(
         return Ok(());
     }
     let mut known = names.item(k);
-    note_symbol(symbol, &mut known);
+    known.note(symbol);
     names.set(k, known)
-}
-
-/// What is known of a name whose first entry is this symbol, before it is looked at.
-fn unknown(id: SymbolId) -> Known
-    ensures { result ≡ record { first = id; strong = None; weak = None; common = None; not_weak = false } }
-{
-    Known {
-        first: id,
-        not_weak: false,
-        strong: None,
-        weak: None,
-        common: None,
-    }
 }
 
 /// Whether a symbol is local.
@@ -196,8 +86,8 @@ fn pass_symbol<'a>(
             Ok(k)
         }
         None => {
-            let mut known = unknown(symbol.id);
-            note_symbol(symbol, &mut known);
+            let mut known = Known::new(symbol.id);
+            known.note(symbol);
             names.known.push(known)?;
             Ok(next)
         }

@@ -1,10 +1,10 @@
 //! What is known of each name, in rows of 32 bytes: how long a link of many names takes depends on how much memory it goes through.
 ghost use Rattle.std.specs.Prelude.{◌≡◌, ◌<◌, ◌++◌, ◌∷◌, [], None, Some, IfOk, IfSome, OnOk, if◌then◌else◌, length, set, slice_get};
-ghost use Rattle.elf_link_names.specs.KnownNames.{known_at, marked_known};
+ghost use Rattle.elf_link_files.specs.KnownBefore.{marked_known};
+ghost use Rattle.elf_link_names.specs.KnownNames.{known_at};
 ghost use Rattle.elf_link_names.specs.Tables.{KeepsOthers, id_of, is_of, known_in, small_known};
 
-use crate::known_names::Known;
-use elf_link_files::SymbolId;
+use elf_link_files::{Known, SymbolId};
 use std::alloc::{AllocError, Global};
 use std::marker::Model;
 
@@ -43,7 +43,7 @@ pub struct KnownTable {
 
 impl Model for KnownTable {
     ghost use Rattle.std.specs.Prelude.{List};
-    ghost use Rattle.elf_link_names.specs.declared.known_names.Known.{Known};
+    ghost use Rattle.elf_link_files.specs.declared.known.Known.{Known};
 
     ghost Value = { List Known };
 

@@ -7,11 +7,10 @@ ghost use Rattle.elf_image_rules.specs.Rows.{fault_of};
 ghost use Rattle.elf_link_files.specs.Rows.{AtSymbol, FirstAmong, IsFirstAt};
 ghost use Rattle.elf_link_names.specs.Binds.{BreaksName, HasNoName, HasTwoDefinitions, IsFirstName, IsUndefinedName, link_name_rules};
 
-use crate::known_names::Known;
 use crate::name_table::{NameTable, NamedSymbol};
 use elf_field::abi::*;
 use elf_link_files::rules::*;
-use elf_link_files::{Broken, Site, SymbolId, site_in};
+use elf_link_files::{Broken, Known, Site, SymbolId, site_in};
 
 // What a name is bound to, before anything has an address.
 

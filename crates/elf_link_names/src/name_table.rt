@@ -4,9 +4,9 @@ ghost use Rattle.elf_link_files.specs.Files.{object_at, IsSymbolIn, symbol_with}
 ghost use Rattle.elf_link_names.specs.KnownNames.{IsEntryIn, IsKnownWhole};
 ghost use Rattle.elf_link_names.specs.Resolution.{IsNameCount, IsNumberOf};
 
-use crate::known_names::{Known, KnownNames, known_names};
+use crate::known_names::{KnownNames, known_names};
 use elf_link_files::files::symbol_count;
-use elf_link_files::{InputSymbol, Inputs, SymbolId};
+use elf_link_files::{InputSymbol, Inputs, Known, SymbolId};
 use std::alloc::{AllocError, Global};
 use std::marker::Model;
 

@@ -2,7 +2,8 @@
 //! Table).
 ghost use Rattle.std.specs.Prelude.{◌+◌, ◌<◌, IfOk, OnOk, length, ◌≡◌, ℕ, MatchOption, map};
 ghost use Rattle.elf_link_files.specs.Rows.{Lists, UpTo, AreSymbols};
-ghost use Rattle.elf_link_names.specs.Binds.{live_sections as live_row, AllBound, Binds, entries, first_entries};
+ghost use Rattle.elf_link_files.specs.KnownBefore.{entries};
+ghost use Rattle.elf_link_names.specs.Binds.{live_sections as live_row, AllBound, Binds, first_entries};
 ghost use Rattle.elf_extent.specs.Extent.{Never};
 ghost use Rattle.elf_link_files.specs.Files.{AreDiscardMarks, IsSymbolIn, symbol_with};
 ghost use Rattle.elf_object_type.specs.ObjectView.{symbol_value};

@@ -1,5 +1,5 @@
-//! The program's command line, defined once. A further command is one more item of `elfmap`, here
-//! and in `specs/Command.antt`, and a function for its arguments where it takes more than one file.
+//! The program's command line, defined once. A further command is one more item of `elfmap`, here and in `specs/Command.antt`, and a
+//! function for its arguments; where these are one file alone, that is a call of `file_command`.
 ghost use Rattle.std.specs.Prelude.{◌≡◌, false, IfOk, IsOkAnd};
 ghost use Rattle.clap.specs.Simple.{with_subcommand};
 ghost use Rattle.clap.specs.Words.{app_of, shape_of};

@@ -1,7 +1,8 @@
 use Rattle.std.proofs.Common.{refl}
 use Rattle.elf_link_files.specs.Files.{symbol_in}
-use Rattle.elf_link_names.specs.KnownNames.{known_at, marked_known}
-use Rattle.elf_link_names.proofs.KnownNames.{known_reference}
+use Rattle.elf_link_files.specs.KnownBefore.{marked_known}
+use Rattle.elf_link_names.specs.KnownNames.{known_at}
+use Rattle.elf_link_files.proofs.Public.{known_reference}
 use Rattle.elf_link_names.proofs.known_names.note_again.Goals as goal
 
 pub returns-then-is_reference : goal.returns-then-is_reference

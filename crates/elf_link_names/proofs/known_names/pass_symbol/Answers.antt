@@ -6,10 +6,11 @@ use Rattle.std.specs.Str.{bytes_eq}
 use Rattle.elf_field.specs.Abi.{STB_LOCAL}
 use Rattle.elf_object_type.specs.Object.{SymbolValue, binding}
 use Rattle.elf_link_files.specs.Files.{symbol_in}
-use Rattle.elf_link_names.specs.declared.known_names.Known.{Known}
-use Rattle.elf_link_names.specs.KnownNames.{IsKnownBefore}
+use Rattle.elf_link_files.specs.declared.known.Known.{Known}
+use Rattle.elf_link_files.specs.KnownBefore.{IsKnownBefore}
 use Rattle.elf_link_names.specs.Tables.{IsLookup, name_position}
-use Rattle.elf_link_names.proofs.KnownNames.{keeps_new, known_none, none_placed, placed_at, names_again, names_local, names_new}
+use Rattle.elf_link_files.proofs.Public.{known_none}
+use Rattle.elf_link_names.proofs.KnownNames.{keeps_new, none_placed, placed_at, names_again, names_local, names_new}
 use Rattle.elf_link_names.proofs.known_names.pass_symbol.Goals as goal
 
 pub returns-then-is_local-clause-names : goal.returns-then-is_local-clause-names
@@ -61,15 +62,15 @@ returns-in_ok-note_again-in-Some-clause-names c =
     (names_again fs s.id.file s.id.index old (name_position c.place_looked_up.new.self) ks k noted.known
     (λ q. rw c.in-Some.is at (c.in_ok-place.ensures.placed q)) at noted.first noted.noted c.requires.before)
 
-pub note_symbol-requires : goal.note_symbol-requires
-note_symbol-requires c =
+pub note-requires : goal.note-requires
+note-requires c =
     let s = c.args.symbol.now in
     let fs = s.inputs.now in
     let ks = c.args.names.now.known in
     let same = ap (λ (s : SymbolValue). s.name) c.symbol-own.ensures in
     let name = (symbol_in fs s.id.file s.id.index).name in
     let old = name_position c.args.names.now.positions in
-    subst (IsKnownBefore fs name s.id.file s.id.index) (sym c.unknown-known.ensures)
+    subst (IsKnownBefore fs name s.id.file s.id.index) (sym c.new-known.ensures)
     (known_none fs name s.id.file s.id.index
     (none_placed fs s.id.file s.id.index old ks name
     (subst (λ (n : List ℕ). old n ≡ None) same (sym c.in_ok-place.ensures.old ∙ c.in-None.is)) c.requires.before))
@@ -84,14 +85,14 @@ returns-in_ok-push-in-None-clause-names c =
     let old = name_position c.args.names.now.positions in
     let now = name_position c.place_looked_up.new.self in
     rw c.in_ok-push-in-None.ensures
-    (names_new fs s.id.file s.id.index old now ks c.note_symbol.new.known s.there.0 s.there.1
+    (names_new fs s.id.file s.id.index old now ks c.note.new.self s.there.0 s.there.1
     (λ local. (let never : false ≡ true = c.if-is_local.ensures.1 (subst (λ (s : SymbolValue). binding s ≡ STB_LOCAL) (sym c.symbol-own.ensures) local) in cc))
     (subst (λ (n : List ℕ). (q : List ℕ) → now q ≡ cond (bytes_eq n q) (Some (length ks)) (old q)) same
     (subst (λ (m : ℕ). (q : List ℕ) → now q ≡ cond (bytes_eq name q) (Some m) (old q)) c.len-next.ensures
     (λ q. rw c.in-None.is at (c.in_ok-place.ensures.placed q))))
     (subst (λ (n : List ℕ). old n ≡ None) same (sym c.in_ok-place.ensures.old ∙ c.in-None.is))
-    (c.note_symbol.ensures.first ∙ ap (λ (k : Known). k.first) c.unknown-known.ensures)
-    c.note_symbol.ensures.known c.requires.before)
+    (c.note.ensures.first ∙ ap (λ (k : Known). k.first) c.new-known.ensures)
+    c.note.ensures.known c.requires.before)
 
 pub returns-in_ok-push-in-None-clause-kept : goal.returns-in_ok-push-in-None-clause-kept
 returns-in_ok-push-in-None-clause-kept c =

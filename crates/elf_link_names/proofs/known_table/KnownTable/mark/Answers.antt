@@ -3,9 +3,9 @@
 use Rattle.std.proofs.Common.{◌≡◌, ◌<◌, true, false, length, refl, rules, set, sym, ◌∙◌, ap, subst, arith}
 use Rattle.std.specs.Prelude.{slice_get}
 use Rattle.std.proofs.lemmas.List.{get_or_default}
-use Rattle.elf_link_names.specs.declared.known_names.Known.{Known}
+use Rattle.elf_link_files.specs.declared.known.Known.{Known}
 use Rattle.elf_link_names.specs.declared.known_table.Row.{Row}
-use Rattle.elf_link_names.specs.KnownNames.{marked_known}
+use Rattle.elf_link_files.specs.KnownBefore.{marked_known}
 use Rattle.elf_link_names.specs.Tables.{is_of, known_from}
 use Rattle.elf_link_names.proofs.Tables.{has_large, has_row, is_here, length-known_from, own_named, read_own, read_small, set_own, set_small}
 use Rattle.elf_link_names.proofs.known_table.KnownTable.mark.Goals as goal

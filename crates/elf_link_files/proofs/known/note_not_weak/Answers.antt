@@ -1,7 +1,7 @@
 use Rattle.std.proofs.Common.{refl}
 use Rattle.elf_link_files.specs.Files.{symbol_in, IsNotWeak}
-use Rattle.elf_link_names.proofs.KnownNames.{found_here}
-use Rattle.elf_link_names.proofs.known_names.note_not_weak.Goals as goal
+use Rattle.elf_link_files.proofs.KnownBefore.{found_here}
+use Rattle.elf_link_files.proofs.known.note_not_weak.Goals as goal
 
 pub returns-then-is_not_weak : goal.returns-then-is_not_weak
 returns-then-is_not_weak c =

@@ -1,9 +1,9 @@
 use Rattle.std.proofs.Common.{ℕ, refl, ap, subst}
 use Rattle.elf_object_type.specs.Object.{SymbolValue}
 use Rattle.elf_link_files.specs.Files.{symbol_in}
-use Rattle.elf_link_names.specs.KnownNames.{IsCommonBest, IsLargerOf}
-use Rattle.elf_link_names.proofs.KnownNames.{block_more, block_one}
-use Rattle.elf_link_names.proofs.known_names.joined.Goals as goal
+use Rattle.elf_link_files.specs.KnownBefore.{IsCommonBest, IsLargerOf}
+use Rattle.elf_link_files.proofs.KnownBefore.{block_more, block_one}
+use Rattle.elf_link_files.proofs.known.joined.Goals as goal
 
 pub returns-in-Some : goal.returns-in-Some
 returns-in-Some c =
