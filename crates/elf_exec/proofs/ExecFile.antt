@@ -8,9 +8,10 @@ use Rattle.std.proofs.lemmas.Bool.{ne_eqb, cases_lt, cases_eq}
 use Rattle.std.proofs.lemmas.List.{get_or_past, get_or-drop, get_or-take, length-map, length-take}
 use Rattle.std.proofs.Math.Nat.{zero-mod}
 use Rattle.std.proofs.lemmas.Nat.{pow_pos}
-use Rattle.elf_exec.proofs.LoadSegments.{load_some, load_stands, loads_ascend}
-use Rattle.elf_exec.specs.Executable.{encoding_of, exec_header, file_size, identification_of, load_part, program_header, program_headers, no_load, bytes_from, exec_bytes, header_bytes, load_parts, table_bytes, load_in, loads, IsExecFile, IsSoundLink}
-use Rattle.elf_exec.specs.declared.load.Load.{Load}
+use Rattle.elf_link_relocate.proofs.Public.{load_some, load_stands, loads_ascend, memory_bytes}
+use Rattle.elf_link_relocate.specs.Loads.{file_size, no_load, load_in, loads}
+use Rattle.elf_exec.specs.Executable.{encoding_of, exec_header, identification_of, load_part, program_header, program_headers, bytes_from, exec_bytes, header_bytes, load_parts, table_bytes, IsExecFile, IsSoundLink}
+use Rattle.elf_link_relocate.specs.declared.load.Load.{Load}
 use Rattle.elf_extent.proofs.Public.{fits_length}
 use Rattle.elf_extent.specs.Place.{Fits, alignment}
 use Rattle.elf_field.proofs.RecordTableLaws.{IsBytes-table, length-table}
@@ -35,7 +36,6 @@ use Rattle.elf_link_files.specs.Files.{no_object, object_at}
 use Rattle.elf_link_map.proofs.Public.{are_paged, outputs_stand, parts_apart}
 use Rattle.elf_link_map.specs.LinkMap.{LinkMapValue}
 use Rattle.elf_link_map.specs.Standing.{ObjectsFit, ArePaged, OutputsStand, StandApart}
-use Rattle.elf_link_relocate.proofs.Public.{memory_bytes}
 use Rattle.elf_link_relocate.specs.Fields.{content_of}
 use Rattle.elf_link_relocate.specs.Linked.{identity_of, HaveBytes}
 use Rattle.elf_link_relocate.specs.declared.linked.Identity.{Identity}

@@ -8,10 +8,11 @@ use Rattle.std.proofs.lemmas.List.{ext_get_or}
 use Rattle.std.specs.Io.KnownBytes.{Appends}
 use Rattle.elf_exec.proofs.ExecFile.{content_byte, content_long, outputs, segment_is, segments_long, size_with_bits, stand, exec_accepted, exec_is_bytes, exec_read}
 use Rattle.elf_exec.proofs.ExecText.{exec_laid, length-exec, sent_text, text_is}
-use Rattle.elf_exec.proofs.LoadSegments.{load_of, load_there, at_commons, at_output, commons_ascend, commons_end, commons_some}
+use Rattle.elf_link_relocate.proofs.Public.{load_of, load_there, at_commons, at_output, commons_ascend, commons_end, commons_some, any_options, field_in_content, memory_in, memory_zero, one_byte, some_byte}
 use Rattle.elf_exec.specs.ExecWriting.{IsExec, load_contents, IsLoadable, WritesExec, exec_text, IsPlacedExec, PlacedExecValue}
-use Rattle.elf_exec.specs.Executable.{program_headers, load_at, load_in, loads, IsExecFile, IsSoundLink, AreLoadBytes, ExecLaid, bytes_from, exec_bytes, load_parts, IsExecutable}
-use Rattle.elf_exec.specs.declared.load.Load.{Load}
+use Rattle.elf_link_relocate.specs.Loads.{load_at, load_in, loads}
+use Rattle.elf_exec.specs.Executable.{program_headers, IsExecFile, IsSoundLink, AreLoadBytes, ExecLaid, bytes_from, exec_bytes, load_parts, IsExecutable}
+use Rattle.elf_link_relocate.specs.declared.load.Load.{Load}
 use Rattle.elf_extent.proofs.Public.{least_places, same_least}
 use Rattle.elf_field.specs.declared.ehdr.Ehdr.{Ehdr}
 use Rattle.elf_field.specs.declared.phdr.Phdr.{Phdr}
@@ -28,7 +29,6 @@ use Rattle.elf_link_map.specs.LinkMap.{LinkMapValue}
 use Rattle.elf_link_map.specs.Standing.{member_at, output_at}
 use Rattle.elf_link_outputs.specs.Outputs.{is_no_bits, memory_size}
 use Rattle.elf_link_outputs.specs.Placed.{common_at}
-use Rattle.elf_link_relocate.proofs.Public.{any_options, field_in_content, memory_in, memory_zero, one_byte, some_byte}
 use Rattle.elf_link_relocate.specs.Fields.{content_of, applied_entry_rules}
 use Rattle.elf_link_relocate.specs.Linked.{HasContentAt, IsInMemory, IsInOutputAt, IsMemory, LinkedValue, IsMapOfSome, IsReadyLink}
 use Rattle.elf_object_type.specs.Object.{BodyValue, ObjectValue, bits, group, no_bits, relocs}

@@ -6,12 +6,13 @@ use Rattle.std.specs.List.{flat_map, range_with_len}
 use Rattle.std.proofs.lemmas.List.{get_or-append_right, get_or-replicate, get_or_append_left, length-replicate, get_or-map, length-map}
 use Rattle.std.specs.Prelude.{MatchOption, Option, None, Some, unwrap_or, IfErr}
 use Rattle.std.proofs.lemmas.Simd.{map-map}
-use Rattle.elf_exec.proofs.LoadSegments.{load_of}
+use Rattle.elf_link_relocate.proofs.Public.{load_of, any_options, memory_zero}
 use Rattle.elf_exec.specs.ExecWriting.{EndTooFar, file_end, piece, member_content, output_content, IsExec, IsTooLong, exec_text, load_content, load_contents, loads_text, placed_header, placed_table, IsPlacedExec, PlacedExecValue, exec_end, member_piece, IsPartsFault, IsPlacingFault}
-use Rattle.elf_exec.specs.Executable.{AreLoadBytes, bytes_from, exec_bytes, exec_header, file_size, header_bytes, load_part, load_parts, program_header, program_headers, table_bytes, commons_load, load_in, loads, no_load, output_load, EndInTime}
+use Rattle.elf_link_relocate.specs.Loads.{file_size, commons_load, load_in, loads, no_load, output_load, EndInTime}
+use Rattle.elf_exec.specs.Executable.{AreLoadBytes, bytes_from, exec_bytes, exec_header, header_bytes, load_part, load_parts, program_header, program_headers, table_bytes}
 use Rattle.elf_exec.specs.declared.exec_writing.ExecFault.TheVariants.{TooLong, OutOfMemory, Io}
 use Rattle.elf_exec.specs.declared.exec_writing.ExecFault.{ExecFault}
-use Rattle.elf_exec.specs.declared.load.Load.{Load}
+use Rattle.elf_link_relocate.specs.declared.load.Load.{Load}
 use Rattle.elf_extent.proofs.Public.{above_earlier, above_from, fits_length}
 use Rattle.elf_extent.specs.Place.{Fits, IsOverflowAt, end_of, Least}
 use Rattle.elf_field.proofs.RecordTableLaws.{length-table}
@@ -31,7 +32,6 @@ use Rattle.elf_link_map.specs.Standing.{size_in, MembersStand, address_in, membe
 use Rattle.elf_link_outputs.specs.Outputs.{is_no_bits, memory_size}
 use Rattle.elf_link_outputs.specs.Placed.{OutputValue}
 use Rattle.elf_link_outputs.specs.declared.placing.Member.{Member}
-use Rattle.elf_link_relocate.proofs.Public.{any_options, memory_zero}
 use Rattle.elf_link_relocate.specs.Fields.{content_of}
 use Rattle.elf_link_relocate.specs.Linked.{AreBytesOf, HasLiveBits, LinkedValue, bytes_at, IsInNoMember, IsMemory, IsReadyLink, identity_of}
 use Rattle.elf_object_type.specs.Object.{BodyValue, bits, no_bits, relocs, group, ObjectValue, is_bits}

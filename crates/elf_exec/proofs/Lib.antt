@@ -1,7 +1,6 @@
 -- What the proofs of those who build on this crate may cite.
 pub mod Public
 mod ExecText
-mod LoadSegments
 mod ExecLaws
 -- That it is an image, and loads the memory of the link.
 mod ExecFile

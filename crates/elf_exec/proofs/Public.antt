@@ -2,4 +2,4 @@
 -- whose each byte is of parts at their places.
 pub use Rattle.elf_exec.proofs.ExecLaws.{executable, one_exec, some_exec}
 pub use Rattle.elf_exec.proofs.ExecText.{IsInPart, IsPartByte, byte_of_spread}
-pub use Rattle.elf_exec.proofs.LoadSegments.{load_of, load_some}
+pub use Rattle.elf_link_relocate.proofs.Public.{load_of, load_some}

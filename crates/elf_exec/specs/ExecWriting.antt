@@ -1,10 +1,11 @@
 -- What writing an executable does to what a writer holds.
 use Rattle.std.specs.Prelude.{◌≡◌, ◌<◌, ◌≤◌, ◌⊎◌, ℕ, List, length, Option, Result, Ok, Err, MatchResult, ◌-◌, ◌==◌, if◌then◌else◌, zero, suc, ◌+◌, [], ◌++◌, map, replicate, slice_index, unwrap_or}
 use Rattle.std.specs.List.{flat_map, range_with_len}
-use Rattle.elf_exec.specs.Executable.{ExecLaid, IsExecFile, IsExecutable, loads, bytes_from, load_parts, exec_bytes, file_size, header_bytes, table_bytes, load_in}
+use Rattle.elf_link_relocate.specs.Loads.{loads, file_size, load_in}
+use Rattle.elf_exec.specs.Executable.{ExecLaid, IsExecFile, IsExecutable, bytes_from, load_parts, exec_bytes, header_bytes, table_bytes}
 use Rattle.elf_exec.specs.declared.exec_writing.ExecFault.TheVariants.{TooLong, OutOfMemory, Io}
 use Rattle.elf_exec.specs.declared.exec_writing.ExecFault.{ExecFault}
-use Rattle.elf_exec.specs.declared.load.Load.{Load}
+use Rattle.elf_link_relocate.specs.declared.load.Load.{Load}
 use Rattle.elf_extent.specs.Place.{Least, end_of}
 use Rattle.elf_field.specs.Abi.{PN_XNUM}
 use Rattle.elf_image_rules.specs.Rules.{MAX_LEN}

@@ -1,10 +1,10 @@
 -- What the executable of a link is, as a file: an image whose loadable segments give each address the byte that memory has there.
 -- (gABI chapter 4, ELF Header; chapter 5, Program Header.)
-use Rattle.std.specs.Prelude.{ℕ, ◌+◌, ◌-◌, ◌^◌, ◌<◌, ◌==◌, nat_lt, if◌then◌else◌, Bool, true, List, bit_and, get_or, length, map, ◌≡◌, ◌*◌, [], ◌∷◌, ◌++◌, replicate, slice_index, ◌↔◌, ◌≤◌, MatchOption, Option, None}
-use Rattle.std.specs.List.{filter, range_with_len, flat_map}
-use Rattle.elf_exec.specs.declared.load.Load.{Load}
+use Rattle.std.specs.Prelude.{ℕ, ◌+◌, ◌-◌, ◌^◌, ◌<◌, ◌==◌, if◌then◌else◌, List, length, map, ◌≡◌, ◌*◌, [], ◌∷◌, ◌++◌, replicate, slice_index, ◌↔◌, ◌≤◌, MatchOption, Option, None}
+use Rattle.std.specs.List.{flat_map}
+use Rattle.elf_link_relocate.specs.declared.load.Load.{Load}
 use Rattle.elf_extent.specs.Place.{Least}
-use Rattle.elf_field.specs.Abi.{PF_R, PF_W, PF_X, SHF_EXECINSTR, SHF_WRITE, EHDR_SIZE, EI_NIDENT, EI_PAD, ELFCLASS64, ELFDATA2LSB, ELFDATA2MSB, ET_EXEC, EV_CURRENT, MAGIC, PHDR_SIZE, PT_LOAD, PN_XNUM}
+use Rattle.elf_field.specs.Abi.{EHDR_SIZE, EI_NIDENT, EI_PAD, ELFCLASS64, ELFDATA2LSB, ELFDATA2MSB, ET_EXEC, EV_CURRENT, MAGIC, PHDR_SIZE, PT_LOAD, PN_XNUM}
 use Rattle.elf_field.specs.Headers.{ehdr_bytes, phdr_bytes}
 use Rattle.elf_field.specs.declared.ehdr.Ehdr.{Ehdr}
 use Rattle.elf_field.specs.declared.number.Order.TheVariants.{Little, Big}
@@ -17,65 +17,17 @@ use Rattle.elf_image_type.specs.RelocatableFile.{spread}
 use Rattle.elf_link_field.specs.declared.rule.RelocRule.{RelocRule}
 use Rattle.elf_link_files.specs.Rows.{AreEach, FirstAmong}
 use Rattle.elf_link_map.specs.LinkMap.{LinkMapValue}
-use Rattle.elf_link_map.specs.Standing.{output_at, AreObjects, ObjectsFit}
-use Rattle.elf_link_outputs.specs.Placed.{CommonValue, OutputValue, common_at}
+use Rattle.elf_link_map.specs.Standing.{AreObjects, ObjectsFit}
 use Rattle.elf_link_relocate.specs.Fields.{applied_entry_rules}
+use Rattle.elf_link_relocate.specs.Loads.{file_size, load_in, loads}
 use Rattle.elf_link_relocate.specs.Linked.{identity_of, IsMemory, IsMapOfSome}
 use Rattle.elf_link_relocate.specs.declared.linked.Identity.{Identity}
 use Rattle.elf_object_type.specs.Object.{ObjectValue}
-
--- The segments of an executable: one of type PT_LOAD for each output section that takes memory, and one for the commons if they do, in
--- order of address. (gABI chapter 5, Program Header: Segment Types, Segment Permissions; which there are is this project's profile.)
-
--- the permissions of a segment of sections with these flags: it is readable; writable and executable where they are
-abbrev pub segment_flags : ℕ → ℕ
-segment_flags flags =
-    PF_R + (if bit_and flags SHF_WRITE == 0 then 0 else PF_W) + (if bit_and flags SHF_EXECINSTR == 0 then 0 else PF_X)
-
--- the output at position k: all of it
-abbrev pub output_load : ℕ → OutputValue → Load
-output_load k o = record { position = k; address = o.address; size = o.length; flags = segment_flags o.flags; no_bits = o.no_bits }
-
--- so many zeros at an address, which is writable
-abbrev pub zeros_load : ℕ → ℕ → ℕ → Load
-zeros_load k address size = record { position = k; address = address; size = size; flags = PF_R + PF_W; no_bits = true }
-
--- the commons, after so many outputs: from where the first one begins to where the last one ends; without commons nothing
-abbrev pub commons_load : ℕ → List CommonValue → Load
-commons_load k cs =
-    let first = common_at cs 0 in
-    let last = common_at cs (length cs - 1) in
-    zeros_load k first.address (last.address + last.size - first.address)
-
-abbrev pub load_at : LinkMapValue → ℕ → Load
-load_at m k = if nat_lt k (length m.outputs) then output_load k (output_at m k) else commons_load k m.commons
-
-abbrev pub has_memory : Load → Bool
-has_memory load = nat_lt 0 load.size
-
--- all that take memory
-unfoldable pub loads : LinkMapValue → List Load
-loads m = filter has_memory (map (load_at m) (range_with_len 0 (length m.outputs + 1)))
-
--- the one used for one that isn't there
-abbrev pub no_load : Load
-no_load = record { position = 0; address = 0; size = 0; flags = 0; no_bits = true }
-
-abbrev pub load_in : LinkMapValue → ℕ → Load
-load_in m j = get_or (loads m) j no_load
-
--- each common ends below 2^64
-abbrev pub EndInTime : List CommonValue → Type 0
-EndInTime cs = (k : ℕ) → k < length cs → (common_at cs k).address + (common_at cs k).size < 2 ^ 64
 
 -- The executable of a link: the one list of bytes that it is written as.
 -- (gABI chapter 4, ELF Header; chapter 5, Program Header; where they leave a place open, the layout is this project's profile.)
 
 -- ---- the parts after the header and the program header table: the bytes of each segment
-
--- p_filesz: a segment without bits has none in the file
-abbrev pub file_size : Load → ℕ
-file_size load = if load.no_bits then 0 else load.size
 
 -- the bytes as (size, alignment): those of a segment with bits begin at a multiple of the page
 abbrev pub load_part : ℕ → Load → ℕ × ℕ

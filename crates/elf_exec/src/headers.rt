@@ -4,12 +4,11 @@ ghost use Rattle.elf_field.specs.Abi.{PN_XNUM};
 ghost use Rattle.elf_exec.specs.Executable.{encoding_of, exec_header, identification_of, program_header};
 ghost use Rattle.elf_link_relocate.specs.Linked.{identity_of};
 
-use crate::load::{Load, file_size};
 use crate::placed_exec::PlacedExec;
 use elf_field::abi::*;
 use elf_field::{Ehdr, Order, Phdr};
 use elf_image_outline::Entries;
-use elf_link_relocate::{Identity, Linked};
+use elf_link_relocate::{Identity, Linked, Load, file_size};
 
 // The header of an executable (gABI chapter 4, ELF Header).
 
@@ -69,7 +68,7 @@ pub(crate) struct ProgramHeaders<'p, 'l, 'm, 'a> {
 
 impl<'p, 'l, 'm, 'a> Entries for ProgramHeaders<'p, 'l, 'm, 'a> {
     ghost use Rattle.elf_exec.specs.Executable.{program_headers};
-    ghost use Rattle.elf_exec.specs.Executable.{loads};
+    ghost use Rattle.elf_link_relocate.specs.Loads.{loads};
 
     type Entry = Phdr;
 

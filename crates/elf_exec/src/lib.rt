@@ -15,10 +15,9 @@
 mod exec_writing;
 mod headers;
 mod laws;
-mod load;
 mod pieces;
 mod placed_exec;
 
+pub use elf_link_relocate::Load;
 pub use exec_writing::{ExecFault, write_exec};
 pub use laws::{executable, one_exec, prove_loaded, some_exec};
-pub use load::Load;

@@ -4,13 +4,12 @@ ghost use Rattle.elf_image_stream.specs.Output.{Sends};
 ghost use Rattle.elf_link_map.specs.Standing.{member_address};
 ghost use Rattle.elf_link_outputs.specs.Placed.{output_value};
 ghost use Rattle.elf_exec.specs.ExecWriting.{member_content, member_padding, output_content, load_content, load_padding, loads_text};
-ghost use Rattle.elf_exec.specs.Executable.{loads};
+ghost use Rattle.elf_link_relocate.specs.Loads.{loads};
 
-use crate::load::{Load, file_size};
 use crate::placed_exec::{PlacedExec, table_end};
 use elf_image_stream::{Chunks, WriteFault, send, send_all, send_zeros};
 use elf_link_map::{Member, Output};
-use elf_link_relocate::Linked;
+use elf_link_relocate::{Linked, Load, file_size};
 use std::io::Write;
 
 // The bytes of an output section, member by member: the relocated bytes of each at its address, with zeros between.
@@ -114,7 +113,7 @@ struct LoadPieces<'p, 'l, 'm, 'a> {
 
 impl<'p, 'l, 'm, 'a> Chunks for LoadPieces<'p, 'l, 'm, 'a> {
     ghost use Rattle.std.specs.Prelude.{length};
-    ghost use Rattle.elf_exec.specs.Executable.{loads};
+    ghost use Rattle.elf_link_relocate.specs.Loads.{loads};
     ghost use Rattle.elf_exec.specs.ExecWriting.{load_piece};
 
     ghost count = { λ pieces. length (loads pieces.placed.now.linked.map) };

@@ -3,16 +3,16 @@ ghost use Rattle.std.specs.Prelude.{◌≡◌, ◌+◌, ◌*◌, ◌<◌, ◌≤
 ghost use Rattle.elf_extent.specs.Place.{EndsFit, Least};
 ghost use Rattle.elf_field.specs.Abi.{EHDR_SIZE, PHDR_SIZE, PN_XNUM};
 ghost use Rattle.elf_image_rules.specs.Rules.{MAX_LEN};
-ghost use Rattle.elf_exec.specs.Executable.{bytes_from, load_part, load_parts, loads as all_loads, load_in, loads};
+ghost use Rattle.elf_link_relocate.specs.Loads.{loads as all_loads, load_in, loads};
+ghost use Rattle.elf_exec.specs.Executable.{bytes_from, load_part, load_parts};
 ghost use Rattle.elf_link_relocate.specs.Linked.{IsReadyLink};
 ghost use Rattle.elf_exec.specs.ExecWriting.{IsPartsFault, IsPlacingFault, exec_end, file_end, IsPlacedExec};
 
 use crate::exec_writing::ExecFault;
-use crate::load::{Load, file_size, loads};
 use elf_extent::{PlaceFault, place};
 use elf_field::abi::*;
 use elf_image_rules::MAX_LEN;
-use elf_link_relocate::Linked;
+use elf_link_relocate::{Linked, Load, file_size, loads};
 use std::alloc::{AllocError, Global};
 use std::marker::Model;
 

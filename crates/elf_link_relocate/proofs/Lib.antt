@@ -4,4 +4,5 @@ mod Patches
 mod Marked
 mod Memories
 mod MemoryLaws
+mod LoadSegments
 pub mod Public

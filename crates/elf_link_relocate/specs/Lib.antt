@@ -3,3 +3,4 @@ pub mod Fields
 pub mod Views
 pub mod Linked
 pub mod Passes
+pub mod Loads

@@ -1,7 +1,8 @@
 //! The relocated bytes of a link of ELF-64 objects (gABI chapter 4, Relocation): the number of each applied relocation in its
 //! field, by relocation rules.
 //!
-//! [`relocate`] returns the bytes of each live section ([`Linked`]), or the first of rules 12 to 16 ([`rules`]) that is broken.
+//! [`relocate`] returns the bytes of each live section ([`Linked`]), or the first of rules 12 to 16 ([`rules`]) that is broken. [`loads`] lists
+//! the stretches of memory that a link has.
 //!
 //! ```
 //! let link = map(alloc, &objects, &options, hasher)?;
@@ -17,6 +18,7 @@ mod copies;
 mod field;
 mod laws;
 mod linked;
+mod load;
 mod marks;
 mod numbers;
 mod relocating;
@@ -28,5 +30,6 @@ pub use laws::{
     one_relocation_fault, some_byte, without_entry,
 };
 pub use linked::{Identity, Linked, Mapped};
+pub use load::{Load, file_size, loads};
 pub use relocating::{relocate, relocate_numbered};
 pub use values::binding_value;

@@ -3,7 +3,8 @@ use Rattle.std.proofs.Common.{◌≡◌, ◌∙◌, ◌⊎◌, ℕ, List, ap, in
 use Rattle.std.specs.Prelude.{Option, None, Some}
 use Rattle.std.proofs.lemmas.Bool.{cases_lt}
 use Rattle.elf_exec.proofs.Public.{some_exec}
-use Rattle.elf_exec.specs.Executable.{ExecLaid, IsExecFile, loads}
+use Rattle.elf_link_relocate.specs.Loads.{loads}
+use Rattle.elf_exec.specs.Executable.{ExecLaid, IsExecFile}
 use Rattle.elf_field.specs.Abi.{PN_XNUM}
 use Rattle.elf_field.specs.Bytes.{IsBytes}
 use Rattle.elf_image_outline.specs.Image.{ImageValue, IsImage}

@@ -1,5 +1,5 @@
 use Rattle.std.proofs.Common.{sym, ◌∙◌}
-use Rattle.elf_exec.specs.Executable.{loads}
+use Rattle.elf_link_relocate.specs.Loads.{loads}
 use Rattle.elf_exec.proofs.ExecText.{length-program_headers, many_places}
 use Rattle.elf_exec.proofs.headers.ProgramHeadersEntries.count.Goals as goal
 

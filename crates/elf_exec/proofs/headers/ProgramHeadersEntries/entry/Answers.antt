@@ -2,8 +2,9 @@
 use Rattle.std.proofs.Common.{ℕ, ap, ap₂, sym, ◌∙◌, arith}
 use Rattle.elf_link_map.specs.LinkMap.{LinkMapValue}
 use Rattle.elf_link_relocate.specs.Linked.{LinkedValue}
-use Rattle.elf_exec.specs.declared.load.Load.{Load}
-use Rattle.elf_exec.specs.Executable.{program_header, load_in, loads}
+use Rattle.elf_link_relocate.specs.declared.load.Load.{Load}
+use Rattle.elf_link_relocate.specs.Loads.{load_in, loads}
+use Rattle.elf_exec.specs.Executable.{program_header}
 use Rattle.elf_exec.proofs.ExecText.{header_found, length-program_headers, many_places}
 use Rattle.elf_exec.proofs.headers.ProgramHeadersEntries.entry.Goals as goal
 

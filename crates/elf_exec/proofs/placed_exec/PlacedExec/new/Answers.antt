@@ -1,6 +1,6 @@
 use Rattle.std.proofs.Common.{subst, sym}
 use Rattle.elf_link_map.specs.LinkMap.{LinkMapValue}
-use Rattle.elf_exec.specs.Executable.{EndInTime}
+use Rattle.elf_link_relocate.specs.Loads.{EndInTime}
 use Rattle.elf_exec.proofs.ExecText.{commons_end}
 use Rattle.elf_exec.proofs.placed_exec.PlacedExec.new.Goals as goal
 

@@ -1,7 +1,7 @@
 use Rattle.std.proofs.Common.{◌≡◌, ◌<◌, ◌∙◌, length, ap, subst, sym, rules, arith}
 use Rattle.std.specs.Prelude.{slice_index, vec_len}
 use Rattle.std.proofs.lemmas.List.{get_or_read}
-use Rattle.elf_exec.specs.Executable.{loads}
+use Rattle.elf_link_relocate.specs.Loads.{loads}
 use Rattle.elf_exec.specs.ExecWriting.{PlacedExecValue}
 use Rattle.elf_exec.proofs.ExecText.{many_places}
 use Rattle.elf_exec.proofs.placed_exec.PlacedExec.place.Goals as goal

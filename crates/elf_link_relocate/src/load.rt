@@ -1,7 +1,7 @@
-//! The segments of an executable (gABI chapter 5, Program Header).
+//! The stretches of memory that a link has, each of which is a segment of its executable (gABI chapter 5, Program Header).
 ghost use Rattle.std.specs.Prelude.{◌≡◌, IfOk, map as map_list};
 ghost use Rattle.elf_link_outputs.specs.Placed.{common_value, output_value};
-ghost use Rattle.elf_exec.specs.Executable.{file_size, EndInTime, commons_load, load_at, loads, output_load, segment_flags, zeros_load};
+ghost use Rattle.elf_link_relocate.specs.Loads.{file_size, EndInTime, commons_load, load_at, loads, output_load, segment_flags, zeros_load};
 
 use elf_field::abi::*;
 use elf_link_map::{Common, LinkMap, Output};
@@ -23,7 +23,7 @@ pub struct Load {
 }
 
 /// The segments of all outputs that take memory, and of the commons if they do, in order of address.
-pub(crate) fn loads(alloc: Global, map: &LinkMap<'_>) -> Result<Vec<Load>, AllocError>
+pub fn loads(alloc: Global, map: &LinkMap<'_>) -> Result<Vec<Load>, AllocError>
     requires { EndInTime map.now.commons }
     ensures { IfOk result (λ all. all.items ≡ loads map.now) }
 {
@@ -95,7 +95,7 @@ fn zeros_load(position: usize, address: u64, size: u64) -> Load
 }
 
 /// How many bytes of a segment are in the file (`p_filesz`).
-pub(crate) fn file_size(load: Load) -> u64
+pub fn file_size(load: Load) -> u64
     ensures { result ≡ file_size load }
 {
     if load.no_bits { 0 } else { load.size }

@@ -1,7 +1,7 @@
 use Rattle.std.proofs.Common.{◌≡◌, map}
 use Rattle.std.specs.List.{filter, range_with_len}
-use Rattle.elf_exec.specs.Executable.{has_memory, load_at}
-use Rattle.elf_exec.proofs.load.loads.Given as goal
+use Rattle.elf_link_relocate.specs.Loads.{has_memory, load_at}
+use Rattle.elf_link_relocate.proofs.load.loads.Given as goal
 
 -- those of the first positions
 abbrev pub invariant-loop-position : goal.invariant-loop-position

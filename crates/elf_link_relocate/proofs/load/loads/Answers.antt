@@ -2,10 +2,10 @@ use Rattle.std.proofs.Common.{◌≡◌, ◌+◌, ◌∙◌, ℕ, List, map, len
 use Rattle.std.specs.List.{filter, range_with_len}
 use Rattle.std.proofs.lemmas.List.{length-map}
 use Rattle.elf_link_outputs.specs.Placed.{output_value, OutputValue}
-use Rattle.elf_exec.specs.Executable.{has_memory, load_at, loads}
-use Rattle.elf_exec.proofs.LoadSegments.{load_kept, load_passed}
-use Rattle.elf_exec.proofs.load.loads.Goals.{then-load-gt0+in_ok-push, else-load-gt0}
-use Rattle.elf_exec.proofs.load.loads.Goals as goal
+use Rattle.elf_link_relocate.specs.Loads.{has_memory, load_at, loads}
+use Rattle.elf_link_relocate.proofs.LoadSegments.{load_kept, load_passed}
+use Rattle.elf_link_relocate.proofs.load.loads.Goals.{then-load-gt0+in_ok-push, else-load-gt0}
+use Rattle.elf_link_relocate.proofs.load.loads.Goals as goal
 
 pub loop-position-preserved : goal.loop-position-preserved
 loop-position-preserved c =

@@ -6,8 +6,8 @@ use Rattle.std.proofs.lemmas.List.FromFn.{get_or-map-range_with_len, length-map-
 use Rattle.std.specs.Prelude.{nat_lt, bit_and, ◌==◌, if◌then◌else◌}
 use Rattle.std.proofs.lemmas.List.Elements.{All-filter, All-from_get_or, All-get_or, filter_passes}
 use Rattle.std.proofs.lemmas.List.{append-nil}
-use Rattle.elf_exec.specs.Executable.{has_memory, load_at, load_in, loads, no_load, commons_load, output_load, segment_flags}
-use Rattle.elf_exec.specs.declared.load.Load.{Load}
+use Rattle.elf_link_relocate.specs.Loads.{has_memory, load_at, load_in, loads, no_load, commons_load, output_load, segment_flags}
+use Rattle.elf_link_relocate.specs.declared.load.Load.{Load}
 use Rattle.elf_field.specs.Abi.{PF_W, PF_X, SHF_EXECINSTR, SHF_WRITE}
 use Rattle.elf_link_map.specs.LinkMap.{LinkMapValue}
 use Rattle.elf_link_map.specs.Standing.{output_at, StandApart, ArePaged, OutputsStand}
