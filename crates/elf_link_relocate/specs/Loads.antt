@@ -1,5 +1,6 @@
--- The stretches of memory that a link has, each of which is a segment of its executable.
--- (gABI chapter 5, Program Header: Segment Types, Segment Permissions.)
+-- The stretches of memory that a link has, each of which is a segment of type PT_LOAD of its executable: one for each output section that
+-- takes memory, and one for the commons if they do, in order of address.
+-- (gABI chapter 5, Program Header: Segment Types, Segment Permissions; which there are is this project's profile.)
 use Rattle.std.specs.Prelude.{ℕ, ◌+◌, ◌-◌, ◌^◌, ◌<◌, ◌==◌, nat_lt, if◌then◌else◌, Bool, true, List, bit_and, get_or, length, map}
 use Rattle.std.specs.List.{filter, range_with_len}
 use Rattle.elf_field.specs.Abi.{PF_R, PF_W, PF_X, SHF_EXECINSTR, SHF_WRITE}
@@ -7,9 +8,6 @@ use Rattle.elf_link_map.specs.LinkMap.{LinkMapValue}
 use Rattle.elf_link_map.specs.Standing.{output_at}
 use Rattle.elf_link_outputs.specs.Placed.{CommonValue, OutputValue, common_at}
 use Rattle.elf_link_relocate.specs.declared.load.Load.{Load}
-
--- One of type PT_LOAD for each output section that takes memory, and one for the commons if they do, in order of address; which there are
--- is this project's profile.
 
 -- the permissions of a segment of sections with these flags: it is readable; writable and executable where they are
 abbrev pub segment_flags : ℕ → ℕ
