@@ -193,7 +193,7 @@ def built(crate: str) -> str:
 # What a check says of what is proved, and of its own work.
 QUIET = re.compile(
     r"(fn|struct|enum|union|impl|trait|const|static) \S+: (proved|assumed)"
-    r"|(crate|library|statements|logic|axioms|linked|by-macro|hides) |(logic|only|tests)[:=]|so far:"
+    r"|(crate|library|statements|logic|axioms|linked|hides) |(logic|only|tests|by-macro)[:=]|so far:"
     r"|(\S+: )?note: large solution|note: antt's advice|$"
 )
 WIDTH = 300

@@ -78,14 +78,14 @@ def main(tool: str, words: list[str]) -> int:
         if len(names) > 1 and tests.keys() >= {*names}:
             # Several tests, by their names.
             tests, words = {it: tests[it] for it in names}, words[: -len(names)]
-        parser.set_defaults(jobs=PROCESSORS, function=partial(run_several, [*tests.values()]))
+        parser.set_defaults(jobs=PROCESSORS, call=partial(run_several, [*tests.values()]))
     commands = of_tests([*tests.values()]) if is_test else DEV if tool == "dev" else RELEASE
-    for command, about, function, options in commands:
+    for command, about, call, options in commands:
         own = added.add_parser(command, help=about, description=f"{about[0].upper()}{about[1:]}.")
-        own.set_defaults(function=function)
+        own.set_defaults(call=call)
         for option, more in options:
             own.add_argument(option, **more)  # type: ignore[arg-type]
     given = parser.parse_args(words)
     # Of tests is said which of them run.
     with contextlib.nullcontext() if is_test else progress(lambda: f"tools/{tool} {given.command}"):
-        return int(given.function(given) or 0)
+        return int(given.call(given) or 0)

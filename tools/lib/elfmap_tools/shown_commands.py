@@ -82,8 +82,8 @@ LONG, WHEEL = "it proves, for minutes or seconds, with the Rattle kit", "tools/t
 SKIPPED = {
     "rt ci": LONG,
     "tools/dev prove elf_image_rules": LONG,
+    "tools/dev prove tests_base": LONG,
     "tools/dev check elf_extent  # a crate": LONG,
-    "tools/dev check elf_extent members_by_start  # a function, and what it calls; here sorted by the index in place of the start": LONG,
     "tools/dev check tests_base --test finds_the_next_place": LONG,
     "man -l elfmap-VERSION-x86_64-linux/share/man/man1/elfmap.1": "it shows a page; tools/test release has it formatted",
     "python3 -m venv venv && venv/bin/pip install elfmap-*.whl": WHEEL,
