@@ -191,6 +191,7 @@ def lines_of(content: bytes) -> list[str]:
 
 
 def main(options: Options) -> None:
+    os.makedirs(options.folder, exist_ok=True)
     for k, content in enumerate(files()):
         write(f"{options.folder}/{k}.elf", content)
         write(f"{options.folder}/{k}.txt", "".join(f"{it}\n" for it in lines_of(content)))
