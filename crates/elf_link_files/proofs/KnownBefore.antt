@@ -6,8 +6,8 @@ use Rattle.elf_field.specs.Abi.{STB_LOCAL, STB_GLOBAL, STB_WEAK}
 use Rattle.elf_image_rules.specs.Rows.{Row}
 use Rattle.elf_link_files.proofs.SiteLists.{earlier_more, earlier_next}
 use Rattle.elf_link_files.specs.Files.{symbol_in, IsEntry, object_at, IsCommon, IsNotWeak, IsStrong, IsWeak}
-use Rattle.elf_link_files.specs.KnownBefore.{commons, entries, IsBest, IsBlock, IsCommonBest, IsFirstBefore, IsKnownBefore, IsLargerOf, IsLargest, NoneBefore, SomeBefore, first_or, id_in, marked_known}
-use Rattle.elf_link_files.specs.Rows.{site, UpTo, AtSymbol}
+use Rattle.elf_link_files.specs.KnownBefore.{IsBest, IsBlock, IsCommonBest, IsFirstBefore, IsKnownBefore, IsLargerOf, NoneBefore, SomeBefore, first_or, id_in, marked_known}
+use Rattle.elf_link_files.specs.Rows.{site, UpTo, AtSymbol, commons, entries, IsLargest}
 use Rattle.elf_link_files.specs.declared.inputs.SymbolId.{SymbolId}
 use Rattle.elf_link_files.specs.declared.known.Block.{Block}
 use Rattle.elf_link_files.specs.declared.known.Known.{Known}

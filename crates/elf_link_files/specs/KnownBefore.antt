@@ -1,44 +1,14 @@
--- The sites of a name's entries, and what is known of the name by those before a position: its first definition of each binding, its commons,
--- and whether an entry isn't WEAK. (gABI chapter 4, Symbol Table: STB_GLOBAL, STB_WEAK, SHN_COMMON.)
+-- What is known of a name by its entries before a position: its first definition of each binding, its commons, and whether an entry isn't
+-- WEAK. (gABI chapter 4, Symbol Table: STB_GLOBAL, STB_WEAK, SHN_COMMON.)
 use Rattle.std.specs.Prelude.{◌≡◌, ℕ, ◌≤◌, ◌⊎◌, ◌↔◌, List, Option, MatchOption, None, Some, Bool, true, if◌then◌else◌}
 use Rattle.elf_image_rules.specs.Rows.{Row}
-use Rattle.elf_link_files.specs.Files.{symbol_in, IsCommon, IsEarlier, IsEntry, IsNotWeak, IsStrong, IsWeak}
-use Rattle.elf_link_files.specs.Rows.{AtSymbol, IsFirstAt, UpTo, site}
+use Rattle.elf_link_files.specs.Files.{IsEarlier}
+use Rattle.elf_link_files.specs.Rows.{IsFirstAt, IsLargest, UpTo, align_at, commons, not_weak, site, size_at, strong, weak}
 use Rattle.elf_link_files.specs.declared.inputs.SymbolId.{SymbolId}
 use Rattle.elf_link_files.specs.declared.known.Block.{Block}
 use Rattle.elf_link_files.specs.declared.known.Known.{Known}
 use Rattle.elf_link_files.specs.declared.site.Site.{Site}
 use Rattle.elf_object_type.specs.Object.{ObjectValue}
-
--- the sites of a name's GLOBAL definitions, its WEAK ones, its commons, its entries, and its entries that are not WEAK
-abbrev pub strong : List ObjectValue → List ℕ → Row Site
-strong fs name = AtSymbol fs (IsStrong fs name)
-
-abbrev pub weak : List ObjectValue → List ℕ → Row Site
-weak fs name = AtSymbol fs (IsWeak fs name)
-
-abbrev pub commons : List ObjectValue → List ℕ → Row Site
-commons fs name = AtSymbol fs (IsCommon fs name)
-
-abbrev pub entries : List ObjectValue → List ℕ → Row Site
-entries fs name = AtSymbol fs (IsEntry fs name)
-
-abbrev pub not_weak : List ObjectValue → List ℕ → Row Site
-not_weak fs name = AtSymbol fs (IsNotWeak fs name)
-
--- the size of a common, and its alignment, which is its value
-abbrev pub size_at : List ObjectValue → ℕ → ℕ → ℕ
-size_at fs f i = (symbol_in fs f i).size
-
-abbrev pub align_at : List ObjectValue → ℕ → ℕ → ℕ
-align_at fs f i = (symbol_in fs f i).value
-
--- n is the largest at the sites of the row
-pub record IsLargest (row : Row Site) (measure : ℕ → ℕ → ℕ) (n : ℕ) : Type 0 where
-  pub above : (p : Site) → row p → measure p.file p.index ≤ n
-  pub attained : (p : Site) × row p × (measure p.file p.index ≡ n)
-
--- On the way through all symbols.
 
 abbrev pub id_in : ℕ → ℕ → SymbolId
 id_in file index = record { file = file; index = index }
@@ -87,6 +57,6 @@ pub record IsKnownBefore (fs : List ObjectValue) (name : List ℕ) (f i : ℕ) (
   pub common : IsCommonBest fs name f i k.common
   pub not_weak : (k.not_weak ≡ true) ↔ SomeBefore (not_weak fs name) f i
 
--- the same, where there is an entry that isn't WEAK
+-- what is known of a name, and that an entry of it isn't WEAK
 abbrev pub marked_known : Known → Known
 marked_known k = record { first = k.first; strong = k.strong; weak = k.weak; common = k.common; not_weak = true }

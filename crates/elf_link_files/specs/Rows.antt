@@ -1,7 +1,7 @@
 -- Where a rule of the link is broken, and the first rule of a list that is broken, at its first site: by file, index and entry.
-use Rattle.std.specs.Prelude.{◌≡◌, ℕ, ◌<◌, ◌⊎◌, Option, List, length, get_or}
+use Rattle.std.specs.Prelude.{◌≡◌, ℕ, ◌<◌, ◌≤◌, ◌⊎◌, Option, List, length, get_or}
 use Rattle.elf_image_rules.specs.Rows.{FirstBy, Row, Ruled}
-use Rattle.elf_link_files.specs.Files.{object_at, IsEarlier, symbol_in}
+use Rattle.elf_link_files.specs.Files.{object_at, symbol_in, IsCommon, IsEarlier, IsEntry, IsNotWeak, IsStrong, IsWeak}
 use Rattle.elf_link_files.specs.declared.site.Chosen.{Chosen}
 use Rattle.elf_link_files.specs.declared.site.Site.{Site}
 use Rattle.elf_object_type.specs.Object.{ObjectValue}
@@ -67,6 +67,36 @@ AreIn fs ps = (k : ℕ) → k < length ps →
 -- the name of the symbol at a site
 abbrev pub name_at : List ObjectValue → Site → List ℕ
 name_at fs p = (symbol_in fs p.file p.index).name
+
+-- The symbols of a name. (gABI chapter 4, Symbol Table: STB_GLOBAL, STB_WEAK, SHN_COMMON.)
+
+-- the sites of a name's GLOBAL definitions, its WEAK ones, its commons, its entries, and its entries that are not WEAK
+abbrev pub strong : List ObjectValue → List ℕ → Row Site
+strong fs name = AtSymbol fs (IsStrong fs name)
+
+abbrev pub weak : List ObjectValue → List ℕ → Row Site
+weak fs name = AtSymbol fs (IsWeak fs name)
+
+abbrev pub commons : List ObjectValue → List ℕ → Row Site
+commons fs name = AtSymbol fs (IsCommon fs name)
+
+abbrev pub entries : List ObjectValue → List ℕ → Row Site
+entries fs name = AtSymbol fs (IsEntry fs name)
+
+abbrev pub not_weak : List ObjectValue → List ℕ → Row Site
+not_weak fs name = AtSymbol fs (IsNotWeak fs name)
+
+-- the size of a common, and its alignment, which is its value
+abbrev pub size_at : List ObjectValue → ℕ → ℕ → ℕ
+size_at fs f i = (symbol_in fs f i).size
+
+abbrev pub align_at : List ObjectValue → ℕ → ℕ → ℕ
+align_at fs f i = (symbol_in fs f i).value
+
+-- n is the largest at the sites of the row
+pub record IsLargest (row : Row Site) (measure : ℕ → ℕ → ℕ) (n : ℕ) : Type 0 where
+  pub above : (p : Site) → row p → measure p.file p.index ≤ n
+  pub attained : (p : Site) × row p × (measure p.file p.index ≡ n)
 
 -- Lists by position: something said of each item, or of each two.
 

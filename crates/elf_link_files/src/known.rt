@@ -2,7 +2,8 @@
 //! chapter 4, Symbol Table).
 ghost use Rattle.std.specs.Prelude.{◌≡◌, ◌↔◌, ◌+◌, None, false, IsTrue};
 ghost use Rattle.elf_link_files.specs.Files.{symbol_with, IsCommon};
-ghost use Rattle.elf_link_files.specs.KnownBefore.{not_weak as not_weak_row, IsBlock, IsCommonBest, IsKnownBefore, IsLargerOf, SomeBefore, first_or};
+ghost use Rattle.elf_link_files.specs.KnownBefore.{IsBlock, IsCommonBest, IsKnownBefore, IsLargerOf, SomeBefore, first_or};
+ghost use Rattle.elf_link_files.specs.Rows.{not_weak as not_weak_row};
 
 use crate::inputs::{InputSymbol, SymbolId};
 use elf_field::abi::*;

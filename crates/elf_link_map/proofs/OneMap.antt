@@ -9,7 +9,7 @@ use Rattle.elf_extent.specs.Extent.{Never}
 use Rattle.elf_field.specs.Abi.{STB_LOCAL}
 use Rattle.elf_link_files.proofs.Public.{match_map, not_true, one_each, one_site_list}
 use Rattle.elf_link_files.specs.Files.{object_at, symbol_in, AreDiscardMarks, Discarded, mark}
-use Rattle.elf_link_files.specs.Rows.{Lists, site_at, name_at, site, chosen_at}
+use Rattle.elf_link_files.specs.Rows.{Lists, site_at, name_at, site, chosen_at, entries}
 use Rattle.elf_link_files.specs.declared.fault.Options.{Options}
 use Rattle.elf_link_files.specs.declared.site.Chosen.{Chosen}
 use Rattle.elf_link_files.specs.declared.site.Site.{Site}
@@ -19,7 +19,6 @@ use Rattle.elf_link_map.specs.Naming.{AreBindingPositions, AreNamedAt, AreBindin
 use Rattle.elf_link_map.specs.declared.bindings.Binding.TheVariants.{Common as CommonBinding, Strong, Common, Weak, Zero}
 use Rattle.elf_link_map.specs.declared.bindings.Binding.{Binding}
 use Rattle.elf_link_names.proofs.Public.{names_once, entry_listed, one_choice, one_common}
-use Rattle.elf_link_files.specs.KnownBefore.{entries}
 use Rattle.elf_link_names.specs.Binds.{first_entries, Binds}
 use Rattle.elf_link_names.specs.KnownNames.{ArePositionsOf, AreNameNumbers}
 use Rattle.elf_link_names.specs.Resolution.{IsCommonOf, AreChosen}

@@ -10,7 +10,7 @@ use Rattle.elf_image_rules.specs.Rows.{Row, rule}
 use Rattle.elf_link_files.proofs.Public.{site_is, one_found, each_more, file_before, listed_more, listed_past, lists_same, some_site}
 use Rattle.elf_link_files.specs.FileRules.{option_rules}
 use Rattle.elf_link_files.specs.Files.{symbol_in, IsEarlier, object_at, IsCommon}
-use Rattle.elf_link_files.specs.Rows.{site_at, FirstAmong, no_common, AreEach, Lists, UpTo, name_at, site, AtEach, IsFirstAt, section_count, symbol_count}
+use Rattle.elf_link_files.specs.Rows.{site_at, FirstAmong, no_common, AreEach, Lists, UpTo, name_at, site, AtEach, IsFirstAt, section_count, symbol_count, IsLargest, align_at, commons, entries, not_weak, size_at, strong, weak}
 use Rattle.elf_link_files.specs.declared.fault.LinkFault.TheVariants.{Rule, OutOfMemory}
 use Rattle.elf_link_files.specs.declared.fault.LinkFault.{LinkFault}
 use Rattle.elf_link_files.specs.declared.fault.Options.{Options}
@@ -20,7 +20,6 @@ use Rattle.elf_link_map.specs.Entry.{HasSite, IsChoiceTarget, IsEntrySymbolTarge
 use Rattle.elf_link_map.specs.LinkMap.{IsLinkPlan, LinkPlan, link_parts, IsPlan, FirstOfAddresses, FirstOfLink, IsLinkFault, IsPlacedAt, IsAddressingFault}
 use Rattle.elf_link_names.proofs.ChosenCommons.{have_chosen}
 use Rattle.elf_link_names.proofs.Public.{bound_excludes, one_choice, one_chosen, one_common}
-use Rattle.elf_link_files.specs.KnownBefore.{IsLargest, align_at, commons, entries, not_weak, size_at, strong, weak}
 use Rattle.elf_link_names.specs.Binds.{input_rules, Binds, IsUnbound, IsChosen}
 use Rattle.elf_link_names.specs.Resolution.{AreChosen, HaveChosen, IsOfLargest}
 use Rattle.elf_link_names.specs.declared.name_rules.Choice.TheVariants.{Strong, Common, Weak, Zero}

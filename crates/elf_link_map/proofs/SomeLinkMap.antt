@@ -11,11 +11,10 @@ use Rattle.elf_object_type.specs.Object.{ObjectValue}
 use Rattle.elf_link_files.specs.declared.site.Chosen.{Chosen}
 use Rattle.elf_link_files.specs.declared.fault.Options.{Options}
 use Rattle.elf_link_files.specs.declared.site.Site.{Site}
-use Rattle.elf_link_files.specs.Rows.{chosen_at, AreEach, Lists, name_at, site, site_at, FirstAmong, section_count, symbol_count}
+use Rattle.elf_link_files.specs.Rows.{chosen_at, AreEach, Lists, name_at, site, site_at, FirstAmong, section_count, symbol_count, entries}
 use Rattle.elf_link_files.specs.Files.{AreDiscardMarks, Discarded, object_at}
 use Rattle.elf_link_names.specs.declared.name_rules.Choice.{Choice}
 use Rattle.elf_link_names.specs.declared.name_rules.Choice.TheVariants.{Strong, Common, Weak, Zero}
-use Rattle.elf_link_files.specs.KnownBefore.{entries}
 use Rattle.elf_link_names.specs.Binds.{AllBound, Binds, input_rules, IsFirstEntry, first_entries}
 use Rattle.elf_link_names.specs.Resolution.{HaveChosen}
 use Rattle.elf_link_names.proofs.ChosenCommons.{have_chosen}

@@ -7,7 +7,7 @@ use Rattle.elf_extent.specs.Extent.{Never}
 use Rattle.elf_extent.specs.Place.{EndsFit, Least}
 use Rattle.elf_link_files.specs.FileRules.{option_rules}
 use Rattle.elf_link_files.specs.Files.{AreDiscardMarks}
-use Rattle.elf_link_files.specs.Rows.{Lists, name_at, FirstAmong}
+use Rattle.elf_link_files.specs.Rows.{Lists, name_at, FirstAmong, entries}
 use Rattle.elf_link_files.specs.declared.fault.LinkFault.TheVariants.{Rule, OutOfMemory}
 use Rattle.elf_link_files.specs.declared.fault.LinkFault.{LinkFault}
 use Rattle.elf_link_files.specs.declared.fault.Options.{Options}
@@ -17,7 +17,6 @@ use Rattle.elf_link_map.specs.declared.bindings.Binding.TheVariants.{Strong, Com
 use Rattle.elf_link_map.specs.declared.bindings.Binding.{Binding}
 use Rattle.elf_link_map.specs.declared.bindings.Named.{Named}
 use Rattle.elf_link_map.specs.declared.link_map.LinkMap.TheInside.{Inside}
-use Rattle.elf_link_files.specs.KnownBefore.{entries}
 use Rattle.elf_link_names.specs.Binds.{Binds, first_entries, input_rules}
 use Rattle.elf_link_names.specs.Resolution.{AreChosen}
 use Rattle.elf_link_names.specs.declared.name_rules.Choice.TheVariants.{Strong as StrongChoice, Common as CommonChoice, Weak as WeakChoice, Zero as ZeroChoice}

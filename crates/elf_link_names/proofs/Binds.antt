@@ -6,11 +6,10 @@ use Rattle.elf_field.specs.Abi.{STB_GLOBAL, STB_LOCAL, STB_WEAK}
 use Rattle.elf_image_rules.specs.Rows.{Row}
 use Rattle.elf_link_files.proofs.Public.{site_is, one_first, one_site_list, once_of, one_each}
 use Rattle.elf_link_files.specs.Files.{symbol_in, IsDefinedAt, IsUndefinedAt, is_common}
-use Rattle.elf_link_files.specs.Rows.{FirstAmong, Lists, site, site_at, name_at, no_common, IsFirstAt}
+use Rattle.elf_link_files.specs.Rows.{FirstAmong, Lists, site, site_at, name_at, no_common, IsFirstAt, IsLargest, align_at, commons, size_at, strong, weak}
 use Rattle.elf_link_files.specs.declared.fault.Options.{Options}
 use Rattle.elf_link_files.specs.declared.site.Chosen.{Chosen}
 use Rattle.elf_link_files.specs.declared.site.Site.{Site}
-use Rattle.elf_link_files.specs.KnownBefore.{IsLargest, align_at, commons, size_at, strong, weak}
 use Rattle.elf_link_names.specs.Binds.{Binds, IsUnbound, AllBound, input_rules, chosen_commons}
 use Rattle.elf_link_names.specs.Resolution.{IsCommonOf, AreChosen, AreChosenAt, IsOfLargest}
 use Rattle.elf_link_names.specs.declared.name_rules.Choice.TheVariants.{Strong, Common, Weak, Zero}

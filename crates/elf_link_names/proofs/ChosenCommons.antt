@@ -9,12 +9,12 @@ use Rattle.elf_extent.specs.Extent.{Never}
 use Rattle.elf_field.specs.Abi.{STB_LOCAL}
 use Rattle.elf_link_files.proofs.Public.{each_more, first_in_row, first_same, listed_more, listed_past, lists_same, site_is, same_bool, same_name, one_site_list}
 use Rattle.elf_link_files.specs.Files.{object_at, symbol_in, IsCommon, is_common}
-use Rattle.elf_link_files.specs.Rows.{UpTo, site, site_at, name_at, AreSymbols, no_common, IsFirstAt, symbol_count, chosen_at, Lists}
+use Rattle.elf_link_files.specs.Rows.{UpTo, site, site_at, name_at, AreSymbols, no_common, IsFirstAt, symbol_count, chosen_at, Lists, IsLargest, align_at, commons, size_at, strong, entries}
 use Rattle.elf_link_files.specs.declared.inputs.SymbolId.{SymbolId}
 use Rattle.elf_link_files.specs.declared.site.Chosen.{Chosen}
 use Rattle.elf_link_files.specs.declared.site.Site.{Site}
 use Rattle.elf_link_names.proofs.KnownNames.{listed_file, names_once, found_none, placed_at, whole_firsts}
-use Rattle.elf_link_files.specs.KnownBefore.{IsLargest, align_at, commons, size_at, strong, entries, id_site}
+use Rattle.elf_link_files.specs.KnownBefore.{id_site}
 use Rattle.elf_link_names.specs.Binds.{IsChosen, chosen_commons, first_entries}
 use Rattle.elf_link_names.specs.KnownNames.{IsWholeBlock, AreAllKnown, first_site}
 use Rattle.elf_link_names.specs.Resolution.{AreChosen, AreChosenAt, AreChosenIn, HaveChosen, IsBlockOf, IsChosenFor, IsOfLargest, IsCommonOf, AreRanks, IsNameCount, IsNumber, IsNumberOf, numbered}

@@ -12,10 +12,10 @@ use Rattle.elf_extent.specs.Extent.{Never}
 use Rattle.elf_field.specs.Abi.{STB_LOCAL}
 use Rattle.elf_link_files.proofs.Public.{first_in_row, site_is, same_name, match_map, not_true, table_read, first_earlier, lists_same, listed_more, listed_past, file_before, known_other, first_here, strong_entry, weak_entry}
 use Rattle.elf_link_files.specs.Files.{symbol_in, IsEntry, object_at, IsEarlier, IsCommon, IsNotWeak, IsStrong, IsWeak}
-use Rattle.elf_link_files.specs.Rows.{Lists, site, site_at, name_at, Before, IsFirstAt, UpTo, AtEach, AtSymbol, symbol_count}
+use Rattle.elf_link_files.specs.Rows.{Lists, site, site_at, name_at, Before, IsFirstAt, UpTo, AtEach, AtSymbol, symbol_count, entries, IsLargest, commons, strong, weak}
 use Rattle.elf_link_files.specs.declared.inputs.SymbolId.{SymbolId}
 use Rattle.elf_link_files.specs.declared.site.Site.{Site}
-use Rattle.elf_link_files.specs.KnownBefore.{entries, IsLargest, commons, strong, weak, IsBest, IsCommonBest, IsKnownBefore, NoneBefore, SomeBefore, id_in, id_site}
+use Rattle.elf_link_files.specs.KnownBefore.{IsBest, IsCommonBest, IsKnownBefore, NoneBefore, SomeBefore, id_in, id_site}
 use Rattle.elf_link_names.specs.Binds.{first_entries, IsUnbound, IsFirstEntry}
 use Rattle.elf_link_names.specs.KnownNames.{ArePositionsOf, AreNameNumbers, AreNumberRows, IsNameNumber, IsNumberRow, KeepsPositions, AreAllKnown, AreKnownBefore, IsKnownWhole, IsWholeBest, IsWholeBlock, first_site, known_at, no_known}
 use Rattle.elf_link_files.specs.declared.known.Block.{Block}

@@ -2,11 +2,11 @@
 use Rattle.std.specs.Prelude.{◌≡◌, ℕ, ◌<◌, Option, MatchOption, List, length, get_or, map}
 use Rattle.elf_extent.specs.Extent.{Never}
 use Rattle.elf_image_rules.specs.Rows.{Row}
-use Rattle.elf_link_files.specs.Rows.{IsFirstAt, Lists, site_at, name_at, AreEach, no_common, chosen_at, AreSymbols}
+use Rattle.elf_link_files.specs.Rows.{IsFirstAt, Lists, site_at, name_at, AreEach, no_common, chosen_at, AreSymbols, IsLargest, align_at, commons, size_at, strong}
 use Rattle.elf_link_files.specs.declared.inputs.SymbolId.{SymbolId}
 use Rattle.elf_link_files.specs.declared.site.Chosen.{Chosen}
 use Rattle.elf_link_files.specs.declared.site.Site.{Site}
-use Rattle.elf_link_files.specs.KnownBefore.{IsLargest, align_at, commons, size_at, strong, id_site}
+use Rattle.elf_link_files.specs.KnownBefore.{id_site}
 use Rattle.elf_link_names.specs.Binds.{Binds, IsChosen, chosen_commons, first_entries, AllBound}
 use Rattle.elf_link_names.specs.KnownNames.{IsKnownWhole, AreAllKnown, first_site, AreNameNumbers}
 use Rattle.elf_link_names.specs.Tables.{name_position}

@@ -1,8 +1,7 @@
 //! The names of a link in which each is bound: what every name is bound to, and which commons are placed (gABI chapter 4, Symbol
 //! Table).
 ghost use Rattle.std.specs.Prelude.{◌+◌, ◌<◌, IfOk, OnOk, length, ◌≡◌, ℕ, MatchOption, map};
-ghost use Rattle.elf_link_files.specs.Rows.{Lists, UpTo, AreSymbols};
-ghost use Rattle.elf_link_files.specs.KnownBefore.{entries};
+ghost use Rattle.elf_link_files.specs.Rows.{Lists, UpTo, AreSymbols, entries};
 ghost use Rattle.elf_link_names.specs.Binds.{live_sections as live_row, AllBound, Binds, first_entries};
 ghost use Rattle.elf_extent.specs.Extent.{Never};
 ghost use Rattle.elf_link_files.specs.Files.{AreDiscardMarks, IsSymbolIn, symbol_with};

@@ -1,8 +1,8 @@
 //! The relocated bytes of a link of ELF-64 objects (gABI chapter 4, Relocation): the number of each applied relocation in its
 //! field, by relocation rules.
 //!
-//! [`relocate`] returns the bytes of each live section ([`Linked`]), or the first of rules 12 to 16 ([`rules`]) that is broken. [`loads`] lists
-//! the stretches of memory that a link has.
+//! [`relocate`] returns the bytes of each live section ([`Linked`]), or the first of rules 12 to 16 ([`rules`]) that is broken.
+//! [`loads`] lists the stretches of memory that a link has.
 //!
 //! ```
 //! let link = map(alloc, &objects, &options, hasher)?;

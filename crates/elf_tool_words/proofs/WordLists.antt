@@ -1,7 +1,7 @@
 -- Words of the command line, and numbers in them.
 use Rattle.std.proofs.Common.{◌≡◌, ◌∙◌, inl, inr, ap, refl, sym, Bool, true, false, not, cond, ◌&&◌, List, [], ◌∷◌, Option, Some, None, is_some, ℕ, ◌^◌, ◌<◌, subst, arith, length, nat_lt, Result, Ok, Err, lt-ltb, if◌then◌else◌}
 use Rattle.std.specs.Box.{box_value}
-use Rattle.std.specs.Prelude.{Box, find, option_map}
+use Rattle.std.specs.Prelude.{Box, IfOk, IsOkAnd, find, option_map}
 use Rattle.std.specs.List.{list_all}
 use Rattle.std.specs.Char.{digit_value}
 use Rattle.std.specs.Str.Parse.{AllDigits, IsNumeral, ParsesUnsigned, digits_value, without_leading_plus}
@@ -11,15 +11,23 @@ use Rattle.std.proofs.lemmas.Bool.{cases_lt, le-ltb}
 use Rattle.std.proofs.lemmas.Bool.Decides.{nat_tests}
 use Rattle.clap.specs.Faults.{check_fault, defaults_fault, entered_fault, fault_of, settle_fault, walk_fault}
 use Rattle.clap.specs.Kinds.{Kinds, check_kinds, or_else}
-use Rattle.clap.specs.Simple.{App, Shape, argument_words, built, entered, label_of, names_of, rows_at, subcommand_of, subcommand_rows, subcommand_rows_of}
+use Rattle.clap.specs.Simple.{App, Shape, argument_words, built, entered, label_of, names_of, rows_at, shape_of, subcommand_of, subcommand_rows, subcommand_rows_of, with_subcommand}
 use Rattle.clap.specs.Matches.{subcommand_name_of}
 use Rattle.clap.specs.Walk.{Row, Text, answers_to, finished, nothing_held, settled, stop_after, walk, walk_from}
+use Rattle.clap.specs.declared.builder.command.Command.{Command}
 use Rattle.clap.specs.declared.parser.matches.ArgMatches.{ArgMatches}
 use Rattle.clap.specs.declared.parser.matches.ArgMatches.TheViews.{out-ArgMatches, out-SubCommand}
 use Rattle.clap.specs.declared.parser.matches.SubCommand.{SubCommand}
 use Rattle.clap.proofs.WalkLemmas.{both}
 use Rattle.elf_tool_words.specs.Command.{IsNameIn, check, elfmap, link_command, map_command, rewrite, show}
 use Rattle.elf_tool_words.specs.Words.{is_decimal_digit, is_hexadecimal_digit, numeral}
+
+-- a subcommand that could be made has the shape that it is said to have
+pub joined : {E : Type 0} (before more : App) (shape : Shape) (made : Result Command E) →
+    IsOkAnd made (λ sub. more ≡ with_subcommand before (shape_of sub)) → IfOk made (λ sub. shape_of sub ≡ shape) →
+    more ≡ with_subcommand before shape
+joined before more shape (Ok sub) added is = added ∙ ap (λ (s : Shape). with_subcommand before s) is
+joined before more shape (Err refused) added is = absurd added
 
 -- The subcommand that clap's definition enters. A command that requires a subcommand refuses words without one (`enters`), and the name
 -- that is entered is one of those of the command. So a parse that succeeds has a subcommand, and its name is one of the program's.

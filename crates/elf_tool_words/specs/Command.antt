@@ -1,7 +1,7 @@
 -- The program's command: what its words may be, in the words of clap.
 use Rattle.std.specs.Prelude.{◌≡◌, ◌⊎◌, true, false, Some, List, [], ◌∷◌, codes}
 use Rattle.clap.specs.declared.builder.action.ArgAction.TheVariants.{Append, SetTrue}
-use Rattle.clap.specs.Simple.{App, Shape, new_rule, new_shape}
+use Rattle.clap.specs.Simple.{App, Shape, new_rule, new_shape, with_subcommand}
 use Rattle.clap.specs.Walk.{Rule, Text}
 
 -- one file
@@ -49,6 +49,10 @@ entry_word = record (new_rule (codes "NAME")) { long = Some (codes "entry"); req
 abbrev pub files : Rule
 files = record (new_rule (codes "FILE")) { required = true; action = Some Append }
 
+-- `NAME --base B --page P`
+abbrev pub placing_command : Text → Shape
+placing_command name = record (new_shape name) { rules = base ∷ page ∷ [] }
+
 -- `map --base B --page P [--rules RULES] FILE...`
 unfoldable pub map_command : Shape
 map_command = record (new_shape (codes "map")) { rules = base ∷ page ∷ rules_file ∷ files ∷ [] }
@@ -67,6 +71,10 @@ elfmap = record {
   };
   subs = check ∷ show ∷ rewrite ∷ map_command ∷ link_command ∷ [];
 }
+
+-- with the commands of one file
+abbrev pub with_file_commands : App → App
+with_file_commands app = with_subcommand (with_subcommand (with_subcommand app check) show) rewrite
 
 -- the name of one of the commands
 abbrev pub IsNameIn : Text → List Shape → Type 0

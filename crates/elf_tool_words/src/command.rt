@@ -5,7 +5,7 @@ ghost use Rattle.clap.specs.Simple.{with_subcommand};
 ghost use Rattle.clap.specs.Words.{app_of, shape_of};
 ghost use Rattle.clap.specs.declared.builder.command.Command.TheViews.{out-Command as fields_of};
 ghost use Rattle.clap.specs.Walk.{rule_of};
-ghost use Rattle.elf_tool_words.specs.Command.{base as base_rule, check as check_shape, elfmap as elfmap_app, entry_word as entry_rule, file_command as file_shape, files as files_rule, link_command as link_shape, map_command as map_shape, needed_rules_file as needed_rules_rule, page as page_rule, rewrite as rewrite_shape, rules_file as rules_rule, seek as seek_rule, show as show_shape};
+ghost use Rattle.elf_tool_words.specs.Command.{base as base_rule, check as check_shape, elfmap as elfmap_app, entry_word as entry_rule, file_command as file_shape, files as files_rule, link_command as link_shape, map_command as map_shape, needed_rules_file as needed_rules_rule, page as page_rule, placing_command as placing_shape, with_file_commands, rewrite as rewrite_shape, rules_file as rules_rule, seek as seek_rule, show as show_shape};
 
 use clap::{Arg, ArgAction, Command};
 use std::alloc::{AllocError, Global};
@@ -18,11 +18,18 @@ pub(crate) fn elfmap<'a>(alloc: Global) -> Result<Command<'a>, AllocError>
         .about("Checks, shows, rewrites and links ELF-64 object files")
         .subcommand_required(true)
         .disable_help_subcommand(true);
-    let command = with(command, check_command(alloc))?;
-    let command = with(command, show_command(alloc))?;
-    let command = with(command, rewrite_command(alloc))?;
+    let command = with_file_commands(alloc, command)?;
     let command = with(command, map_command(alloc))?;
     with(command, link_command(alloc))
+}
+
+// The command with the subcommands of one file.
+fn with_file_commands<'a>(alloc: Global, command: Command<'a>) -> Result<Command<'a>, AllocError>
+    ensures { IfOk result (λ more. app_of more ≡ with_file_commands (app_of command.entry)) }
+{
+    let command = with(command, check_command(alloc))?;
+    let command = with(command, show_command(alloc))?;
+    with(command, rewrite_command(alloc))
 }
 
 // The command with one more subcommand, if that could be made.
@@ -99,29 +106,46 @@ fn rewrite_command<'a>(alloc: Global) -> Result<Command<'a>, AllocError>
     )
 }
 
+// A subcommand that places what it links, so far without its other arguments.
+fn placing_command<'a>(
+    alloc: Global,
+    name: &'a str,
+    about: &'a str,
+) -> Result<Command<'a>, AllocError>
+    ensures shape { IfOk result (λ command. shape_of command ≡ placing_shape name.entry.now) }
+    ensures local { IfOk result (λ command. (fields_of command).has_globals ≡ false) }
+{
+    Command::new(alloc, name)
+        .about(about)
+        .arg(base(alloc))?
+        .arg(page(alloc))
+}
+
 fn map_command<'a>(alloc: Global) -> Result<Command<'a>, AllocError>
     ensures shape { IfOk result (λ command. shape_of command ≡ map_shape) }
     ensures local { IfOk result (λ command. (fields_of command).has_globals ≡ false) }
 {
-    Command::new(alloc, "map")
-        .about("Shows where the sections and names of the FILEs are in their link")
-        .arg(base(alloc))?
-        .arg(page(alloc))?
-        .arg(rules(alloc))?
-        .arg(files(alloc))
+    placing_command(
+        alloc,
+        "map",
+        "Shows where the sections and names of the FILEs are in their link",
+    )?
+    .arg(rules(alloc))?
+    .arg(files(alloc))
 }
 
 fn link_command<'a>(alloc: Global) -> Result<Command<'a>, AllocError>
     ensures shape { IfOk result (λ command. shape_of command ≡ link_shape) }
     ensures local { IfOk result (λ command. (fields_of command).has_globals ≡ false) }
 {
-    Command::new(alloc, "link")
-        .about("Links the FILEs, and writes the executable on standard output")
-        .arg(base(alloc))?
-        .arg(page(alloc))?
-        .arg(entry(alloc))?
-        .arg(needed_rules(alloc))?
-        .arg(files(alloc))
+    placing_command(
+        alloc,
+        "link",
+        "Links the FILEs, and writes the executable on standard output",
+    )?
+    .arg(entry(alloc))?
+    .arg(needed_rules(alloc))?
+    .arg(files(alloc))
 }
 
 fn base<'a>(alloc: Global) -> Arg<'a>

@@ -1,6 +1,7 @@
 use Rattle.std.proofs.Common.{◌≡◌, true, false, refl}
 use Rattle.elf_link_files.proofs.Public.{first_earlier}
-use Rattle.elf_link_files.specs.KnownBefore.{strong, id_site}
+use Rattle.elf_link_files.specs.KnownBefore.{id_site}
+use Rattle.elf_link_files.specs.Rows.{strong}
 use Rattle.elf_link_names.proofs.KnownNames.{strong_known, strong_unknown}
 use Rattle.elf_link_names.proofs.name_rules.has_earlier.Goals as goal
 
