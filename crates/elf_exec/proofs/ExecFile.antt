@@ -1,7 +1,7 @@
 -- The executable of a sound link, if it is not too long, is an image with its own header and program headers. Its parts are in order, and
 -- its records keep the rules: places and addresses are multiples of the page, and addresses ascend. So the laws of written files hold
 -- (`IsWritable`).
-use Rattle.std.proofs.Common.{◌≡◌, ◌≢◌, ◌<◌, ◌+◌, ◌^◌, ◌%◌, ◌⊎◌, ℕ, zero, suc, Bool, true, false, List, [], ◌∷◌, ◌++◌, length, map, get_or, refl, sym, ap, subst, inl, inr, arith, ◌≤◌, ◌*◌, take, drop, ◌∙◌, length-drop}
+use Rattle.std.proofs.Common.{◌≡◌, ◌≢◌, ◌<◌, ◌+◌, ◌^◌, ◌%◌, ℕ, zero, suc, Bool, true, false, List, [], ◌∷◌, length, map, get_or, refl, sym, ap, subst, inl, inr, arith, ◌≤◌, ◌*◌, take, drop, ◌∙◌, length-drop}
 use Rattle.std.specs.Prelude.{◌==◌, if◌then◌else◌, Some, None, slice_get, slice_index}
 use Rattle.std.specs.List.{AllByRecursion, flat_map}
 use Rattle.std.proofs.lemmas.Bool.{ne_eqb, cases_lt, cases_eq}
@@ -10,26 +10,25 @@ use Rattle.std.proofs.Math.Nat.{zero-mod}
 use Rattle.std.proofs.lemmas.Nat.{pow_pos}
 use Rattle.elf_link_relocate.proofs.Public.{load_some, load_stands, loads_ascend, memory_bytes}
 use Rattle.elf_link_relocate.specs.Loads.{file_size, no_load, load_in, loads}
-use Rattle.elf_exec.specs.Executable.{encoding_of, exec_header, identification_of, load_part, program_header, program_headers, bytes_from, exec_bytes, header_bytes, load_parts, table_bytes, IsExecFile, IsSoundLink}
+use Rattle.elf_exec.specs.Executable.{exec_header, load_part, program_header, program_headers, bytes_from, exec_bytes, header_bytes, load_parts, table_bytes, IsExecFile, IsSoundLink}
 use Rattle.elf_link_relocate.specs.declared.load.Load.{Load}
 use Rattle.elf_extent.proofs.Public.{fits_length}
 use Rattle.elf_extent.specs.Place.{Fits, alignment}
 use Rattle.elf_field.proofs.RecordTableLaws.{IsBytes-table, length-table}
-use Rattle.elf_field.specs.Abi.{EHDR_SIZE, ELFDATA2LSB, ELFDATA2MSB, MAGIC, PHDR_SIZE, PN_XNUM, PT_NULL}
-use Rattle.elf_field.specs.Bytes.{IsBytes, IsBytes-cons, IsBytes-nil}
+use Rattle.elf_field.specs.Abi.{EHDR_SIZE, PHDR_SIZE, PN_XNUM, PT_NULL}
+use Rattle.elf_field.specs.Bytes.{IsBytes, IsBytes-nil}
 use Rattle.elf_field.specs.Headers.{IsEhdr, ehdr_bytes, ehdr_laws, IsPhdr, phdr_bytes, phdr_laws}
 use Rattle.elf_field.specs.declared.ehdr.Ehdr.{Ehdr}
-use Rattle.elf_field.specs.declared.number.Order.TheVariants.{Little, Big}
 use Rattle.elf_field.specs.declared.number.Order.{Order}
 use Rattle.elf_field.specs.declared.phdr.Phdr.{Phdr}
 use Rattle.elf_image_outline.proofs.Standing.{mapped_at}
 use Rattle.elf_image_outline.specs.Image.{ImageValue, Stands, value_names}
 use Rattle.elf_image_outline.specs.declared.outline.Owner.TheVariants.{Gap, Header, ProgramTable, Content, SectionTable}
 use Rattle.elf_image_outline.specs.declared.outline.Owner.{Owner}
-use Rattle.elf_image_rules.specs.KeepsRules.{KeepsIdentRules, IsAlignment, KeepsEachRecordRule, KeepsProgramTableRules, KeepsSegmentRules}
+use Rattle.elf_image_rules.specs.KeepsRules.{IsAlignment, KeepsEachRecordRule, KeepsProgramTableRules, KeepsSegmentRules}
 use Rattle.elf_image_rules.specs.Rules.{IsFault, IsLoad}
 use Rattle.elf_image_rules.specs.Tables.{order_of, program_header_of, program_header_count, section_header_of}
-use Rattle.elf_image_type.proofs.Public.{in_spread, written_accepted, written_is_bytes, written_read}
+use Rattle.elf_image_type.proofs.Public.{IsBytes-identification, identification_kept, in_spread, order_identified, written_accepted, written_is_bytes, written_read}
 use Rattle.elf_image_type.specs.RelocatableFile.{WrittenPart, unaligned, AreFileParts, FileContents, HasContents, IsPartOf, IsWritable, owner_bytes, owner_start, spread, written}
 use Rattle.elf_link_field.specs.declared.rule.RelocRule.{RelocRule}
 use Rattle.elf_link_files.specs.Files.{no_object, object_at}
@@ -53,71 +52,6 @@ pub record IdentityFits (i : Identity) : Type 0 where
   pub machine : i.machine < 2 ^ 16
   pub flags : i.flags < 2 ^ 32
 
-order_encoded : (order : Order) (rest : List ℕ) → order_of (MAGIC ++ (2 ∷ encoding_of order ∷ rest)) ≡ order
-unfolding order_of
-order_encoded Little rest = refl
-order_encoded Big rest = refl
-
-pub order_identified : (i : Identity) → order_of (identification_of i) ≡ i.order
-order_identified i = order_encoded i.order _
-
-identification_magic : (i : Identity) (k : ℕ) → k < length MAGIC → get_or (identification_of i) k 0 ≡ get_or MAGIC k 0
-identification_magic i zero lt = refl
-identification_magic i (suc zero) lt = refl
-identification_magic i (suc (suc zero)) lt = refl
-identification_magic i (suc (suc (suc zero))) lt = refl
-identification_magic i (suc (suc (suc (suc k)))) lt = absurd (omega arith)
-
-known_encoding : (order : Order) → (encoding_of order ≡ ELFDATA2LSB) ⊎ (encoding_of order ≡ ELFDATA2MSB)
-known_encoding Little = inl refl
-known_encoding Big = inr refl
-
-pub identification_kept : (i : Identity) → KeepsIdentRules (identification_of i)
-identification_kept i = record {
-  magic = identification_magic i;
-  class = refl;
-  encoding = known_encoding i.order;
-  ident_version = refl;
-}
-
-all_are_bytes : (b : List ℕ) → AllByRecursion (λ x. x < 256) b → IsBytes b
-all_are_bytes [] all = IsBytes-nil
-all_are_bytes (x ∷ b) all = IsBytes-cons x b all.0 (all_are_bytes b all.1)
-
-identification_bytes : (i : Identity) → IdentityFits i → IsBytes (identification_of i)
-identification_bytes i fits =
-    let encoded : encoding_of i.order < 256 = elim (known_encoding i.order) [ inl little ↦ omega arith | inr big ↦ omega arith ] in
-    let osabi = fits.osabi in
-    let abi = fits.abi in
-    all_are_bytes (identification_of i) (
-      omega arith,
-      (
-        omega arith,
-        (
-          omega arith,
-          (
-            omega arith,
-            (
-              omega arith,
-              (
-                encoded,
-                (
-                  omega arith,
-                  (
-                    omega arith,
-                    (
-                      omega arith,
-                      (omega arith, (omega arith, (omega arith, (omega arith, (omega arith, (omega arith, (omega arith, tt))))))),
-                    ),
-                  ),
-                ),
-              ),
-            ),
-          ),
-        ),
-      ),
-    )
-
 if_zero_fits : (b : Bool) (x n : ℕ) → x < n → (if b then 0 else x) < n
 if_zero_fits true x n lt = omega arith
 if_zero_fits false x n lt = lt
@@ -125,7 +59,7 @@ if_zero_fits false x n lt = lt
 pub header_fits : (i : Identity) (entry count : ℕ) → IdentityFits i → entry < 2 ^ 64 → count < 2 ^ 16 → IsEhdr (exec_header i entry count)
 header_fits i entry count fits entry_fits few = record {
   e_ident = refl;
-  e_ident_bytes = identification_bytes i fits;
+  e_ident_bytes = IsBytes-identification i.order i.osabi i.abi fits.osabi fits.abi;
   e_type = omega arith;
   e_machine = fits.machine;
   e_version = omega arith;
@@ -354,11 +288,11 @@ module _ (fs : List ObjectValue) (m : LinkMapValue) (rules : List RelocRule) (li
 
   header_is : header_bytes fs m ≡ ehdr_bytes (order_of header.e_ident) header
   unfolding header_bytes
-  header_is = ap (λ (o : Order). ehdr_bytes o header) (sym (order_identified identity))
+  header_is = ap (λ (o : Order). ehdr_bytes o header) (sym (order_identified identity.order identity.osabi identity.abi))
 
   table_is : table_bytes fs m places ≡ flat_map (phdr_bytes (order_of header.e_ident)) segments
   unfolding table_bytes
-  table_is = ap (λ (o : Order). flat_map (phdr_bytes o) segments) (sym (order_identified identity))
+  table_is = ap (λ (o : Order). flat_map (phdr_bytes o) segments) (sym (order_identified identity.order identity.osabi identity.abi))
 
   header_long : length (header_bytes fs m) ≡ EHDR_SIZE
   header_long = ap length header_is ∙ ehdr_laws.length_is (order_of header.e_ident) header
@@ -556,7 +490,7 @@ module _ (fs : List ObjectValue) (m : LinkMapValue) (rules : List RelocRule) (li
   records_kept : KeepsEachRecordRule (length b) header (section_header_of []) (program_header_of segments) (value_names header [] [])
   records_kept = record {
     file_length = record { not_too_long = file.short; not_too_short = (let long = many in let size = header_long in let within = part_within 0 (omega arith) (omega arith) in omega arith) };
-    ident = identification_kept identity;
+    ident = identification_kept identity.order identity.osabi identity.abi;
     header = record {
       version = refl;
       header_size = refl;

@@ -1,14 +1,13 @@
 -- What the executable of a link is, as a file: an image whose loadable segments give each address the byte that memory has there.
 -- (gABI chapter 4, ELF Header; chapter 5, Program Header.)
-use Rattle.std.specs.Prelude.{ℕ, ◌+◌, ◌-◌, ◌^◌, ◌<◌, ◌==◌, if◌then◌else◌, List, length, map, ◌≡◌, ◌*◌, [], ◌∷◌, ◌++◌, replicate, slice_index, ◌↔◌, ◌≤◌, MatchOption, Option, None}
+use Rattle.std.specs.Prelude.{ℕ, ◌+◌, ◌^◌, ◌<◌, ◌==◌, if◌then◌else◌, List, length, map, ◌≡◌, ◌*◌, [], ◌∷◌, slice_index, ◌↔◌, ◌≤◌, MatchOption, Option, None}
 use Rattle.std.specs.List.{flat_map}
+use Rattle.elf_image_type.specs.RelocatableFile.{identification}
 use Rattle.elf_link_relocate.specs.declared.load.Load.{Load}
 use Rattle.elf_extent.specs.Place.{Least}
-use Rattle.elf_field.specs.Abi.{EHDR_SIZE, EI_NIDENT, EI_PAD, ELFCLASS64, ELFDATA2LSB, ELFDATA2MSB, ET_EXEC, EV_CURRENT, MAGIC, PHDR_SIZE, PT_LOAD, PN_XNUM}
+use Rattle.elf_field.specs.Abi.{EHDR_SIZE, ET_EXEC, EV_CURRENT, PHDR_SIZE, PT_LOAD, PN_XNUM}
 use Rattle.elf_field.specs.Headers.{ehdr_bytes, phdr_bytes}
 use Rattle.elf_field.specs.declared.ehdr.Ehdr.{Ehdr}
-use Rattle.elf_field.specs.declared.number.Order.TheVariants.{Little, Big}
-use Rattle.elf_field.specs.declared.number.Order.{Order}
 use Rattle.elf_field.specs.declared.phdr.Phdr.{Phdr}
 use Rattle.elf_image_outline.specs.Image.{ImageValue, IsImage, Stands}
 use Rattle.elf_image_rules.specs.Rules.{MAX_LEN, IsFault}
@@ -65,18 +64,11 @@ program_headers page [] places = []
 program_headers page (load ∷ ls) [] = []
 program_headers page (load ∷ ls) (place ∷ places) = program_header page load place ∷ program_headers page ls places
 
-abbrev pub encoding_of : Order → ℕ
-encoding_of Little = ELFDATA2LSB
-encoding_of Big = ELFDATA2MSB
-
-abbrev pub identification_of : Identity → List ℕ
-identification_of i = MAGIC ++ (ELFCLASS64 ∷ encoding_of i.order ∷ EV_CURRENT ∷ i.osabi ∷ i.abi ∷ replicate (EI_NIDENT - EI_PAD) 0)
-
 -- the header of a file with this entry and so many segments, whose program header table is after it; a table without entries is none; there
 -- is no section header table
 abbrev pub exec_header : Identity → ℕ → ℕ → Ehdr
 exec_header i entry count = record {
-  e_ident = identification_of i;
+  e_ident = identification i.order i.osabi i.abi;
   e_type = ET_EXEC;
   e_machine = i.machine;
   e_version = EV_CURRENT;

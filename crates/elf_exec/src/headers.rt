@@ -1,13 +1,14 @@
 //! The header and the program headers of an executable.
 ghost use Rattle.std.specs.Prelude.{◌≡◌, ◌<◌};
 ghost use Rattle.elf_field.specs.Abi.{PN_XNUM};
-ghost use Rattle.elf_exec.specs.Executable.{encoding_of, exec_header, identification_of, program_header};
+ghost use Rattle.elf_exec.specs.Executable.{exec_header, program_header};
 ghost use Rattle.elf_link_relocate.specs.Linked.{identity_of};
 
 use crate::placed_exec::PlacedExec;
 use elf_field::abi::*;
-use elf_field::{Ehdr, Order, Phdr};
+use elf_field::{Ehdr, Phdr};
 use elf_image_outline::Entries;
+use elf_image_type::identification;
 use elf_link_relocate::{Identity, Linked, Load, file_size};
 
 // The header of an executable (gABI chapter 4, ELF Header).
@@ -19,7 +20,7 @@ pub(crate) fn exec_header(linked: &Linked<'_, '_>, count: usize) -> Ehdr
 {
     let identity = linked.identity();
     Ehdr {
-        e_ident: identification(identity),
+        e_ident: identification(identity.order, identity.osabi, identity.abi),
         e_type: ET_EXEC,
         e_machine: identity.machine,
         e_version: EV_CURRENT as u32,
@@ -33,28 +34,6 @@ pub(crate) fn exec_header(linked: &Linked<'_, '_>, count: usize) -> Ehdr
         e_shentsize: 0,
         e_shnum: 0,
         e_shstrndx: 0,
-    }
-}
-
-/// `e_ident`.
-fn identification(identity: Identity) -> [u8; EI_NIDENT]
-    ensures { result ≡ identification_of identity }
-{
-    let [m0, m1, m2, m3] = MAGIC;
-    let encoding = encoding(identity.order);
-    let (osabi, abi) = (identity.osabi, identity.abi);
-    [
-        m0, m1, m2, m3, ELFCLASS64, encoding, EV_CURRENT, osabi, abi, 0, 0, 0, 0, 0, 0, 0,
-    ]
-}
-
-/// The identification byte of an order.
-fn encoding(order: Order) -> u8
-    ensures { result ≡ encoding_of order }
-{
-    match order {
-        Order::Little => ELFDATA2LSB,
-        Order::Big => ELFDATA2MSB,
     }
 }
 

@@ -5,22 +5,66 @@ use Rattle.std.proofs.Common.{◌≡◌, ◌≢◌, ◌<◌, ◌≤◌, ◌+◌,
 use Rattle.std.specs.Prelude.{slice_get}
 use Rattle.std.specs.List.{AllByRecursion}
 use Rattle.std.proofs.lemmas.Bool.{cases_eq, cases_lt, lt-ltb, le-ltb, ne_eqb}
-use Rattle.elf_field.specs.Abi.{EHDR_SIZE, SHDR_SIZE, SHN_LORESERVE, SHN_XINDEX}
+use Rattle.elf_field.specs.Abi.{EHDR_SIZE, ELFDATA2LSB, ELFDATA2MSB, MAGIC, SHDR_SIZE, SHN_LORESERVE, SHN_XINDEX}
+use Rattle.elf_field.specs.declared.number.Order.TheVariants.{Little, Big}
+use Rattle.elf_field.specs.declared.number.Order.{Order}
 use Rattle.elf_field.specs.declared.ehdr.Ehdr.{Ehdr}
 use Rattle.elf_field.specs.declared.shdr.Shdr.{Shdr}
-use Rattle.elf_field.specs.Bytes.{IsBytes}
+use Rattle.elf_field.specs.Bytes.{IsBytes, IsBytes-cons, IsBytes-nil}
 use Rattle.elf_field.specs.Headers.{ehdr_bytes, IsShdr, shdr_laws, ehdr_laws}
 use Rattle.elf_field.proofs.RecordTableLaws.{IsBytes-table, length-table}
 use Rattle.elf_extent.specs.Place.{Fits}
 use Rattle.elf_extent.proofs.Public.{above_from}
 use Rattle.elf_image_rules.specs.Rules.{IsFault}
-use Rattle.elf_image_rules.specs.KeepsRules.{KeepsEachRecordRule, KeepsHeaderRules, KeepsNameRules, KeepsProgramTableRules, KeepsSectionRules, KeepsSectionTableRules, KeepsSegmentRules}
+use Rattle.elf_image_rules.specs.KeepsRules.{KeepsEachRecordRule, KeepsHeaderRules, KeepsIdentRules, KeepsNameRules, KeepsProgramTableRules, KeepsSectionRules, KeepsSectionTableRules, KeepsSegmentRules}
 use Rattle.elf_image_rules.specs.Tables.{content_extent, name_table, no_section_header, order_of, program_header_count, program_header_of, section_header_count, section_header_of}
 use Rattle.elf_image_outline.specs.declared.outline.Owner.{Owner}
 use Rattle.elf_image_outline.specs.declared.outline.Owner.TheVariants.{Header, ProgramTable, SectionTable, Content, Gap}
 use Rattle.elf_image_outline.specs.Image.{ImageValue, Stands, value_names}
-use Rattle.elf_image_type.specs.RelocatableFile.{AreFileParts, HasContents, IsPartOf, IsWritable, WrittenPart, owner_bytes, owner_start, spread, unaligned, written, IsRelocatableFile, all_headers, behind_header, content_parts, short_count, first_header, long_number, short_index, offsets, relocatable_bytes, relocatable_file, relocatable_parts, section_table}
+use Rattle.elf_image_type.specs.RelocatableFile.{encoding, identification, AreFileParts, HasContents, IsPartOf, IsWritable, WrittenPart, owner_bytes, owner_start, spread, unaligned, written, IsRelocatableFile, all_headers, behind_header, content_parts, short_count, first_header, long_number, short_index, offsets, relocatable_bytes, relocatable_file, relocatable_parts, section_table}
 use Rattle.elf_image_type.proofs.FileParts.{written_accepted, written_is_bytes, written_read, length-spread, length-unaligned, parts_ascend}
+
+-- ---- the identification
+
+pub order_identified : (order : Order) (osabi abi : ℕ) → order_of (identification order osabi abi) ≡ order
+unfolding order_of
+order_identified Little osabi abi = refl
+order_identified Big osabi abi = refl
+
+known_encoding : (order : Order) → (encoding order ≡ ELFDATA2LSB) ⊎ (encoding order ≡ ELFDATA2MSB)
+known_encoding Little = inl refl
+known_encoding Big = inr refl
+
+module _ (order : Order) (osabi abi : ℕ) where
+  has_magic : (i : ℕ) → i < length MAGIC → get_or (identification order osabi abi) i 0 ≡ get_or MAGIC i 0
+  has_magic zero lt = refl
+  has_magic (suc zero) lt = refl
+  has_magic (suc (suc zero)) lt = refl
+  has_magic (suc (suc (suc zero))) lt = refl
+  has_magic (suc (suc (suc (suc i)))) lt = absurd (omega arith)
+
+  pub identification_kept : KeepsIdentRules (identification order osabi abi)
+  identification_kept = record {
+    magic = has_magic;
+    class = refl;
+    encoding = known_encoding order;
+    ident_version = refl;
+  }
+
+pub IsBytes-all : (bytes : List ℕ) → AllByRecursion (λ b. b < 256) bytes → IsBytes bytes
+IsBytes-all [] all = IsBytes-nil
+IsBytes-all (b ∷ bytes) all = IsBytes-cons b bytes all.0 (IsBytes-all bytes all.1)
+
+pub IsBytes-identification : (order : Order) (osabi abi : ℕ) → osabi < 2 ^ 8 → abi < 2 ^ 8 → IsBytes (identification order osabi abi)
+IsBytes-identification order osabi abi osabi_fits abi_fits = bytes order
+  where
+    tail : (b : ℕ) → b < 256 → IsBytes (127 ∷ 69 ∷ 76 ∷ 70 ∷ 2 ∷ b ∷ 1 ∷ osabi ∷ abi ∷ 0 ∷ 0 ∷ 0 ∷ 0 ∷ 0 ∷ 0 ∷ 0 ∷ [])
+    tail b lt = IsBytes-all (127 ∷ 69 ∷ 76 ∷ 70 ∷ 2 ∷ b ∷ 1 ∷ osabi ∷ abi ∷ 0 ∷ 0 ∷ 0 ∷ 0 ∷ 0 ∷ 0 ∷ 0 ∷ [])
+        (omega arith, (omega arith, (omega arith, (omega arith, (omega arith, (lt, (omega arith, (osabi_fits, (abi_fits, (omega arith, (omega arith, (omega arith, (omega arith, (omega arith, (omega arith, (omega arith, tt))))))))))))))))
+
+    bytes : (order : Order) → IsBytes (127 ∷ 69 ∷ 76 ∷ 70 ∷ 2 ∷ encoding order ∷ 1 ∷ osabi ∷ abi ∷ 0 ∷ 0 ∷ 0 ∷ 0 ∷ 0 ∷ 0 ∷ 0 ∷ [])
+    bytes Little = tail 1 (omega arith)
+    bytes Big = tail 2 (omega arith)
 
 -- ---- the parts of contents and a last one
 

@@ -3,10 +3,12 @@
 use Rattle.std.specs.Prelude.{◌≡◌, ◌≢◌, ◌<◌, ℕ, ◌+◌, ◌-◌, List, [], ◌∷◌, ◌++◌, length, map, get_or, replicate, slice_get, slice_index, Some, ◌≤◌, suc, ◌*◌, ◌%◌, nat_lt, if◌then◌else◌}
 use Rattle.std.specs.List.{AllByRecursion, flat_map}
 use Rattle.elf_extent.specs.Place.{Fits}
-use Rattle.elf_field.specs.Abi.{EHDR_SIZE, EV_CURRENT, SHDR_SIZE, SHN_LORESERVE, SHN_XINDEX}
+use Rattle.elf_field.specs.Abi.{EHDR_SIZE, EI_NIDENT, EI_PAD, ELFCLASS64, ELFDATA2LSB, ELFDATA2MSB, EV_CURRENT, MAGIC, SHDR_SIZE, SHN_LORESERVE, SHN_XINDEX}
 use Rattle.elf_field.specs.Bytes.{IsBytes}
 use Rattle.elf_field.specs.Headers.{IsEhdr, ehdr_bytes, IsShdr, shdr_bytes, IsPhdr, phdr_bytes}
 use Rattle.elf_field.specs.declared.ehdr.Ehdr.{Ehdr}
+use Rattle.elf_field.specs.declared.number.Order.TheVariants.{Little, Big}
+use Rattle.elf_field.specs.declared.number.Order.{Order}
 use Rattle.elf_field.specs.declared.phdr.Phdr.{Phdr}
 use Rattle.elf_field.specs.declared.shdr.Shdr.{Shdr}
 use Rattle.elf_image_outline.specs.Image.{ImageValue, value_names}
@@ -99,6 +101,16 @@ pub record HasContents (v : ImageValue) (f : FileContents) : Type 0 where
   pub sections : v.sections ≡ f.sections
   pub segments : v.segments ≡ f.segments
   pub contents : v.contents ≡ f.contents
+
+-- ---- its identification (gABI chapter 4, ELF Identification)
+
+abbrev pub encoding : Order → ℕ
+encoding Little = ELFDATA2LSB
+encoding Big = ELFDATA2MSB
+
+-- e_ident of a file in this order, with these bytes EI_OSABI and EI_ABIVERSION
+abbrev pub identification : Order → ℕ → ℕ → List ℕ
+identification order osabi abi = MAGIC ++ (ELFCLASS64 ∷ encoding order ∷ EV_CURRENT ∷ osabi ∷ abi ∷ replicate (EI_NIDENT - EI_PAD) 0)
 
 -- ---- counts and indexes that the header may not hold
 

@@ -5,9 +5,11 @@ ghost use Rattle.elf_image_outline.specs.Image.{IsImage, IsSoundImage, joined, p
 ghost use Rattle.elf_image_outline.specs.Scanning.{IsParseFault};
 ghost use Rattle.elf_image_outline.specs.Outline.{image_of, placed_part};
 ghost use Rattle.elf_image_stream.specs.Output.{Writes};
+ghost use Rattle.elf_image_type.specs.RelocatableFile.{encoding as encoding_of, identification as identification_of};
 
 use crate::image::Image;
-use elf_field::Shdr;
+use elf_field::abi::*;
+use elf_field::{Order, Shdr};
 use elf_image_outline::{Outline, Owner, Part, outline_of, write_records};
 use elf_image_rules::judge_records;
 use elf_image_rules::tables::content_of;
@@ -108,5 +110,28 @@ fn write_part<W: Write>(
         Owner::Content(i) => write_whole(writer, contents[i]),
         Owner::Gap if outline.is_zeroed() => write_zeros(writer, part.len),
         Owner::Gap => write_whole(writer, &file[start..start + part.len as usize]),
+    }
+}
+
+// The identification of a file that is written (gABI chapter 4, ELF Identification).
+
+/// `e_ident` of a file in this byte order, with these bytes `EI_OSABI` and `EI_ABIVERSION`.
+pub fn identification(order: Order, osabi: u8, abi: u8) -> [u8; EI_NIDENT]
+    ensures { result ≡ identification_of order osabi abi }
+{
+    let [m0, m1, m2, m3] = MAGIC;
+    let encoding = encoding(order);
+    [
+        m0, m1, m2, m3, ELFCLASS64, encoding, EV_CURRENT, osabi, abi, 0, 0, 0, 0, 0, 0, 0,
+    ]
+}
+
+/// The identification byte of an order.
+fn encoding(order: Order) -> u8
+    ensures { result ≡ encoding_of order }
+{
+    match order {
+        Order::Little => ELFDATA2LSB,
+        Order::Big => ELFDATA2MSB,
     }
 }

@@ -13,7 +13,6 @@ use Rattle.elf_field.specs.Bytes.{IsBytes, IsBytes-drop, IsBytes-nil, IsBytes-ta
 use Rattle.elf_field.specs.Entries.{sym_laws}
 use Rattle.elf_field.specs.Headers.{IsShdr, IsEhdr}
 use Rattle.elf_field.specs.declared.ehdr.Ehdr.{Ehdr}
-use Rattle.elf_field.specs.declared.number.Order.TheVariants.{Little, Big}
 use Rattle.elf_field.specs.declared.number.Order.{Order}
 use Rattle.elf_field.specs.declared.shdr.Shdr.{Shdr}
 use Rattle.elf_image_outline.specs.Image.{ImageValue, IsSoundImage, value_names, IsImage, Stands}
@@ -22,11 +21,11 @@ use Rattle.elf_image_rules.specs.KeepsRules.{IsAlignment, KeepsNameRules}
 use Rattle.elf_image_rules.specs.Rows.{FirstIn}
 use Rattle.elf_image_rules.specs.Rules.{MAX_LEN, IsFault}
 use Rattle.elf_image_rules.specs.Tables.{name_table, no_section_header, content_extent, section_header_of, order_of}
-use Rattle.elf_image_type.proofs.Public.{image_is_sound, relocatable_accepted, relocatable_is_bytes, relocatable_read, some_image}
+use Rattle.elf_image_type.proofs.Public.{IsBytes-identification, identification_kept, image_is_sound, relocatable_accepted, relocatable_is_bytes, relocatable_read, some_image}
 use Rattle.elf_image_type.specs.ImageView.{string}
 use Rattle.elf_image_type.specs.RelocatableFile.{IsRelocatableFile, all_headers, short_count, short_index, relocatable_bytes}
 use Rattle.elf_object_file.proofs.WrittenDenotes.{written_denotes}
-use Rattle.elf_object_file.proofs.WrittenFile.{EachKind, IsBytes-all, PlainFits, each_plain, plain_fits, section_names_are}
+use Rattle.elf_object_file.proofs.WrittenFile.{EachKind, PlainFits, each_plain, plain_fits, section_names_are}
 use Rattle.elf_object_file.proofs.WrittenRules.{written_keeps_rules}
 use Rattle.elf_object_file.proofs.WrittenSections.{content_short, names_short, table_short, written_section}
 use Rattle.elf_object_file.specs.ObjectFile.{IsWrittenAt, written_sections, IsWrittenAs, IsWrittenFile, IsObjectWritten, empty_object, empty_object_bytes, one_section, one_section_bytes}
@@ -42,8 +41,8 @@ use Rattle.elf_object_type.proofs.Public.{relocations_fit as table_fits, all_of_
 use Rattle.elf_object_type.specs.Object.{ObjectValue, BodyFits, InfoFits, ObjectFits, RelocationFits, SectionFits, SymbolFits, section_at}
 use Rattle.elf_object_type.specs.ObjectRules.{IsObject}
 use Rattle.elf_object_writer.proofs.PlainSections.{shared_names}
-use Rattle.elf_object_writer.proofs.Public.{canonical_header, canonical_section_headers, contents_of, identification_kept, last_sections, layout_order, length-canonical_section_headers, length-plain, no_plain, plain_at, plain_last, one_layout}
-use Rattle.elf_object_writer.specs.Laid.{encoding, identification, section_header, PlainSection, has_index_table, name_table_at, plain_sections, section_names, strings, strings_at, symbol_table_at, Laid, layout_bytes, layout_parts, sections_before_names}
+use Rattle.elf_object_writer.proofs.Public.{canonical_header, canonical_section_headers, contents_of, last_sections, layout_order, length-canonical_section_headers, length-plain, no_plain, plain_at, plain_last, one_layout}
+use Rattle.elf_object_writer.specs.Laid.{section_header, PlainSection, has_index_table, name_table_at, plain_sections, section_names, strings, strings_at, symbol_table_at, Laid, layout_bytes, layout_parts, sections_before_names}
 use Rattle.elf_object_writer.specs.PlacedObject.{IsLayoutWritten}
 use Rattle.elf_object_writer.specs.declared.object_writing.ObjectWriteFault.TheVariants.{TooLong, OutOfMemory, Io}
 use Rattle.elf_object_writer.specs.declared.object_writing.ObjectWriteFault.{ObjectWriteFault}
@@ -217,17 +216,6 @@ sound_object v b o image clean denotes =
 
 -- ---- the header
 
-IsBytes-identification : (o : ObjectValue) → o.osabi < 2 ^ 8 → o.abi < 2 ^ 8 → IsBytes (identification o)
-IsBytes-identification o osabi abi = bytes o.order
-  where
-    tail : (b : ℕ) → b < 256 → IsBytes (127 ∷ 69 ∷ 76 ∷ 70 ∷ 2 ∷ b ∷ 1 ∷ o.osabi ∷ o.abi ∷ 0 ∷ 0 ∷ 0 ∷ 0 ∷ 0 ∷ 0 ∷ 0 ∷ [])
-    tail b lt = IsBytes-all (127 ∷ 69 ∷ 76 ∷ 70 ∷ 2 ∷ b ∷ 1 ∷ o.osabi ∷ o.abi ∷ 0 ∷ 0 ∷ 0 ∷ 0 ∷ 0 ∷ 0 ∷ 0 ∷ [])
-        (omega arith, (omega arith, (omega arith, (omega arith, (omega arith, (lt, (omega arith, (osabi, (abi, (omega arith, (omega arith, (omega arith, (omega arith, (omega arith, (omega arith, (omega arith, tt))))))))))))))))
-
-    bytes : (order : Order) → IsBytes (127 ∷ 69 ∷ 76 ∷ 70 ∷ 2 ∷ encoding order ∷ 1 ∷ o.osabi ∷ o.abi ∷ 0 ∷ 0 ∷ 0 ∷ 0 ∷ 0 ∷ 0 ∷ 0 ∷ [])
-    bytes Little = tail 1 (omega arith)
-    bytes Big = tail 2 (omega arith)
-
 short_count_fits : (n : ℕ) → short_count n < 2 ^ 16
 short_count_fits n = elim (cases_lt n 0xff00) [
   | inl lt ↦ rw (lt-ltb n 0xff00 lt) (omega arith)
@@ -246,7 +234,7 @@ module _ (o : ObjectValue) (places : List ℕ) (written : IsWrittenAt o places) 
       let table = table_short o places written in
       record {
         e_ident = refl;
-        e_ident_bytes = IsBytes-identification o written.widths.osabi written.widths.abi;
+        e_ident_bytes = IsBytes-identification o.order o.osabi o.abi written.widths.osabi written.widths.abi;
         e_type = omega arith;
         e_machine = written.widths.machine;
         e_version = omega arith;
@@ -414,7 +402,7 @@ module _ (o : ObjectValue) (places : List ℕ) (written : IsWrittenAt o places) 
         header_fits = header_fits;
         headers_fit = headers_fit;
         bytes = contents_are_bytes;
-        ident = identification_kept o;
+        ident = identification_kept o.order o.osabi o.abi;
         version = refl;
         header_size = refl;
         section_header_size = refl;

@@ -6,16 +6,15 @@ use Rattle.std.specs.Prelude.{◌==◌, if◌then◌else◌, codes, Option, None
 use Rattle.std.specs.List.{AllByRecursion, filter, flat_map}
 use Rattle.std.proofs.lemmas.Bool.{cases_lt, ne_eqb}
 use Rattle.std.proofs.lemmas.List.{map-append, get_or-map, length-map}
-use Rattle.elf_field.specs.Abi.{SHT_NOBITS, SHT_NULL, EI_ABIVERSION, EI_OSABI, ELFDATA2MSB, SHT_DYNAMIC, SHT_DYNSYM, SHT_GROUP, SHT_HASH, SHT_REL, SHT_RELA, SHT_SHLIB, SHT_STRTAB, SHT_SYMTAB, SHT_SYMTAB_SHNDX}
-use Rattle.elf_field.specs.Bytes.{IsBytes, IsBytes-append, IsBytes-bytes_of, IsBytes-cons, IsBytes-nil}
+use Rattle.elf_field.specs.Abi.{SHT_NOBITS, SHT_NULL, EI_ABIVERSION, EI_OSABI, SHT_DYNAMIC, SHT_DYNSYM, SHT_GROUP, SHT_HASH, SHT_REL, SHT_RELA, SHT_SHLIB, SHT_STRTAB, SHT_SYMTAB, SHT_SYMTAB_SHNDX}
+use Rattle.elf_field.specs.Bytes.{IsBytes, IsBytes-append, IsBytes-bytes_of, IsBytes-nil}
 use Rattle.elf_field.specs.Entries.{rel_bytes, rel_layout, rela_bytes, rela_layout, sym_bytes, sym_layout, word_bytes}
 use Rattle.elf_field.specs.Record.{widths, IsBytes-spelled}
-use Rattle.elf_field.specs.declared.number.Order.TheVariants.{Little, Big}
 use Rattle.elf_field.specs.declared.number.Order.{Order}
 use Rattle.elf_field.specs.declared.shdr.Shdr.{Shdr}
 use Rattle.elf_image_outline.specs.Image.{value_names}
 use Rattle.elf_image_rules.proofs.Public.{above}
-use Rattle.elf_image_rules.specs.Tables.{order_of}
+use Rattle.elf_image_type.proofs.Public.{IsBytes-all, order_identified}
 use Rattle.elf_image_type.specs.ImageView.{string}
 use Rattle.elf_object_file.proofs.WrittenSections.{own_short, symbols_short, last_some, own_typed, written_name_table, written_own, written_content, count_of_written, written_last, indexes_no_body, own_type, symbols_no_body, written_first}
 use Rattle.elf_object_file.specs.ObjectFile.{IsWrittenAt, written_sections}
@@ -30,7 +29,7 @@ use Rattle.elf_object_type.specs.declared.parts.Info.TheVariants.{Number, Sectio
 use Rattle.elf_object_type.specs.declared.parts.Info.{Info}
 use Rattle.elf_object_type.specs.declared.relocations.Relocation.{Relocation}
 use Rattle.elf_object_writer.proofs.Public.{last_sections, length-plain, no_plain, plain_at, plain_last, plain_own, last_count}
-use Rattle.elf_object_writer.specs.Laid.{section_size, PlainSection, body_bytes, body_info, body_link, body_space, body_type, group_words, has_index_table, index_of, index_table_section, index_word, is_local, null_symbol, own_info, own_section, plain_sections, rel_entry, rela_entry, relocation_bytes, section_names, sections_before_names, strings, symbol_entry, symbol_names, symbol_table_section, encoding, name_table_at, strings_at, symbol_table_at, section_header}
+use Rattle.elf_object_writer.specs.Laid.{section_size, PlainSection, body_bytes, body_info, body_link, body_space, body_type, group_words, has_index_table, index_of, index_table_section, index_word, is_local, null_symbol, own_info, own_section, plain_sections, rel_entry, rela_entry, relocation_bytes, section_names, sections_before_names, strings, symbol_entry, symbol_names, symbol_table_section, name_table_at, strings_at, symbol_table_at, section_header}
 use Rattle.elf_table_symbols.specs.Sections.{content, order, section, Sections, count}
 
 -- The section headers and contents of a written object fit a file: each number its field, each content the size that is reported. The
@@ -79,10 +78,6 @@ IsBytes-relocations order false entries = IsBytes-flat (rel_bytes order) (λ e. 
 
 IsBytes-words : (order : Order) (words : List ℕ) → IsBytes (flat_map (word_bytes order) words)
 IsBytes-words order words = IsBytes-flat (word_bytes order) (λ word. IsBytes-bytes_of order 4 word) words
-
-pub IsBytes-all : (bytes : List ℕ) → AllByRecursion (λ b. b < 256) bytes → IsBytes bytes
-IsBytes-all [] all = IsBytes-nil
-IsBytes-all (b ∷ bytes) all = IsBytes-cons b bytes all.0 (IsBytes-all bytes all.1)
 
 IsBytes-symtab : IsBytes (codes ".symtab")
 IsBytes-symtab = IsBytes-all (codes ".symtab") (omega arith, (omega arith, (omega arith, (omega arith, (omega arith, (omega arith, (omega arith, tt)))))))
@@ -326,12 +321,8 @@ plain_fits o places written =
 -- ---- the header
 
 pub written_order : (o : ObjectValue) (places : List ℕ) → order (written_sections o places) ≡ o.order
-unfolding written_sections order_of
-written_order o places = by_order o.order
-  where
-    by_order : (named : Order) → (if encoding named == ELFDATA2MSB then Big else Little) ≡ named
-    by_order Little = refl
-    by_order Big = refl
+unfolding written_sections
+written_order o places = order_identified o.order o.osabi o.abi
 
 pub written_osabi : (o : ObjectValue) (places : List ℕ) → slice_index (written_sections o places).header.e_ident EI_OSABI ≡ o.osabi
 unfolding written_sections

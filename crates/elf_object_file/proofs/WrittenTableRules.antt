@@ -28,7 +28,7 @@ use Rattle.elf_object_type.specs.declared.parts.Place.TheVariants.{Undef, Abs, C
 use Rattle.elf_object_type.specs.declared.parts.Place.{Place}
 use Rattle.elf_object_type.specs.declared.relocations.Relocation.{Relocation}
 use Rattle.elf_object_writer.proofs.Public.{length-index_table_section, length-symbol_table_section, length-relocations}
-use Rattle.elf_object_writer.specs.Laid.{has_index_table, index_table_section, index_word, is_far, is_local, null_symbol, shndx, symbol_entry, symbol_names, symbol_table_section, symbol_table_at, body_bytes, body_info, body_link, body_space, body_type, index_of, own_section, relocation_bytes, relocation_section_type}
+use Rattle.elf_object_writer.specs.Laid.{has_index_table, index_table_section, index_word, is_far, is_local, null_symbol, shndx, symbol_entry, symbol_names, symbol_table_section, symbol_table_at, body_bytes, body_info, body_link, body_space, body_type, own_section, relocation_bytes, relocation_section_type}
 use Rattle.elf_table_lists.specs.Relocations.{relocation_entry_rules, relocation_section_rules, has_addends, relocation_count, relocation_in}
 use Rattle.elf_table_symbols.specs.Sections.{own_rules, content, section, order, entry_size, kind_of}
 use Rattle.elf_table_symbols.specs.Symbols.{linked_string_rules, unclosed_string_table, SymbolPartsValue, IsMisplacedBinding, IsSymbolNamePastEnd, IsWrongSymbolSection, IsWrongIndexWord, entry, entry_count, symbol_entry_rules, misplaced_binding, place_rules, symbol_0_not_null, symbol_name_past_end, word, wrong_local_count, wrong_symbol_section, index_table, index_words, symbol_parts, index_table_rules, rest_rules, second_index_table, symbol_table_rules, wrong_index_table_size}

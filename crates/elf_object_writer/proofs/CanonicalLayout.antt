@@ -9,14 +9,11 @@ use Rattle.std.proofs.lemmas.List.{length-map, get_or-map}
 use Rattle.elf_extent.proofs.Public.{above_earlier, fits_length, same_least, least_places}
 use Rattle.elf_extent.specs.Place.{Fits, IsOverflowAt, Least, end_of}
 use Rattle.elf_field.proofs.RecordTableLaws.{length-table}
-use Rattle.elf_field.specs.Abi.{EHDR_SIZE, ELFDATA2LSB, ELFDATA2MSB, MAGIC, SHDR_SIZE}
+use Rattle.elf_field.specs.Abi.{EHDR_SIZE, SHDR_SIZE}
 use Rattle.elf_field.specs.Entries.{sym_laws, word_laws}
 use Rattle.elf_field.specs.Headers.{shdr_laws}
 use Rattle.elf_field.specs.declared.ehdr.Ehdr.{Ehdr}
-use Rattle.elf_field.specs.declared.number.Order.TheVariants.{Little, Big}
-use Rattle.elf_field.specs.declared.number.Order.{Order}
 use Rattle.elf_field.specs.declared.shdr.Shdr.{Shdr}
-use Rattle.elf_image_rules.specs.KeepsRules.{KeepsIdentRules}
 use Rattle.elf_image_rules.specs.Rules.{MAX_LEN}
 use Rattle.elf_image_rules.specs.Tables.{order_of}
 use Rattle.elf_image_type.proofs.Public.{length-relocatable_bytes}
@@ -25,7 +22,7 @@ use Rattle.elf_object_strings.proofs.Public.{holds_names}
 use Rattle.elf_object_strings.specs.StringTable.{name_offset, string_table}
 use Rattle.elf_object_type.specs.Object.{ObjectValue}
 use Rattle.elf_object_writer.proofs.PlainSections.{name_table_at as names_found, strings_at, symbols_at, count_far, count_near, either_way, own_below}
-use Rattle.elf_object_writer.specs.Laid.{LARGEST, saturated, AreTooLong, ArePlacedParts, LayoutValue, Laid, content_part, encoding, file_header, identification, layout_bytes, layout_parts, section_headers, ArePartsFault, IsLayoutFault, IsLayoutOf, PlainSection, name_table_at, plain_sections, section_names, index_table_section, index_word, null_symbol, sections_before_names, symbol_entry, symbol_names, symbol_table_section}
+use Rattle.elf_object_writer.specs.Laid.{LARGEST, saturated, AreTooLong, ArePlacedParts, LayoutValue, Laid, content_part, file_header, layout_bytes, layout_parts, section_headers, ArePartsFault, IsLayoutFault, IsLayoutOf, PlainSection, name_table_at, plain_sections, section_names, index_table_section, index_word, null_symbol, sections_before_names, symbol_entry, symbol_names, symbol_table_section}
 use Rattle.elf_object_writer.specs.PlacedObject.{IsSectionAt, plain_section}
 use Rattle.elf_object_writer.specs.declared.layout.LayoutFault.TheVariants.{TooLong, OutOfMemory}
 use Rattle.elf_object_writer.specs.declared.layout.LayoutFault.{LayoutFault}
@@ -227,27 +224,6 @@ length-layout_bytes o places fits =
     let size = last_size sections (SHDR_SIZE * count) in
     let end = ap (end_of (map content_part sections ++ ((SHDR_SIZE * count, 8) ∷ [])) places) last in
     omega arith
-
--- ---- the identification of the file
-
-identification_magic : (o : ObjectValue) (i : ℕ) → i < length MAGIC → get_or (identification o) i 0 ≡ get_or MAGIC i 0
-identification_magic o zero lt = refl
-identification_magic o (suc zero) lt = refl
-identification_magic o (suc (suc zero)) lt = refl
-identification_magic o (suc (suc (suc zero))) lt = refl
-identification_magic o (suc (suc (suc (suc i)))) lt = absurd (omega arith)
-
-known_encoding : (order : Order) → (encoding order ≡ ELFDATA2LSB) ⊎ (encoding order ≡ ELFDATA2MSB)
-known_encoding Little = inl refl
-known_encoding Big = inr refl
-
-pub identification_kept : (o : ObjectValue) → KeepsIdentRules (identification o)
-identification_kept o = record {
-  magic = identification_magic o;
-  class = refl;
-  encoding = known_encoding o.order;
-  ident_version = refl;
-}
 
 -- ---- what placed parts say about the object
 

@@ -14,13 +14,12 @@ use Rattle.elf_field.proofs.RecordTableLaws.{entries_bytes, length-table}
 use Rattle.elf_field.specs.Abi.{relocation_size}
 use Rattle.elf_field.specs.Entries.{rel_at, rel_bytes, rel_laws, rela_at, rela_bytes, rela_laws}
 use Rattle.elf_field.specs.Headers.{ehdr_bytes, ehdr_laws, shdr_bytes, shdr_laws}
-use Rattle.elf_field.specs.declared.number.Order.TheVariants.{Little, Big}
 use Rattle.elf_field.specs.declared.number.Order.{Order}
 use Rattle.elf_field.specs.declared.rel.Rel.{Rel}
 use Rattle.elf_field.specs.declared.rela.Rela.{Rela}
-use Rattle.elf_image_rules.specs.Tables.{order_of}
 use Rattle.elf_image_outline.proofs.EntriesOut.{went_err}
 use Rattle.elf_image_stream.specs.declared.fault.WriteFault.{WriteFault}
+use Rattle.elf_image_type.proofs.Public.{order_identified}
 use Rattle.elf_image_type.specs.RelocatableFile.{spread, unaligned, all_headers, offsets, relocatable_bytes}
 use Rattle.elf_object_strings.specs.StringTable.{name_offset}
 use Rattle.elf_object_type.proofs.Public.{length_table_relocations}
@@ -28,7 +27,7 @@ use Rattle.elf_object_type.specs.Object.{IsRelocationTable, symbol_reference, ta
 use Rattle.elf_object_type.specs.declared.relocations.Relocation.{Relocation}
 use Rattle.elf_object_writer.proofs.CanonicalLayout.{canonical_header, canonical_section_headers, contents_of, layout_order, offsets_are, content_end}
 use Rattle.elf_object_writer.proofs.HeaderTables.{length-headers}
-use Rattle.elf_object_writer.specs.Laid.{index_of, rel_entry, rela_entry, relocation_bytes, identification, layout_bytes, section_headers, IsLayoutOf, LayoutValue, PlainSection, name_table_at, plain_sections, section_names}
+use Rattle.elf_object_writer.specs.Laid.{index_of, rel_entry, rela_entry, relocation_bytes, layout_bytes, section_headers, IsLayoutOf, LayoutValue, PlainSection, name_table_at, plain_sections, section_names}
 use Rattle.elf_object_writer.specs.PlacedObject.{WritesBehind, header_table, IsPlacedObject, IsSectionAt, PlacedValue, plain_section}
 use Rattle.elf_object_writer.specs.declared.placed_object.PlacedSection.TheVariants.{Names}
 use Rattle.elf_object_writer.specs.declared.placed_object.PlacedSection.{PlacedSection}
@@ -179,14 +178,6 @@ all_sent a b whole at (x ∷ q) going = absurd going.fits
 
 -- ---- the parts of the layout
 
-order_read : (o : ObjectValue) → order_of (identification o) ≡ o.order
-unfolding order_of
-order_read o = which o.order
-  where
-    which : (order : Order) → order_of (identification (record o { order = order })) ≡ order
-    which Little = refl
-    which Big = refl
-
 -- the contents and the section header table
 abbrev pub laid_parts : ObjectValue → List ℕ → List (List ℕ)
 laid_parts o places = contents_of o ++ (header_table o places ∷ [])
@@ -229,7 +220,7 @@ layout_is o layout laid =
     let cs = contents_of o in
     let parts : Order → List (List ℕ) = λ order. cs ++ (flat_map (shdr_bytes order) (all_headers ss (name_table_at o)) ∷ []) in
     let long : 0 + length (ehdr_bytes o.order h) ≡ 64 = (let e = ehdr_laws.length_is o.order h in omega arith) in
-    ap (λ (order : Order). ehdr_bytes order h ++ spread (0 + length (ehdr_bytes order h)) (offsets h ss) (parts order)) (order_read o)
+    ap (λ (order : Order). ehdr_bytes order h ++ spread (0 + length (ehdr_bytes order h)) (offsets h ss) (parts order)) (order_identified o.order o.osabi o.abi)
     ∙ ap (λ (places : List ℕ). ehdr_bytes o.order h ++ spread (0 + length (ehdr_bytes o.order h)) places (parts o.order)) (places_are o layout laid)
     ∙ ap (λ (n : ℕ). ehdr_bytes o.order h ++ spread n q (parts o.order)) long
 
@@ -241,7 +232,7 @@ parts_fit o layout laid =
     let ss = canonical_section_headers o q in
     let parts : Order → List (List ℕ) = λ order. contents_of o ++ (flat_map (shdr_bytes order) (all_headers ss (name_table_at o)) ∷ []) in
     subst (λ (places : List ℕ). Fits (map unaligned (parts o.order)) 64 places) (places_are o layout laid)
-    (subst (λ (order : Order). Fits (map unaligned (parts order)) 64 (offsets h ss)) (order_read o) (layout_order o q laid.least.fits))
+    (subst (λ (order : Order). Fits (map unaligned (parts order)) 64 (offsets h ss)) (order_identified o.order o.osabi o.abi) (layout_order o q laid.least.fits))
 
 -- ---- the layout as it goes out
 

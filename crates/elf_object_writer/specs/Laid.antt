@@ -1,19 +1,18 @@
 -- The canonical layout of an object: the one list of bytes that it is written as.
 -- (gABI chapter 4, ELF Header and Sections; where they leave a place open, the layout is this project's own.)
-use Rattle.std.specs.Prelude.{ℕ, ◌+◌, ◌*◌, ◌^◌, ◌==◌, nat_le, if◌then◌else◌, Bool, false, Option, None, Some, List, [], ◌∷◌, ◌++◌, codes, length, map, ◌≡◌, ◌-◌, replicate, slice_index, min, ◌<◌, ◌≤◌}
+use Rattle.std.specs.Prelude.{ℕ, ◌+◌, ◌*◌, ◌^◌, ◌==◌, nat_le, if◌then◌else◌, Bool, false, Option, None, Some, List, [], ◌∷◌, ◌++◌, codes, length, map, ◌≡◌, ◌-◌, slice_index, min, ◌<◌, ◌≤◌}
 use Rattle.std.specs.List.{filter, flat_map, list_any}
 use Rattle.elf_extent.specs.Place.{Least, end_of}
-use Rattle.elf_field.specs.Abi.{GRP_COMDAT, SHN_ABS, SHN_COMMON, SHN_LORESERVE, SHN_UNDEF, SHT_GROUP, SHT_NOBITS, SHT_REL, SHT_RELA, SHT_STRTAB, SHT_SYMTAB, SHT_SYMTAB_SHNDX, STB_LOCAL, SYM_SIZE, WORD_SIZE, EHDR_SIZE, EI_NIDENT, EI_PAD, ELFCLASS64, ELFDATA2LSB, ELFDATA2MSB, ET_REL, EV_CURRENT, MAGIC, SHDR_SIZE}
+use Rattle.elf_field.specs.Abi.{GRP_COMDAT, SHN_ABS, SHN_COMMON, SHN_LORESERVE, SHN_UNDEF, SHT_GROUP, SHT_NOBITS, SHT_REL, SHT_RELA, SHT_STRTAB, SHT_SYMTAB, SHT_SYMTAB_SHNDX, STB_LOCAL, SYM_SIZE, WORD_SIZE, EHDR_SIZE, ET_REL, EV_CURRENT, SHDR_SIZE}
 use Rattle.elf_field.specs.Entries.{rel_bytes, rela_bytes, sym_bytes, word_bytes}
 use Rattle.elf_field.specs.declared.ehdr.Ehdr.{Ehdr}
-use Rattle.elf_field.specs.declared.number.Order.TheVariants.{Little, Big}
 use Rattle.elf_field.specs.declared.number.Order.{Order}
 use Rattle.elf_field.specs.declared.rel.Rel.{Rel}
 use Rattle.elf_field.specs.declared.rela.Rela.{Rela}
 use Rattle.elf_field.specs.declared.shdr.Shdr.{Shdr}
 use Rattle.elf_field.specs.declared.sym.Sym.{Sym}
 use Rattle.elf_image_rules.specs.Rules.{MAX_LEN}
-use Rattle.elf_image_type.specs.RelocatableFile.{long_number, short_index, relocatable_bytes, short_count}
+use Rattle.elf_image_type.specs.RelocatableFile.{identification, long_number, short_index, relocatable_bytes, short_count}
 use Rattle.elf_object_strings.specs.StringTable.{name_offset, string_table}
 use Rattle.elf_object_type.specs.Object.{BodyValue, bits, no_bits, relocs, group, ObjectValue, SectionValue, SymbolValue, binding}
 use Rattle.elf_object_type.specs.declared.parts.Info.{Info}
@@ -271,17 +270,10 @@ section_headers name_at [] places = []
 section_headers name_at (s ∷ sections) [] = []
 section_headers name_at (s ∷ sections) (place ∷ places) = section_header name_at s place ∷ section_headers name_at sections places
 
-abbrev pub encoding : Order → ℕ
-encoding Little = ELFDATA2LSB
-encoding Big = ELFDATA2MSB
-
-abbrev pub identification : ObjectValue → List ℕ
-identification o = MAGIC ++ (ELFCLASS64 ∷ encoding o.order ∷ EV_CURRENT ∷ o.osabi ∷ o.abi ∷ replicate (EI_NIDENT - EI_PAD) 0)
-
 -- the header of a file of so many section headers, whose section header table is at this offset
 abbrev pub file_header : ObjectValue → ℕ → ℕ → Ehdr
 file_header o count table = record {
-  e_ident = identification o;
+  e_ident = identification o.order o.osabi o.abi;
   e_type = ET_REL;
   e_machine = o.machine;
   e_version = EV_CURRENT;

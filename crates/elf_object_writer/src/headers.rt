@@ -1,6 +1,6 @@
 //! The headers of a written object.
 ghost use Rattle.std.specs.Prelude.{◌≡◌, ◌+◌, length, slice_index, ◌<◌, ◌≤◌, ℕ, ◌^◌, List, filter, get_or};
-ghost use Rattle.elf_object_writer.specs.Laid.{encoding, file_header, identification, plain_sections, section_header, section_headers, PlainSection, body_type, index_of, is_local, name_table_at, own_info, own_section, section_names};
+ghost use Rattle.elf_object_writer.specs.Laid.{file_header, plain_sections, section_header, section_headers, PlainSection, body_type, index_of, is_local, name_table_at, own_info, own_section, section_names};
 ghost use Rattle.elf_image_type.specs.RelocatableFile.{all_headers, first_header};
 ghost use Rattle.elf_object_strings.specs.StringTable.{name_offset};
 ghost use Rattle.elf_object_type.specs.Object.{section_at, info_position};
@@ -14,8 +14,9 @@ use crate::contents::{
 use crate::layout::RECORD_ALIGNMENT;
 use crate::placed_object::{LaidSection, PlacedObject, PlacedSection};
 use elf_field::abi::*;
-use elf_field::{Ehdr, Order, Shdr};
+use elf_field::{Ehdr, Shdr};
 use elf_image_outline::Entries;
+use elf_image_type::identification;
 use elf_object_type::{Body, Info, Object, Symbol};
 
 // The header of an object's file (gABI chapter 4, ELF Header).
@@ -27,7 +28,7 @@ pub(crate) fn file_header(placed: &PlacedObject<'_, '_>) -> Ehdr
 {
     let object = placed.object();
     Ehdr {
-        e_ident: identification(object),
+        e_ident: identification(object.order(), object.osabi(), object.abi()),
         e_type: ET_REL,
         e_machine: object.machine(),
         e_version: EV_CURRENT as u32,
@@ -41,28 +42,6 @@ pub(crate) fn file_header(placed: &PlacedObject<'_, '_>) -> Ehdr
         e_shentsize: SHDR_SIZE as u16,
         e_shnum: short_count(placed.header_count()),
         e_shstrndx: short_index(placed.names_index()),
-    }
-}
-
-/// `e_ident`.
-fn identification(object: &Object<'_>) -> [u8; EI_NIDENT]
-    ensures { result ≡ identification object.now }
-{
-    let [m0, m1, m2, m3] = MAGIC;
-    let encoding = encoding(object.order());
-    let (osabi, abi) = (object.osabi(), object.abi());
-    [
-        m0, m1, m2, m3, ELFCLASS64, encoding, EV_CURRENT, osabi, abi, 0, 0, 0, 0, 0, 0, 0,
-    ]
-}
-
-/// The identification byte of an order.
-fn encoding(order: Order) -> u8
-    ensures { result ≡ encoding order }
-{
-    match order {
-        Order::Little => ELFDATA2LSB,
-        Order::Big => ELFDATA2MSB,
     }
 }
 

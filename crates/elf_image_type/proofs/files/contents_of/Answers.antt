@@ -1,4 +1,4 @@
-use Rattle.std.proofs.Common.{◌∷◌, ◌++◌, ◌∙◌, List, ℕ, [], ap, ap₂, map, sym, take, take_all}
+use Rattle.std.proofs.Common.{◌∷◌, ◌++◌, ◌∙◌, List, ℕ, [], ap, ap₂, map, sym, take_all}
 use Rattle.std.proofs.lemmas.List.{map-append, map_more}
 use Rattle.elf_field.specs.declared.shdr.Shdr.{Shdr}
 use Rattle.elf_image_rules.specs.Tables.{bytes_in, content_extent}
