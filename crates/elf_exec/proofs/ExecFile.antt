@@ -29,7 +29,7 @@ use Rattle.elf_image_rules.specs.KeepsRules.{IsAlignment, KeepsEachRecordRule, K
 use Rattle.elf_image_rules.specs.Rules.{IsFault, IsLoad}
 use Rattle.elf_image_rules.specs.Tables.{order_of, program_header_of, program_header_count, section_header_of}
 use Rattle.elf_image_type.proofs.Public.{IsBytes-identification, identification_kept, in_spread, order_identified, written_accepted, written_is_bytes, written_read}
-use Rattle.elf_image_type.specs.RelocatableFile.{WrittenPart, unaligned, AreFileParts, FileContents, HasContents, IsPartOf, IsWritable, owner_bytes, owner_start, spread, written}
+use Rattle.elf_image_type.specs.WrittenFile.{WrittenPart, unaligned, AreFileParts, FileContents, HasContents, IsPartOf, IsWritable, owner_bytes, owner_start, spread, written}
 use Rattle.elf_link_field.specs.declared.rule.RelocRule.{RelocRule}
 use Rattle.elf_link_files.specs.Files.{no_object, object_at}
 use Rattle.elf_link_map.proofs.Public.{are_paged, outputs_stand, parts_apart}

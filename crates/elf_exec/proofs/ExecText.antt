@@ -22,7 +22,7 @@ use Rattle.elf_image_stream.proofs.Public.{sends_behind}
 use Rattle.elf_image_stream.specs.Output.{Sends, WentOut}
 use Rattle.elf_image_stream.specs.declared.fault.WriteFault.{WriteFault}
 use Rattle.elf_image_type.proofs.Public.{length-unaligned, length-spread}
-use Rattle.elf_image_type.specs.RelocatableFile.{spread, unaligned}
+use Rattle.elf_image_type.specs.WrittenFile.{spread, unaligned}
 use Rattle.elf_link_field.specs.declared.rule.RelocRule.{RelocRule}
 use Rattle.elf_link_files.specs.Files.{section_in, is_loadable}
 use Rattle.elf_link_files.specs.Rows.{AreEach}

@@ -11,7 +11,7 @@ use Rattle.elf_field.specs.Abi.{PN_XNUM}
 use Rattle.elf_image_rules.specs.Rules.{MAX_LEN}
 use Rattle.elf_image_stream.specs.Output.{Writes}
 use Rattle.elf_image_stream.specs.declared.fault.WriteFault.{WriteFault}
-use Rattle.elf_image_type.specs.RelocatableFile.{spread}
+use Rattle.elf_image_type.specs.WrittenFile.{spread}
 use Rattle.elf_link_field.specs.declared.rule.RelocRule.{RelocRule}
 use Rattle.elf_link_map.specs.LinkMap.{LinkMapValue}
 use Rattle.elf_link_map.specs.Standing.{member_address, member_at, output_at}

@@ -2,7 +2,7 @@
 -- (gABI chapter 4, ELF Header; chapter 5, Program Header.)
 use Rattle.std.specs.Prelude.{ℕ, ◌+◌, ◌^◌, ◌<◌, ◌==◌, if◌then◌else◌, List, length, map, ◌≡◌, ◌*◌, [], ◌∷◌, slice_index, ◌↔◌, ◌≤◌, MatchOption, Option, None}
 use Rattle.std.specs.List.{flat_map}
-use Rattle.elf_image_type.specs.RelocatableFile.{identification}
+use Rattle.elf_image_type.specs.WrittenFile.{identification}
 use Rattle.elf_link_relocate.specs.declared.load.Load.{Load}
 use Rattle.elf_extent.specs.Place.{Least}
 use Rattle.elf_field.specs.Abi.{EHDR_SIZE, ET_EXEC, EV_CURRENT, PHDR_SIZE, PT_LOAD, PN_XNUM}
@@ -12,7 +12,7 @@ use Rattle.elf_field.specs.declared.phdr.Phdr.{Phdr}
 use Rattle.elf_image_outline.specs.Image.{ImageValue, IsImage, Stands}
 use Rattle.elf_image_rules.specs.Rules.{MAX_LEN, IsFault}
 use Rattle.elf_image_type.specs.ImageView.{Loads, LoadsFirst}
-use Rattle.elf_image_type.specs.RelocatableFile.{spread}
+use Rattle.elf_image_type.specs.WrittenFile.{spread}
 use Rattle.elf_link_field.specs.declared.rule.RelocRule.{RelocRule}
 use Rattle.elf_link_files.specs.Rows.{AreEach, FirstAmong}
 use Rattle.elf_link_map.specs.LinkMap.{LinkMapValue}

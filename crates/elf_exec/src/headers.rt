@@ -9,7 +9,7 @@ use elf_field::abi::*;
 use elf_field::{Ehdr, Phdr};
 use elf_image_outline::Entries;
 use elf_image_type::identification;
-use elf_link_relocate::{Identity, Linked, Load, file_size};
+use elf_link_relocate::{Linked, Load, file_size};
 
 // The header of an executable (gABI chapter 4, ELF Header).
 

@@ -27,7 +27,7 @@ use Rattle.elf_image_rules.specs.Rows.{FirstIn}
 use Rattle.elf_image_rules.specs.Rules.{IsFault}
 use Rattle.elf_image_rules.specs.Tables.{bytes_in, content_extent, header, order_of, program_header_count, section_header_count, sections, segments}
 use Rattle.elf_image_type.proofs.ImageLemmas.{owner_from}
-use Rattle.elf_image_type.specs.RelocatableFile.{spread, unaligned, AreFileParts, FileContents, HasContents, IsWritable, WrittenPart, owner_bytes, owner_start, written}
+use Rattle.elf_image_type.specs.WrittenFile.{spread, unaligned, AreFileParts, FileContents, HasContents, IsWritable, WrittenPart, owner_bytes, owner_start, written}
 
 -- Parts at places that fit, with zeros between, as one list. By induction on the parts, each is at its place and the list ends with the
 -- last one. Places ascend, so two parts that hold one offset are the same.

@@ -21,7 +21,7 @@ use Rattle.elf_image_rules.specs.Tables.{content_extent, name_table, no_section_
 use Rattle.elf_image_outline.specs.declared.outline.Owner.{Owner}
 use Rattle.elf_image_outline.specs.declared.outline.Owner.TheVariants.{Header, ProgramTable, SectionTable, Content, Gap}
 use Rattle.elf_image_outline.specs.Image.{ImageValue, Stands, value_names}
-use Rattle.elf_image_type.specs.RelocatableFile.{encoding, identification, AreFileParts, HasContents, IsPartOf, IsWritable, WrittenPart, owner_bytes, owner_start, spread, unaligned, written, IsRelocatableFile, all_headers, behind_header, content_parts, short_count, first_header, long_number, short_index, offsets, relocatable_bytes, relocatable_file, relocatable_parts, section_table}
+use Rattle.elf_image_type.specs.WrittenFile.{encoding, identification, AreFileParts, HasContents, IsPartOf, IsWritable, WrittenPart, owner_bytes, owner_start, spread, unaligned, written, IsRelocatableFile, all_headers, behind_header, content_parts, short_count, first_header, long_number, short_index, offsets, relocatable_bytes, relocatable_file, relocatable_parts, section_table}
 use Rattle.elf_image_type.proofs.FileParts.{written_accepted, written_is_bytes, written_read, length-spread, length-unaligned, parts_ascend}
 
 -- ---- the identification

@@ -1,3 +1,3 @@
 -- The words of this crate's contracts.
 pub mod ImageView
-pub mod RelocatableFile
+pub mod WrittenFile

@@ -5,7 +5,7 @@ ghost use Rattle.elf_image_outline.specs.Image.{IsImage, IsSoundImage, joined, p
 ghost use Rattle.elf_image_outline.specs.Scanning.{IsParseFault};
 ghost use Rattle.elf_image_outline.specs.Outline.{image_of, placed_part};
 ghost use Rattle.elf_image_stream.specs.Output.{Writes};
-ghost use Rattle.elf_image_type.specs.RelocatableFile.{encoding as encoding_of, identification as identification_of};
+ghost use Rattle.elf_image_type.specs.WrittenFile.{encoding as encoding_of, identification as identification_of};
 
 use crate::image::Image;
 use elf_field::abi::*;

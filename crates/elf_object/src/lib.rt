@@ -23,9 +23,10 @@
 pub mod rules;
 
 pub use elf_object_file::{prove_read_back, write_object};
+pub use elf_object_layout::{Layout, LayoutFault, lay_out};
 pub use elf_object_reader::object_of;
 pub use elf_object_strings::{Shared, shared_table};
 pub use elf_object_type::{
     Body, Info, Object, ObjectFault, ObjectParts, Place, Relocation, Relocations, Section, Symbol,
 };
-pub use elf_object_writer::{Layout, LayoutFault, ObjectWriteFault, lay_out};
+pub use elf_object_writer::ObjectWriteFault;

@@ -2,13 +2,13 @@
 -- denotes this object and no other, and is its only layout. These are the facts of `WrittenObjects`, with `one_object` and `one_layout`. So
 -- a result that writes the layout writes this file.
 use Rattle.std.proofs.Common.{◌<◌, ◌+◌, ◌*◌, ◌/◌, ◌%◌, ◌^◌, ℕ, zero, suc, Bool, true, false, Option, None, Some, List, [], ◌∷◌, get_or, map, sym, subst, arith, ◌≡◌, ◌≢◌, ◌≤◌, ◌-◌, length, refl, ap, ◌∙◌, inl, inr}
-use Rattle.std.specs.Prelude.{◌==◌, if◌then◌else◌, bit_and, drop, codes, slice_index, Result, Ok, Err}
+use Rattle.std.specs.Prelude.{◌==◌, if◌then◌else◌, bit_and, drop, codes, nat_lt, slice_index, Result, Ok, Err}
 use Rattle.std.specs.List.{AllByRecursion}
 use Rattle.std.proofs.lemmas.List.{ext_get_or, get_or-map, length-map}
 use Rattle.std.proofs.lemmas.Bool.{cases_lt, le-ltb, lt-ltb}
 use Rattle.elf_extent.proofs.Public.{least_cons, least_nil}
 use Rattle.elf_extent.specs.Place.{IsLeastPlace, alignment}
-use Rattle.elf_field.specs.Abi.{SHF_INFO_LINK, SHT_NULL, SHT_NOBITS}
+use Rattle.elf_field.specs.Abi.{SHF_INFO_LINK, SHN_LORESERVE, SHN_XINDEX, SHT_NULL, SHT_NOBITS}
 use Rattle.elf_field.specs.Bytes.{IsBytes, IsBytes-drop, IsBytes-nil, IsBytes-take, bytes_of, first_bytes}
 use Rattle.elf_field.specs.Entries.{sym_laws}
 use Rattle.elf_field.specs.Headers.{IsShdr, IsEhdr}
@@ -23,26 +23,27 @@ use Rattle.elf_image_rules.specs.Rules.{MAX_LEN, IsFault}
 use Rattle.elf_image_rules.specs.Tables.{name_table, no_section_header, content_extent, section_header_of, order_of}
 use Rattle.elf_image_type.proofs.Public.{IsBytes-identification, identification_kept, image_is_sound, relocatable_accepted, relocatable_is_bytes, relocatable_read, some_image}
 use Rattle.elf_image_type.specs.ImageView.{string}
-use Rattle.elf_image_type.specs.RelocatableFile.{IsRelocatableFile, all_headers, short_count, short_index, relocatable_bytes}
+use Rattle.elf_image_type.specs.WrittenFile.{IsRelocatableFile, all_headers, short_count, relocatable_bytes}
 use Rattle.elf_object_file.proofs.WrittenDenotes.{written_denotes}
 use Rattle.elf_object_file.proofs.WrittenFile.{EachKind, PlainFits, each_plain, plain_fits, section_names_are}
 use Rattle.elf_object_file.proofs.WrittenRules.{written_keeps_rules}
 use Rattle.elf_object_file.proofs.WrittenSections.{content_short, names_short, table_short, written_section}
 use Rattle.elf_object_file.specs.ObjectFile.{IsWrittenAt, written_sections, IsWrittenAs, IsWrittenFile, IsObjectWritten, empty_object, empty_object_bytes, one_section, one_section_bytes}
 use Rattle.elf_object_reader.proofs.Public.{denoted_with, relocations_denoted, object_kept, one_object}
-use Rattle.elf_object_reader.specs.Denotes.{Denotes, body_denoted, info_denoted, plain_info, relocation_denoted, section_denoted, section_name_of, symbol_denoted, symbols_denoted, body_kind, kept, left_out, position_of, symbol_table}
+use Rattle.elf_object_layout.specs.SectionsLeftOut.{left_out, symbol_table}
+use Rattle.elf_object_reader.specs.Denotes.{Denotes, body_denoted, info_denoted, plain_info, relocation_denoted, section_denoted, section_name_of, symbol_denoted, symbols_denoted, body_kind, kept, position_of}
 use Rattle.elf_object_reader.specs.FileRules.{file_rules}
 use Rattle.elf_object_reader.specs.declared.object_file.BodyKind.TheVariants.{Bits, NoBits, Relocs, Group}
 use Rattle.elf_object_reader.specs.declared.object_file.BodyKind.{BodyKind}
-use Rattle.elf_object_reader.specs.declared.object_file.LeftOut.{LeftOut}
+use Rattle.elf_object_layout.specs.declared.left_out.LeftOut.{LeftOut}
 use Rattle.elf_object_strings.proofs.Public.{holds_names}
 use Rattle.elf_object_strings.specs.StringTable.{name_offset, string_table, held}
 use Rattle.elf_object_type.proofs.Public.{relocations_fit as table_fits, all_of_each, no_wrong_alignment}
 use Rattle.elf_object_type.specs.Object.{ObjectValue, BodyFits, InfoFits, ObjectFits, RelocationFits, SectionFits, SymbolFits, section_at}
 use Rattle.elf_object_type.specs.ObjectRules.{IsObject}
-use Rattle.elf_object_writer.proofs.PlainSections.{shared_names}
-use Rattle.elf_object_writer.proofs.Public.{canonical_header, canonical_section_headers, contents_of, last_sections, layout_order, length-canonical_section_headers, length-plain, no_plain, plain_at, plain_last, one_layout}
-use Rattle.elf_object_writer.specs.Laid.{section_header, PlainSection, has_index_table, name_table_at, plain_sections, section_names, strings, strings_at, symbol_table_at, Laid, layout_bytes, layout_parts, sections_before_names}
+use Rattle.elf_object_layout.proofs.Public.{shared_names}
+use Rattle.elf_object_layout.proofs.Public.{canonical_header, canonical_section_headers, contents_of, last_sections, layout_order, length-canonical_section_headers, length-plain, no_plain, plain_at, plain_last, one_layout}
+use Rattle.elf_object_layout.specs.Laid.{section_header, PlainSection, has_index_table, name_table_at, plain_sections, section_names, strings, strings_at, symbol_table_at, Laid, layout_bytes, layout_parts, sections_before_names}
 use Rattle.elf_object_writer.specs.PlacedObject.{IsLayoutWritten}
 use Rattle.elf_object_writer.specs.declared.object_writing.ObjectWriteFault.TheVariants.{TooLong, OutOfMemory, Io}
 use Rattle.elf_object_writer.specs.declared.object_writing.ObjectWriteFault.{ObjectWriteFault}
@@ -216,14 +217,9 @@ sound_object v b o image clean denotes =
 
 -- ---- the header
 
-short_count_fits : (n : ℕ) → short_count n < 2 ^ 16
-short_count_fits n = elim (cases_lt n 0xff00) [
-  | inl lt ↦ rw (lt-ltb n 0xff00 lt) (omega arith)
-  | inr le ↦ rw (le-ltb n 0xff00 le) (omega arith)
-]
-
-short_index_fits : (n : ℕ) → short_index n < 2 ^ 16
-short_index_fits n = elim (cases_lt n 0xff00) [
+-- a count or an index, or what the header has in place of a reserved one
+short_fits : (n other : ℕ) → other < 2 ^ 16 → (if nat_lt n SHN_LORESERVE then n else other) < 2 ^ 16
+short_fits n other small = elim (cases_lt n 0xff00) [
   | inl lt ↦ rw (lt-ltb n 0xff00 lt) (omega arith)
   | inr le ↦ rw (le-ltb n 0xff00 le) (omega arith)
 ]
@@ -246,8 +242,8 @@ module _ (o : ObjectValue) (places : List ℕ) (written : IsWrittenAt o places) 
         e_phentsize = omega arith;
         e_phnum = omega arith;
         e_shentsize = omega arith;
-        e_shnum = short_count_fits (length (plain_sections o) + 1);
-        e_shstrndx = short_index_fits (name_table_at o);
+        e_shnum = short_fits (length (plain_sections o) + 1) 0 (omega arith);
+        e_shstrndx = short_fits (name_table_at o) SHN_XINDEX (omega arith);
       }
 
   -- ---- names

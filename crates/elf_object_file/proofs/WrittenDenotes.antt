@@ -14,15 +14,16 @@ use Rattle.elf_field.specs.declared.rela.Rela.{Rela}
 use Rattle.elf_field.specs.declared.shdr.Shdr.{Shdr}
 use Rattle.elf_field.specs.declared.sym.Sym.{Sym}
 use Rattle.elf_image_type.specs.ImageView.{string}
-use Rattle.elf_image_type.specs.RelocatableFile.{long_number, short_index}
+use Rattle.elf_image_type.specs.WrittenFile.{long_number, short_index}
 use Rattle.elf_object_file.proofs.WrittenFile.{own_content, written_name, written_order, indexes_content, name_read, strings_content, symbols_content, written_abi, written_flags, written_machine, written_osabi}
 use Rattle.elf_object_file.proofs.WrittenSections.{written_kept, written_own, written_position, own_short, symbols_short, written_index_table, written_strings, written_symbol_table, strings_short}
 use Rattle.elf_object_file.specs.ObjectFile.{IsWrittenAt, written_sections}
 use Rattle.elf_object_reader.proofs.Public.{denoted_with, section_with, halves, same_symbol}
-use Rattle.elf_object_reader.specs.Denotes.{info_denoted, link_denoted, plain_info, section_reference, position_of, body_denoted, relocation_denoted, body_kind, section_denoted, kept, left_out, place_denoted, symbol_denoted, symbols_denoted, Denotes}
+use Rattle.elf_object_layout.specs.SectionsLeftOut.{left_out}
+use Rattle.elf_object_reader.specs.Denotes.{info_denoted, link_denoted, plain_info, section_reference, position_of, body_denoted, relocation_denoted, body_kind, section_denoted, kept, place_denoted, symbol_denoted, symbols_denoted, Denotes}
 use Rattle.elf_object_reader.specs.declared.object_file.BodyKind.TheVariants.{Bits, NoBits, Relocs, Group}
 use Rattle.elf_object_reader.specs.declared.object_file.BodyKind.{BodyKind}
-use Rattle.elf_object_reader.specs.declared.object_file.LeftOut.{LeftOut}
+use Rattle.elf_object_layout.specs.declared.left_out.LeftOut.{LeftOut}
 use Rattle.elf_object_strings.proofs.Public.{holds_names}
 use Rattle.elf_object_strings.specs.StringTable.{name_offset, string_table, HasNoZero}
 use Rattle.elf_object_type.proofs.Public.{all_of_map, each_of_all, no_wrong_place, none_of_any, no_info, no_link, zero_addend, no_wrong_bits_type, no_wrong_field, no_wrong_position, no_zero_in_symbol_name}
@@ -32,8 +33,8 @@ use Rattle.elf_object_type.specs.declared.parts.Info.{Info}
 use Rattle.elf_object_type.specs.declared.parts.Place.TheVariants.{Undef, Abs, Common, In}
 use Rattle.elf_object_type.specs.declared.parts.Place.{Place}
 use Rattle.elf_object_type.specs.declared.relocations.Relocation.{Relocation}
-use Rattle.elf_object_writer.proofs.Public.{length-relas, length-rels, length-symbol_table_section}
-use Rattle.elf_object_writer.specs.Laid.{group_words, index_of, index_table_section, index_word, null_symbol, rel_entry, rela_entry, relocation_bytes, relocation_info, shndx, symbol_entry, symbol_names, symbol_table_section, body_info, body_link, own_info, body_bytes, body_space, body_type, relocation_section_type, has_index_table, is_far, symbol_table_at}
+use Rattle.elf_object_layout.proofs.Public.{length-relas, length-rels, length-symbol_table_section}
+use Rattle.elf_object_layout.specs.Laid.{group_words, index_of, index_table_section, index_word, null_symbol, rel_entry, rela_entry, relocation_bytes, relocation_info, shndx, symbol_entry, symbol_names, symbol_table_section, body_info, body_link, own_info, body_bytes, body_space, body_type, relocation_section_type, has_index_table, is_far, symbol_table_at}
 use Rattle.elf_table_lists.specs.Groups.{group_flags, member, member_count, GroupValue, group_in, group_of, members_in}
 use Rattle.elf_table_lists.specs.Relocations.{relocation_count, relocation_in, has_addends, relocations_in, relocations_of}
 use Rattle.elf_table_symbols.specs.Sections.{Sections, content, order, section}
@@ -41,8 +42,8 @@ use Rattle.elf_table_symbols.specs.Symbols.{entry, entry_count, word, index_tabl
 use Rattle.elf_table_lists.specs.declared.relocations.Relocation as table
 use Rattle.elf_object_type.specs.declared.parts.Info.TheVariants as info
 use Rattle.elf_table_symbols.specs.Symbols as table_symbols
-use Rattle.elf_object_reader.specs.Denotes as file
-use Rattle.elf_object_writer.specs.Laid as plain
+use Rattle.elf_object_layout.specs.SectionsLeftOut as left
+use Rattle.elf_object_layout.specs.Laid as plain
 
 -- A list is what is read of each of its elements, by index.
 
@@ -648,7 +649,7 @@ module _ (o : ObjectValue) (places : List ℕ) (written : IsWrittenAt o places) 
       ∙ ap (λ (k : ℕ). symbols_in o.order (content f t) (content f k) words) (written_strings o places written)
       ∙ ap₂ (λ (entries names : List ℕ). symbols_in o.order entries names words) (symbols_content o places) (strings_content o places)
 
-  pub symbols_back : (let f = written_sections o places in symbols_denoted (left_out f) f (file.symbol_table f) ≡ o.symbols)
+  pub symbols_back : (let f = written_sections o places in symbols_denoted (left_out f) f (left.symbol_table f) ≡ o.symbols)
   unfolding symbols_in
   symbols_back =
       let f = written_sections o places in

@@ -28,8 +28,8 @@ use Rattle.elf_object_type.specs.ObjectRules.{HasWrongReference, IsWrongBitsType
 use Rattle.elf_object_type.specs.declared.parts.Info.TheVariants.{Number, Section}
 use Rattle.elf_object_type.specs.declared.parts.Info.{Info}
 use Rattle.elf_object_type.specs.declared.relocations.Relocation.{Relocation}
-use Rattle.elf_object_writer.proofs.Public.{last_sections, length-plain, no_plain, plain_at, plain_last, plain_own, last_count}
-use Rattle.elf_object_writer.specs.Laid.{section_size, PlainSection, body_bytes, body_info, body_link, body_space, body_type, group_words, has_index_table, index_of, index_table_section, index_word, is_local, null_symbol, own_info, own_section, plain_sections, rel_entry, rela_entry, relocation_bytes, section_names, sections_before_names, strings, symbol_entry, symbol_names, symbol_table_section, name_table_at, strings_at, symbol_table_at, section_header}
+use Rattle.elf_object_layout.proofs.Public.{last_sections, length-plain, no_plain, plain_at, plain_last, plain_own, last_count}
+use Rattle.elf_object_layout.specs.Laid.{section_size, PlainSection, body_bytes, body_info, body_link, body_space, body_type, group_words, has_index_table, index_of, index_table_section, index_word, is_local, null_symbol, own_info, own_section, plain_sections, rel_entry, rela_entry, relocation_bytes, section_names, sections_before_names, strings, symbol_entry, symbol_names, symbol_table_section, name_table_at, strings_at, symbol_table_at, section_header}
 use Rattle.elf_table_symbols.specs.Sections.{content, order, section, Sections, count}
 
 -- The section headers and contents of a written object fit a file: each number its field, each content the size that is reported. The

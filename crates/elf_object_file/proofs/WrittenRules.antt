@@ -12,18 +12,19 @@ use Rattle.elf_field.specs.declared.number.Order.{Order}
 use Rattle.elf_field.specs.declared.shdr.Shdr.{Shdr}
 use Rattle.elf_image_rules.proofs.Public.{FirstIn-later}
 use Rattle.elf_image_rules.specs.Rows.{FirstIn}
-use Rattle.elf_image_type.specs.RelocatableFile.{long_number, short_index}
+use Rattle.elf_image_type.specs.WrittenFile.{long_number, short_index}
 use Rattle.elf_object_file.proofs.WrittenDenotes.{flags_word, group_flags_read, length-group_words, member_below, member_count_is, member_read, symbol_entry_count, kind_back, kind_of_body}
 use Rattle.elf_object_file.proofs.WrittenFile.{HasSectionAt, own_at, symbols_at, written_order, by_section, last_at, indexes_at, type_tells}
 use Rattle.elf_object_file.proofs.WrittenSections.{own_short, own_is_kept, own_of_kept, written_first, written_kept, written_symbol_table}
 use Rattle.elf_object_file.proofs.WrittenTableRules.{symbol_rules_kept, relocation_target, written_parts, by_entry, far_word, relocation_rules_kept}
 use Rattle.elf_object_file.specs.ObjectFile.{IsWrittenAt, written_sections}
 use Rattle.elf_object_reader.proofs.Public.{symbols_kept}
-use Rattle.elf_object_reader.specs.Denotes.{body_kind, is_kept, left_out, kept, symbol_table}
+use Rattle.elf_object_layout.specs.SectionsLeftOut.{is_kept, left_out, symbol_table}
+use Rattle.elf_object_reader.specs.Denotes.{body_kind, kept}
 use Rattle.elf_object_reader.specs.FileRules.{HasWrongKeptInfo, HasWrongKeptLink, IsKeptBits, IsPlain, IsSymbolOutside, IsWrongGroupMember, reference_rules, symbol_outside, wrong_group_member, wrong_kept_info, wrong_kept_link, wrong_relocation_target, file_rules, foreign_section, front_rules, rules_behind, rules_of_bodies, rules_of_body, second_symbol_table, stray_index_table, symbol_rules_in}
 use Rattle.elf_object_reader.specs.declared.object_file.BodyKind.TheVariants.{Bits, NoBits, Relocs, Group}
 use Rattle.elf_object_reader.specs.declared.object_file.BodyKind.{BodyKind}
-use Rattle.elf_object_reader.specs.declared.object_file.LeftOut.{LeftOut}
+use Rattle.elf_object_layout.specs.declared.left_out.LeftOut.{LeftOut}
 use Rattle.elf_object_type.proofs.Public.{no_wrong_field, no_wrong_membership, no_wrong_position, no_wrong_bits_type, no_wrong_place}
 use Rattle.elf_object_type.specs.Object.{BodyValue, group, ObjectValue, SectionValue, section_at, members_of, bits, no_bits, relocs, symbol_at, HasFlag, IsPast, info_position, is_bits, is_group}
 use Rattle.elf_object_type.specs.ObjectRules.{IsWrongMembership, HasWrongField, HasWrongReference, NamesMember, IsAgainstFlag, IsWrongBitsType, place_position}
@@ -32,8 +33,8 @@ use Rattle.elf_object_type.specs.declared.parts.Info.{Info}
 use Rattle.elf_object_type.specs.declared.parts.Place.TheVariants.{Undef, Abs, Common, In}
 use Rattle.elf_object_type.specs.declared.parts.Place.{Place}
 use Rattle.elf_object_type.specs.declared.relocations.Relocation.{Relocation}
-use Rattle.elf_object_writer.proofs.Public.{last_count, last_sections, no_plain}
-use Rattle.elf_object_writer.specs.Laid.{body_bytes, body_info, body_link, body_space, body_type, group_words, own_section, symbol_table_at, has_index_table, index_of, index_word, is_far, own_info, shndx}
+use Rattle.elf_object_layout.proofs.Public.{last_count, last_sections, no_plain}
+use Rattle.elf_object_layout.specs.Laid.{body_bytes, body_info, body_link, body_space, body_type, group_words, own_section, symbol_table_at, has_index_table, index_of, index_word, is_far, own_info, shndx}
 use Rattle.elf_table_lists.specs.Groups.{group_front_rules, group_member_rules, group_rules, group_section_rules, wrong_member, group_flags, member, member_count}
 use Rattle.elf_table_symbols.proofs.Public.{length_symbols, symbol_get}
 use Rattle.elf_table_symbols.specs.Sections.{own_rules, content, order, section, Sections, count}

@@ -11,17 +11,18 @@ use Rattle.elf_extent.proofs.Public.{fits_length}
 use Rattle.elf_field.specs.Abi.{SHN_LORESERVE, SHN_XINDEX, SHT_GROUP, SHT_NOBITS, SHT_NULL, SHT_REL, SHT_RELA, SHT_STRTAB, SHT_SYMTAB, SHT_SYMTAB_SHNDX}
 use Rattle.elf_field.specs.declared.shdr.Shdr.{Shdr}
 use Rattle.elf_image_rules.specs.Tables.{section_header_of, name_table}
-use Rattle.elf_image_type.specs.RelocatableFile.{first_header, long_number, short_index}
+use Rattle.elf_image_type.specs.WrittenFile.{first_header, long_number, short_index}
 use Rattle.elf_object_file.specs.ObjectFile.{IsWrittenAt, written_sections}
-use Rattle.elf_object_reader.proofs.Public.{and_true, first_found, first_missing, not_kept_past}
-use Rattle.elf_object_reader.specs.Denotes.{is_at, is_kept, kept, left_out, position_of, symbol_indexes, symbol_strings, symbol_table}
-use Rattle.elf_object_reader.specs.declared.object_file.LeftOut.{LeftOut}
+use Rattle.elf_object_layout.proofs.Public.{and_true, first_found, first_missing, not_kept_past}
+use Rattle.elf_object_layout.specs.SectionsLeftOut.{is_at, is_kept, left_out, symbol_indexes, symbol_strings, symbol_table}
+use Rattle.elf_object_reader.specs.Denotes.{kept, position_of}
+use Rattle.elf_object_layout.specs.declared.left_out.LeftOut.{LeftOut}
 use Rattle.elf_object_strings.specs.StringTable.{name_offset, string_table}
 use Rattle.elf_object_type.proofs.Public.{no_wrong_bits_type}
 use Rattle.elf_object_type.specs.Object.{ObjectValue, BodyValue, bits, no_bits, relocs, group, section_at}
 use Rattle.elf_object_type.specs.ObjectRules.{IsWrongBitsType, types_without_bits}
-use Rattle.elf_object_writer.proofs.Public.{length-canonical_section_headers, length-layout_parts, no_plain, plain_at, content_end, few_sections, few_symbols, own_below, short_names, short_strings, table_end, last_count, last_sections, length-plain, plain_last, plain_own}
-use Rattle.elf_object_writer.specs.Laid.{layout_parts, section_header, section_headers, PlainSection, name_table_at, plain_sections, section_names, layout_bytes, IsLayoutOf, LayoutValue, symbol_names, body_type, has_index_table, own_section, strings_at, symbol_table_at}
+use Rattle.elf_object_layout.proofs.Public.{length-canonical_section_headers, length-layout_parts, no_plain, plain_at, content_end, few_sections, few_symbols, own_below, short_names, short_strings, table_end, last_count, last_sections, length-plain, plain_last, plain_own}
+use Rattle.elf_object_layout.specs.Laid.{layout_parts, section_header, section_headers, PlainSection, name_table_at, plain_sections, section_names, layout_bytes, IsLayoutOf, LayoutValue, symbol_names, body_type, has_index_table, own_section, strings_at, symbol_table_at}
 use Rattle.elf_table_symbols.specs.Sections.{content, count, section}
 use Rattle.elf_table_symbols.specs.Symbols.{IsIndexTable, index_table}
 

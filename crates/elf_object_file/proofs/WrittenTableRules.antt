@@ -14,7 +14,7 @@ use Rattle.elf_field.specs.declared.number.Order.{Order}
 use Rattle.elf_field.specs.declared.sym.Sym.{Sym}
 use Rattle.elf_image_rules.proofs.Public.{FirstIn-later}
 use Rattle.elf_image_rules.specs.Rows.{AtEntry, FirstIn, OfSome}
-use Rattle.elf_image_type.specs.RelocatableFile.{long_number, short_index}
+use Rattle.elf_image_type.specs.WrittenFile.{long_number, short_index}
 use Rattle.elf_object_file.proofs.WrittenDenotes.{name_within, null_entry, null_word, symbol_entry_count, symbol_entry_read, symbol_word, AreRelocations, relocation_count_is, relocation_read}
 use Rattle.elf_object_file.proofs.WrittenFile.{HasSectionAt, indexes_at, symbol_strings_at, symbols_at, written_order, type_tells, index_short, own_at}
 use Rattle.elf_object_file.proofs.WrittenSections.{own_short, strings_short, written_index_table, symbols_short}
@@ -27,8 +27,8 @@ use Rattle.elf_object_type.specs.ObjectRules.{place_position, HasWrongField, Has
 use Rattle.elf_object_type.specs.declared.parts.Place.TheVariants.{Undef, Abs, Common, In}
 use Rattle.elf_object_type.specs.declared.parts.Place.{Place}
 use Rattle.elf_object_type.specs.declared.relocations.Relocation.{Relocation}
-use Rattle.elf_object_writer.proofs.Public.{length-index_table_section, length-symbol_table_section, length-relocations}
-use Rattle.elf_object_writer.specs.Laid.{has_index_table, index_table_section, index_word, is_far, is_local, null_symbol, shndx, symbol_entry, symbol_names, symbol_table_section, symbol_table_at, body_bytes, body_info, body_link, body_space, body_type, own_section, relocation_bytes, relocation_section_type}
+use Rattle.elf_object_layout.proofs.Public.{length-index_table_section, length-symbol_table_section, length-relocations}
+use Rattle.elf_object_layout.specs.Laid.{has_index_table, index_table_section, index_word, is_far, is_local, null_symbol, shndx, symbol_entry, symbol_names, symbol_table_section, symbol_table_at, body_bytes, body_info, body_link, body_space, body_type, own_section, relocation_bytes, relocation_section_type}
 use Rattle.elf_table_lists.specs.Relocations.{relocation_entry_rules, relocation_section_rules, has_addends, relocation_count, relocation_in}
 use Rattle.elf_table_symbols.specs.Sections.{own_rules, content, section, order, entry_size, kind_of}
 use Rattle.elf_table_symbols.specs.Symbols.{linked_string_rules, unclosed_string_table, SymbolPartsValue, IsMisplacedBinding, IsSymbolNamePastEnd, IsWrongSymbolSection, IsWrongIndexWord, entry, entry_count, symbol_entry_rules, misplaced_binding, place_rules, symbol_0_not_null, symbol_name_past_end, word, wrong_local_count, wrong_symbol_section, index_table, index_words, symbol_parts, index_table_rules, rest_rules, second_index_table, symbol_table_rules, wrong_index_table_size}

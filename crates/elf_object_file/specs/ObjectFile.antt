@@ -8,19 +8,19 @@ use Rattle.elf_image_rules.specs.Rows.{FirstIn}
 use Rattle.elf_image_rules.specs.Rules.{MAX_LEN, IsFault}
 use Rattle.elf_image_stream.specs.Output.{Writes}
 use Rattle.elf_image_stream.specs.declared.fault.WriteFault.{WriteFault}
-use Rattle.elf_image_type.specs.RelocatableFile.{all_headers}
+use Rattle.elf_image_type.specs.WrittenFile.{all_headers}
 use Rattle.elf_object_reader.specs.Denotes.{Denotes}
 use Rattle.elf_object_reader.specs.FileRules.{file_rules}
 use Rattle.elf_object_strings.specs.StringTable.{name_offset}
 use Rattle.elf_object_type.specs.Object.{ObjectValue, ObjectFits, bits}
 use Rattle.elf_object_type.specs.ObjectRules.{IsObject}
 use Rattle.elf_object_type.specs.declared.parts.Info.TheVariants.{Number}
-use Rattle.elf_object_writer.specs.Laid.{Laid, file_header, layout_bytes, layout_parts, section_headers, name_table_at, plain_sections, section_names, IsLayoutFault}
-use Rattle.elf_object_writer.specs.PlacedObject.{HasSharedNames}
+use Rattle.elf_object_layout.specs.Laid.{Laid, file_header, layout_bytes, layout_parts, section_headers, name_table_at, plain_sections, section_names, IsLayoutFault}
+use Rattle.elf_object_layout.specs.StringTables.{HasSharedNames}
 use Rattle.elf_object_writer.specs.declared.object_writing.ObjectWriteFault.TheVariants.{TooLong, OutOfMemory, Io}
 use Rattle.elf_object_writer.specs.declared.object_writing.ObjectWriteFault.{ObjectWriteFault}
 use Rattle.elf_table_symbols.specs.Sections.{Sections, sections_of}
-use Rattle.elf_object_writer.specs.declared.layout.LayoutFault.TheVariants as layout
+use Rattle.elf_object_layout.specs.declared.layout.LayoutFault.TheVariants as layout
 
 -- An object as a file: its canonical layout's header, section headers and contents. (gABI chapter 4, ELF Header, Sections.)
 

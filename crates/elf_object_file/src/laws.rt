@@ -1,6 +1,6 @@
 //! Laws of written objects, for the proofs of the crates above.
 ghost use Rattle.std.specs.Prelude.{◌≡◌, ℕ, List, ◌≤◌, None, length};
-ghost use Rattle.elf_object_writer.specs.Laid.{Laid};
+ghost use Rattle.elf_object_layout.specs.Laid.{Laid};
 ghost use Rattle.elf_object_file.specs.ObjectFile.{empty_object, empty_object_bytes, one_section, one_section_bytes, IsWrittenAs, written_sections};
 ghost use Rattle.elf_object_type.specs.Object.{ObjectValue, ObjectFits};
 ghost use Rattle.elf_field.specs.Bytes.{IsBytes};

@@ -6,8 +6,9 @@ ghost use Rattle.elf_object_reader.specs.Denotes.{Denotes};
 ghost use Rattle.elf_table_symbols.specs.Sections.{sections_of};
 
 use elf_image_type::Image;
+use elf_object_layout::ObjectWithEnds;
 use elf_object_type::Object;
-use elf_object_writer::{ObjectWithEnds, ObjectWriteFault, write_layout};
+use elf_object_writer::{ObjectWriteFault, write_layout};
 use std::alloc::Global;
 use std::io::Write;
 
@@ -25,7 +26,7 @@ use std::io::Write;
 ///
 /// Memory is taken for the string tables and the places of the parts, and 16 KiB, if there are so many, for short contents, which go out
 /// together. Longer ones are passed on as they are in the object, and the entries of tables are made as they are written. It takes the time
-/// of [`lay_out`](elf_object_writer::lay_out), and is linear in the bytes written.
+/// of [`lay_out`](elf_object_layout::lay_out), and is linear in the bytes written.
 pub fn write_object<W: Write>(
     alloc: Global,
     object: &Object<'_>,

@@ -18,11 +18,12 @@ use Rattle.elf_image_rules.specs.Rows.{FirstIn}
 use Rattle.elf_image_rules.specs.Rules.{MAX_LEN}
 use Rattle.elf_image_type.specs.ImageView.{string}
 use Rattle.elf_object_reader.proofs.FileRules.{places_sound, symbols_sound}
-use Rattle.elf_object_reader.proofs.Kept.{not_kept_past}
+use Rattle.elf_object_layout.proofs.Public.{not_kept_past}
 use Rattle.elf_object_reader.proofs.KeptTypes.{no_zero_in_string, position_there}
-use Rattle.elf_object_reader.specs.Denotes.{Denotes, has_long_name, useful_ends, name_end, symbol_denoted, symbol_end, symbol_ends, symbols_denoted, left_out, symbol_table, place_denoted, is_kept, relocation_denoted}
+use Rattle.elf_object_layout.specs.SectionsLeftOut.{left_out, symbol_table, is_kept}
+use Rattle.elf_object_reader.specs.Denotes.{Denotes, has_long_name, useful_ends, name_end, symbol_denoted, symbol_end, symbol_ends, symbols_denoted, place_denoted, relocation_denoted}
 use Rattle.elf_object_reader.specs.FileRules.{block_end, IsSymbolOutside, file_rules, rules_of_symbols, symbol_outside_rules}
-use Rattle.elf_object_reader.specs.declared.object_file.LeftOut.{LeftOut}
+use Rattle.elf_object_layout.specs.declared.left_out.LeftOut.{LeftOut}
 use Rattle.elf_object_strings.proofs.Public.{tails_none, tails_of_table}
 use Rattle.elf_object_strings.specs.StringTable.{AreEndsIn, AreTails}
 use Rattle.elf_object_type.specs.Object.{SymbolValue, ObjectValue, IsPast, no_symbol, symbol_at, table_count, table_relocation, table_relocations}

@@ -12,9 +12,10 @@ use Rattle.elf_image_rules.specs.Rows.{FirstIn, Ruled}
 use Rattle.elf_image_stream.specs.declared.fault.Fault.TheVariants.{OutOfMemory, Io, Rule}
 use Rattle.elf_image_stream.specs.declared.fault.Fault.{Fault}
 use Rattle.elf_object_reader.proofs.Kept.{filter_from_kept, filter_from_other}
-use Rattle.elf_object_reader.specs.Denotes.{kept, left_out, symbol_table, body_kind, is_kept}
+use Rattle.elf_object_layout.specs.SectionsLeftOut.{left_out, symbol_table, is_kept}
+use Rattle.elf_object_reader.specs.Denotes.{kept, body_kind}
 use Rattle.elf_object_reader.specs.FileRules.{file_rules, front_rules, reference_rules, rules_behind, rules_of_bodies, rules_of_symbols, symbol_outside_rules, symbol_rules_in, rules_of_body, symbol_outside, IsMemberBefore, wrong_group_member_before, wrong_group_member_of, AreMarks}
-use Rattle.elf_object_reader.specs.declared.object_file.LeftOut.{LeftOut}
+use Rattle.elf_object_layout.specs.declared.left_out.LeftOut.{LeftOut}
 use Rattle.elf_table_symbols.specs.Sections.{Sections, count, section}
 use Rattle.elf_table_symbols.specs.Symbols.{symbol_table_rules}
 use Rattle.elf_table_symbols.specs.Verdicts.{IsJudgedBehind}

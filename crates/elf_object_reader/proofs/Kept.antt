@@ -1,43 +1,21 @@
 -- The sections of a file that its object keeps, by their positions.
-use Rattle.std.proofs.Common.{◌≡◌, ℕ, ◌<◌, Bool, true, false, None, Some, inl, inr, refl, ◌+◌, ◌-◌, ◌≤◌, ◌++◌, [], zero, suc, List, ◌∷◌, get_or, length, map, sym, ap, subst, ◌⊎◌, ◌∙◌, arith, length-append, zero-add}
-use Rattle.std.specs.Prelude.{◌&&◌, position, ◌==◌, filter}
-use Rattle.std.proofs.lemmas.Bool.{cases_lt, eqb-true}
+use Rattle.std.proofs.Common.{◌≡◌, ℕ, ◌<◌, Bool, true, false, inl, inr, refl, ◌+◌, ◌-◌, ◌≤◌, ◌++◌, [], zero, suc, List, ◌∷◌, get_or, length, map, sym, ap, subst, ◌⊎◌, ◌∙◌, arith, length-append, zero-add}
+use Rattle.std.specs.Prelude.{filter}
+use Rattle.std.proofs.lemmas.Bool.{cases_lt}
 use Rattle.std.specs.List.{range_with_len}
-use Rattle.std.proofs.lemmas.List.{append-nil, get_or_past, map-append, map-id, get_or_append_left}
+use Rattle.std.proofs.lemmas.List.{append-nil, map-append, map-id, get_or_append_left}
 use Rattle.std.proofs.lemmas.List.Elements.{filter-append}
 use Rattle.std.proofs.lemmas.List.FromFn.{get_or-map-range_with_len, map-range_with_len_more}
-use Rattle.std.proofs.lemmas.List.Quantifiers.{position-Some}
 use Rattle.std.proofs.Math.Seq.{get_or-append_seam}
-use Rattle.elf_field.specs.Abi.{SHT_SYMTAB}
-use Rattle.elf_field.specs.declared.shdr.Shdr.{Shdr}
-use Rattle.elf_image_outline.specs.Image.{no_section_header}
-use Rattle.elf_object_reader.specs.Denotes.{is_kept, position_of, symbol_table}
-use Rattle.elf_object_reader.specs.declared.object_file.LeftOut.{LeftOut}
-use Rattle.elf_table_symbols.proofs.Public.{lowest_position}
-use Rattle.elf_table_symbols.specs.Sections.{Sections, count, section}
-
--- The first section that passes a test.
-
-pub and_true : (s t : Bool) → (s && t) ≡ true → (s ≡ true) × (t ≡ true)
-and_true true t both = (refl, both)
-and_true false t both = cc
-
--- P says of an index what the test says of the section header there
-pub first_found : (p : Shdr → Bool) (f : Sections) (P : ℕ → Type 0) (i : ℕ) → ((k : ℕ) → P k → p (section f k) ≡ true) →
-    ((k : ℕ) → p (section f k) ≡ true → P k) → i < count f → ((k : ℕ) → k < i → P k → ⊥) → P i → Some i ≡ position p f.headers
-first_found p f P i passes holds there before here =
-    lowest_position p f.headers no_section_header P (Some i) passes holds (record {
-      holds = (there, here);
-      lowest = λ k other. elim (cases_lt k i) [ inl below ↦ absurd (before k below other.1) | inr above ↦ above ];
-    })
-
-pub first_missing : (p : Shdr → Bool) (f : Sections) (P : ℕ → Type 0) → ((k : ℕ) → P k → p (section f k) ≡ true) →
-    ((k : ℕ) → p (section f k) ≡ true → P k) → ((k : ℕ) → k < count f → P k → ⊥) → None ≡ position p f.headers
-first_missing p f P passes holds never = lowest_position p f.headers no_section_header P None passes holds (λ k other. never k other.0 other.1)
+use Rattle.elf_object_layout.proofs.Public.{not_kept_past}
+use Rattle.elf_object_layout.specs.SectionsLeftOut.{is_kept}
+use Rattle.elf_object_reader.specs.Denotes.{position_of}
+use Rattle.elf_object_layout.specs.declared.left_out.LeftOut.{LeftOut}
+use Rattle.elf_table_symbols.specs.Sections.{Sections, count}
 
 -- The sections that are kept, one after the other: an index that is kept joins the list and raises the next position by one. Any other
 -- index changes nothing. A position is at most its index, and each index past the sections has the last position, both by induction. There
--- are also small facts on the symbol table and on mapped lists.
+-- are also small facts on mapped lists.
 
 -- the indexes from i on are i and those from i + 1 on
 range_from : (n i : ℕ) → i < n → range_with_len i (n - i) ≡ i ∷ range_with_len (i + 1) (n - (i + 1))
@@ -48,13 +26,6 @@ filter_from_kept p n i lt is = ap (λ (xs : List ℕ). filter p xs) (range_from 
 
 pub filter_from_other : (p : ℕ → Bool) (n i : ℕ) → i < n → p i ≡ false → filter p (range_with_len i (n - i)) ≡ filter p (range_with_len (i + 1) (n - (i + 1)))
 filter_from_other p n i lt is = ap (λ (xs : List ℕ). filter p xs) (range_from n i lt) ∙ rw is refl
-
--- the symbol table is there, and of its type
-pub symbol_table_there : (f : Sections) (t : ℕ) → symbol_table f ≡ Some t → (t < count f) × ((section f t).sh_type ≡ SHT_SYMTAB)
-unfolding symbol_table
-symbol_table_there f t is =
-    let found = position-Some (λ (s : Shdr). s.sh_type == SHT_SYMTAB) f.headers t no_section_header is in
-    (found.0, eqb-true _ _ found.1)
 
 -- ---- positions
 
@@ -74,11 +45,6 @@ pub count_other : (p : ℕ → Bool) (i : ℕ) → p i ≡ false → length (fil
 count_other p i is =
     let none : filter p (i ∷ []) ≡ [] = rw is refl in
     ap (λ (xs : List ℕ). length xs) (filter_next p i ∙ ap (λ (xs : List ℕ). filter p (range_with_len 0 i) ++ xs) none ∙ append-nil (filter p (range_with_len 0 i)))
-
--- a section that isn't there is not kept
-pub not_kept_past : (left : LeftOut) (f : Sections) (i : ℕ) → count f ≤ i → is_kept left f i ≡ false
-unfolding is_kept
-not_kept_past left f i past = rw (get_or_past f.headers i no_section_header past) refl
 
 -- so it has the last position
 past_more : (left : LeftOut) (f : Sections) (d : ℕ) → position_of left f (count f + d) ≡ position_of left f (count f)

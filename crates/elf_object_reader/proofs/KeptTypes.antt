@@ -19,13 +19,15 @@ use Rattle.elf_image_rules.specs.KeepsRules.{KeepsSectionRules}
 use Rattle.elf_image_rules.specs.Rows.{FirstIn}
 use Rattle.elf_image_type.specs.ImageView.{string}
 use Rattle.elf_object_reader.proofs.FileRules.{all_bodies_sound, front_sound, symbols_sound}
-use Rattle.elf_object_reader.proofs.Kept.{listed, stands_at, and_true, first_found, symbol_table_there}
-use Rattle.elf_object_reader.specs.Denotes.{Denotes, section_denoted, is_kept, kept, left_out, position_of, body_denoted, body_kind, is_at, symbol_indexes, symbol_table, info_denoted, link_denoted, relocation_denoted, section_name_of}
+use Rattle.elf_object_layout.proofs.Public.{and_true, first_found, symbol_table_there}
+use Rattle.elf_object_reader.proofs.Kept.{listed, stands_at}
+use Rattle.elf_object_layout.specs.SectionsLeftOut.{is_kept, left_out, is_at, symbol_indexes, symbol_table}
+use Rattle.elf_object_reader.specs.Denotes.{Denotes, section_denoted, kept, position_of, body_denoted, body_kind, info_denoted, link_denoted, relocation_denoted, section_name_of}
 use Rattle.elf_object_reader.specs.FileRules.{IsForeignType, file_rules, foreign_section, front_rules, rules_of_bodies, rules_of_body, rules_of_symbols, second_symbol_table, stray_index_table, sections_of_file}
 use Rattle.elf_object_reader.specs.declared.object_file.BodyKind.TheVariants.{Bits, NoBits, Relocs, Group}
 use Rattle.elf_object_reader.specs.declared.object_file.BodyKind.{BodyKind}
 use Rattle.elf_object_reader.specs.declared.object_file.FileSection.{FileSection}
-use Rattle.elf_object_reader.specs.declared.object_file.LeftOut.{LeftOut}
+use Rattle.elf_object_layout.specs.declared.left_out.LeftOut.{LeftOut}
 use Rattle.elf_object_reader.specs.declared.object_file.ObjectFile.{ObjectFile}
 use Rattle.elf_object_reader.specs.declared.reading.KeptSection.{KeptSection}
 use Rattle.elf_object_reader.specs.declared.reading.ObjectReader.{ObjectReader}

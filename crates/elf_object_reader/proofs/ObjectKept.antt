@@ -14,11 +14,12 @@ use Rattle.elf_object_reader.proofs.DenotedSymbols.{length_symbols_of, kept_ther
 use Rattle.elf_object_reader.proofs.FileRules.{references_sound}
 use Rattle.elf_object_reader.proofs.Kept.{one_place, places_ascend}
 use Rattle.elf_object_reader.proofs.KeptTypes.{no_foreign_section, symbol_table_at, denoted_with, section_with, position_there, section_at_index, section_at_position, differs, table_sound, no_wrong_alignment, no_wrong_field, no_zero_in_section_name, no_wrong_bits_type}
-use Rattle.elf_object_reader.specs.Denotes.{Denotes, symbol_denoted, symbols_denoted, is_kept, left_out, position_of, symbol_table, body_denoted, plain_info, relocation_denoted, section_reference, body_kind, section_denoted, kept}
+use Rattle.elf_object_layout.specs.SectionsLeftOut.{is_kept, left_out, symbol_table}
+use Rattle.elf_object_reader.specs.Denotes.{Denotes, symbol_denoted, symbols_denoted, position_of, body_denoted, plain_info, relocation_denoted, section_reference, body_kind, section_denoted, kept}
 use Rattle.elf_object_reader.specs.FileRules.{file_rules, reference_rules, wrong_group_member, IsKeptBits, IsPlain, rules_of_body, wrong_kept_info, wrong_kept_link, wrong_relocation_target, NamesFirst}
 use Rattle.elf_object_reader.specs.declared.object_file.BodyKind.TheVariants.{Bits, NoBits, Relocs, Group}
 use Rattle.elf_object_reader.specs.declared.object_file.BodyKind.{BodyKind}
-use Rattle.elf_object_reader.specs.declared.object_file.LeftOut.{LeftOut}
+use Rattle.elf_object_layout.specs.declared.left_out.LeftOut.{LeftOut}
 use Rattle.elf_object_type.proofs.Public.{found_in_symbols}
 use Rattle.elf_object_type.specs.Object.{ObjectValue, SymbolValue, symbol_reference, SectionValue, IsPast, info_position, is_bits, section_at, LacksFlag, is_group, members_of}
 use Rattle.elf_object_type.specs.ObjectRules.{HasWrongPosition, IsNoTarget, wrong_position, IsInEarlierGroup, IsWrongMembership, NamesMember, wrong_membership, IsObject, object_section_rules, object_symbol_rules}

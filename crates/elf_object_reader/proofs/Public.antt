@@ -2,6 +2,5 @@
 -- its sections and symbols are found; and that a table's bytes denote its relocations.
 pub use Rattle.elf_object_reader.proofs.KeptTypes.{denoted_with, section_with}
 pub use Rattle.elf_object_reader.proofs.DenotedSymbols.{relocations_denoted, halves, same_symbol}
-pub use Rattle.elf_object_reader.proofs.Kept.{and_true, first_found, first_missing, not_kept_past}
 pub use Rattle.elf_object_reader.proofs.ObjectKept.{object_kept, one_object, some_object}
 pub use Rattle.elf_object_reader.proofs.FileRules.{symbols_kept}

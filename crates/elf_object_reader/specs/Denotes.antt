@@ -1,16 +1,16 @@
 -- The object that a relocatable file denotes. (gABI chapter 4: ELF Header, Sections, Symbol Table, Relocation, Section Groups.)
-use Rattle.std.specs.Prelude.{ℕ, ◌==◌, ◌||◌, not, if◌then◌else◌, Bool, false, Option, None, Some, List, filter, length, position, ◌≡◌, ◌+◌, ◌-◌, ◌*◌, nat_lt, [], bit_and, drop, map, pos, slice_index, unwrap_or}
+use Rattle.std.specs.Prelude.{ℕ, ◌==◌, ◌||◌, if◌then◌else◌, Bool, Option, None, Some, List, filter, length, ◌≡◌, ◌+◌, ◌-◌, ◌*◌, nat_lt, [], bit_and, drop, map, pos, slice_index, unwrap_or}
 use Rattle.std.specs.List.{list_any, range_with_len}
-use Rattle.elf_field.specs.Abi.{SHT_GROUP, SHT_NOBITS, SHT_NULL, SHT_REL, SHT_RELA, SHT_SYMTAB, EI_ABIVERSION, EI_OSABI, GRP_COMDAT, SHF_INFO_LINK, SYM_SIZE}
+use Rattle.elf_field.specs.Abi.{SHT_GROUP, SHT_NOBITS, SHT_NULL, SHT_REL, SHT_RELA, EI_ABIVERSION, EI_OSABI, GRP_COMDAT, SHF_INFO_LINK, SYM_SIZE}
 use Rattle.elf_field.specs.Entries.{sym_at}
 use Rattle.elf_field.specs.declared.shdr.Shdr.{Shdr}
 use Rattle.elf_image_outline.specs.Image.{value_names}
 use Rattle.elf_image_rules.specs.Rules.{MAX_LEN}
-use Rattle.elf_image_rules.specs.Tables.{name_table}
 use Rattle.elf_image_type.specs.ImageView.{string}
 use Rattle.elf_object_reader.specs.declared.object_file.BodyKind.TheVariants.{Bits, NoBits, Relocs, Group}
 use Rattle.elf_object_reader.specs.declared.object_file.BodyKind.{BodyKind}
-use Rattle.elf_object_reader.specs.declared.object_file.LeftOut.{LeftOut}
+use Rattle.elf_object_layout.specs.SectionsLeftOut.{is_kept, left_out, symbol_table}
+use Rattle.elf_object_layout.specs.declared.left_out.LeftOut.{LeftOut}
 use Rattle.elf_object_strings.specs.StringTable.{SHORT_NAME}
 use Rattle.elf_object_type.specs.Object.{symbol_reference, BodyValue, bits, no_bits, relocs, group, ObjectValue, SectionValue, SymbolValue}
 use Rattle.elf_object_type.specs.declared.parts.Info.{Info}
@@ -29,39 +29,6 @@ use Rattle.elf_object_type.specs.declared.parts.Place.TheVariants as place
 
 -- Which sections of a file an object keeps, and where each is among them. (gABI chapter 4, Sections, String Table, Symbol Table.) An index
 -- counts the file's section headers, a position the sections that are kept.
-
--- the symbol table: the first section of type SYMTAB
-unfoldable pub symbol_table : Sections → Option ℕ
-symbol_table f = position (λ (s : Shdr). s.sh_type == SHT_SYMTAB) f.headers
-
--- its string table and its index table
-abbrev pub symbol_strings : Sections → Option ℕ → Option ℕ
-symbol_strings f None = None
-symbol_strings f (Some t) = Some (section f t).sh_link
-
-abbrev pub symbol_indexes : Sections → Option ℕ → Option ℕ
-symbol_indexes f None = None
-symbol_indexes f (Some t) = index_table f t
-
--- the sections that are left out beside those without a type: the three of the symbols, and the section name string table
-abbrev pub left_out : Sections → LeftOut
-left_out f = record {
-  symbol_table = symbol_table f;
-  strings = symbol_strings f (symbol_table f);
-  index_table = symbol_indexes f (symbol_table f);
-  names = name_table f.header (section f 0);
-}
-
--- a section that may be missing is section i
-abbrev pub is_at : Option ℕ → ℕ → Bool
-is_at None i = false
-is_at (Some k) i = k == i
-
--- the object keeps section i
-unfoldable pub is_kept : LeftOut → Sections → ℕ → Bool
-is_kept left f i = not (
-    ((section f i).sh_type == SHT_NULL) || ((i == 0) ||
-    (is_at left.symbol_table i || (is_at left.strings i || (is_at left.index_table i || (left.names == i))))))
 
 -- the indexes of the sections that it keeps, ascending
 abbrev pub kept : LeftOut → Sections → List ℕ

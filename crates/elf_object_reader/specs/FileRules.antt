@@ -6,12 +6,13 @@ use Rattle.elf_field.specs.Abi.{ET_REL, E_ENTRY_AT, E_PHNUM_AT, E_TYPE_AT, SHF_I
 use Rattle.elf_field.specs.declared.ehdr.Ehdr.{Ehdr}
 use Rattle.elf_image_rules.specs.Rows.{AtEntry, Either, OfSome, Row, Ruled, When, rule}
 use Rattle.elf_image_type.specs.ImageView.{string}
-use Rattle.elf_object_reader.specs.Denotes.{body_kind, is_kept, kept, left_out, symbol_table, position_of}
+use Rattle.elf_object_layout.specs.SectionsLeftOut.{is_kept, left_out, symbol_table}
+use Rattle.elf_object_reader.specs.Denotes.{body_kind, kept, position_of}
 use Rattle.elf_object_reader.specs.declared.file_rules.ReferenceRule.TheVariants.{WrongRelocationTarget, WrongKeptLink, WrongKeptInfo}
 use Rattle.elf_object_reader.specs.declared.file_rules.ReferenceRule.{ReferenceRule}
 use Rattle.elf_object_reader.specs.declared.object_file.BodyKind.TheVariants.{Bits, NoBits, Relocs, Group}
 use Rattle.elf_object_reader.specs.declared.object_file.BodyKind.{BodyKind}
-use Rattle.elf_object_reader.specs.declared.object_file.LeftOut.{LeftOut}
+use Rattle.elf_object_layout.specs.declared.left_out.LeftOut.{LeftOut}
 use Rattle.elf_object_reader.specs.declared.object_file.ObjectFile.{ObjectFile}
 use Rattle.elf_object_type.specs.Object.{HasFlag}
 use Rattle.elf_table_lists.specs.Groups.{group_section_rules, member, member_count}

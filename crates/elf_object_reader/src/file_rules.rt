@@ -2,7 +2,8 @@
 ghost use Rattle.std.specs.Prelude.{◌≡◌, ◌↔◌, IsTrue, ◌<◌, ◌+◌, IfOk, ◌≤◌, ◌*◌, [], length};
 ghost use Rattle.elf_extent.specs.Extent.{IsLowest, lower_of};
 ghost use Rattle.elf_object_reader.specs.FileRules.{IsForeignType, foreign_section, front_rules, second_symbol_table, stray_index_table, BreaksReference, HasWrongKeptInfo, HasWrongKeptLink, HasWrongRelocationTarget, IsPlain, SomeReference, reference_field, sections_of_file, IsMemberBefore, IsWrongGroupMember, wrong_group_member, wrong_group_member_of, AreMarks, IsSymbolOutside, reference_rules, rules_behind, rules_of_bodies, rules_of_body, symbol_outside, symbol_rules_in};
-ghost use Rattle.elf_object_reader.specs.Denotes.{symbol_table as symbol_table_of, body_kind, kept};
+ghost use Rattle.elf_object_layout.specs.SectionsLeftOut.{symbol_table as symbol_table_of};
+ghost use Rattle.elf_object_reader.specs.Denotes.{body_kind, kept};
 ghost use Rattle.elf_image_rules.specs.Rows.{fault_of, FirstIn};
 ghost use Rattle.elf_table_symbols.specs.Sections.{sections_of, count, content, section};
 ghost use Rattle.elf_table_symbols.specs.Verdicts.{IsJudgedBehind};

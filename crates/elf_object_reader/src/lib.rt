@@ -16,5 +16,5 @@ mod reading;
 pub mod rules;
 
 pub use laws::{one_file_fault, one_object};
-pub use object_file::{BodyKind, LeftOut};
+pub use object_file::BodyKind;
 pub use reading::{object_of, object_with_ends};

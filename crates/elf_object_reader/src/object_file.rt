@@ -1,14 +1,16 @@
 //! An image that is read as an object, with what is looked up once for all its sections.
-ghost use Rattle.std.specs.Prelude.{◌≡◌, ◌==◌, ◌&&◌, ◌<◌, ◌≤◌, IfSome, length, position};
+ghost use Rattle.std.specs.Prelude.{◌≡◌, ◌<◌, length};
 ghost use Rattle.std.specs.Bool.{OnTrue};
-ghost use Rattle.elf_object_reader.specs.Denotes.{body_kind, is_at as is_at_of, is_kept as is_kept_of, left_out, symbol_table as symbol_table_of};
-ghost use Rattle.elf_table_symbols.specs.Symbols.{index_table as index_table_of, symbols_of};
+ghost use Rattle.elf_object_layout.specs.SectionsLeftOut.{is_kept as is_kept_of, left_out};
+ghost use Rattle.elf_object_reader.specs.Denotes.{body_kind};
+ghost use Rattle.elf_table_symbols.specs.Symbols.{symbols_of};
 ghost use Rattle.elf_table_symbols.specs.Sections.{sections_of, section};
 ghost use Rattle.elf_table_all.specs.Tables.{AreVerdicts};
 
 use elf_field::Shdr;
 use elf_field::abi::*;
 use elf_image_type::Image;
+use elf_object_layout::LeftOut;
 use elf_table_all::{Symbols, Tables};
 
 // What a section of a type holds in an object (gABI chapter 4, Sections: sh_type).
@@ -38,97 +40,6 @@ impl BodyKind {
             _ => BodyKind::Bits,
         }
     }
-}
-
-// The sections of a file that an object does not keep (gABI chapter 4, Sections, String Table, Symbol Table).
-
-/// The sections that an object leaves out, beside those without a type, by their indexes: the symbol table with its string
-/// table and its index table, and the section name string table (0 for none).
-#[derive(Clone, Copy)]
-pub struct LeftOut {
-    /// The symbol table.
-    pub symbol_table: Option<usize>,
-    /// The string table of the symbols' names.
-    pub strings: Option<usize>,
-    /// The index table of the symbol table.
-    pub index_table: Option<usize>,
-    /// The section name string table, 0 for none.
-    pub names: usize,
-}
-
-impl LeftOut {
-    /// Those of this image.
-    pub(crate) fn of(image: &Image<'_>) -> LeftOut
-        ensures { result ≡ left_out (sections_of image.now) }
-    {
-        let names = image.name_table() as usize;
-        match symbol_table(image) {
-            Some(t) => LeftOut {
-                symbol_table: Some(t),
-                strings: Some(image.section(t).sh_link as usize),
-                index_table: index_table(image, t),
-                names,
-            },
-            None => LeftOut {
-                symbol_table: None,
-                strings: None,
-                index_table: None,
-                names,
-            },
-        }
-    }
-
-    /// Whether the object keeps section `i`; it keeps none that is not there.
-    #[tactic(auto, unfolding(crate::specs::Denotes::is_kept))]
-    pub(crate) fn is_kept(&self, image: &Image<'_>, i: usize) -> bool
-        ensures value { result ≡ is_kept_of self.now (sections_of image.now) i }
-        ensures there { OnTrue result (i < length image.now.sections) }
-    {
-        if i >= image.section_count() {
-            return false;
-        }
-        !(image.section(i).sh_type == SHT_NULL
-            || (i == 0
-                || (is_at(self.symbol_table, i)
-                    || (is_at(self.strings, i)
-                        || (is_at(self.index_table, i) || self.names == i)))))
-    }
-}
-
-/// Whether a section that may be missing is section `i`.
-fn is_at(section: Option<usize>, i: usize) -> bool
-    ensures { result ≡ is_at_of section i }
-{
-    match section {
-        Some(k) => k == i,
-        None => false,
-    }
-}
-
-/// The symbol table: the first section of that type.
-pub(crate) fn symbol_table(image: &Image<'_>) -> Option<usize>
-    ensures found { result ≡ symbol_table_of (sections_of image.now) }
-    ensures there { IfSome result (λ t. t < length image.now.sections) }
-{
-    for i in 0..image.section_count() {
-        if image.section(i).sh_type == SHT_SYMTAB {
-            return Some(i);
-        }
-    }
-    None
-}
-
-/// The first index table of the symbol table in section `t`.
-fn index_table(image: &Image<'_>, t: usize) -> Option<usize>
-    ensures { result ≡ index_table_of (sections_of image.now) t }
-{
-    for i in 0..image.section_count() {
-        let section = image.section(i);
-        if section.sh_type == SHT_SYMTAB_SHNDX && section.sh_link as usize == t {
-            return Some(i);
-        }
-    }
-    None
 }
 
 /// The image of an object file, with the sections that the object leaves out, and its tables, each of which is validated.

@@ -4,19 +4,21 @@ ghost use Rattle.std.specs.Prelude.{◌≡◌, ◌≤◌, ℕ, ◌+◌, ◌/◌,
 ghost use Rattle.elf_image_type.specs.ImageView.{string};
 ghost use Rattle.elf_object_reader.specs.FileRules.{BLOCK, block_end, sections_of_file};
 ghost use Rattle.elf_field.specs.Entries.{sym_at};
-ghost use Rattle.elf_object_reader.specs.Denotes.{has_long_name, name_end, useful_ends, place_denoted, symbol_denoted, symbol_ends, symbols_denoted, left_out, symbol_table};
+ghost use Rattle.elf_object_layout.specs.SectionsLeftOut.{left_out, symbol_table};
+ghost use Rattle.elf_object_reader.specs.Denotes.{has_long_name, name_end, useful_ends, place_denoted, symbol_denoted, symbol_ends, symbols_denoted};
 ghost use Rattle.elf_object_type.specs.ObjectView.{symbol_value};
 ghost use Rattle.elf_table_symbols.specs.Sections.{content, order, section, sections_of};
 ghost use Rattle.elf_table_symbols.specs.Symbols.{symbol_parts};
 ghost use Rattle.elf_table_symbols.specs.SymbolView.{no_symbol_entry};
 
-use crate::object_file::{FileSymbols, symbol_table};
+use crate::object_file::FileSymbols;
 use crate::reading::ObjectReader;
 use elf_field::abi::*;
 use elf_field::{Sym, get_at};
 use elf_image_rules::MAX_LEN;
 use elf_image_type::Image;
 use elf_image_type::strings::string_at;
+use elf_object_layout::symbol_table;
 use elf_object_strings::SHORT_NAME;
 use elf_object_type::{Place, Symbol};
 use std::alloc::{AllocError, Global};

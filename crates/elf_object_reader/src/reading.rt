@@ -2,7 +2,8 @@
 ghost use Rattle.std.specs.Prelude.{◌≡◌, None, ◌<◌, true, length, ◌+◌, IfOk, IfErr, map};
 ghost use Rattle.elf_image_rules.specs.KeepsRules.{unbroken_prop};
 ghost use Rattle.elf_image_rules.specs.Rows.{FirstIn};
-ghost use Rattle.elf_object_reader.specs.Denotes.{section_reference, position_of, is_kept, Denotes, useful_ends};
+ghost use Rattle.elf_object_layout.specs.SectionsLeftOut.{is_kept};
+ghost use Rattle.elf_object_reader.specs.Denotes.{section_reference, position_of, Denotes, useful_ends};
 ghost use Rattle.elf_object_reader.specs.FileRules.{file_rules, AreSectionPositions, sections_of_file, front_rules};
 ghost use Rattle.elf_table_symbols.specs.Sections.{sections_of, section};
 ghost use Rattle.elf_image_stream.specs.declared.fault.Fault.TheVariants.{OutOfMemory};
@@ -11,12 +12,13 @@ ghost use Rattle.elf_object_type.specs.ObjectView.{value_of};
 ghost use Rattle.elf_table_symbols.specs.Verdicts.{IsJudgedBehind};
 
 use crate::file_rules::judge_front;
-use crate::object_file::{LeftOut, ObjectFile};
+use crate::object_file::ObjectFile;
 use crate::read_symbols::useful_ends;
 use elf_field::Shdr;
 use elf_field::abi::*;
 use elf_image_stream::Fault;
 use elf_image_type::Image;
+use elf_object_layout::LeftOut;
 use elf_object_type::{Object, ObjectParts, kept_object};
 use elf_table_all::Tables;
 use std::alloc::{AllocError, Global};

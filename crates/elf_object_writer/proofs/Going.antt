@@ -20,14 +20,14 @@ use Rattle.elf_field.specs.declared.rela.Rela.{Rela}
 use Rattle.elf_image_outline.proofs.EntriesOut.{went_err}
 use Rattle.elf_image_stream.specs.declared.fault.WriteFault.{WriteFault}
 use Rattle.elf_image_type.proofs.Public.{order_identified}
-use Rattle.elf_image_type.specs.RelocatableFile.{spread, unaligned, all_headers, offsets, relocatable_bytes}
+use Rattle.elf_image_type.specs.WrittenFile.{spread, unaligned, all_headers, offsets, relocatable_bytes}
 use Rattle.elf_object_strings.specs.StringTable.{name_offset}
 use Rattle.elf_object_type.proofs.Public.{length_table_relocations}
 use Rattle.elf_object_type.specs.Object.{IsRelocationTable, symbol_reference, table_count, table_relocation, table_relocations, ObjectValue}
 use Rattle.elf_object_type.specs.declared.relocations.Relocation.{Relocation}
-use Rattle.elf_object_writer.proofs.CanonicalLayout.{canonical_header, canonical_section_headers, contents_of, layout_order, offsets_are, content_end}
+use Rattle.elf_object_layout.proofs.Public.{canonical_header, canonical_section_headers, contents_of, layout_order, offsets_are, content_end}
 use Rattle.elf_object_writer.proofs.HeaderTables.{length-headers}
-use Rattle.elf_object_writer.specs.Laid.{index_of, rel_entry, rela_entry, relocation_bytes, layout_bytes, section_headers, IsLayoutOf, LayoutValue, PlainSection, name_table_at, plain_sections, section_names}
+use Rattle.elf_object_layout.specs.Laid.{index_of, rel_entry, rela_entry, relocation_bytes, layout_bytes, section_headers, IsLayoutOf, LayoutValue, PlainSection, name_table_at, plain_sections, section_names}
 use Rattle.elf_object_writer.specs.PlacedObject.{WritesBehind, header_table, IsPlacedObject, IsSectionAt, PlacedValue, plain_section}
 use Rattle.elf_object_writer.specs.declared.placed_object.PlacedSection.TheVariants.{Names}
 use Rattle.elf_object_writer.specs.declared.placed_object.PlacedSection.{PlacedSection}

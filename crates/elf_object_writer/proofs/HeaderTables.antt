@@ -14,9 +14,9 @@ use Rattle.elf_object_type.specs.ObjectView.{symbol_value, section_value}
 use Rattle.elf_object_type.specs.declared.parts.Section.{Section}
 use Rattle.elf_object_type.specs.declared.parts.Symbol.{Symbol}
 use Rattle.elf_object_type.specs.declared.relocations.Relocation.{Relocation}
-use Rattle.elf_object_writer.proofs.CanonicalLayout.{few_sections, few_symbols, short_content}
-use Rattle.elf_object_writer.proofs.PlainSections.{own_below, own_at, bits_in_file}
-use Rattle.elf_object_writer.specs.Laid.{index_of, section_header, section_size, body_type, is_local, own_info, own_section, strings_at, section_headers, LayoutValue, PlainSection, plain_sections, section_names, sections_before_names}
+use Rattle.elf_object_layout.proofs.Public.{few_sections, few_symbols, short_content}
+use Rattle.elf_object_layout.proofs.Public.{own_below, own_found, bits_in_file}
+use Rattle.elf_object_layout.specs.Laid.{index_of, section_header, section_size, body_type, is_local, own_info, own_section, strings_at, section_headers, LayoutValue, PlainSection, plain_sections, section_names, sections_before_names}
 use Rattle.elf_object_writer.specs.PlacedObject.{IsPlacedObject, PlacedValue, HasShortIndexes, HasShortNumbers, plain_section, IsSectionAt}
 use Rattle.elf_object_writer.specs.declared.placed_object.PlacedSection.TheVariants.{Own, SymbolTable, Names}
 use Rattle.elf_object_writer.specs.declared.placed_object.PlacedSection.{PlacedSection}
@@ -99,7 +99,7 @@ short_numbers p i placed lt =
       link = near_index s.link (length o.sections) (omega arith) (λ past. right (inl past));
       info = near_index (info_position s.info) (length o.sections) (omega arith) (λ past. right (inr (inl past)));
       indexes = short_indexes o s.body (omega arith) (omega arith) (λ past. right (inr (inr past)));
-      short = short_content o p.layout i (Own i) placed.layout (omega arith) (own_at o i lt);
+      short = short_content o p.layout i (own_section o (section_at o i)) placed.layout (omega arith) (own_found o i _ lt);
     }
 
 -- section i, as code reads it

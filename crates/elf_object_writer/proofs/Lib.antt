@@ -1,6 +1,3 @@
--- `Public` is for the proofs of the crates above, the others are for those of this one.
-pub mod CanonicalLayout
-pub mod PlainSections
+-- The lemmas of this crate's proofs.
 pub mod Going
 pub mod HeaderTables
-pub mod Public

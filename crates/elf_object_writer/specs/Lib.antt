@@ -1,3 +1,2 @@
 -- The words of this crate's contracts.
-pub mod Laid
 pub mod PlacedObject

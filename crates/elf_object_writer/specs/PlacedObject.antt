@@ -1,5 +1,5 @@
 -- An object with its string tables and its canonical layout.
-use Rattle.std.specs.Prelude.{◌≡◌, ◌∷◌, Bool, true, false, [], ℕ, List, map, ◌<◌, ◌≤◌, ◌+◌, ◌^◌, All, codes, get_or, length, ◌-◌, take, Option, Result, Ok, Err, MatchResult, ◌++◌, replicate, slice_index}
+use Rattle.std.specs.Prelude.{◌≡◌, ℕ, List, ◌<◌, ◌≤◌, ◌+◌, ◌^◌, All, codes, get_or, length, ◌-◌, take, Option, Result, Ok, Err, MatchResult, ◌++◌, replicate, slice_index}
 use Rattle.std.specs.Io.KnownBytes.{Appends}
 use Rattle.std.specs.List.{flat_map}
 use denote.Struct.Props.{props}
@@ -7,42 +7,18 @@ use Rattle.elf_field.specs.Headers.{shdr_bytes}
 use Rattle.elf_image_rules.specs.Rules.{MAX_LEN}
 use Rattle.elf_image_stream.specs.Output.{Writes}
 use Rattle.elf_image_stream.specs.declared.fault.WriteFault.{WriteFault}
-use Rattle.elf_image_type.specs.RelocatableFile.{all_headers}
-use Rattle.elf_object_strings.specs.StringTable.{SharesTails, name_offset, string_table}
+use Rattle.elf_image_type.specs.WrittenFile.{all_headers}
+use Rattle.elf_object_strings.specs.StringTable.{name_offset}
 use Rattle.elf_object_type.specs.Object.{ObjectValue, BodyValue, bits, no_bits, relocs, group, SectionValue, section_at, info_position}
 use Rattle.elf_object_type.specs.ObjectRules.{IsObject, IsWrongBitsType}
-use Rattle.elf_object_writer.specs.Laid.{section_names, symbol_names, IsLayoutOf, LayoutValue, PlainSection, body_bytes, index_of, index_table_section, own_section, plain_sections, strings, symbol_table_section, Laid, section_headers, IsLayoutFault, name_table_at}
-use Rattle.elf_object_writer.specs.declared.name_tables.NameTables.{NameTables}
+use Rattle.elf_object_layout.specs.Laid.{section_names, symbol_names, IsLayoutOf, LayoutValue, PlainSection, body_bytes, index_of, index_table_section, own_section, plain_sections, strings, symbol_table_section, Laid, section_headers, IsLayoutFault, name_table_at}
+use Rattle.elf_object_layout.specs.StringTables.{AreNameTables}
+use Rattle.elf_object_layout.specs.declared.name_tables.NameTables.{NameTables}
 use Rattle.elf_object_writer.specs.declared.object_writing.ObjectWriteFault.TheVariants.{TooLong, OutOfMemory, Io}
 use Rattle.elf_object_writer.specs.declared.object_writing.ObjectWriteFault.{ObjectWriteFault}
 use Rattle.elf_object_writer.specs.declared.placed_object.PlacedSection.TheVariants.{Own, SymbolTable, IndexTable, Strings, Names}
 use Rattle.elf_object_writer.specs.declared.placed_object.PlacedSection.{PlacedSection}
-use Rattle.elf_object_writer.specs.declared.layout.LayoutFault.TheVariants as layout
-
--- The string tables of an object, as the code has them.
-
--- an object, and the ends of its symbols' names that are known
-pub record ObjectWithEndsValue : Type 0 where
-  pub object : ObjectValue
-  pub symbol_ends : List ℕ
-
--- their bytes, and where each name begins
-pub record AreNameTables (o : ObjectValue) (tables : NameTables) : Type 0 where
-  pub strings : tables.strings.bytes.items ≡ string_table (symbol_names o)
-  pub string_offsets : tables.strings.offsets.items ≡ map (name_offset (symbol_names o)) (symbol_names o)
-  pub names : tables.names.bytes.items ≡ string_table (section_names o)
-  pub name_offsets : tables.names.offsets.items ≡ map (name_offset (section_names o)) (section_names o)
-
--- the names of the sections after the object's own
-abbrev pub last_names : Bool → List (List ℕ)
-last_names true = codes ".symtab" ∷ codes ".symtab_shndx" ∷ codes ".strtab" ∷ codes ".shstrtab" ∷ []
-last_names false = codes ".symtab" ∷ codes ".strtab" ∷ codes ".shstrtab" ∷ []
-
--- the names of the sections in one table and those of the symbols in the other: each at its lowest offset, and neither table could be
--- shorter
-pub record HasSharedNames (o : ObjectValue) : Type 0 where
-  pub sections : SharesTails (section_names o)
-  pub symbols : SharesTails (symbol_names o)
+use Rattle.elf_object_layout.specs.declared.layout.LayoutFault.TheVariants as layout
 
 pub record PlacedValue : Type 0 where
   pub object : ObjectValue

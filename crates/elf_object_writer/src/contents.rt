@@ -1,7 +1,7 @@
 //! The content of each section of an object's canonical layout, onto a writer (gABI chapter 4, Sections).
 ghost use Rattle.std.specs.Prelude.{◌≡◌, ◌<◌, ℕ, ◌^◌, ◌+◌, All, if◌then◌else◌, length, map, ◌≤◌, ◌*◌, ◌∷◌};
-ghost use Rattle.elf_image_type.specs.RelocatableFile.{long_number, short_count, short_index};
-ghost use Rattle.elf_object_writer.specs.Laid.{index_of, index_word, shndx, group_words, rel_entry, rela_entry, relocation_info, null_symbol, symbol_entry, body_bytes, index_table_section, own_section, relocation_bytes, symbol_table_section};
+ghost use Rattle.elf_image_type.specs.WrittenFile.{long_number, short_count, short_index};
+ghost use Rattle.elf_object_layout.specs.Laid.{index_of, index_word, shndx, group_words, rel_entry, rela_entry, relocation_info, null_symbol, symbol_entry, body_bytes, index_table_section, own_section, relocation_bytes, symbol_table_section};
 ghost use Rattle.elf_object_type.specs.ObjectRules.{place_position};
 ghost use Rattle.elf_field.specs.Abi.{GRP_COMDAT, SYM_SIZE};
 ghost use Rattle.elf_object_type.specs.Object.{symbol_at, section_at};
@@ -10,12 +10,12 @@ ghost use Rattle.elf_image_rules.specs.Rules.{MAX_LEN};
 ghost use Rattle.elf_image_stream.specs.Output.{Writes};
 ghost use Rattle.elf_object_writer.specs.PlacedObject.{HasShortIndexes, HasShortNumbers, plain_section};
 
-use crate::layout::content_part;
 use crate::placed_object::{LaidSection, PlacedObject, PlacedSection};
 use elf_field::abi::*;
 use elf_field::{Order, Rel, Rela, Sym};
 use elf_image_outline::{Entries, write_entries};
 use elf_image_stream::{WriteFault, write_whole};
+use elf_object_layout::content_part;
 use elf_object_type::{Body, Place, Relocation, Relocations, Section, Symbol};
 use std::io::Write;
 

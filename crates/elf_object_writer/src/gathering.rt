@@ -1,7 +1,7 @@
 //! Short parts of a layout, gathered to go out together: a call of the writer may cost more than the bytes that it takes.
 ghost use Rattle.std.specs.Io.KnownBytes.{Appends, append_known};
 ghost use Rattle.std.specs.Prelude.{◌≡◌, ◌<◌, ◌≤◌, ◌-◌, ◌++◌, [], Err, IfErr, IfOk, IfSome, None, Ok, OnOk, Some, length, slice_index};
-ghost use Rattle.elf_object_writer.specs.Laid.{PlainSection, plain_sections};
+ghost use Rattle.elf_object_layout.specs.Laid.{PlainSection, plain_sections};
 ghost use Rattle.elf_object_writer.specs.PlacedObject.{WritesBehind, next_bytes};
 
 use crate::placed_object::{LaidSection, PlacedObject};

@@ -1,7 +1,7 @@
 //! The headers of a written object.
 ghost use Rattle.std.specs.Prelude.{◌≡◌, ◌+◌, length, slice_index, ◌<◌, ◌≤◌, ℕ, ◌^◌, List, filter, get_or};
-ghost use Rattle.elf_object_writer.specs.Laid.{file_header, plain_sections, section_header, section_headers, PlainSection, body_type, index_of, is_local, name_table_at, own_info, own_section, section_names};
-ghost use Rattle.elf_image_type.specs.RelocatableFile.{all_headers, first_header};
+ghost use Rattle.elf_object_layout.specs.Laid.{file_header, plain_sections, section_header, section_headers, PlainSection, body_type, index_of, is_local, name_table_at, own_info, own_section, section_names};
+ghost use Rattle.elf_image_type.specs.WrittenFile.{all_headers, first_header};
 ghost use Rattle.elf_object_strings.specs.StringTable.{name_offset};
 ghost use Rattle.elf_object_type.specs.Object.{section_at, info_position};
 ghost use Rattle.elf_object_type.specs.ObjectView.{body_value, symbol_value};
@@ -11,12 +11,12 @@ ghost use Rattle.elf_image_rules.specs.Tables.{no_section_header};
 use crate::contents::{
     index_of, long_number, object_section, prove_few_symbols, short_count, short_index,
 };
-use crate::layout::RECORD_ALIGNMENT;
 use crate::placed_object::{LaidSection, PlacedObject, PlacedSection};
 use elf_field::abi::*;
 use elf_field::{Ehdr, Shdr};
 use elf_image_outline::Entries;
 use elf_image_type::identification;
+use elf_object_layout::RECORD_ALIGNMENT;
 use elf_object_type::{Body, Info, Object, Symbol};
 
 // The header of an object's file (gABI chapter 4, ELF Header).

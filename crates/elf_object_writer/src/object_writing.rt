@@ -2,19 +2,18 @@
 ghost use Rattle.std.specs.Prelude.{◌≡◌, ◌<◌, ◌≤◌, ℕ, ◌+◌, ◌-◌, ◌^◌, ◌++◌, IfErr, List, Option, get_or, length, replicate, slice_index};
 ghost use Rattle.elf_field.specs.Headers.{ehdr_bytes};
 ghost use Rattle.elf_image_stream.specs.Output.{Writes};
-ghost use Rattle.elf_object_writer.specs.Laid.{file_header, layout_bytes, PlainSection, plain_sections};
+ghost use Rattle.elf_object_layout.specs.Laid.{file_header, layout_bytes, PlainSection, plain_sections};
 ghost use Rattle.elf_object_writer.specs.PlacedObject.{WritesBehind, header_table, next_bytes, plain_section, IsLayoutWritten};
 ghost use Rattle.elf_image_rules.specs.Rules.{MAX_LEN};
 
 use crate::gathering::{NextPart, none_waiting, write_waiting};
 use crate::headers::{SectionHeaders, file_header};
-use crate::layout::LayoutFault;
-use crate::name_tables::ObjectWithEnds;
 use crate::placed_object::{LaidSection, PlacedObject};
 use elf_field::abi::*;
 use elf_image_outline::{write_entries, write_records};
 use elf_image_stream::WriteFault;
 use elf_image_stream::output::write_zeros;
+use elf_object_layout::{LayoutFault, ObjectWithEnds};
 use std::alloc::Global;
 use std::io::Write;
 use thiserror::Error;
@@ -203,7 +202,7 @@ pub enum ObjectWriteFault {
 ///
 /// Memory is taken for the string tables and the places of the parts, and 16 KiB, if there are so many, for short contents, which go out
 /// together. Longer ones are passed on as they are in the object, and the entries of tables are made as they are written. It takes the time
-/// of [`lay_out`](crate::lay_out), and is linear in the bytes written.
+/// of [`lay_out`](elf_object_layout::lay_out), and is linear in the bytes written.
 pub fn write_layout<W: Write>(
     alloc: Global,
     source: &ObjectWithEnds<'_, '_>,

@@ -1,11 +1,10 @@
 //! An object with all that its canonical layout takes memory for (gABI chapter 4, ELF Header, Sections, String Table).
 ghost use Rattle.std.specs.Prelude.{◌≡◌, ◌<◌, ℕ, ◌+◌, ◌^◌, [], get_or, length, slice_index, IfErr, IfOk};
-ghost use Rattle.elf_object_writer.specs.Laid.{IsLayoutFault, name_table_at, plain_sections, section_names, strings_at, symbol_names, symbol_table_at};
+ghost use Rattle.elf_object_layout.specs.Laid.{IsLayoutFault, name_table_at, plain_sections, section_names, strings_at, symbol_names, symbol_table_at};
 ghost use Rattle.elf_object_writer.specs.PlacedObject.{IsPlacedObject, IsSectionAt, IsThere, is_there_prop};
 ghost use Rattle.elf_object_strings.specs.StringTable.{name_offset, string_table};
 
-use crate::layout::{Layout, LayoutFault, lay_out_with};
-use crate::name_tables::{NameTables, ObjectWithEnds};
+use elf_object_layout::{Layout, LayoutFault, NameTables, ObjectWithEnds, lay_out_with};
 use elf_object_type::Object;
 use std::alloc::Global;
 use std::marker::Model;
@@ -118,7 +117,7 @@ impl<'o, 'a> PlacedObject<'o, 'a> {
     }
 
     /// How many sections there are, from section index 1 on.
-    #[tactic(auto, using(crate::proofs::CanonicalLayout::few_sections))]
+    #[tactic(auto, using(elf_object_layout::proofs::Public::few_sections))]
     pub(crate) fn section_count(&self) -> usize
         ensures value { result ≡ length (plain_sections self.now.object) }
         ensures few { result < 2 ^ 24 }
@@ -143,7 +142,7 @@ impl<'o, 'a> PlacedObject<'o, 'a> {
     }
 
     /// The section index of `.symtab`.
-    #[tactic(auto, using(crate::proofs::PlainSections::own_below))]
+    #[tactic(auto, using(elf_object_layout::proofs::Public::own_below))]
     pub(crate) fn symbol_table_index(&self) -> usize
         ensures value { result ≡ symbol_table_at self.now.object }
         ensures few { result < 2 ^ 31 }
@@ -161,7 +160,7 @@ impl<'o, 'a> PlacedObject<'o, 'a> {
     }
 
     /// The section index of `.shstrtab`, which is the last one.
-    #[tactic(auto, using(crate::proofs::CanonicalLayout::names_at_is))]
+    #[tactic(auto, using(elf_object_layout::proofs::Public::names_at_is))]
     pub(crate) fn names_index(&self) -> usize
         ensures value { result ≡ name_table_at self.now.object }
         ensures few { result < 2 ^ 31 }

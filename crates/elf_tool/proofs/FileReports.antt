@@ -11,7 +11,7 @@ use Rattle.elf_object_reader.proofs.Public.{one_object}
 use Rattle.elf_object_reader.specs.Denotes.{Denotes}
 use Rattle.elf_object_reader.specs.FileRules.{file_rules}
 use Rattle.elf_object_type.specs.Object.{ObjectValue}
-use Rattle.elf_object_writer.proofs.Public.{one_layout}
+use Rattle.elf_object_layout.proofs.Public.{one_layout}
 use Rattle.elf_table_all.specs.Tables.{table_rules, AreVerdicts, TablesValue}
 use Rattle.elf_table_symbols.specs.Sections.{Sections, sections_of}
 use Rattle.elf_tool.proofs.FileLinks.{none_first, one_first}

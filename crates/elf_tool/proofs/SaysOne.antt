@@ -27,7 +27,7 @@ use Rattle.elf_object_reader.proofs.Public.{some_object}
 use Rattle.elf_object_reader.specs.FileRules.{file_rules}
 use Rattle.elf_object_type.specs.Object.{ObjectValue, ObjectFits}
 use Rattle.elf_object_type.specs.ObjectRules.{IsObject}
-use Rattle.elf_object_writer.proofs.Public.{one_layout, some_layout}
+use Rattle.elf_object_layout.proofs.Public.{one_layout, some_layout}
 use Rattle.elf_table_all.specs.Tables.{table_rules}
 use Rattle.elf_table_symbols.specs.Sections.{sections_of}
 use Rattle.elf_tool.proofs.FileLinks.{executable}

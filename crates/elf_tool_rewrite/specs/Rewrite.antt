@@ -4,7 +4,7 @@ use Rattle.elf_image_outline.specs.Image.{ImageValue, IsImage}
 use Rattle.elf_object_reader.specs.Denotes.{Denotes}
 use Rattle.elf_object_reader.specs.FileRules.{file_rules}
 use Rattle.elf_object_file.specs.ObjectFile.{IsWrittenFile}
-use Rattle.elf_object_writer.specs.Laid.{Laid}
+use Rattle.elf_object_layout.specs.Laid.{Laid}
 use Rattle.elf_object_type.specs.Object.{ObjectValue}
 use Rattle.elf_image_rules.specs.Rules.{MAX_LEN, IsFault}
 use Rattle.elf_image_rules.specs.Rows.{FirstIn}

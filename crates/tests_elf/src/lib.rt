@@ -1,5 +1,6 @@
-//! What the library shows: each item of each public crate, named through `elf`, and the object without sections, made, written, validated
-//! and read by them.
+//! What the library shows: each item of each public crate, named through `elf`; the texts of faults; the object without sections and symbols,
+//! made, written, validated and read; and the tables that a file holds, as code asks them. Files that break the rules of tables are in
+//! `cases/tables.txt`.
 #![tactic(auto)]
 
 /// Records.
@@ -65,8 +66,20 @@ pub mod tool {
 }
 
 #[cfg(test)]
+mod asserts;
+#[cfg(test)]
+mod dynamic;
+#[cfg(test)]
 mod empty_object;
 #[cfg(test)]
 mod fault_texts;
 #[cfg(test)]
+mod groups;
+#[cfg(test)]
+mod hashes;
+#[cfg(test)]
+mod notes;
+#[cfg(test)]
 mod own;
+#[cfg(test)]
+mod symbols;

@@ -11,10 +11,6 @@ mod asserts;
 #[cfg(test)]
 mod calls;
 #[cfg(test)]
-mod groups;
-#[cfg(test)]
-mod hashers;
-#[cfg(test)]
 mod large_files;
 #[cfg(test)]
 mod large_link;

@@ -1,8 +1,8 @@
 //! Where the parts of an object are in its file.
 use crate::asserts::assert_same;
 use elf_field::Order;
+use elf_object_layout::{LayoutFault, lay_out};
 use elf_object_type::{Body, Object, ObjectFault, Section};
-use elf_object_writer::{LayoutFault, lay_out};
 use std::alloc::{AllocError, Global};
 use tests_files::{object, section};
 

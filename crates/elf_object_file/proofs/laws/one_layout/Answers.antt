@@ -1,4 +1,4 @@
-use Rattle.elf_object_writer.proofs.Public.{one_layout, some_layout}
+use Rattle.elf_object_layout.proofs.Public.{one_layout, some_layout}
 use Rattle.elf_object_file.proofs.laws.one_layout.Goals as goal
 
 pub returns : goal.returns

@@ -1,5 +1,5 @@
 use Rattle.std.proofs.Common.{ap}
-use Rattle.elf_object_writer.specs.PlacedObject.{ObjectWithEndsValue}
+use Rattle.elf_object_layout.specs.StringTables.{ObjectWithEndsValue}
 use Rattle.elf_object_file.proofs.object_file.write_object.Goals as goal
 
 pub returns : goal.returns

@@ -3,7 +3,8 @@ use Rattle.std.specs.Prelude.{◌==◌, filter, position}
 use Rattle.std.specs.List.{range_with_len}
 use Rattle.elf_field.specs.Abi.{SHT_SYMTAB}
 use Rattle.elf_field.specs.declared.shdr.Shdr.{Shdr}
-use Rattle.elf_object_reader.specs.Denotes.{section_denoted, symbols_denoted, is_kept, left_out, symbol_table}
+use Rattle.elf_object_layout.specs.SectionsLeftOut.{is_kept, left_out, symbol_table}
+use Rattle.elf_object_reader.specs.Denotes.{section_denoted, symbols_denoted}
 use Rattle.elf_object_reader.proofs.ObjectKept.{one_object, some_object}
 use Rattle.elf_object_reader.proofs.laws.one_object.Goals as goal
 

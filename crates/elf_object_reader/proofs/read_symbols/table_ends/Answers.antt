@@ -6,7 +6,8 @@ use Rattle.std.proofs.lemmas.List.FromFn.{map-range_with_len_more}
 use Rattle.elf_field.specs.Entries.{sym_at}
 use Rattle.elf_field.specs.declared.number.Order.{Order}
 use Rattle.elf_field.specs.declared.sym.Sym.{Sym}
-use Rattle.elf_object_reader.specs.Denotes.{name_end, symbol_end, left_out}
+use Rattle.elf_object_layout.specs.SectionsLeftOut.{left_out}
+use Rattle.elf_object_reader.specs.Denotes.{name_end, symbol_end}
 use Rattle.elf_object_type.specs.Object.{SymbolValue}
 use Rattle.elf_object_type.specs.ObjectView.{symbol_value}
 use Rattle.elf_table_symbols.specs.Sections.{content, order, sections_of}

@@ -1,7 +1,7 @@
 use Rattle.std.proofs.Common.{arith}
 use Rattle.std.proofs.lemmas.List.{length-map}
-use Rattle.elf_object_writer.specs.Laid.{rel_entry, rela_entry}
-use Rattle.elf_object_writer.proofs.PlainSections.{length-relas, length-rels}
+use Rattle.elf_object_layout.specs.Laid.{rel_entry, rela_entry}
+use Rattle.elf_object_layout.proofs.Public.{length-relas, length-rels}
 use Rattle.elf_object_writer.proofs.contents.write_each_relocation.Goals as goal
 
 pub write_entries-requires-clause-short : goal.write_entries-requires-clause-short

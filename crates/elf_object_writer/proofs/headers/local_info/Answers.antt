@@ -1,7 +1,7 @@
 use Rattle.std.proofs.Common.{List, ap, length, ◌+◌, ◌∙◌}
 use Rattle.std.specs.Prelude.{filter}
 use Rattle.elf_object_type.specs.Object.{ObjectValue, SymbolValue}
-use Rattle.elf_object_writer.specs.Laid.{is_local}
+use Rattle.elf_object_layout.specs.Laid.{is_local}
 use Rattle.elf_object_writer.proofs.HeaderTables.{local_symbols}
 use Rattle.elf_object_writer.proofs.headers.local_info.Goals as goal
 

@@ -1,6 +1,6 @@
 use Rattle.std.proofs.Common.{arith}
 use Rattle.elf_object_writer.proofs.Going.{length-header_table}
-use Rattle.elf_object_writer.proofs.CanonicalLayout.{table_end}
+use Rattle.elf_object_layout.proofs.Public.{table_end}
 use Rattle.elf_object_writer.proofs.object_writing.table_size.Goals as goal
 
 pub returns : goal.returns

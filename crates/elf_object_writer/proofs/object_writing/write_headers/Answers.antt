@@ -1,8 +1,8 @@
 use Rattle.std.proofs.Common.{arith}
 use Rattle.elf_object_strings.specs.StringTable.{name_offset}
-use Rattle.elf_object_writer.specs.Laid.{plain_sections, section_names}
+use Rattle.elf_object_layout.specs.Laid.{plain_sections, section_names}
 use Rattle.elf_object_writer.proofs.HeaderTables.{length-headers}
-use Rattle.elf_object_writer.proofs.CanonicalLayout.{few_sections}
+use Rattle.elf_object_layout.proofs.Public.{few_sections}
 use Rattle.elf_object_writer.proofs.object_writing.write_headers.Goals as goal
 
 pub write_entries-requires-clause-short : goal.write_entries-requires-clause-short

@@ -2,7 +2,7 @@
 -- waits to go out, and after the table the whole file is written. If a call fails, the bytes written are a beginning of the file. The lemmas
 -- are those of `Going`.
 use Rattle.std.proofs.Common.{◌≡◌, length, arith}
-use Rattle.elf_object_writer.specs.Laid.{plain_sections}
+use Rattle.elf_object_layout.specs.Laid.{plain_sections}
 use Rattle.elf_object_writer.proofs.Going.{content_place, content_sent, header_bytes, header_cut, header_sent, table_cut, table_place, table_sent}
 use Rattle.elf_object_writer.proofs.Going.{content_fails, none_waits, waiting_fails, waiting_sent}
 use Rattle.elf_object_writer.proofs.object_writing.write_placed.Goals as goal

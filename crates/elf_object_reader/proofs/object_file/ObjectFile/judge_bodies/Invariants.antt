@@ -3,7 +3,8 @@ use Rattle.std.specs.Prelude.{filter}
 use Rattle.std.specs.List.{range_with_len}
 use Rattle.elf_image_rules.specs.Rows.{FirstIn}
 use Rattle.elf_object_reader.specs.FileRules.{rules_of_bodies, sections_of_file}
-use Rattle.elf_object_reader.specs.Denotes.{is_kept, kept}
+use Rattle.elf_object_layout.specs.SectionsLeftOut.{is_kept}
+use Rattle.elf_object_reader.specs.Denotes.{kept}
 use Rattle.elf_object_reader.proofs.object_file.ObjectFile.judge_bodies.Given as goal
 
 -- what the tables of the sections that are left break is what all break

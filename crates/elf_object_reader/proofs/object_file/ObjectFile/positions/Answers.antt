@@ -3,7 +3,8 @@
 use Rattle.std.proofs.Common.{◌≡◌, ◌+◌, ◌++◌, [], ◌∷◌, List, ℕ, length, map, ap, ◌∙◌, sym, arith, zero-add}
 use Rattle.std.specs.List.{range_with_len}
 use Rattle.std.proofs.lemmas.List.FromFn.{length-map-range_with_len, map-range_with_len_more}
-use Rattle.elf_object_reader.specs.Denotes.{is_kept, position_of}
+use Rattle.elf_object_layout.specs.SectionsLeftOut.{is_kept}
+use Rattle.elf_object_reader.specs.Denotes.{position_of}
 use Rattle.elf_table_symbols.specs.Sections.{count}
 use Rattle.elf_object_reader.specs.FileRules.{sections_of_file}
 use Rattle.elf_object_reader.proofs.Kept.{count_kept, count_other, position_le}

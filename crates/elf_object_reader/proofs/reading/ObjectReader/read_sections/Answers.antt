@@ -1,5 +1,6 @@
 use Rattle.std.proofs.Common.{List, ap, ◌∙◌, map}
-use Rattle.elf_object_reader.specs.Denotes.{section_denoted, is_kept}
+use Rattle.elf_object_layout.specs.SectionsLeftOut.{is_kept}
+use Rattle.elf_object_reader.specs.Denotes.{section_denoted}
 use Rattle.elf_object_reader.specs.FileRules.{sections_of_file}
 use Rattle.elf_object_type.specs.ObjectView.{section_value}
 use Rattle.elf_object_type.specs.declared.parts.Section.{Section}

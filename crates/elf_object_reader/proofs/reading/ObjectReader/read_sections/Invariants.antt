@@ -1,7 +1,8 @@
 use Rattle.std.proofs.Common.{◌≡◌, map}
 use Rattle.std.specs.Prelude.{filter}
 use Rattle.std.specs.List.{range_with_len}
-use Rattle.elf_object_reader.specs.Denotes.{section_denoted, is_kept}
+use Rattle.elf_object_layout.specs.SectionsLeftOut.{is_kept}
+use Rattle.elf_object_reader.specs.Denotes.{section_denoted}
 use Rattle.elf_object_reader.specs.FileRules.{sections_of_file}
 use Rattle.elf_object_type.specs.ObjectView.{section_value}
 use Rattle.elf_object_reader.proofs.reading.ObjectReader.read_sections.Given as goal

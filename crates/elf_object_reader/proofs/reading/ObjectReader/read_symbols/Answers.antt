@@ -1,6 +1,6 @@
 use Rattle.std.proofs.Common.{sym, ap, ◌∙◌}
 use Rattle.elf_object_reader.specs.FileRules.{sections_of_file}
-use Rattle.elf_object_reader.specs.declared.object_file.LeftOut.{LeftOut}
+use Rattle.elf_object_layout.specs.declared.left_out.LeftOut.{LeftOut}
 use Rattle.elf_table_symbols.proofs.Public.{sound_link}
 use Rattle.elf_object_reader.proofs.KeptTypes.{sound_symbols, symbols_there, symbols_of_table}
 use Rattle.elf_object_reader.proofs.reading.ObjectReader.read_symbols.Goals as goal

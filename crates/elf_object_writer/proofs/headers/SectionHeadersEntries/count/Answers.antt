@@ -1,6 +1,6 @@
 use Rattle.std.proofs.Common.{arith}
 use Rattle.elf_object_strings.specs.StringTable.{name_offset}
-use Rattle.elf_object_writer.specs.Laid.{plain_sections, section_names}
+use Rattle.elf_object_layout.specs.Laid.{plain_sections, section_names}
 use Rattle.elf_object_writer.proofs.HeaderTables.{length-headers}
 use Rattle.elf_object_writer.proofs.headers.SectionHeadersEntries.count.Goals as goal
 

@@ -1,9 +1,9 @@
 -- Section header 0 is the first of the list; the one at another index i is that of the section at position i - 1.
 use Rattle.std.proofs.Common.{◌+◌, ◌-◌, ℕ, ap, arith, sym, ◌∙◌}
-use Rattle.elf_image_type.specs.RelocatableFile.{first_header}
+use Rattle.elf_image_type.specs.WrittenFile.{first_header}
 use Rattle.elf_object_strings.specs.StringTable.{name_offset}
 use Rattle.elf_object_writer.specs.PlacedObject.{plain_section}
-use Rattle.elf_object_writer.specs.Laid.{name_table_at, plain_sections, section_names}
+use Rattle.elf_object_layout.specs.Laid.{name_table_at, plain_sections, section_names}
 use Rattle.elf_object_writer.specs.declared.placed_object.PlacedSection.TheVariants.{Names}
 use Rattle.elf_object_writer.proofs.HeaderTables.{behind_first, first_one, header_found, length-headers}
 use Rattle.elf_object_writer.proofs.headers.SectionHeadersEntries.entry.Goals as goal

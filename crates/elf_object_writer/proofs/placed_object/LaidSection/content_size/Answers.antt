@@ -1,6 +1,6 @@
 use Rattle.std.proofs.Common.{◌+◌, ◌*◌, ap, length, sym, ◌∙◌}
 use Rattle.elf_object_writer.specs.PlacedObject.{plain_section}
-use Rattle.elf_object_writer.proofs.CanonicalLayout.{length-index_table_section, length-symbol_table_section}
+use Rattle.elf_object_layout.proofs.Public.{length-index_table_section, length-symbol_table_section}
 use Rattle.elf_object_writer.proofs.placed_object.LaidSection.content_size.Goals as goal
 
 pub returns-in-SymbolTable : goal.returns-in-SymbolTable

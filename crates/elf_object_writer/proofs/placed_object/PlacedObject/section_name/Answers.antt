@@ -2,8 +2,8 @@
 use Rattle.std.proofs.Common.{◌≡◌, length, rules, subst, arith}
 use Rattle.std.specs.Prelude.{vec_len}
 use Rattle.elf_object_writer.specs.PlacedObject.{IsPlacedWith}
-use Rattle.elf_object_writer.specs.Laid.{section_names}
-use Rattle.elf_object_writer.proofs.CanonicalLayout.{length-places, length-section_names, place_read, section_name_below}
+use Rattle.elf_object_layout.specs.Laid.{section_names}
+use Rattle.elf_object_layout.proofs.Public.{length-places, length-section_names, place_read, section_name_below}
 use Rattle.elf_object_writer.proofs.placed_object.PlacedObject.section_name.Goals as goal
 
 pub index-requires : goal.index-requires

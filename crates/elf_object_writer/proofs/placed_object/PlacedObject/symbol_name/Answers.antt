@@ -2,8 +2,8 @@ use Rattle.std.proofs.Common.{subst, arith}
 use Rattle.std.proofs.lemmas.List.{length-map}
 use Rattle.elf_object_type.specs.Object.{SymbolValue}
 use Rattle.elf_object_writer.specs.PlacedObject.{IsPlacedWith}
-use Rattle.elf_object_writer.specs.Laid.{symbol_names}
-use Rattle.elf_object_writer.proofs.CanonicalLayout.{place_read, symbol_name_below}
+use Rattle.elf_object_layout.specs.Laid.{symbol_names}
+use Rattle.elf_object_layout.proofs.Public.{place_read, symbol_name_below}
 use Rattle.elf_object_writer.proofs.placed_object.PlacedObject.symbol_name.Goals as goal
 
 pub overflow_cast-result : goal.overflow_cast-result

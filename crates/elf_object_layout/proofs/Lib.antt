@@ -1,0 +1,5 @@
+-- `Public` is for the proofs of the crates above, the others are for those of this one.
+mod CanonicalLayout
+mod SectionsLeftOut
+mod PlainSections
+pub mod Public
