@@ -267,9 +267,9 @@ class Part(NamedTuple):
 
 
 class _Records(Sequence[Record]):
-    """Records that are read when they are asked for."""
+    """Records that are read when they are asked for; of a broken table some can't be."""
 
-    def __init__(self, count: int, read: Callable[[int], Record]) -> None:
+    def __init__(self, count: int, read: Callable[[int], Optional[Record]]) -> None:
         self._indices = range(count)
         self._read = read
 
@@ -278,11 +278,17 @@ class _Records(Sequence[Record]):
 
     def __getitem__(self, index: Any) -> Any:
         if isinstance(index, slice):
-            return [self._read(it) for it in self._indices[index]]
-        return self._read(self._indices[index])
+            return [*self._found(self._indices[index])]
+        found = self._read(self._indices[index])
+        if found is None:
+            raise IndexError("the table has no entry of this index")
+        return found
 
     def __iter__(self) -> Iterator[Record]:
-        return builtins.map(self._read, self._indices)
+        return self._found(self._indices)
+
+    def _found(self, indices: range) -> Iterator[Record]:
+        return (it for it in builtins.map(self._read, indices) if it is not None)
 
     def __repr__(self) -> str:
         return f"<{len(self)} records>"
@@ -349,7 +355,8 @@ class File:
         """The symbols of the symbol table in a section; none where it holds none.
 
         A file that breaks no rule of images may have a table that breaks rules of its
-        own. Then the entries that lie in the file are returned.
+        own. Then the entries that lie in the file are returned, without symbols whose
+        word in an index table is missing: to ask for one by its index is an IndexError.
         """
         return self._entries(section, _SYMBOLS, "elfmap_symbol", _library.Symbol, self._symbol)
 
@@ -439,11 +446,10 @@ class File:
     ) -> Sequence[Record]:
         table = self._table(section, types)
 
-        def read(index: int) -> Record:
+        def read(index: int) -> Optional[Record]:
             it = kind()
-            if not self._call(call, index, it, of=(table,)):
-                raise IndexError("the table has no entry of this index")
-            return made(table, it)
+            is_there = self._call(call, index, it, of=(table,))
+            return made(table, it) if is_there else None
 
         return _Records(table.entries if table else 0, read)
 

@@ -127,6 +127,17 @@ class JudgedTest(unittest.TestCase):
                     broken.add(int(lines[0].split()[1]))
         self.assertEqual(broken, set(range(2, 34)), "rule 1 wants a longer file")
 
+    def test_a_symbol_without_its_index_word_is_left_out(self):
+        # Of cases/tables.txt, in both byte orders: symbol 2 of 3 is in an index table that is not there.
+        files = [elfmap.parse(it) for it in reference.files() if len(it) == 476]
+        broken = [it.symbols(1) for it in files if len([*it.symbols(1)]) < len(it.symbols(1))]
+        self.assertEqual([len(it) for it in broken], [3, 3])
+        for symbols in broken:
+            self.assertEqual([it.name for it in symbols], [b"", b"ab"])
+            self.assertEqual([it.name for it in symbols[1:]], [b"ab"])
+            with self.assertRaises(IndexError):
+                symbols[2]
+
 
 class RefusedTest(unittest.TestCase):
     def test_a_longer_file_than_any(self):
