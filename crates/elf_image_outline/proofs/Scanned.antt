@@ -30,7 +30,7 @@ use Rattle.elf_image_rules.specs.KeepsRules.{KeepsRules}
 use Rattle.elf_image_rules.specs.Rows.{FirstIn}
 use Rattle.elf_image_rules.specs.Rules.{header_rules, ident_rules, length_rules, program_table_rules, section_table_rules, header_entry_rules, header_table_rules, image_rules, record_rules, extents, AreEnds, IsFault, rules_in}
 use Rattle.elf_image_rules.specs.Tables.{counts_in, file_counts, header, order_of, program_header_count, section_header_count, sections, segments, shdr_offset, program_header_of, section_header_of, bytes_in, content_extent, name_table, names, names_at, no_program_header, no_section_header}
-use Rattle.elf_image_rules.specs.declared.image_rules.Broken.{Broken}
+use Rattle.elf_image_rules.specs.Rows.{Broken}
 use Rattle.elf_image_rules.specs.declared.name_rules.TableEnds.{TableEnds}
 use Rattle.elf_image_rules.specs.declared.tables.Counts.{Counts}
 use Rattle.elf_image_outline.specs.Records.{table_at}

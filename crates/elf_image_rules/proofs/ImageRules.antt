@@ -13,7 +13,7 @@ use Rattle.elf_field.specs.declared.shdr.Shdr.{Shdr}
 use Rattle.elf_image_rules.specs.Rows.{fault_of, FirstBy, FirstIn, Row, Ruled}
 use Rattle.elf_image_rules.specs.Rules.{IsLoad, IsLoadBefore, length_rules, ident_rules, header_rules, section_table_rules, program_table_rules, section_header_rules, segment_rules, section_name_rules, shared_fault, IsFault, KeepsRecordRules, extents_of_file, header_entry_rules, header_table_rules, image_rules, record_rules, rules_in}
 use Rattle.elf_image_rules.specs.Tables.{counts_in, header, sections, segments, names, names_at, name_table}
-use Rattle.elf_image_rules.specs.declared.image_rules.Broken.{Broken}
+use Rattle.elf_image_rule_names.specs.declared.broken.Broken.{Broken}
 use Rattle.elf_image_rules.specs.declared.tables.Counts.{Counts}
 
 -- Laws of lists of rules, by induction on the list. A fault of a run is also that of the run with more rules after it; after a run without

@@ -3,7 +3,7 @@
 -- reported, and rules of a link, at a file, index and entry, of which the first is.
 use Rattle.std.specs.Prelude.{◌≡◌, ℕ, ◌<◌, ◌⊎◌, Option, None, Some, List, [], ◌∷◌, Result, Ok, Err}
 use Rattle.elf_extent.specs.Extent.{Never, IsLeast}
-use Rattle.elf_image_rules.specs.declared.image_rules.Broken.{Broken}
+pub use Rattle.elf_image_rule_names.specs.declared.broken.Broken.{Broken}
 
 -- the row of a rule: where it is broken
 abbrev pub Row : Type 0 → Type 1

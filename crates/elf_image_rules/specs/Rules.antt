@@ -8,6 +8,7 @@ use Rattle.elf_field.specs.Abi.{EHDR_SIZE, EI_CLASS, EI_DATA, EI_VERSION, ELFCLA
 use Rattle.elf_field.specs.declared.ehdr.Ehdr.{Ehdr}
 use Rattle.elf_field.specs.declared.phdr.Phdr.{Phdr}
 use Rattle.elf_field.specs.declared.shdr.Shdr.{Shdr}
+pub use Rattle.elf_image_rule_names.specs.Longest.{MAX_LEN}
 use Rattle.elf_image_rules.specs.Rows.{Row, Ruled, rule, When, Either, AtEntry, FirstIn}
 use Rattle.elf_image_rules.specs.Tables.{section_header_count, shdr_offset, program_header_count, phdr_offset, content_extent, counts_in, header, sections, segments, names}
 use Rattle.elf_image_rules.specs.declared.entry_rules.SectionRule.TheVariants.{ContentPastEnd, MisalignedSection, NamePastEnd, WrongSectionAlignment}
@@ -19,10 +20,6 @@ use Rattle.elf_image_rules.specs.declared.tables.Counts.{Counts}
 
 -- Rules 1 to 12: the file's length and its header. (gABI chapter 4, ELF Header and ELF Identification.)
 -- A header is tested as a value, h, of a file of len bytes.
-
--- the length of the longest file in bytes (a limit of elfmap, not of the gABI)
-abbrev pub MAX_LEN : ℕ
-MAX_LEN = 2 ^ 30
 
 -- rule 1: the file is longer than that
 abbrev pub too_long : ℕ → Row ℕ

@@ -5,11 +5,11 @@ ghost use Rattle.elf_extent.specs.Extent.{IsLowest};
 ghost use Rattle.elf_image_rules.specs.Rows.{fault_of, FirstIn};
 ghost use Rattle.elf_image_rules.specs.Tables.{shdr_offset, phdr_offset};
 
-use crate::image_rules::Broken;
 use crate::records::Records;
 use crate::rules::*;
 use elf_field::abi::*;
 use elf_field::{Ehdr, Phdr, Shdr};
+use elf_image_rule_names::Broken;
 
 /// Whether an alignment is neither 0, for none, nor a power of two.
 pub fn is_wrong_alignment(align: u64) -> bool

@@ -5,14 +5,11 @@ ghost use Rattle.elf_image_rules.specs.Rows.{fault_of, FirstIn};
 ghost use Rattle.elf_image_rules.specs.Rules.{count_without_section_table, length_rules, ident_rules, header_rules, HasWrongExtendedNameTableIndex, HasWrongExtendedSectionCount, HasWrongNameTableIndex, first_section_header_not_null, section_table_rules, HasWrongExtendedSegmentCount, HasWrongSegmentCount, program_table_rules};
 ghost use Rattle.elf_image_rules.specs.Tables.{name_table, section_header_count, shdr_offset, phdr_offset, program_header_count};
 
-use crate::image_rules::Broken;
 use crate::rules::*;
 use crate::tables::{section_count_of, segment_count_of};
 use elf_field::abi::*;
 use elf_field::{Ehdr, Shdr};
-
-/// The length of the longest file in bytes: a limit of elfmap, not of the gABI.
-pub const MAX_LEN: u64 = 1 << 30;
+use elf_image_rule_names::{Broken, MAX_LEN};
 
 /// Rules 1 and 2, of a file of `len` bytes.
 #[tactic(auto, unfolding(crate::specs::Rules::length_rules))]

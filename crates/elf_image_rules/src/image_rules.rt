@@ -17,27 +17,8 @@ use crate::tables::{Counts, counts_of, header_of, section_at};
 use elf_extent::OutOfMemory;
 use elf_field::Ehdr;
 use elf_field::abi::SHDR_SIZE;
+use elf_image_rule_names::Broken;
 use std::alloc::Global;
-
-// A rule that is broken.
-
-/// A rule by its number, and where it is broken: at an offset in a file, in bytes, or at a file, index and entry of a link.
-#[derive(Clone, Copy, Debug, PartialEq, Eq)]
-pub struct Broken<At> {
-    /// The number of the rule; those of the rules of images are in [`rules`](crate::rules).
-    pub rule: u16,
-    /// The first place where it is broken: the lowest offset.
-    pub at: At,
-}
-
-impl<At> Broken<At> {
-    /// The rule of this number, broken here.
-    pub fn new(rule: u16, at: At) -> Broken<At>
-        ensures { result ≡ record { rule = rule; at = at } }
-    {
-        Broken { rule, at }
-    }
-}
 
 /// The first rule of 1 to 33 that the file breaks, and its lowest offset in bytes; None if it breaks none. It takes no memory. It is
 /// linear in the records if the contents are in the order of their section headers; otherwise it takes the square of their number.

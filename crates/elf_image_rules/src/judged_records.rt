@@ -4,9 +4,9 @@ ghost use Rattle.elf_image_rules.specs.KeepsRules.{kept_prop};
 ghost use Rattle.elf_image_rules.specs.Rules.{KeepsRecordRules};
 ghost use Rattle.elf_image_rules.specs.Tables.{file_counts, header as file_header, phdr_offset, sections, segments, shdr_offset};
 
-use crate::header_rules::MAX_LEN;
 use crate::tables::{Counts, section_at, segment_at};
 use elf_field::{Ehdr, Phdr, Shdr};
+use elf_image_rule_names::MAX_LEN;
 
 /// A file that keeps rules 1 to 32, with its header and its counts: all its records are there, and
 /// are read with no further test. [`crate::judge_records`] makes it.

@@ -22,18 +22,17 @@ mod judged_records;
 mod laws;
 mod name_rules;
 mod records;
-mod rule_names;
 pub mod rules;
 pub mod tables;
 
+pub use elf_image_rule_names::{Broken, MAX_LEN, rule_name};
 pub use entry_rules::is_wrong_alignment;
 pub use file_extents::FileExtents;
 pub use header_rules::{
-    MAX_LEN, judge_header, judge_ident, judge_length, judge_program_table, judge_section_table,
+    judge_header, judge_ident, judge_length, judge_program_table, judge_section_table,
 };
-pub use image_rules::{Broken, judge_by_sorting, judge_entries, judge_records, verdict};
+pub use image_rules::{judge_by_sorting, judge_entries, judge_records, verdict};
 pub use judged_records::JudgedRecords;
 pub use laws::{extents_of_image, fault_of_extents, kept_rules, one_fault};
 pub use name_rules::{TableEnds, ends_of, unclosed_at};
 pub use records::{FileRecords, Records, TableRecords};
-pub use rule_names::rule_name;

@@ -7,12 +7,12 @@ ghost use Rattle.elf_image_rules.specs.Rows.{fault_of, FirstIn};
 ghost use Rattle.elf_image_rules.specs.Tables.{names_at, sections, shdr_offset};
 
 use crate::entry_rules::{SectionRule, lowest_section};
-use crate::image_rules::Broken;
 use crate::records::Records;
 use crate::rules::*;
 use crate::tables::{content_of, section_at};
 use elf_field::Ehdr;
 use elf_field::abi::*;
+use elf_image_rule_names::Broken;
 
 // String tables (gABI chapter 4, String Table): the first and the last byte are 0.
 

@@ -2,7 +2,7 @@
 ghost use Rattle.std.specs.Prelude.{◌≡◌, ◌+◌, ◌^◌, ◌<◌};
 
 use elf_extent::OutOfMemory;
-use elf_image_rules::{Broken, rule_name};
+use elf_image_rule_names::{Broken, rule_name};
 use std::alloc::{AllocError, AllocFailed};
 use thiserror::Error;
 

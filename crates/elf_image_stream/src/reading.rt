@@ -1,7 +1,7 @@
 //! All bytes of a reader, however its reads are cut.
 ghost use Rattle.std.specs.Prelude.{◌≡◌, ◌+◌, ◌-◌, ◌<◌, ◌≤◌, ◌⊎◌, [], ◌++◌, length, take, drop, vec_len, IfErr, IfOk, IfSome, OnErr, OnOk};
 ghost use Rattle.std.specs.Io.KnownBytes.{Consumes, IsAtEnd, Keeps};
-ghost use Rattle.elf_image_rules.specs.Rules.{MAX_LEN};
+ghost use Rattle.elf_image_rule_names.specs.Longest.{MAX_LEN};
 ghost use Rattle.elf_image_stream.specs.Reading.{IsReadBehind, IsReadFault};
 
 use crate::fault::Fault;
@@ -11,7 +11,7 @@ use std::io::Read;
 
 /// No more bytes than these are read: one above the longest file that is accepted, so that a
 /// longer one is known as such.
-const MOST_BYTES: usize = elf_image_rules::MAX_LEN as usize + 1;
+const MOST_BYTES: usize = elf_image_rule_names::MAX_LEN as usize + 1;
 
 /// How many bytes the first read may return.
 const FIRST_ROOM: usize = 1 << 16;

@@ -20,6 +20,7 @@ use Rattle.elf_object_writer.specs.declared.placed_object.PlacedSection.TheVaria
 use Rattle.elf_object_writer.specs.declared.placed_object.PlacedSection.{PlacedSection}
 use Rattle.elf_object_layout.specs.declared.layout.LayoutFault.TheVariants as layout
 
+-- an object and its layout
 pub record PlacedValue : Type 0 where
   pub object : ObjectValue
   pub layout : LayoutValue

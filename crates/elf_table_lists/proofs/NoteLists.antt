@@ -12,7 +12,7 @@ use Rattle.elf_field.specs.Entries.{word_at, word_laws}
 use Rattle.elf_field.specs.declared.number.Order.{Order}
 use Rattle.elf_image_rules.specs.Rows.{FirstIn}
 use Rattle.elf_image_rules.specs.Tables.{bytes_in}
-use Rattle.elf_image_rules.specs.declared.image_rules.Broken.{Broken}
+use Rattle.elf_image_rules.specs.Rows.{Broken}
 use Rattle.elf_table_lists.specs.Notes.{AreNotesWhole, desc_start, first_notes, note_at, note_end, note_offset, notes_in, NoteValue, descsz, name_start, namesz, padded, IsCut, AtNote, IsUnclosedNoteName, name_last, note_desc_past_end, note_name_past_end, note_rules, partial_note, unclosed_note_name}
 
 -- Each note begins where the earlier one ends, and has at least a header, so the offsets of notes rise. Entry k of the list is the note at

@@ -5,7 +5,7 @@ use Rattle.elf_field.specs.Abi.{N_DESCSZ_AT, N_NAMESZ_AT, N_TYPE_AT, NHDR_SIZE, 
 use Rattle.elf_field.specs.Entries.{word_at}
 use Rattle.elf_field.specs.declared.number.Order.{Order}
 use Rattle.elf_image_rules.specs.Rows.{Row, Ruled, rule}
-use Rattle.elf_image_rules.specs.declared.image_rules.Broken.{Broken}
+use Rattle.elf_image_rules.specs.Rows.{Broken}
 use Rattle.elf_table_lists.specs.declared.notes.Note.{Note}
 use Rattle.elf_table_symbols.specs.Sections.{Sections, content, order, wrong_table_type, section}
 

@@ -7,7 +7,7 @@ use Rattle.std.proofs.lemmas.Grind.{common_steps}
 use Rattle.std.proofs.lemmas.List.FromFn.{fill_by_all, get_or-map-range_with_len, length-map-range_with_len, map-range_with_len_more}
 use Rattle.elf_image_rules.proofs.Public.{FirstIn-later, FirstIn-sooner}
 use Rattle.elf_image_rules.specs.Rows.{FirstIn, Ruled}
-use Rattle.elf_image_rules.specs.declared.image_rules.Broken.{Broken}
+use Rattle.elf_image_rules.specs.Rows.{Broken}
 use Rattle.elf_image_stream.specs.declared.fault.Fault.TheVariants.{Io, OutOfMemory, Rule}
 use Rattle.elf_image_stream.specs.declared.fault.Fault.{Fault}
 use Rattle.elf_table_symbols.specs.Verdicts.{IsJudgedBehind, fault_in, verdicts_on}

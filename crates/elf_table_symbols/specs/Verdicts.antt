@@ -4,7 +4,7 @@ use Rattle.std.specs.BTreeMap.{BTreeMap, get}
 use Rattle.std.specs.List.{range_with_len}
 use Rattle.std.specs.Ordering.{nat_cmp}
 use Rattle.elf_image_rules.specs.Rows.{FirstIn, Ruled}
-use Rattle.elf_image_rules.specs.declared.image_rules.Broken.{Broken}
+use Rattle.elf_image_rules.specs.Rows.{Broken}
 use Rattle.elf_image_stream.specs.declared.fault.Fault.TheVariants.{OutOfMemory, Io, Rule}
 use Rattle.elf_image_stream.specs.declared.fault.Fault.{Fault}
 use Rattle.elf_table_symbols.specs.declared.verdicts.Verdicts.TheInside.{Inside}

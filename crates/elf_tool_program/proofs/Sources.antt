@@ -11,7 +11,7 @@ use Rattle.elf_image_outline.specs.Image.{IsImage}
 use Rattle.elf_image_outline.specs.Outline.{OutlineValue, image_in}
 use Rattle.elf_image_rules.specs.Rows.{fault_of}
 use Rattle.elf_image_rules.specs.Tables.{program_header_count, section_header_count, sections, segments}
-use Rattle.elf_image_rules.specs.declared.image_rules.Broken.{Broken}
+use Rattle.elf_image_rules.specs.Rows.{Broken}
 use Rattle.elf_image_stream.specs.Output.{StoppedIn}
 use Rattle.elf_tool_check.specs.Check.{CheckSays, file_sections, file_segments, verdict_of}
 use Rattle.elf_tool_program.specs.CheckSource.{IsCheckLine, IsScanned, SourceSays, line_of_scan}

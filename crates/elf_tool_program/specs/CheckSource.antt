@@ -5,7 +5,7 @@ use Rattle.elf_field.specs.Bytes.{IsBytes}
 use Rattle.elf_image_outline.specs.Image.{IsImage}
 use Rattle.elf_image_outline.specs.Outline.{OutlineValue, image_in}
 use Rattle.elf_image_rules.specs.Rules.{IsFault}
-use Rattle.elf_image_rules.specs.declared.image_rules.Broken.{Broken}
+use Rattle.elf_image_rules.specs.Rows.{Broken}
 use Rattle.elf_tool_check.specs.Ending.{Call}
 use Rattle.elf_tool_check.specs.Check.{CheckSays}
 use Rattle.elf_tool_check.specs.Engine.{Prints}

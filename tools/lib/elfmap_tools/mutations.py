@@ -4,8 +4,8 @@ Bugs are planted several at a time, each in a function of its own. If a check ca
 that it calls another one that is open too, or because proof files name what the bug took away, the next check decides, and at last one of
 this bug alone. A check reads only the functions that have a bug, and those that they call: that is why it takes less than `rt ci` does for
 an edit in must-fail/, which costs a check of its crate. In the gate only those with the line `gate: yes` are planted, over the libraries as
-`rt ci` has just left them. A library of the program that has none of them, and no edit in must-fail/ either, has failed: nothing shows
-there that its contracts refuse a wrong body."""
+`rt ci` has just left them. A public crate that has none of them, and no edit in must-fail/ either, behind it or in itself, has failed:
+nothing shows there that the contracts refuse a wrong body."""
 
 import glob, os, re, shutil, tempfile
 from collections import Counter
@@ -14,7 +14,7 @@ from concurrent.futures import ThreadPoolExecutor, as_completed
 
 from .building import FolderOf, built_below, checked, gate_folder
 from .suite import Tally, Test, flag, word
-from .tree import LIBRARIES_OF, PROCESSORS, TOP, Options, below, read_text, write
+from .tree import LIBRARIES_OF, PROCESSORS, TOP, Options, deps, read_text, write
 
 ABOUT = "the check refuses each bug of mutations.txt with 'gate: yes'; of CRATE.., or with --all of every crate, each bug"
 # What the checker prints if it could read the text and came to its end.
@@ -169,6 +169,7 @@ def mutations(tally: Tally, options: Options) -> None:
                 tally.count(len(ends), (f"{bug.crate}: {bug.name}: {end}" for bug, end in ends if end != "refused"))
                 tally.note(f"{ends[0][0].crate}: {sum(end == 'refused' for _, end in ends)} of {len(ends)} refused")
     if not options.crates and not options.only:
-        for crate in below("elfmap"):
-            is_tried = must_fail_of(crate) or any(it.is_for_gate for it in bugs_of(crate))
-            tally.check(is_tried, f"{crate}: nothing in must-fail/, and no bug with 'gate: yes': the gate tries no wrong body of it")
+        tried = [it for it in LIBRARIES_OF if must_fail_of(it) or any(bug.is_for_gate for bug in bugs_of(it))]
+        for public in deps("elf"):
+            is_tried = any(f"{it}_".startswith(f"{public}_") for it in tried)
+            tally.check(is_tried, f"{public}: neither it nor a crate behind it has a bug with 'gate: yes', or one in must-fail/")

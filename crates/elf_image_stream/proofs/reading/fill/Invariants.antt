@@ -1,6 +1,6 @@
 use Rattle.std.proofs.Common.{◌+◌, ◌-◌, ◌≤◌, vec_len, take}
 use Rattle.elf_image_stream.specs.Reading.{IsReadBehind}
-use Rattle.elf_image_rules.specs.Rules.{MAX_LEN}
+use Rattle.elf_image_rule_names.specs.Longest.{MAX_LEN}
 use Rattle.elf_image_stream.proofs.reading.fill.Given as goal
 
 -- the front of the buffer is what it held, and what the reader gave
