@@ -11,15 +11,14 @@
 //! | [`exec`] | the executable of a link |
 //! | [`tool`] | the program `elfmap`, over any readers and writers |
 //!
-//! Five things that people do with it, each a program of 40 to 70 lines, in a crate of its name:
+//! Four programs show what people do with it, in 50 to 150 lines, each in a crate of its name:
 //!
 //! | program | what it shows |
 //! |---|---|
 //! | `example_symbols FILE` | reading a file, judging it, and listing the symbols of its tables |
 //! | `example_make` | making an object from nothing, reading it back from its file, and writing its canonical layout |
-//! | `example_edit FILE [SECTION FLAGS]` | parsing a file, and writing its image: the same bytes, or those of its edits |
+//! | `example_edit FILE` | writing a file's image, also with edits; with `--seek` by a source of its own, without its contents in memory |
 //! | `example_link A B` | linking two objects, relocating their bytes, writing the executable, and asking it for a byte of memory |
-//! | `example_copy FILE SECTION FLAGS` | copying a file with an edit by a source of its own, without its contents in memory |
 //!
 //! ```
 //! use elf::image::{parse, verdict};
@@ -29,7 +28,7 @@
 //! ```
 //!
 //! A source, a row of extents and what opens files can be of one's own: the ghost members of the trait say what the value represents, and
-//! the check asks of the methods what the trait promises of it. A source that counts the reads of another one, as the crate `example_copy`
+//! the check asks of the methods what the trait promises of it. A source that counts the reads of another one, as the crate `example_edit`
 //! has it; a row of two extents; and a shelf with one file:
 //!
 //! ```

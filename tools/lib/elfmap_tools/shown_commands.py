@@ -184,7 +184,7 @@ class Page:
         self.tally.check(not links, f"{self.name} has links that lead nowhere: {links}")
 
 
-@Test("shown-commands", "the commands that the pages show print what is below them", TOOLS, f"elfmap {BOTH} example_symbols")
+@Test("shown-commands", "the commands that the pages show print what is below them", TOOLS, f"elfmap {BOTH} example_edit example_symbols")
 def shown_commands(tally: Tally, options: Options) -> None:
     every = [command for name in all_pages() for block in blocks(read_text(name)) for command, _ in commands(block)]
     for command in SKIPPED:

@@ -1,9 +1,4 @@
-//! `example_copy FILE SECTION FLAGS`: copies an ELF-64 file to standard output with other flags (`sh_flags`) of a section, whose index and
-//! flags are decimal numbers. It reads the file where it has to, and never holds its contents; how many reads that took it says on standard
-//! error.
-#![tactic(auto)]
-
-mod counting;
+//! The way of `--seek`: a copy with an edit, without the contents of the file in memory.
 
 ghost use Rattle.std.specs.Prelude.{◌≡◌, ℕ, List, Some};
 ghost use Rattle.std.specs.Io.KnownBytes.{Appends};
@@ -12,27 +7,22 @@ ghost use Rattle.elf_image.specs.Image.{flagged};
 ghost use Rattle.elf_image.specs.Image.{IsImage};
 ghost use Rattle.elf_image.specs.Outline.{OutlineValue, image_in};
 
-use counting::Counting;
-use elf_image::{Fault, Seeking, Source, copy_image, scan};
+use crate::counting::Counting;
+use crate::{Failed, NO_SECTION, UNREAD, UNWRITTEN, failed};
+use elf_image::{Seeking, Source, copy_image, scan};
 use std::alloc::Global;
+use std::fs;
 use std::io::Write;
-use std::process::ExitCode;
-use std::{env, fs, io};
 
-fn main(rt: HostRuntime) -> io::Result<ExitCode> {
-    let words: Vec<String> = env::args(&rt)?.collect(rt.alloc())?;
-    let [_, name, section, flags] = words.as_slice() else {
-        eprintln!(rt; "usage: example_copy FILE SECTION FLAGS")?;
-        return Ok(ExitCode::from(2));
-    };
-    let (Ok(section), Ok(flags)) = (section.parse(), flags.parse()) else {
-        eprintln!(rt; "example_copy: SECTION and FLAGS are decimal numbers")?;
-        return Ok(ExitCode::from(2));
-    };
-    let mut source = Counting::new(Seeking::new(fs::open(&rt, name.as_str())?));
+const UNTOLD: Failed = (3, "the number of reads can't be written");
+
+/// Copies a file to standard output with these flags of a section, and says how many reads that took. Returns the exit status.
+pub fn copy(rt: &HostRuntime, name: &str, section: usize, flags: u64) -> Result<u8, Failed> {
+    let file = fs::open(rt, name).map_err(|_| UNREAD)?;
+    let mut source = Counting::new(Seeking::new(file));
     let status = copy_with_flags(rt.alloc(), &mut source, section, flags, &mut rt.stdout());
-    eprintln!(rt; "{} reads", source.reads())?;
-    Ok(ExitCode::from(status))
+    eprintln!(rt; "{} reads", source.reads()).map_err(|_| UNTOLD)?;
+    Ok(status)
 }
 
 /// Copies the image of a source with other flags of a section. Returns the exit status: 0 if it is written, 1 if the source is no image,
@@ -52,14 +42,13 @@ fn copy_with_flags<S: Source, W: Write>(
 {
     let mut outline = match scan(alloc, source) {
         Ok(outline) => outline,
-        Err(Fault::Rule { .. }) => return 1,
-        Err(_) => return 3,
+        Err(fault) => return failed(fault).0,
     };
     if outline.set_flags(section, flags).is_err() {
-        return 2;
+        return NO_SECTION.0;
     }
     match copy_image(&outline, source, out) {
         Ok(()) => 0,
-        Err(_) => 3,
+        Err(_) => UNWRITTEN.0,
     }
 }
