@@ -93,17 +93,17 @@ class Reader {
 
     // The first rule that the file breaks and where; null where it breaks none.
     verdict() {
-        if (this.judged(this.next, 0)) return null;
+        if (this.validated(this.next, 0)) return null;
         let fault = this.struct("elfmap_fault", this.elfmap_fault);
         if (fault.rule !== SHORT_ROOM) return fault;
         const room = this.place(fault.at * this.layout.elfmap_extent.size);
-        const kept = this.judged(room, fault.at);
+        const kept = this.validated(room, fault.at);
         fault = this.struct("elfmap_fault", this.elfmap_fault);
         this.next = room;
         return kept ? null : fault;
     }
 
-    judged(room, count) {
+    validated(room, count) {
         return this.call("elfmap_verdict_in", this.start, this.length, room, count, this.elfmap_fault);
     }
 

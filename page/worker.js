@@ -63,11 +63,11 @@ async function open(file) {
     }
     reader = made;
     section_names = new Map();
-    return judged();
+    return validated();
 }
 
 // What the page begins with: the verdict, and how many of everything there are.
-function judged() {
+function validated() {
     const start = performance.now();
     const fault = reader.verdict();
     const took = performance.now() - start;

@@ -71,7 +71,7 @@ def executable(it):
 
 def answer(contents, base, page, rules, entry):
     """What `elfmap link` says of these files: the text of a refusal, empty where there is none, and the executable."""
-    refused, it = link.judged(contents, base, page, rules, entry)
+    refused, it = link.validated(contents, base, page, rules, entry)
     if refused:
         return refused, b""
     file = executable(it)

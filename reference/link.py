@@ -319,7 +319,7 @@ def first_standing(rules, link):
     return None
 
 
-def judged(contents, base, page, rules=None, entry=None):
+def validated(contents, base, page, rules=None, entry=None):
     """The line of a refusal, or None; and the link of these files, with relocation rules or without."""
     for f, content in enumerate(contents):
         broken = objects.verdict(content)
@@ -335,7 +335,7 @@ def judged(contents, base, page, rules=None, entry=None):
 
 def map_lines(contents, base, page, rules=None):
     """What `elfmap map` says of these files."""
-    refused, link = judged(contents, base, page, rules)
+    refused, link = validated(contents, base, page, rules)
     return refused or "".join(line + "\n" for line in lines(link, placed(link)[0]))
 
 

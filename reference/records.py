@@ -1,5 +1,5 @@
 """The records of an ELF-64 file (System V ABI, generic part, chapters 4 and 5): the offset and the width of each field, in bytes, and its
-name; and a file as what its bytes say at these places, each read once. Nothing here judges."""
+name; and a file as what its bytes say at these places, each read once. Nothing here tests a rule."""
 from functools import cached_property
 
 HEADER = {"e_type": (16, 2), "e_machine": (18, 2), "e_version": (20, 4), "e_entry": (24, 8), "e_phoff": (32, 8), "e_shoff": (40, 8),

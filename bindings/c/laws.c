@@ -1,6 +1,6 @@
 /*
  * laws COUNT SEED FILE..: changes bytes of each file, COUNT times in all, and looks whether what the library tells of each copy agrees with
- * itself, by laws that need no other judge:
+ * itself, by laws that need no second opinion:
  *
  * - the verdict by a room is that without one;
  * - of a file that is refused `show` says just that line, and `rewrite` gives the same refusal;
@@ -204,7 +204,7 @@ static void linked(const uint8_t *bytes, size_t len) {
     mapped(bytes, len, rules, sizeof rules - 1, status, outcome);
 }
 
-static bool judge(const uint8_t *bytes, size_t len) {
+static bool validate(const uint8_t *bytes, size_t len) {
     struct elfmap_fault fault = {0, 0};
     struct elfmap_file file;
     bool kept = elfmap_verdict(bytes, len, &fault);
@@ -257,7 +257,7 @@ int main(int argc, char **argv) {
         memcpy(bytes, whole[i], lens[i]);
         size_t len = change(bytes, lens[i]);
         accepted += elfmap_verdict(bytes, len, &fault);
-        if (judge(bytes, len)) {
+        if (validate(bytes, len)) {
             passed++;
         } else if (failed++ < 10) {
             keep(bytes, len, argv[2], failed);

@@ -620,7 +620,7 @@ static void check_descending_parts(const uint8_t *bytes, size_t len, uint64_t se
     free(room);
 }
 
-/* A file whose contents, of a byte each, stand in the opposite order of their headers is judged by a room in less than a second. */
+/* A file whose contents, of a byte each, stand in the opposite order of their headers is validated by a room in less than a second. */
 static void check_descending(void) {
     const uint64_t sections = 200000;
     const size_t len = HEADER_SIZE + sections + SECTION_SIZE * sections;

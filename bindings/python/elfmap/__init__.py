@@ -305,7 +305,7 @@ class File:
         self._view = memoryview(data).cast("B").toreadonly()
         self._address = _library.address_of(self._view)
         try:
-            self._judge()
+            self._validate()
         except BaseException:
             # The bytes are free again also while the error is looked at.
             self._view.release()
@@ -394,7 +394,7 @@ class File:
         call = getattr(_library.library(), name)
         return bool(call(*of, self._address, len(self._view), *words))
 
-    def _judge(self) -> None:
+    def _validate(self) -> None:
         """Raises Refused where a rule is broken."""
         fault = _library.Fault()
         wanted = _SMALL_ROOM

@@ -114,7 +114,7 @@ def comparable(lines, expected):
     return own, [it for it in expected if not it.startswith("broken ")]
 
 
-class JudgedTest(unittest.TestCase):
+class ValidatedTest(unittest.TestCase):
     def test_says_what_the_reference_says(self):
         broken = set()
         for number, content in enumerate(reference.files()):

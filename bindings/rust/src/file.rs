@@ -82,7 +82,7 @@ impl<'a> File<'a> {
     ///
     /// The first rule that they break, and the lowest offset at which they do.
     pub fn parse(bytes: &'a [u8]) -> Result<Self, Refusal> {
-        judge(bytes).map_err(|Fault { rule, at }| Refusal { rule, offset: at })?;
+        validate(bytes).map_err(|Fault { rule, at }| Refusal { rule, offset: at })?;
         let numbers = raw::numbers(bytes).expect("the rules were kept");
         let header = raw::header(bytes).expect("the rules were kept");
         Ok(File {
@@ -206,7 +206,7 @@ impl fmt::Debug for File<'_> {
 }
 
 /// The verdict, with as large a buffer as the file needs.
-fn judge(bytes: &[u8]) -> Result<(), Fault> {
+fn validate(bytes: &[u8]) -> Result<(), Fault> {
     let wanted = match raw::verdict_in(bytes, &mut [Extent::default(); SMALL_ROOM]) {
         Err(Fault {
             rule: SHORT_ROOM,

@@ -15,7 +15,7 @@
 //!
 //! | program | what it shows |
 //! |---|---|
-//! | `example_symbols FILE` | reading a file, judging it, and listing the symbols of its tables |
+//! | `example_symbols FILE` | reading a file, validating it, and listing the symbols of its tables |
 //! | `example_make` | making an object from nothing, reading it back from its file, and writing its canonical layout |
 //! | `example_edit FILE` | writing a file's image, also with edits; with `--seek` by a source of its own, without its contents in memory |
 //! | `example_link A B` | linking two objects, relocating their bytes, writing the executable, and asking it for a byte of memory |

@@ -5,12 +5,12 @@ ghost use Rattle.std.specs.List.{All};
 ghost use Rattle.elf_extent.specs.Account.{gap_between};
 ghost use Rattle.elf_extent.specs.Extent.{AreDisjoint, AreMembers, Doubly, holds_any, IsLowest};
 ghost use Rattle.elf_image_rules.specs.Rules.{KeepsRecordRules, extents_of_file, IsFault};
-ghost use Rattle.elf_image_rules.specs.JudgedRecords.{file_of, file_extents};
+ghost use Rattle.elf_image_rules.specs.ValidatedRecords.{file_of, file_extents};
 ghost use Rattle.elf_c_parts.specs.Slots.{AccountsFor, member_of_part, piece_of_part, extent_of_part, IsPartsRefusal, parts_wanted};
 
 use elf_extent::{Extent, Row, sweep};
 use elf_image_rules::rules::SHARED_BYTE;
-use elf_image_rules::{FileExtents, JudgedRecords, judge_records};
+use elf_image_rules::{FileExtents, ValidatedRecords, validate_records};
 
 // A part of a file, and why a buffer holds none.
 
@@ -41,7 +41,7 @@ pub enum PartsFault {
 // The account of a file, from its extents in ascending order.
 
 /// Writes the account of the file into the first slots, from its extents that hold a byte, in ascending order: how many parts there are.
-pub fn put_account(records: &JudgedRecords, members: &[Part], parts: &mut [Part]) -> usize
+pub fn put_account(records: &ValidatedRecords, members: &[Part], parts: &mut [Part]) -> usize
     requires kept { KeepsRecordRules (file_of records.now) }
     requires disjoint { AreDisjoint (extents_of_file (file_of records.now)) }
     requires members { let es = extents_of_file (file_of records.now) in AreMembers es (length es) (map member_of_part members.now) }
@@ -158,7 +158,7 @@ pub fn parts_in(bytes: &[u8], room: &mut [Part]) -> Result<usize, PartsFault>
     ensures account { IfOk result (λ count. AccountsFor bytes.now count room.new) }
     ensures fault { IfErr result (IsPartsRefusal bytes.now (length room.old)) }
 {
-    let records = match judge_records(bytes) {
+    let records = match validate_records(bytes) {
         Ok(records) => records,
         Err(broken) => {
             return Err(PartsFault::Rule {
@@ -184,7 +184,7 @@ fn slots_wanted(extents: u64) -> u64
 
 /// Puts the parts of the file into the first slots of the buffer. The extents that hold a byte are sorted in the back of the buffer. The
 /// account is written from them into the front.
-fn put_parts(records: &JudgedRecords, room: &mut [Part]) -> Result<usize, PartsFault>
+fn put_parts(records: &ValidatedRecords, room: &mut [Part]) -> Result<usize, PartsFault>
     requires kept { KeepsRecordRules (file_of records.now) }
     requires room { parts_wanted (file_of records.now) ≤ length room.old }
     ensures kept { IfOk result (λ count. IsFault (file_of records.now) None) }

@@ -2,13 +2,13 @@
 ghost use Rattle.std.specs.Prelude.{◌≡◌, ◌≤◌, ◌<◌, IfErr, IfOk, OnOk, Some, filter, length, map, take};
 ghost use Rattle.std.specs.List.{All};
 ghost use Rattle.elf_extent.specs.Extent.{Doubly, holds_any, IsLowest};
-ghost use Rattle.elf_image_rules.specs.JudgedRecords.{file_extents};
+ghost use Rattle.elf_image_rules.specs.ValidatedRecords.{file_extents};
 ghost use Rattle.elf_image_rules.specs.Rules.{IsFault};
 ghost use Rattle.elf_c_parts.specs.Slots.{HasSlotsFor, IsShortRoom, extent_in};
 
 use elf_extent::{Extent, Row, sweep};
 use elf_image_rules::rules::SHARED_BYTE;
-use elf_image_rules::{FileExtents, judge_records};
+use elf_image_rules::{FileExtents, validate_records};
 
 /// `struct elfmap_extent`: a slot of a buffer, which holds an extent of a file.
 #[repr(C)]
@@ -35,7 +35,7 @@ pub fn verdict_in(bytes: &[u8], room: &mut [Slot]) -> Result<Option<(u16, u64)>,
     ensures enough { OnOk result (HasSlotsFor bytes.now (length room.old)) }
     ensures short { IfErr result (λ short. IsShortRoom bytes.now (length room.old) short.wanted) }
 {
-    let records = match judge_records(bytes) {
+    let records = match validate_records(bytes) {
         Ok(records) => records,
         Err(broken) => return Ok(Some((broken.rule, broken.at))),
     };

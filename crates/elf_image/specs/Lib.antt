@@ -2,7 +2,7 @@
 pub use Rattle.elf_image_outline.specs.Outline
 pub use Rattle.elf_image_rules.specs.Rows
 pub use Rattle.elf_image_rules.specs.Rules
-pub use Rattle.elf_image_rules.specs.JudgedRecords
+pub use Rattle.elf_image_rules.specs.ValidatedRecords
 pub use Rattle.elf_image_rules.specs.Tables
 pub use Rattle.elf_image_outline.specs.Image
 pub use Rattle.elf_image_stream.specs.Output

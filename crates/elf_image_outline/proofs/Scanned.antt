@@ -177,13 +177,13 @@ unfolding record_rules header_table_rules
 entries_run len h c ss xs gs ys names found has sections segments run =
     let Entries : List Shdr → List Phdr → Counts → Type 0 =
     λ rs ps k. FirstIn (header_entry_rules len h k (section_header_of rs) (program_header_of ps) names) found in
-    let judged : Entries ss gs c = subst (λ (rs : List Shdr). Entries rs gs c) sections (subst (λ (ps : List Phdr). Entries xs ps c) segments run) in
+    let validated : Entries ss gs c = subst (λ (rs : List Shdr). Entries rs gs c) sections (subst (λ (ps : List Phdr). Entries xs ps c) segments run) in
     FirstIn-later (length_rules len) _ found has.head.lengths
     (FirstIn-later (ident_rules h.e_ident) _ found has.head.ident
     (FirstIn-later (header_rules len h) _ found has.head.header
     (FirstIn-later (section_table_rules len h (section_header_of ss 0)) _ found has.section_table
     (FirstIn-later (program_table_rules len h (section_header_of ss 0)) _ found has.program_table
-    (subst (Entries ss gs) has.counts judged)))))
+    (subst (Entries ss gs) has.counts validated)))))
 
 -- a rule of 1 to 32 that is broken is what all rules find
 pub rule_broken : (len : ℕ) (h : Ehdr) (ss : List Shdr) (gs : List Phdr) (names : List ℕ) (number at : ℕ) →
@@ -390,7 +390,7 @@ verdict_of_tables len b h c ss gs found says has records run =
     let Finds : ℕ → Ehdr → Type 0 = λ n k. FirstIn (image_rules n k (sections b k) (segments b k) (names b k)) found in
     subst (Finds (length b)) records.header (subst (λ (n : ℕ). Finds n h) says moved)
 
--- what stops the judging of tables that were read of a file stops the scan
+-- what stops the validation of tables that were read of a file stops the scan
 pub stops_of_tables : (len : ℕ) (b : List ℕ) (h : Ehdr) (c : Counts) (ss : List Shdr) (gs : List Phdr) (fault : Fault) → len ≡ length b →
     HasTables len h c ss gs → AreRecordsIn b h ss gs → BreaksTables len h ss gs (names b h) fault → Stops b fault
 stops_of_tables len b h c ss gs OutOfMemory says has records breaks =

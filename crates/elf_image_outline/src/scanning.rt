@@ -12,9 +12,9 @@ ghost use Rattle.elf_image_outline.specs.Image.{AreRecordsIn, IsImage};
 ghost use Rattle.elf_field.specs.Bytes.{IsBytes};
 ghost use Rattle.elf_image_outline.specs.Outline.{IsOutlineOf, image_in};
 
-use crate::judged::judged_parts;
 use crate::outline::Outline;
 use crate::records::{read_ends, read_record, read_records};
+use crate::validated::validated_parts;
 use elf_extent::Extent;
 use elf_field::abi::{EHDR_SIZE, EI_NIDENT};
 use elf_field::{Ehdr, Phdr, Record, Shdr};
@@ -22,7 +22,8 @@ use elf_image_rules::tables::{
     Counts, NO_SECTION, counts_of, extent_of_content, header_of, order_in,
 };
 use elf_image_rules::{
-    TableEnds, judge_header, judge_ident, judge_length, judge_program_table, judge_section_table,
+    TableEnds, validate_header, validate_ident, validate_length, validate_program_table,
+    validate_section_table,
 };
 use elf_image_stream::{Fault, Source, read_exactly};
 use std::alloc::Global;
@@ -40,7 +41,7 @@ pub(crate) struct Head {
 pub(crate) fn scan_head<S: Source>(source: &mut S) -> Result<Head, Fault>
     ensures kept { S.content source.new ≡ S.content source.old }
     ensures failures { Remembers (scan_failure result) (S.failures source.old) (S.failures source.new) }
-    ensures judged { IfOk result (λ head. KeepsHeadRules head.len head.header) }
+    ensures validated { IfOk result (λ head. KeepsHeadRules head.len head.header) }
     ensures room { IfOk result (λ head. head.header.e_shoff + SHDR_SIZE ≤ head.len) }
     ensures short { IfOk result (λ head. head.len ≤ MAX_LEN) }
     ensures valid { IfOk result (λ head. IsEhdr head.header) }
@@ -50,13 +51,13 @@ pub(crate) fn scan_head<S: Source>(source: &mut S) -> Result<Head, Fault>
     let Ok(len) = source.length() else {
         return Err(Fault::Io { at: 0 });
     };
-    judge_length(len)?;
+    validate_length(len)?;
     let mut block = [0; EHDR_SIZE as usize];
     read_exactly(source, 0, &mut block)?;
     let header = header_of(&block);
     header.fits();
-    judge_ident(&header.e_ident)?;
-    judge_header(&header, len)?;
+    validate_ident(&header.e_ident)?;
+    validate_header(&header, len)?;
     Ok(Head { len, header })
 }
 
@@ -142,8 +143,8 @@ pub(crate) fn scan_tables<S: Source>(
 {
     let Head { len, header } = *head;
     let first = read_first(source, &header)?;
-    judge_section_table(&header, &first, len)?;
-    judge_program_table(&header, &first, len)?;
+    validate_section_table(&header, &first, len)?;
+    validate_program_table(&header, &first, len)?;
     let counts = counts_of(&header, &first);
     let sections = read_sections(alloc, source, &header, counts.sections, first)?;
     let order = order_in(&header.e_ident);
@@ -216,7 +217,7 @@ pub fn scan<S: Source>(alloc: Global, source: &mut S) -> Result<Outline, Fault>
     let head = scan_head(source)?;
     let tables = scan_tables(alloc, source, &head)?;
     let ends = scan_names(source, head.len, &tables)?;
-    let parts = judged_parts(alloc, head.len, &tables, ends)?;
+    let parts = validated_parts(alloc, head.len, &tables, ends)?;
     Ok(Outline::new(
         head.len,
         tables.header,

@@ -17,7 +17,7 @@ use Rattle.elf_field.specs.declared.phdr.Phdr.{Phdr}
 use Rattle.elf_field.specs.declared.shdr.Shdr.{Shdr}
 use Rattle.elf_image_rules.proofs.ImageRules.{FirstIn-front, AreSame, AreSame-append, AreSame-refl, FirstIn-same}
 use Rattle.elf_image_rules.proofs.KeepsRules.{records_kept, rules_kept}
-use Rattle.elf_image_rules.specs.JudgedRecords.{file_extents, file_of}
+use Rattle.elf_image_rules.specs.ValidatedRecords.{file_extents, file_of}
 use Rattle.elf_image_rules.specs.KeepsRules.{HasSoundTables}
 use Rattle.elf_image_rules.specs.Rows.{FirstIn, Ruled, When}
 use Rattle.elf_image_rules.specs.Rules.{DoublyBelow, ExtentsAscend, LieBetween, LieOutside, SharedBelow, contents, extents, KeepsRecordRules, image_rules, record_rules, MAX_LEN, header_rules, ident_rules, length_rules, header_entry_rules, header_table_rules, section_name_rules, UnclosedAt, overlap_rules, program_table_rules, IsMisalignedSection, IsNamePastEnd, HasWrongSectionAlignment, IsContentPastEnd, SomeSectionHeader, section_header_rules, section_table_rules, IsIncongruentSegment, HasFileSizeAboveMemorySize, IsLoad, HasWrongSegmentAlignment, IsSegmentPastEnd, SomeSegment, load_out_of_order, segment_rules}

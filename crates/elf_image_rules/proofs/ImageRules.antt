@@ -213,17 +213,17 @@ unfolding rules_in image_rules
 overlap_alone b rule at kept fault =
     elim (FirstIn-rest (record_rules_of b) _ (Some (rule, at)) kept fault) [ inl here ↦ here.0 | inr later ↦ absurd later.1 ]
 
--- what a judge of rules 1 to 32 answers, by what its run found
-pub judged_broken : {T : Type 0} (b : List ℕ) (result : Result T (Broken ℕ)) → FirstIn (record_rules_of b) (fault_of result) →
+-- what a test of rules 1 to 32 answers, by what its run found
+pub validated_broken : {T : Type 0} (b : List ℕ) (result : Result T (Broken ℕ)) → FirstIn (record_rules_of b) (fault_of result) →
     IfErr result (λ broken. IsFault b (Some (broken.rule, broken.at)))
-judged_broken b (Ok u) run = tt
-judged_broken b (Err e) run = fault_of_records b (e.rule, e.at) run
+validated_broken b (Ok u) run = tt
+validated_broken b (Err e) run = fault_of_records b (e.rule, e.at) run
 
 -- where one of them is broken they are not kept
-pub judged_unkept : {T : Type 0} (b : List ℕ) (result : Result T (Broken ℕ)) → FirstIn (record_rules_of b) (fault_of result) →
+pub validated_unkept : {T : Type 0} (b : List ℕ) (result : Result T (Broken ℕ)) → FirstIn (record_rules_of b) (fault_of result) →
     OnErr result (¬ KeepsRecordRules b)
-judged_unkept b (Ok u) run = tt
-judged_unkept b (Err e) run = λ kept. let same = one_fault (record_rules_of b) (Some (e.rule, e.at)) None run kept in absurd cc
+validated_unkept b (Ok u) run = tt
+validated_unkept b (Err e) run = λ kept. let same = one_fault (record_rules_of b) (Some (e.rule, e.at)) None run kept in absurd cc
 
 pub from_length : (b : List ℕ) (h : Ehdr) (found : Option (ℕ × ℕ)) → h ≡ header b →
     FirstIn (length_rules (length b) ++ (ident_rules h.e_ident ++ (header_rules (length b) h ++ table_rules_of b h))) found →

@@ -2,4 +2,4 @@ pub mod Rows
 pub mod Tables
 pub mod Rules
 pub mod KeepsRules
-pub mod JudgedRecords
+pub mod ValidatedRecords

@@ -111,7 +111,7 @@ pub(crate) fn lowest_section<T: Records>(
 
 /// Rules 22 to 24, of `count` sections of a file of `len` bytes.
 #[tactic(auto, unfolding(crate::specs::Rules::section_header_rules))]
-pub(crate) fn judge_sections<T: Records>(
+pub(crate) fn validate_sections<T: Records>(
     records: &T,
     header: &Ehdr,
     count: u64,
@@ -230,7 +230,7 @@ fn lowest_load_out_of_order<T: Records>(records: &T, header: &Ehdr, count: u64) 
 
 /// Rules 25 to 29, of `count` segments of a file of `len` bytes.
 #[tactic(auto, unfolding(crate::specs::Rules::segment_rules))]
-pub(crate) fn judge_segments<T: Records>(
+pub(crate) fn validate_segments<T: Records>(
     records: &T,
     header: &Ehdr,
     count: u64,

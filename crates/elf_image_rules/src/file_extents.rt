@@ -2,10 +2,10 @@
 ghost use Rattle.std.specs.Prelude.{◌≡◌, ◌≤◌, ◌<◌, ◌+◌, ◌↔◌, IsFalse, IsTrue, IfOk, OnErr, Some, length, slice_get};
 ghost use Rattle.elf_extent.specs.Extent.{Doubly, Has, IsLowest, lower_of};
 ghost use Rattle.elf_image_rules.specs.Rules.{extents_of_file, DoublyBelow, ExtentsAscend, IsOutside, LieBetween, LieOutside, SharedBelow, IsFault, shared_fault};
-ghost use Rattle.elf_image_rules.specs.JudgedRecords.{file_of};
+ghost use Rattle.elf_image_rules.specs.ValidatedRecords.{file_of};
 
-use crate::judged_records::JudgedRecords;
 use crate::tables::extent_of_content;
+use crate::validated_records::ValidatedRecords;
 use elf_extent::{Extent, OutOfMemory, first_double};
 use elf_field::abi::{EHDR_SIZE, PHDR_SIZE, SHDR_SIZE};
 use std::alloc::{AllocError, Global};
@@ -13,17 +13,17 @@ use std::alloc::{AllocError, Global};
 /// The header, the section table, the program table, and then the content of each section.
 #[derive(Drop)]
 pub struct FileExtents<'a> {
-    records: JudgedRecords<'a>,
+    records: ValidatedRecords<'a>,
 }
 
 impl<'a> FileExtents<'a> {
-    ghost use Rattle.elf_image_rules.specs.JudgedRecords.{file_extents};
+    ghost use Rattle.elf_image_rules.specs.ValidatedRecords.{file_extents};
 
     /// How many extents are before the contents.
     const BEFORE_CONTENTS: u64 = 3;
 
     /// The extents of a validated file.
-    pub fn new(records: &JudgedRecords<'a>) -> FileExtents<'a>
+    pub fn new(records: &ValidatedRecords<'a>) -> FileExtents<'a>
         ensures { file_extents result ≡ extents_of_file (file_of records.now) }
     {
         FileExtents { records: *records }
@@ -251,7 +251,7 @@ fn lower(a: Option<u64>, b: Option<u64>) -> Option<u64>
 
 // Rule 33: no byte of the file belongs to two of its parts (gABI chapter 4, Sections).
 
-impl<'a> JudgedRecords<'a> {
+impl<'a> ValidatedRecords<'a> {
     /// The lowest byte that two parts of the file hold, which breaks rule 33; None if there is none, and the file is an image. It takes
     /// no memory: where the contents are not in the order of their section headers it compares every two of them, which takes the square of
     /// their number.
@@ -261,8 +261,8 @@ impl<'a> JudgedRecords<'a> {
         FileExtents::new(self).lowest_shared_byte()
     }
 
-    /// The lowest byte that two parts of the file hold, as [`shared_byte`](JudgedRecords::shared_byte), in n log n: where the contents are
-    /// not in the order of their section headers they are sorted. That allocation may fail.
+    /// The lowest byte that two parts of the file hold, as [`shared_byte`](ValidatedRecords::shared_byte), in n log n: where the contents
+    /// are not in the order of their section headers they are sorted. That allocation may fail.
     pub fn shared_byte_by_sorting(&self, alloc: Global) -> Result<Option<u64>, OutOfMemory>
         ensures { IfOk result (λ found. IsFault (file_of self.now) (shared_fault found)) }
     {

@@ -13,7 +13,7 @@ use elf_image_rule_names::{Broken, MAX_LEN};
 
 /// Rules 1 and 2, of a file of `len` bytes.
 #[tactic(auto, unfolding(crate::specs::Rules::length_rules))]
-pub fn judge_length(len: u64) -> Result<(), Broken<u64>>
+pub fn validate_length(len: u64) -> Result<(), Broken<u64>>
     ensures fault { FirstIn (length_rules len) (fault_of result) }
     ensures long { OnOk result (EHDR_SIZE ≤ len) }
     ensures short { OnOk result (len ≤ MAX_LEN) }
@@ -29,7 +29,7 @@ pub fn judge_length(len: u64) -> Result<(), Broken<u64>>
 
 /// Rules 3 to 6, of the identification.
 #[tactic(auto, unfolding(crate::specs::Rules::ident_rules))]
-pub fn judge_ident(ident: &[u8; EI_NIDENT]) -> Result<(), Broken<u64>>
+pub fn validate_ident(ident: &[u8; EI_NIDENT]) -> Result<(), Broken<u64>>
     ensures { FirstIn (ident_rules ident.now) (fault_of result) }
 {
     for i in 0..MAGIC.len() {
@@ -51,7 +51,7 @@ pub fn judge_ident(ident: &[u8; EI_NIDENT]) -> Result<(), Broken<u64>>
 
 /// Rules 7 to 12, of the header of a file of `len` bytes.
 #[tactic(auto, unfolding(crate::specs::Rules::header_rules))]
-pub fn judge_header(header: &Ehdr, len: u64) -> Result<(), Broken<u64>>
+pub fn validate_header(header: &Ehdr, len: u64) -> Result<(), Broken<u64>>
     ensures fault { FirstIn (header_rules len header.now) (fault_of result) }
     ensures first { OnOk result (EHDR_SIZE ≤ len → header.now.e_shoff + SHDR_SIZE ≤ len) }
     ensures nameless { OnOk result (header.now.e_shoff ≡ 0 → header.now.e_shstrndx ≡ 0) }
@@ -100,7 +100,7 @@ fn count_without_table(header: &Ehdr) -> Option<u64>
 
 /// Rules 13 to 17, of the header and section header 0 of a file of `len` bytes.
 #[tactic(auto, unfolding(crate::specs::Rules::section_table_rules))]
-pub fn judge_section_table(header: &Ehdr, first: &Shdr, len: u64) -> Result<(), Broken<u64>>
+pub fn validate_section_table(header: &Ehdr, first: &Shdr, len: u64) -> Result<(), Broken<u64>>
     requires { header.now.e_shoff + SHDR_SIZE ≤ len }
     ensures fault { FirstIn (section_table_rules len header.now first.now) (fault_of result) }
     ensures inside { OnOk result (shdr_offset header.now (section_header_count header.now first.now) ≤ len) }
@@ -192,7 +192,7 @@ fn is_extended_name_index_right(header: &Ehdr, first: &Shdr, count: u64) -> bool
 
 /// Rules 18 to 21, of the header and section header 0 of a file of `len` bytes.
 #[tactic(auto, unfolding(crate::specs::Rules::program_table_rules))]
-pub fn judge_program_table(header: &Ehdr, first: &Shdr, len: u64) -> Result<(), Broken<u64>>
+pub fn validate_program_table(header: &Ehdr, first: &Shdr, len: u64) -> Result<(), Broken<u64>>
     requires { header.now.e_shoff + SHDR_SIZE ≤ len }
     ensures fault { FirstIn (program_table_rules len header.now first.now) (fault_of result) }
     ensures inside { OnOk result

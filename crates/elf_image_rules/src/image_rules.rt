@@ -2,18 +2,19 @@
 ghost use Rattle.std.specs.Prelude.{◌≡◌, ◌+◌, ◌<◌, ◌≤◌, ◌^◌, ℕ, List, Some, IfErr, IfOk, OnErr, OnOk, length};
 ghost use Rattle.elf_image_rules.specs.Rows.{fault_of, FirstIn};
 ghost use Rattle.elf_image_rules.specs.Rules.{IsFault, KeepsRecordRules, header_entry_rules, header_table_rules, AreEnds};
-ghost use Rattle.elf_image_rules.specs.JudgedRecords.{file_of};
+ghost use Rattle.elf_image_rules.specs.ValidatedRecords.{file_of};
 ghost use Rattle.elf_image_rules.specs.Tables.{counts_in, names, names_at, phdr_offset, sections, segments, shdr_offset};
 
-use crate::entry_rules::{judge_sections, judge_segments};
+use crate::entry_rules::{validate_sections, validate_segments};
 use crate::header_rules::{
-    judge_header, judge_ident, judge_length, judge_program_table, judge_section_table,
+    validate_header, validate_ident, validate_length, validate_program_table,
+    validate_section_table,
 };
-use crate::judged_records::JudgedRecords;
-use crate::name_rules::{TableEnds, ends_of, judge_names, names_of};
+use crate::name_rules::{TableEnds, ends_of, names_of, validate_names};
 use crate::records::{FileRecords, Records};
 use crate::rules::SHARED_BYTE;
 use crate::tables::{Counts, counts_of, header_of, section_at};
+use crate::validated_records::ValidatedRecords;
 use elf_extent::OutOfMemory;
 use elf_field::Ehdr;
 use elf_field::abi::SHDR_SIZE;
@@ -25,17 +26,17 @@ use std::alloc::Global;
 pub fn verdict(bytes: &[u8]) -> Option<(u16, u64)>
     ensures { IsFault bytes.now result }
 {
-    match judge(bytes) {
+    match validate(bytes) {
         Ok(()) => None,
         Err(broken) => Some((broken.rule, broken.at)),
     }
 }
 
 /// Whether the file is an image; otherwise the first rule that it breaks, and its lowest offset.
-pub(crate) fn judge(bytes: &[u8]) -> Result<(), Broken<u64>>
+pub(crate) fn validate(bytes: &[u8]) -> Result<(), Broken<u64>>
     ensures { IsFault bytes.now (fault_of result) }
 {
-    match judge_records(bytes)?.shared_byte() {
+    match validate_records(bytes)?.shared_byte() {
         Some(at) => Err(Broken::new(SHARED_BYTE, at)),
         None => Ok(()),
     }
@@ -44,14 +45,14 @@ pub(crate) fn judge(bytes: &[u8]) -> Result<(), Broken<u64>>
 /// Validates a file by all 33 rules, as [`verdict`] does, in n log n. If the contents are not in the order of their section headers, they
 /// are sorted. If that allocation fails, the same result is found without memory. Returns a file that breaks no rule with its header and
 /// counts; otherwise the first rule broken and its lowest offset.
-pub fn judge_by_sorting<'a>(
+pub fn validate_by_sorting<'a>(
     alloc: Global,
     bytes: &'a [u8],
-) -> Result<JudgedRecords<'a>, Broken<u64>>
+) -> Result<ValidatedRecords<'a>, Broken<u64>>
     ensures fault { IsFault bytes.entry.now (fault_of result) }
     ensures file { IfOk result (λ records. file_of records ≡ bytes.entry.now) }
 {
-    let records = judge_records(bytes)?;
+    let records = validate_records(bytes)?;
     let found = match records.shared_byte_by_sorting(alloc) {
         Ok(found) => found,
         Err(OutOfMemory) => records.shared_byte(),
@@ -64,23 +65,23 @@ pub fn judge_by_sorting<'a>(
 
 /// The file with its header and counts, where it keeps rules 1 to 32, which leave open only whether two
 /// of its parts share a byte; otherwise the first rule that it breaks, and its lowest offset.
-pub fn judge_records<'a>(bytes: &'a [u8]) -> Result<JudgedRecords<'a>, Broken<u64>>
+pub fn validate_records<'a>(bytes: &'a [u8]) -> Result<ValidatedRecords<'a>, Broken<u64>>
     ensures broken { IfErr result (λ broken. IsFault bytes.entry.now (Some (broken.rule, broken.at))) }
     ensures kept { OnOk result (KeepsRecordRules bytes.entry.now) }
     ensures unkept { OnErr result (¬ KeepsRecordRules bytes.entry.now) }
     ensures file { IfOk result (λ records. file_of records ≡ bytes.entry.now) }
 {
     let len = bytes.len() as u64;
-    judge_length(len)?;
+    validate_length(len)?;
     let header = header_of(bytes);
-    judge_ident(&header.e_ident)?;
-    judge_header(&header, len)?;
-    let counts = judge_tables(bytes, &header)?;
-    Ok(JudgedRecords::new(bytes, header, counts))
+    validate_ident(&header.e_ident)?;
+    validate_header(&header, len)?;
+    let counts = validate_tables(bytes, &header)?;
+    Ok(ValidatedRecords::new(bytes, header, counts))
 }
 
 /// Rules 13 to 32, of the tables of a file with this header: its counts.
-fn judge_tables(bytes: &[u8], header: &Ehdr) -> Result<Counts, Broken<u64>>
+fn validate_tables(bytes: &[u8], header: &Ehdr) -> Result<Counts, Broken<u64>>
     requires { header.now.e_shoff + SHDR_SIZE ≤ length bytes.now }
     ensures fault { let b = bytes.now in
         let h = header.now in
@@ -89,16 +90,16 @@ fn judge_tables(bytes: &[u8], header: &Ehdr) -> Result<Counts, Broken<u64>>
 {
     let len = bytes.len() as u64;
     let first = section_at(bytes, header, 0);
-    judge_section_table(header, &first, len)?;
-    judge_program_table(header, &first, len)?;
+    validate_section_table(header, &first, len)?;
+    validate_program_table(header, &first, len)?;
     let counts = counts_of(header, &first);
     let ends = ends_of(names_of(bytes, header, counts.name_table));
-    judge_entries(&FileRecords { bytes, header }, header, counts, ends, len)?;
+    validate_entries(&FileRecords { bytes, header }, header, counts, ends, len)?;
     Ok(counts)
 }
 
 /// Rules 22 to 32, of a file of `len` bytes with these counts and this section name string table.
-pub fn judge_entries<T: Records>(
+pub fn validate_entries<T: Records>(
     records: &T,
     header: &Ehdr,
     counts: Counts,
@@ -116,7 +117,7 @@ pub fn judge_entries<T: Records>(
         FirstIn (header_entry_rules len header.now counts (T.sections records.now) (T.segments records.now) names)
         (fault_of result) }
 {
-    judge_sections(records, header, counts.sections, len)?;
-    judge_segments(records, header, counts.segments, len)?;
-    judge_names(records, header, counts.sections, counts.name_table, ends)
+    validate_sections(records, header, counts.sections, len)?;
+    validate_segments(records, header, counts.segments, len)?;
+    validate_names(records, header, counts.sections, counts.name_table, ends)
 }

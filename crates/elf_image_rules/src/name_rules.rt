@@ -85,7 +85,7 @@ pub fn names_of<'a>(bytes: &'a [u8], header: &Ehdr, table: u64) -> &'a [u8]
 /// Rules 30 to 32, of `count` sections with the name table of index `table`, 0 for none, of this
 /// length and these ends.
 #[tactic(auto, unfolding(crate::specs::Rules::section_name_rules))]
-pub fn judge_names<T: Records>(
+pub fn validate_names<T: Records>(
     records: &T,
     header: &Ehdr,
     count: u64,

@@ -11,8 +11,8 @@ use crate::image::Image;
 use elf_field::abi::*;
 use elf_field::{Order, Shdr};
 use elf_image_outline::{Outline, Owner, Part, outline_of, write_records};
-use elf_image_rules::judge_records;
 use elf_image_rules::tables::content_of;
+use elf_image_rules::validate_records;
 use elf_image_stream::output::write_zeros;
 use elf_image_stream::{Fault, WriteFault, write_whole};
 use std::alloc::{AllocError, Global};
@@ -32,7 +32,7 @@ pub fn parse<'a>(alloc: Global, bytes: &'a [u8]) -> Result<Image<'a>, Fault>
     ensures err { IfErr result (λ fault. IsParseFault bytes.entry.now fault) }
 {
     // These rules take no memory, so that running out of it never hides one that is broken.
-    let records = judge_records(bytes)?;
+    let records = validate_records(bytes)?;
     let outline = outline_of(alloc, &records)?;
     let contents = contents_of(alloc, bytes, outline.sections())?;
     Ok(Image::new(outline, bytes, contents))

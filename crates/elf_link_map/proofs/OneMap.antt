@@ -15,12 +15,12 @@ use Rattle.elf_link_files.specs.declared.site.Chosen.{Chosen}
 use Rattle.elf_link_files.specs.declared.site.Site.{Site}
 use Rattle.elf_link_map.proofs.Plans.{one_link_plan}
 use Rattle.elf_link_map.specs.LinkMap.{AreBindings, AreNames, IsBinding, bound_in, no_name, IsSomeLinkMap, LinkMapValue, IsCommonNamed, IsLinkMap, IsLinkPlan, IsMapOf, LinkPlan, link_parts}
-use Rattle.elf_link_map.specs.Naming.{AreBindingPositions, AreNamedAt, AreBindingNumbers, AreNumbersIn, IsBindingAt, AreCommonNames}
+use Rattle.elf_link_map.specs.Naming.{AreBindingPositions, AreNamedAt, AreBindingIndexes, AreIndexesIn, IsBindingAt, AreCommonNames}
 use Rattle.elf_link_map.specs.declared.bindings.Binding.TheVariants.{Common as CommonBinding, Strong, Common, Weak, Zero}
 use Rattle.elf_link_map.specs.declared.bindings.Binding.{Binding}
 use Rattle.elf_link_names.proofs.Public.{names_once, entry_listed, one_choice, one_common}
 use Rattle.elf_link_names.specs.Binds.{first_entries, Binds}
-use Rattle.elf_link_names.specs.KnownNames.{ArePositionsOf, AreNameNumbers}
+use Rattle.elf_link_names.specs.KnownNames.{ArePositionsOf, AreNameIndexes}
 use Rattle.elf_link_names.specs.Resolution.{IsCommonOf, AreChosen}
 use Rattle.elf_link_names.specs.declared.name_rules.Choice.TheVariants.{Common as CommonChoice, Strong as StrongChoice, Weak as WeakChoice, Zero as ZeroChoice}
 use Rattle.elf_link_names.specs.declared.name_rules.Choice.{Choice}
@@ -108,13 +108,13 @@ pub position_found : (bs : List (List ℕ × Binding)) (position : List ℕ → 
 position_found bs position name k at are =
     subst (λ (o : Option ℕ). MatchOption o (bound_in bs name ≡ None) (λ j. (j < length bs) × (bound_in bs name ≡ Some (get_or bs j no_name).1))) at (are name)
 
--- The number of the name of a symbol, unless it is local, is the position of its binding in the link map. Both lists are in the order of
+-- The index of the name of a symbol, unless it is local, is the position of its binding in the link map. Both lists are in the order of
 -- first entries. A search by name finds it too, since each name with an entry is bound.
 
-pub numbers_bound : (fs : List ObjectValue) (m : LinkMapValue) (position : List ℕ → Option ℕ) (rows : List (List ℕ)) → AreNameNumbers fs position rows →
-    AreBindingPositions m.bindings position → AreBindingNumbers fs m rows
-unfolding AreNameNumbers AreBindingNumbers
-numbers_bound fs m position rows are at = record {
+pub indexes_bound : (fs : List ObjectValue) (m : LinkMapValue) (position : List ℕ → Option ℕ) (rows : List (List ℕ)) → AreNameIndexes fs position rows →
+    AreBindingPositions m.bindings position → AreBindingIndexes fs m rows
+unfolding AreNameIndexes AreBindingIndexes
+indexes_bound fs m position rows are at = record {
   count = are.count;
   each = λ f f_in. record {
     count = (are.each f f_in).count;
@@ -123,11 +123,11 @@ numbers_bound fs m position rows are at = record {
 }
 
 -- the names of a resolution, with what each is bound to, in the order of their first entries
-pub numbers_in : (fs : List ObjectValue) (cs : List CommonValue) (ps : List Site) (bindings names : List (List ℕ × Binding))
+pub indexes_in : (fs : List ObjectValue) (cs : List CommonValue) (ps : List Site) (bindings names : List (List ℕ × Binding))
     (position : List ℕ → Option ℕ) (rows : List (List ℕ)) → Lists (first_entries fs) ps → AreNamedAt fs cs ps (length ps) bindings →
-    ArePositionsOf fs ps (length ps) position → AreNameNumbers fs position rows → names ≡ bindings → AreNumbersIn fs names rows
-numbers_in fs cs ps bindings names position rows firsts named positions are is m same =
-    numbers_bound fs m position rows are
+    ArePositionsOf fs ps (length ps) position → AreNameIndexes fs position rows → names ≡ bindings → AreIndexesIn fs names rows
+indexes_in fs cs ps bindings names position rows firsts named positions are is m same =
+    indexes_bound fs m position rows are
     (subst (λ (bs : List (List ℕ × Binding)). AreBindingPositions bs position) (sym (same ∙ is)) (positions_are fs cs ps bindings position firsts named positions))
 
 -- the name of a symbol that is not local is in the link map
@@ -139,12 +139,12 @@ entry_bound fs m f i (opt, base, page, entry, (l, plan, is)) f_in i_in not_local
     never (site f i) (f_in, i_in, (not_local, refl), refl)
 
 -- so its position is found
-pub entry_number : (fs : List ObjectValue) (m : LinkMapValue) (f i : ℕ) (found : Option ℕ) → IsSomeLinkMap fs m → f < length fs →
+pub entry_index : (fs : List ObjectValue) (m : LinkMapValue) (f i : ℕ) (found : Option ℕ) → IsSomeLinkMap fs m → f < length fs →
     i < length (object_at fs f).symbols → binding (symbol_in fs f i) ≢ STB_LOCAL →
     MatchOption found (bound_in m.bindings (symbol_in fs f i).name ≡ None) (IsBindingAt m.bindings (symbol_in fs f i).name) →
     IsBindingAt m.bindings (symbol_in fs f i).name (unwrap_or found 0)
-entry_number fs m f i None is f_in i_in not_local none = absurd (entry_bound fs m f i is f_in i_in not_local none)
-entry_number fs m f i (Some k) is f_in i_in not_local here = here
+entry_index fs m f i None is f_in i_in not_local none = absurd (entry_bound fs m f i is f_in i_in not_local none)
+entry_index fs m f i (Some k) is f_in i_in not_local here = here
 
 -- The commons that have an address, by name. They are the chosen commons in order, each with its place, so a name that is bound to a
 -- common finds its address there.

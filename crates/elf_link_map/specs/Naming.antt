@@ -30,24 +30,24 @@ AreNamedAt fs cs ps = AreEach no_name (λ k. IsNamedAt fs cs (site_at ps k))
 abbrev pub AreCommonNames : List ObjectValue → List Chosen → List CommonValue → Type 0
 AreCommonNames fs cs = AreEach no_placed (λ k c. c.name ≡ name_at fs (chosen_at cs k).site) (length cs)
 
--- The number of each symbol's name: the position of its binding in a link map, in rows by file.
+-- The index of each symbol's name: the position of its binding in a link map, in rows by file.
 
 -- k is where the binding of the name of symbol i of file f is; nothing is said of a local one
-abbrev pub IsBindingNumber : List ObjectValue → LinkMapValue → ℕ → ℕ → ℕ → Type 0
-IsBindingNumber fs m f i k = binding (symbol_in fs f i) ≢ STB_LOCAL → IsBindingAt m.bindings (symbol_in fs f i).name k
+abbrev pub IsBindingIndex : List ObjectValue → LinkMapValue → ℕ → ℕ → ℕ → Type 0
+IsBindingIndex fs m f i k = binding (symbol_in fs f i) ≢ STB_LOCAL → IsBindingAt m.bindings (symbol_in fs f i).name k
 
 -- a row has those of the first n symbols of file f
 abbrev pub IsBindingRow : List ObjectValue → LinkMapValue → ℕ → ℕ → List ℕ → Type 0
-IsBindingRow fs m f = AreEach 0 (IsBindingNumber fs m f)
+IsBindingRow fs m f = AreEach 0 (IsBindingIndex fs m f)
 
 -- the first n files have rows
 abbrev pub AreBindingRows : List ObjectValue → LinkMapValue → ℕ → List (List ℕ) → Type 0
 AreBindingRows fs m = AreEach [] (λ f. IsBindingRow fs m f (length (object_at fs f).symbols))
 
 -- all files do
-unfoldable pub AreBindingNumbers : List ObjectValue → LinkMapValue → List (List ℕ) → Type 0
-AreBindingNumbers fs m = AreBindingRows fs m (length fs)
+unfoldable pub AreBindingIndexes : List ObjectValue → LinkMapValue → List (List ℕ) → Type 0
+AreBindingIndexes fs m = AreBindingRows fs m (length fs)
 
 -- those of names with their bindings, whichever link map has these
-abbrev pub AreNumbersIn : List ObjectValue → List (List ℕ × Binding) → List (List ℕ) → Type 0
-AreNumbersIn fs bindings rows = (m : LinkMapValue) → m.bindings ≡ bindings → AreBindingNumbers fs m rows
+abbrev pub AreIndexesIn : List ObjectValue → List (List ℕ × Binding) → List (List ℕ) → Type 0
+AreIndexesIn fs bindings rows = (m : LinkMapValue) → m.bindings ≡ bindings → AreBindingIndexes fs m rows

@@ -3,7 +3,7 @@ ghost use Rattle.std.specs.Prelude.{◌<◌, IfOk, length, map, ◌≡◌, Match
 ghost use Rattle.elf_link_files.specs.Files.{AreDiscardMarks, object_at, IsSymbolIn};
 ghost use Rattle.elf_link_names.specs.Resolution.{name_in};
 ghost use Rattle.elf_link_outputs.specs.Placed.{common_value};
-ghost use Rattle.elf_link_map.specs.Naming.{AreNumbersIn, AreCommonNames, AreNamedAt, AreBindingPositions, IsBindingAt, AreBindingNumbers, IsBindingNumber, IsBindingRow};
+ghost use Rattle.elf_link_map.specs.Naming.{AreIndexesIn, AreCommonNames, AreNamedAt, AreBindingPositions, IsBindingAt, AreBindingIndexes, IsBindingIndex, IsBindingRow};
 ghost use Rattle.elf_link_map.specs.LinkMap.{AreBindings, AreNames, IsBinding, named_value, bound_in, IsSomeLinkMap};
 ghost use Rattle.elf_link_names.specs.Tables.{name_position};
 
@@ -30,7 +30,7 @@ pub enum Binding {
     Zero,
 }
 
-/// What a link map keeps of a resolution: the numbers are positions among these names.
+/// What a link map keeps of a resolution: the indexes are positions among these names.
 #[derive(Drop)]
 pub(crate) struct BoundNames<'a> {
     /// A mark for each section of each file, whether it is discarded.
@@ -38,12 +38,12 @@ pub(crate) struct BoundNames<'a> {
     /// All names with their bindings, in the order of their first entries.
     pub(crate) names: Names<'a>,
     /// For each symbol of each file that is not local where its name is among them.
-    pub(crate) numbers: Vec<Vec<usize>>,
+    pub(crate) indexes: Vec<Vec<usize>>,
 }
 
-/// What the name of number `k` is bound to.
+/// What the name of index `k` is bound to.
 fn binding_at(resolution: &Resolution<'_, '_>, commons: &[Common<'_>], k: usize) -> Binding
-    requires number { k < length resolution.now.firsts }
+    requires index { k < length resolution.now.firsts }
     requires commons { AreCommonNames resolution.now.objects resolution.now.commons (map common_value commons.now) }
     ensures { IsBinding resolution.now.objects (map common_value commons.now) (name_in resolution.now k) result }
 {
@@ -90,14 +90,14 @@ pub(crate) fn all_bindings<'a>(
     ensures marks { IfOk result (λ bound. AreDiscardMarks resolution.entry.objects (map (λ row. row.items) bound.marks.items)) }
     ensures bindings { IfOk result (λ bound. AreBindings resolution.entry.objects (map common_value commons.now) bound.names) }
     ensures names { IfOk result (λ bound. AreNames resolution.entry.objects bound.names) }
-    ensures numbers { IfOk result (λ bound. AreNumbersIn resolution.entry.objects bound.names (map (λ row. row.items) bound.numbers.items)) }
+    ensures indexes { IfOk result (λ bound. AreIndexesIn resolution.entry.objects bound.names (map (λ row. row.items) bound.indexes.items)) }
 {
     let list = names_of(alloc, &resolution, commons)?;
     let parts = resolution.into_parts();
     Ok(BoundNames {
         marks: parts.marks,
         names: Names::new(list, parts.positions),
-        numbers: parts.numbers,
+        indexes: parts.indexes,
     })
 }
 
@@ -168,22 +168,22 @@ impl<'a> Names<'a> {
     }
 }
 
-// The number of each symbol's name: the position of its binding in a link map (gABI chapter 4, Symbol Table).
+// The index of each symbol's name: the position of its binding in a link map (gABI chapter 4, Symbol Table).
 
-/// A link map, and the number of the name of each symbol.
+/// A link map, and the index of the name of each symbol.
 #[derive(Drop)]
-pub struct NumberedMap<'a> {
+pub struct IndexedMap<'a> {
     /// The link map.
     pub map: LinkMap<'a>,
     /// For each symbol of each file that is not local where its name is among [`LinkMap::names`]; 0 for a local one.
-    pub numbers: Vec<Vec<usize>>,
+    pub indexes: Vec<Vec<usize>>,
 }
 
 /// Where the name of a symbol is; 0 for a local symbol.
-fn name_number(objects: &[Object<'_>], map: &LinkMap<'_>, id: SymbolId) -> usize
+fn name_index(objects: &[Object<'_>], map: &LinkMap<'_>, id: SymbolId) -> usize
     requires map { IsSomeLinkMap objects.now map.now }
     requires symbol { IsSymbolIn objects.now id }
-    ensures { IsBindingNumber objects.now map.now id.file id.index result }
+    ensures { IsBindingIndex objects.now map.now id.file id.index result }
 {
     let symbol = symbol_of(objects, id);
     if symbol.binding() == STB_LOCAL {
@@ -193,8 +193,8 @@ fn name_number(objects: &[Object<'_>], map: &LinkMap<'_>, id: SymbolId) -> usize
     map.position(symbol.name).unwrap_or(0)
 }
 
-/// The numbers of the names of a file's symbols.
-fn file_numbers(
+/// The indexes of the names of a file's symbols.
+fn file_indexes(
     alloc: Global,
     objects: &[Object<'_>],
     map: &LinkMap<'_>,
@@ -207,26 +207,26 @@ fn file_numbers(
     let count = symbol_count(&objects[file]);
     let mut row = Vec::with_capacity(alloc, count)?;
     for index in 0..count {
-        row.push(name_number(objects, map, SymbolId { file, index }))?;
+        row.push(name_index(objects, map, SymbolId { file, index }))?;
     }
     Ok(row)
 }
 
 /// For each symbol of each file the position of its name among [`LinkMap::names`]; 0 for a local symbol. The map is one of these objects,
-/// whatever its base, page and entry are. It takes log n comparisons of names for each symbol; [`map_numbered`](crate::map_numbered)
-/// returns the numbers without them. The error comes if an allocation fails. The map is never changed.
-#[tactic(auto, unfolding(crate::specs::Naming::AreBindingNumbers))]
-pub fn name_numbers(
+/// whatever its base, page and entry are. It takes log n comparisons of names for each symbol; [`map_indexed`](crate::map_indexed)
+/// returns the indexes without them. The error comes if an allocation fails. The map is never changed.
+#[tactic(auto, unfolding(crate::specs::Naming::AreBindingIndexes))]
+pub fn name_indexes(
     alloc: Global,
     objects: &[Object<'_>],
     map: &LinkMap<'_>,
 ) -> Result<Vec<Vec<usize>>, AllocError>
     requires { IsSomeLinkMap objects.now map.now }
-    ensures { IfOk result (λ rows. AreBindingNumbers objects.now map.now (map_list (λ row. row.items) rows.items)) }
+    ensures { IfOk result (λ rows. AreBindingIndexes objects.now map.now (map_list (λ row. row.items) rows.items)) }
 {
     let mut rows = Vec::with_capacity(alloc, objects.len())?;
     for file in 0..objects.len() {
-        rows.push(file_numbers(alloc, objects, map, file)?)?;
+        rows.push(file_indexes(alloc, objects, map, file)?)?;
     }
     Ok(rows)
 }

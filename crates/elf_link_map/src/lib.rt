@@ -21,11 +21,11 @@ mod laws;
 mod link;
 mod link_map;
 
-pub use bindings::{Binding, Named, NumberedMap, name_numbers};
+pub use bindings::{Binding, IndexedMap, Named, name_indexes};
 pub use elf_link_files::{Broken, LinkFault, Options, Site, files, rules};
 pub use elf_link_outputs::{Common, Member, Output, memory_size};
 pub use laws::{
     are_paged, one_link_fault, one_link_map, outputs_stand, parts_apart, prove_objects,
 };
-pub use link::{map, map_numbered};
+pub use link::{map, map_indexed};
 pub use link_map::LinkMap;

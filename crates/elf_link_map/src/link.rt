@@ -7,14 +7,14 @@ ghost use Rattle.elf_link_outputs.specs.Outputs.{placed as placed_sites, plan_pa
 ghost use Rattle.elf_link_outputs.specs.Placed.{AreAddresses, ArePlacedCommons, ArePlacedOutputs, common_value, output_value};
 ghost use Rattle.elf_link_map.specs.Entry.{HasSite, IsBoundTarget, IsEntrySymbolTarget, IsNameTarget, IsSectionTarget, IsSymbolTarget};
 ghost use Rattle.elf_link_map.specs.LinkMap.{FirstOfLink, IsLinkFault, IsLinkMap, IsAddressedFor, IsAddressingFault};
-ghost use Rattle.elf_link_map.specs.Naming.{AreBindingNumbers};
+ghost use Rattle.elf_link_map.specs.Naming.{AreBindingIndexes};
 ghost use Rattle.elf_link_map.specs.Standing.{StandApart, ArePaged, OutputsStand};
 
-use crate::bindings::{NumberedMap, all_bindings};
+use crate::bindings::{IndexedMap, all_bindings};
 use crate::laws::prove_objects;
 use crate::link_map::LinkMap;
 use elf_link_files::{LinkFault, Options, Site, SymbolId, is_at};
-use elf_link_names::judge::judge;
+use elf_link_names::validate::validate;
 use elf_link_names::{Choice, Resolution};
 use elf_link_outputs::addresses::Target;
 use elf_link_outputs::{Addressed, Common, Output, Outputs, Plan};
@@ -61,9 +61,9 @@ fn symbol_target(resolution: &Resolution<'_, '_>, sites: &[Site], id: SymbolId) 
     }
 }
 
-/// The value of the name of number `k` by its binding. A common is after all sections.
+/// The value of the name of index `k` by its binding. A common is after all sections.
 fn bound_target(resolution: &Resolution<'_, '_>, sites: &[Site], k: usize) -> Target
-    requires number { k < length resolution.now.firsts }
+    requires index { k < length resolution.now.firsts }
     requires fits { length sites.now + length resolution.now.commons < 2 ^ 64 }
     ensures target { IsBoundTarget resolution.now.objects sites.now resolution.now.commons (name_in resolution.now k) result }
     ensures below { IsTargetBelow (length sites.now + length resolution.now.commons) result }
@@ -88,7 +88,7 @@ fn name_target(resolution: &Resolution<'_, '_>, sites: &[Site], name: &[u8]) -> 
     ensures target { IsNameTarget resolution.now.objects sites.now resolution.now.commons name.now result }
     ensures below { IsTargetBelow (length sites.now + length resolution.now.commons) result }
 {
-    match resolution.number(name) {
+    match resolution.index(name) {
         Some(k) => bound_target(resolution, sites, k),
         None => Target::Lost,
     }
@@ -160,21 +160,21 @@ fn placed_parts<'a>(
     })
 }
 
-/// The link map of these objects, as [`map`] returns it, with the number of the name of each symbol, which its making takes anyway.
+/// The link map of these objects, as [`map`] returns it, with the index of the name of each symbol, which its making takes anyway.
 ///
 /// Returns what `map` does where one of the link's rules is broken, or an allocation fails.
-pub fn map_numbered<'a, S: BuildHasher + Drop>(
+pub fn map_indexed<'a, S: BuildHasher + Drop>(
     alloc: Global,
     objects: &[Object<'a>],
     options: &Options<'_>,
     hasher: S,
-) -> Result<NumberedMap<'a>, LinkFault>
+) -> Result<IndexedMap<'a>, LinkFault>
     ensures sound { OnOk result (FirstOfLink options.now objects.now None) }
-    ensures map { IfOk result (λ numbered. IsLinkMap options.now objects.now numbered.map) }
-    ensures numbers { IfOk result (λ numbered. AreBindingNumbers objects.now numbered.map (map_list (λ row. row.items) numbered.numbers.items)) }
+    ensures map { IfOk result (λ indexed. IsLinkMap options.now objects.now indexed.map) }
+    ensures indexes { IfOk result (λ indexed. AreBindingIndexes objects.now indexed.map (map_list (λ row. row.items) indexed.indexes.items)) }
     ensures err { IfErr result (IsLinkFault options.now objects.now) }
 {
-    let resolution = judge(alloc, objects, options)?;
+    let resolution = validate(alloc, objects, options)?;
     let placed = placed(alloc, &resolution, options, hasher)?;
     let parts = placed_parts(alloc, &placed)?;
     drop(placed);
@@ -189,9 +189,9 @@ pub fn map_numbered<'a, S: BuildHasher + Drop>(
         page: options.page,
         entry: parts.entry,
     };
-    Ok(NumberedMap {
+    Ok(IndexedMap {
         map,
-        numbers: bound.numbers,
+        indexes: bound.indexes,
     })
 }
 
@@ -219,5 +219,5 @@ pub fn map<'a, S: BuildHasher + Drop>(
     ensures err { IfErr result (IsLinkFault options.now objects.now) }
 {
     prove_objects(objects);
-    Ok(map_numbered(alloc, objects, options, hasher)?.map)
+    Ok(map_indexed(alloc, objects, options, hasher)?.map)
 }

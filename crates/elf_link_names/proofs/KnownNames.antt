@@ -1,4 +1,4 @@
--- Names by their numbers, in the order in which they come first, with what is known of each.
+-- Names by their indexes, in the order in which they come first, with what is known of each.
 use Rattle.std.proofs.Common.{◌≡◌, ℕ, ◌+◌, ◌<◌, ◌⊎◌, Bool, List, length, inl, inr, refl, sym, ◌∙◌, ap, subst, arith, ◌≢◌, true, false, [], get_or, map, ◌↔◌, ◌∷◌, ◌++◌, set, length-append}
 use Rattle.std.specs.Prelude.{if◌then◌else◌, Option, Some, MatchOption, cond, None}
 use Rattle.std.specs.Str.{bytes_eq}
@@ -17,7 +17,7 @@ use Rattle.elf_link_files.specs.declared.inputs.SymbolId.{SymbolId}
 use Rattle.elf_link_files.specs.declared.site.Site.{Site}
 use Rattle.elf_link_files.specs.KnownBefore.{IsBest, IsCommonBest, IsKnownBefore, NoneBefore, SomeBefore, id_in, id_site}
 use Rattle.elf_link_names.specs.Binds.{first_entries, IsUnbound, IsFirstEntry}
-use Rattle.elf_link_names.specs.KnownNames.{ArePositionsOf, AreNameNumbers, AreNumberRows, IsNameNumber, IsNumberRow, KeepsPositions, AreAllKnown, AreKnownBefore, IsKnownWhole, IsWholeBest, IsWholeBlock, first_site, known_at, no_known}
+use Rattle.elf_link_names.specs.KnownNames.{ArePositionsOf, AreNameIndexes, AreIndexRows, IsNameIndex, IsIndexRow, KeepsPositions, AreAllKnown, AreKnownBefore, IsKnownWhole, IsWholeBest, IsWholeBlock, first_site, known_at, no_known}
 use Rattle.elf_link_files.specs.declared.known.Block.{Block}
 use Rattle.elf_link_files.specs.declared.known.Known.{Known}
 use Rattle.elf_object_type.specs.Object.{ObjectValue, binding}
@@ -83,8 +83,8 @@ entry_listed fs ps name p are there =
     let (k, lt, here) = are.all q (file, index, stands, entry) in
     (k, lt, ap (name_at fs) here ∙ is.1)
 
--- Names keep their positions as new ones are added (`keeps_new`), so the rows of numbers noted for earlier symbols and files remain right.
--- A number read from the rows is the position of that symbol's name, if the symbol is not local.
+-- Names keep their positions as new ones are added (`keeps_new`), so the rows of indexes noted for earlier symbols and files remain right.
+-- An index read from the rows is the position of that symbol's name, if the symbol is not local.
 
 -- ---- a name keeps its position
 
@@ -98,30 +98,30 @@ keeps_new old now n next none added q k at = by_name (bytes_eq n q) refl (added 
   by_name true same is = (let other : ◌≡◌ {A = Option ℕ} None (Some k) = sym none ∙ ap old ((bytes_eq-Decides n q).0 same) ∙ at in cc)
   by_name false same is = is ∙ at
 
--- ---- so what was said of a number stays true
+-- ---- so what was said of an index stays true
 
-pub row_kept : (fs : List ObjectValue) (old now : List ℕ → Option ℕ) (f n : ℕ) (row : List ℕ) → KeepsPositions old now → IsNumberRow fs old f n row →
-    IsNumberRow fs now f n row
+pub row_kept : (fs : List ObjectValue) (old now : List ℕ → Option ℕ) (f n : ℕ) (row : List ℕ) → KeepsPositions old now → IsIndexRow fs old f n row →
+    IsIndexRow fs now f n row
 row_kept fs old now f n row kept are = record {
   count = are.count;
   each = λ i lt not_local. kept (symbol_in fs f i).name (get_or row i 0) (are.each i lt not_local);
 }
 
-pub rows_kept : (fs : List ObjectValue) (old now : List ℕ → Option ℕ) (n : ℕ) (rows : List (List ℕ)) → KeepsPositions old now → AreNumberRows fs old n rows →
-    AreNumberRows fs now n rows
+pub rows_kept : (fs : List ObjectValue) (old now : List ℕ → Option ℕ) (n : ℕ) (rows : List (List ℕ)) → KeepsPositions old now → AreIndexRows fs old n rows →
+    AreIndexRows fs now n rows
 rows_kept fs old now n rows kept are = record {
   count = are.count;
   each = λ f lt. row_kept fs old now f (length (object_at fs f).symbols) (get_or rows f []) kept (are.each f lt);
 }
 
--- ---- a number is read
+-- ---- an index is read
 
-pub number_read : (fs : List ObjectValue) (position : List ℕ → Option ℕ) (rows : List (Vec ℕ)) (row : Vec ℕ) (f i k : ℕ) → f < length fs →
+pub index_read : (fs : List ObjectValue) (position : List ℕ → Option ℕ) (rows : List (Vec ℕ)) (row : Vec ℕ) (f i k : ℕ) → f < length fs →
     i < length (object_at fs f).symbols → binding (symbol_in fs f i) ≢ STB_LOCAL → row ≡ get_or rows f row → k ≡ get_or row.items i k →
-    AreNameNumbers fs position (map (λ r. r.items) rows) → position (symbol_in fs f i).name ≡ Some k
-unfolding AreNameNumbers
-number_read fs position rows row f i k f_in i_in not_local row_is k_is are =
-    table_read 0 (IsNameNumber fs position) (λ g. length (object_at fs g).symbols) (length fs) rows row f i k f_in i_in row_is k_is are not_local
+    AreNameIndexes fs position (map (λ r. r.items) rows) → position (symbol_in fs f i).name ≡ Some k
+unfolding AreNameIndexes
+index_read fs position rows row f i k f_in i_in not_local row_is k_is are =
+    table_read 0 (IsNameIndex fs position) (λ g. length (object_at fs g).symbols) (length fs) rows row f i k f_in i_in row_is k_is are not_local
 
 -- What is known of each name, kept up symbol by symbol. A symbol changes only what is known of its own name: whether an entry is not
 -- WEAK, the first definitions, and the largest common. After the last file this is what the whole link says of the name.

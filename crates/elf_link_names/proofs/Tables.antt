@@ -11,7 +11,7 @@ use Rattle.std.proofs.lemmas.List.{get_or_append_left, length-append, length-set
 use Rattle.std.proofs.lemmas.Slice.Eq.{bytes_eq-Decides}
 use Rattle.std.proofs.lemmas.Option.{slice_get_read}
 use Rattle.elf_link_names.specs.KnownNames.{known_at, no_known}
-use Rattle.elf_link_names.specs.Tables.{IsPlaced, AreTables, AreSlotsTaken, IsEnd, IsFound, IsInNone, LeadsTo, SlotsTell, numbered_entry, entry_position, free_slot, home, entry_name, name_hash, no_name_entry, or_else, place_among, slot_from, upper_of, KeepsOthers, is_of, known_by, known_from, known_in, small_known}
+use Rattle.elf_link_names.specs.Tables.{IsPlaced, AreTables, AreSlotsTaken, IsEnd, IsFound, IsInNone, LeadsTo, SlotsTell, ordinal_entry, entry_position, free_slot, home, entry_name, name_hash, no_name_entry, or_else, place_among, slot_from, upper_of, KeepsOthers, is_of, known_by, known_from, known_in, small_known}
 use Rattle.elf_link_files.specs.declared.known.Known.{Known}
 use Rattle.elf_link_names.specs.declared.known_table.Large.{Large}
 use Rattle.elf_link_names.specs.declared.known_table.Row.{Row as KnownRow}
@@ -58,14 +58,14 @@ absent : (slots : List Slot) (es : List Entry) (more : List ℕ → Option ℕ) 
     IsInNone slots es (home slots q) (upper_of (name_hash q)) q n → (k : ℕ) → k < length es → entry_name es k ≢ q
 absent slots es more tables q n end none k lt same =
     let (s, few, taken, is) = subst (λ (m : List ℕ). IsFound slots m (k + 1)) same (tables.found k lt) in
-    let number : (slot_from slots (home slots q) s).number ≡ k + 1 = ap (λ (x : Slot). x.number) is in
+    let ordinal : (slot_from slots (home slots q) s).ordinal ≡ k + 1 = ap (λ (x : Slot). x.ordinal) is in
     elim (cases_lt s n) [
-      | inl below ↦ none s below (ap (λ (x : Slot). x.upper) is, rw number (ap (λ (i : ℕ). entry_name es i) (omega arith) ∙ same))
+      | inl below ↦ none s below (ap (λ (x : Slot). x.upper) is, rw ordinal (ap (λ (i : ℕ). entry_name es i) (omega arith) ∙ same))
       | inr from ↦ elim end [
         | inl last ↦ absurd (omega arith)
         | inr free ↦ elim (cases_lt n s) [
           | inl before ↦ (let some = taken n before in absurd (omega arith))
-          | inr at ↦ (let here : n ≡ s = omega arith in let free_here = subst (λ (i : ℕ). (slot_from slots (home slots q) i).number ≡ 0) here free in absurd (omega arith))
+          | inr at ↦ (let here : n ≡ s = omega arith in let free_here = subst (λ (i : ℕ). (slot_from slots (home slots q) i).ordinal ≡ 0) here free in absurd (omega arith))
         ]
       ]
     ]
@@ -85,13 +85,13 @@ here_position slots es more tables q position (k, lt, is, at) =
 
 -- a slot that leads to a name's entry reports its position
 pub looked_up : (slots : List Slot) (es : List Entry) (more : List ℕ → Option ℕ) → AreTables slots es more → (slot : Slot) (upper : ℕ) (q : List ℕ) (found : Option ℕ) →
-    MatchOption found (¬ LeadsTo es slot upper q) (λ p. LeadsTo es slot upper q × (p ≡ (numbered_entry es slot.number).position)) →
+    MatchOption found (¬ LeadsTo es slot upper q) (λ p. LeadsTo es slot upper q × (p ≡ (ordinal_entry es slot.ordinal).position)) →
     MatchOption found (¬ LeadsTo es slot upper q) (λ p. or_else (entry_position es q) (more q) ≡ Some p)
 looked_up slots es more tables slot upper q None none = none
 looked_up slots es more tables slot upper q (Some p) ((some, within, of_name), at) =
-    ap (λ (found : Option ℕ). or_else found (more q)) (here_position slots es more tables q p (slot.number - 1, omega arith, of_name.1, at))
+    ap (λ (found : Option ℕ). or_else found (more q)) (here_position slots es more tables q p (slot.ordinal - 1, omega arith, of_name.1, at))
 
--- where a slot is free and numbers last, the map has no such name
+-- where a slot is free and ordinals last, the map has no such name
 pub not_behind : (slots : List Slot) (es : List Entry) (more : List ℕ → Option ℕ) → AreTables slots es more → (q : List ℕ) (at : ℕ) → SlotsTell slots es q (Free at) →
     more q ≡ None
 not_behind slots es more tables q at (few, (s, below, is, free, taken, none)) = told (more q) refl where
@@ -101,16 +101,16 @@ not_behind slots es more tables q at (few, (s, below, is, free, taken, none)) = 
 
 -- ---- a name that finds a free slot takes it
 
--- the slots, where this one is taken by the next number
-abbrev pub with_number : List Slot → List Entry → List ℕ → ℕ → List Slot
-with_number slots es n at = set slots at (record { upper = upper_of (name_hash n); number = length es + 1 })
+-- the slots, where this one is taken by the next ordinal
+abbrev pub with_ordinal : List Slot → List Entry → List ℕ → ℕ → List Slot
+with_ordinal slots es n at = set slots at (record { upper = upper_of (name_hash n); ordinal = length es + 1 })
 
 -- a slot that is taken stays so
-stays_taken : (slots : List Slot) (es : List Entry) (n : List ℕ) (at i : ℕ) → at < length slots → 0 < (get_or slots i free_slot).number →
-    0 < (get_or (with_number slots es n at) i free_slot).number
+stays_taken : (slots : List Slot) (es : List Entry) (n : List ℕ) (at i : ℕ) → at < length slots → 0 < (get_or slots i free_slot).ordinal →
+    0 < (get_or (with_ordinal slots es n at) i free_slot).ordinal
 stays_taken slots es n at i inside some = elim (cases_eq i at) [
-  | inl same ↦ rw (same, get_or-set_same slots at (record { upper = upper_of (name_hash n); number = length es + 1 }) free_slot inside) (omega arith)
-  | inr other ↦ rw (get_or-set_other slots at i (record { upper = upper_of (name_hash n); number = length es + 1 }) free_slot other) some
+  | inl same ↦ rw (same, get_or-set_same slots at (record { upper = upper_of (name_hash n); ordinal = length es + 1 }) free_slot inside) (omega arith)
+  | inr other ↦ rw (get_or-set_other slots at i (record { upper = upper_of (name_hash n); ordinal = length es + 1 }) free_slot other) some
 ]
 
 -- the place of a hash among so many is one of them
@@ -138,49 +138,49 @@ module _ (slots : List Slot) (es : List Entry) (more : List ℕ → Option ℕ) 
   new_name = ap (λ (x : Entry). x.name.now) (get_or-append_seam es e [] no_name_entry)
 
   -- each of a name's slots that was taken still is
-  still_taken : (q : List ℕ) (m : ℕ) → AreSlotsTaken slots (home slots q) m → AreSlotsTaken (with_number slots es e.name.now at) (home (with_number slots es e.name.now at) q) m
+  still_taken : (q : List ℕ) (m : ℕ) → AreSlotsTaken slots (home slots q) m → AreSlotsTaken (with_ordinal slots es e.name.now at) (home (with_ordinal slots es e.name.now at) q) m
   still_taken q m taken s lt =
-      rw (length-set slots at (record { upper = upper_of (name_hash e.name.now); number = length es + 1 }))
+      rw (length-set slots at (record { upper = upper_of (name_hash e.name.now); ordinal = length es + 1 }))
       (stays_taken slots es e.name.now at (home slots q + s) inside (taken s lt))
 
   -- the slot of an old name is another one, and of the new one this
-  old_found : (k : ℕ) → k < length es → IsFound slots (entry_name es k) (k + 1) → IsFound (with_number slots es e.name.now at) (entry_name es k) (k + 1)
+  old_found : (k : ℕ) → k < length es → IsFound slots (entry_name es k) (k + 1) → IsFound (with_ordinal slots es e.name.now at) (entry_name es k) (k + 1)
   old_found k lt (s, few, taken, is) =
       let (last, (free_at, below, place, free, before, none)) = tells in
-      let number : (slot_from slots (home slots (entry_name es k)) s).number ≡ k + 1 = ap (λ (x : Slot). x.number) is in
+      let ordinal : (slot_from slots (home slots (entry_name es k)) s).ordinal ≡ k + 1 = ap (λ (x : Slot). x.ordinal) is in
       let other : home slots (entry_name es k) + s ≢ at = (λ same.
-      let here : (get_or slots (home slots (entry_name es k) + s) free_slot).number ≡ 0 = ap (λ (i : ℕ). (get_or slots i free_slot).number) (same ∙ place) ∙ free in
+      let here : (get_or slots (home slots (entry_name es k) + s) free_slot).ordinal ≡ 0 = ap (λ (i : ℕ). (get_or slots i free_slot).ordinal) (same ∙ place) ∙ free in
       absurd (omega arith)) in (
         s,
         few,
         still_taken (entry_name es k) s taken,
-        rw (length-set slots at (record { upper = upper_of (name_hash e.name.now); number = length es + 1 }))
-            (get_or-set_other slots at (home slots (entry_name es k) + s) (record { upper = upper_of (name_hash e.name.now); number = length es + 1 }) free_slot other ∙ is),
+        rw (length-set slots at (record { upper = upper_of (name_hash e.name.now); ordinal = length es + 1 }))
+            (get_or-set_other slots at (home slots (entry_name es k) + s) (record { upper = upper_of (name_hash e.name.now); ordinal = length es + 1 }) free_slot other ∙ is),
       )
 
-  new_found : IsFound (with_number slots es e.name.now at) e.name.now (length es + 1)
+  new_found : IsFound (with_ordinal slots es e.name.now at) e.name.now (length es + 1)
   new_found =
       let (last, (s, few, place, free, before, none)) = tells in (
         s,
         few,
         still_taken e.name.now s before,
-        rw (length-set slots at (record { upper = upper_of (name_hash e.name.now); number = length es + 1 }), sym place)
-            (get_or-set_same slots at (record { upper = upper_of (name_hash e.name.now); number = length es + 1 }) free_slot inside),
+        rw (length-set slots at (record { upper = upper_of (name_hash e.name.now); ordinal = length es + 1 }), sym place)
+            (get_or-set_same slots at (record { upper = upper_of (name_hash e.name.now); ordinal = length es + 1 }) free_slot inside),
       )
 
-  -- a number is that of an old entry or of the new one
+  -- an ordinal is that of an old entry or of the new one
   old_or_new : (k : ℕ) → k < length (es ++ e ∷ []) → (k < length es) ⊎ (k ≡ length es)
   old_or_new k lt =
       let long = length-append es (e ∷ []) in
       elim (cases_lt k (length es)) [ inl below ↦ inl below | inr from ↦ inr (omega arith) ]
 
-  all_found : (k : ℕ) → k < length (es ++ e ∷ []) → IsFound (with_number slots es e.name.now at) (entry_name (es ++ e ∷ []) k) (k + 1)
+  all_found : (k : ℕ) → k < length (es ++ e ∷ []) → IsFound (with_ordinal slots es e.name.now at) (entry_name (es ++ e ∷ []) k) (k + 1)
   all_found k lt = elim (old_or_new k lt) [
-    | inl old ↦ subst (λ (m : List ℕ). IsFound (with_number slots es e.name.now at) m (k + 1)) (sym (old_name k old)) (old_found k old (tables.found k old))
+    | inl old ↦ subst (λ (m : List ℕ). IsFound (with_ordinal slots es e.name.now at) m (k + 1)) (sym (old_name k old)) (old_found k old (tables.found k old))
     | inr new ↦ (
         let named : entry_name (es ++ e ∷ []) k ≡ e.name.now = ap (λ (i : ℕ). entry_name (es ++ e ∷ []) i) new ∙ new_name in
-        subst (λ (i : ℕ). IsFound (with_number slots es e.name.now at) (entry_name (es ++ e ∷ []) k) (i + 1)) (sym new)
-        (subst (λ (m : List ℕ). IsFound (with_number slots es e.name.now at) m (length es + 1)) (sym named) new_found)
+        subst (λ (i : ℕ). IsFound (with_ordinal slots es e.name.now at) (entry_name (es ++ e ∷ []) k) (i + 1)) (sym new)
+        (subst (λ (m : List ℕ). IsFound (with_ordinal slots es e.name.now at) m (length es + 1)) (sym named) new_found)
         )
   ]
 
@@ -196,11 +196,11 @@ module _ (slots : List Slot) (es : List Entry) (more : List ℕ → Option ℕ) 
     ]
   ]
 
-  pub entered : AreTables (with_number slots es e.name.now at) (es ++ e ∷ []) more
+  pub entered : AreTables (with_ordinal slots es e.name.now at) (es ++ e ∷ []) more
   entered =
       let last = tells.0 in
       let long = length-append es (e ∷ []) in
-      let new : Slot = record { upper = upper_of (name_hash e.name.now); number = length es + 1 } in record {
+      let new : Slot = record { upper = upper_of (name_hash e.name.now); ordinal = length es + 1 } in record {
         room = rw (length-set slots at new) tables.room;
         known = λ i. elim (cases_eq i at) [
           | inl same ↦ rw (same, get_or-set_same slots at new free_slot inside) (omega arith)

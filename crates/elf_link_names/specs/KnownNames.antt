@@ -24,7 +24,7 @@ abbrev pub ArePositionsOf : List ObjectValue → List Site → ℕ → (List ℕ
 ArePositionsOf fs ps n position = (name : List ℕ) →
     MatchOption (position name) ((k : ℕ) → k < n → name_at fs (site_at ps k) ≡ name → ⊥) (λ k. (k < n) × (name_at fs (site_at ps k) ≡ name))
 
--- The number of each symbol's name: its position among the known names, in rows by file.
+-- The index of each symbol's name: its position among the known names, in rows by file.
 
 -- a symbol that is not local: an entry of its name
 pub record IsEntryIn (fs : List ObjectValue) (id : SymbolId) : Type 0 where
@@ -32,20 +32,20 @@ pub record IsEntryIn (fs : List ObjectValue) (id : SymbolId) : Type 0 where
   pub entry : binding (symbol_with fs id) ≢ STB_LOCAL
 
 -- k is where the name of symbol i of file f is; nothing is said of a local one
-abbrev pub IsNameNumber : List ObjectValue → (List ℕ → Option ℕ) → ℕ → ℕ → ℕ → Type 0
-IsNameNumber fs position f i k = binding (symbol_in fs f i) ≢ STB_LOCAL → position (symbol_in fs f i).name ≡ Some k
+abbrev pub IsNameIndex : List ObjectValue → (List ℕ → Option ℕ) → ℕ → ℕ → ℕ → Type 0
+IsNameIndex fs position f i k = binding (symbol_in fs f i) ≢ STB_LOCAL → position (symbol_in fs f i).name ≡ Some k
 
 -- a row has those of the first n symbols of file f
-abbrev pub IsNumberRow : List ObjectValue → (List ℕ → Option ℕ) → ℕ → ℕ → List ℕ → Type 0
-IsNumberRow fs position f = AreEach 0 (IsNameNumber fs position f)
+abbrev pub IsIndexRow : List ObjectValue → (List ℕ → Option ℕ) → ℕ → ℕ → List ℕ → Type 0
+IsIndexRow fs position f = AreEach 0 (IsNameIndex fs position f)
 
 -- the first n files have rows
-abbrev pub AreNumberRows : List ObjectValue → (List ℕ → Option ℕ) → ℕ → List (List ℕ) → Type 0
-AreNumberRows fs position = AreEach [] (λ f. IsNumberRow fs position f (length (object_at fs f).symbols))
+abbrev pub AreIndexRows : List ObjectValue → (List ℕ → Option ℕ) → ℕ → List (List ℕ) → Type 0
+AreIndexRows fs position = AreEach [] (λ f. IsIndexRow fs position f (length (object_at fs f).symbols))
 
 -- all files do
-unfoldable pub AreNameNumbers : List ObjectValue → (List ℕ → Option ℕ) → List (List ℕ) → Type 0
-AreNameNumbers fs position = AreNumberRows fs position (length fs)
+unfoldable pub AreNameIndexes : List ObjectValue → (List ℕ → Option ℕ) → List (List ℕ) → Type 0
+AreNameIndexes fs position = AreIndexRows fs position (length fs)
 
 -- each name that was there is where it was
 abbrev pub KeepsPositions : (List ℕ → Option ℕ) → (List ℕ → Option ℕ) → Type 0
@@ -114,7 +114,7 @@ AreAllKnown fs position ks = AreKnownBefore fs (length fs) 0 position ks
 abbrev pub objects_of_table : Inside → List ObjectValue
 objects_of_table t = t.inputs
 
--- what is known of each name and the numbers are those of the files
+-- what is known of each name and the indexes are those of the files
 pub record IsTableOfNames (t : Inside) : Type 0 where
   pub names : AreAllKnown t.inputs (name_position t.names.positions) t.names.known
-  pub numbers : AreNameNumbers t.inputs (name_position t.names.positions) (map (λ row. row.items) t.numbers.items)
+  pub indexes : AreNameIndexes t.inputs (name_position t.names.positions) (map (λ row. row.items) t.indexes.items)

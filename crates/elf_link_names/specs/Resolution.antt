@@ -8,7 +8,7 @@ use Rattle.elf_link_files.specs.declared.site.Chosen.{Chosen}
 use Rattle.elf_link_files.specs.declared.site.Site.{Site}
 use Rattle.elf_link_files.specs.KnownBefore.{id_site}
 use Rattle.elf_link_names.specs.Binds.{Binds, IsChosen, chosen_commons, first_entries, AllBound}
-use Rattle.elf_link_names.specs.KnownNames.{IsKnownWhole, AreAllKnown, first_site, AreNameNumbers}
+use Rattle.elf_link_names.specs.KnownNames.{IsKnownWhole, AreAllKnown, first_site, AreNameIndexes}
 use Rattle.elf_link_names.specs.Tables.{name_position}
 use Rattle.elf_link_files.specs.declared.known.Block.{Block}
 use Rattle.elf_link_files.specs.declared.known.Known.{Known}
@@ -60,18 +60,18 @@ IsCommonOf fs cs name k = (k < length cs) × (name_at fs (chosen_at cs k).site �
 abbrev pub HaveChosen : List ObjectValue → List Chosen → Type 0
 HaveChosen fs cs = (name : List ℕ) (size align : ℕ) → Binds fs name (Common size align) → (k : ℕ) × IsCommonOf fs cs name k
 
--- The number of a name: its position among all names, in the order of the first entry of each.
+-- The index of a name: its position among all names, in the order of the first entry of each.
 
--- the name of number k, where these are the first entries
-abbrev pub numbered : List ObjectValue → List Site → ℕ → List ℕ
-numbered fs firsts k = name_at fs (site_at firsts k)
+-- the name of index k, where these are the first entries
+abbrev pub indexed : List ObjectValue → List Site → ℕ → List ℕ
+indexed fs firsts k = name_at fs (site_at firsts k)
 
--- k is the number of the name
-abbrev pub IsNumber : List ObjectValue → List Site → List ℕ → ℕ → Type 0
-IsNumber fs firsts name k = (k < length firsts) × (numbered fs firsts k ≡ name)
+-- k is the index of the name
+abbrev pub IsIndex : List ObjectValue → List Site → List ℕ → ℕ → Type 0
+IsIndex fs firsts name k = (k < length firsts) × (indexed fs firsts k ≡ name)
 
-abbrev pub IsNumberOf : List ObjectValue → List ℕ → ℕ → Type 0
-IsNumberOf fs name k = (firsts : List Site) × Lists (first_entries fs) firsts × IsNumber fs firsts name k
+abbrev pub IsIndexOf : List ObjectValue → List ℕ → ℕ → Type 0
+IsIndexOf fs name k = (firsts : List Site) × Lists (first_entries fs) firsts × IsIndex fs firsts name k
 
 -- there are n names
 abbrev pub IsNameCount : List ObjectValue → ℕ → Type 0
@@ -80,7 +80,7 @@ IsNameCount fs n = (firsts : List Site) → Lists (first_entries fs) firsts → 
 -- of each name with a common among the first n the position of one of them
 pub record AreRanks (fs : List ObjectValue) (firsts : List Site) (cs : List Chosen) (n : ℕ) (ranks : List ℕ) : Type 0 where
   pub long : length ranks ≡ length firsts
-  pub right : (k j : ℕ) → k < length firsts → j < n → IsCommonOf fs cs (numbered fs firsts k) j → IsCommonOf fs cs (numbered fs firsts k) (get_or ranks k 0)
+  pub right : (k j : ℕ) → k < length firsts → j < n → IsCommonOf fs cs (indexed fs firsts k) j → IsCommonOf fs cs (indexed fs firsts k) (get_or ranks k 0)
 
 abbrev pub AreAllRanks : List ObjectValue → List Chosen → List ℕ → Type 0
 AreAllRanks fs cs ranks = (firsts : List Site) → Lists (first_entries fs) firsts → AreRanks fs firsts cs (length cs) ranks
@@ -92,21 +92,21 @@ pub record ResolutionValue : Type 0 where
   pub firsts : List Site
   pub commons : List Chosen
 
--- the name of number k; k is the number of the name
+-- the name of index k; k is the index of the name
 abbrev pub name_in : ResolutionValue → ℕ → List ℕ
-name_in r k = numbered r.objects r.firsts k
+name_in r k = indexed r.objects r.firsts k
 
-abbrev pub IsNumberIn : ResolutionValue → List ℕ → ℕ → Type 0
-IsNumberIn r name k = IsNumber r.objects r.firsts name k
+abbrev pub IsIndexIn : ResolutionValue → List ℕ → ℕ → Type 0
+IsIndexIn r name k = IsIndex r.objects r.firsts name k
 
 abbrev pub resolution_value : Inside → ResolutionValue
 resolution_value r = record { objects = r.inputs; firsts = map first_site r.names.known; commons = r.commons.items }
 
--- what is known of each name and the numbers are those of the files; each name is bound; the commons are those that are placed, and
+-- what is known of each name and the indexes are those of the files; each name is bound; the commons are those that are placed, and
 -- the ranks their positions
 pub record IsResolution (r : Inside) : Type 0 where
   pub names : AreAllKnown r.inputs (name_position r.names.positions) r.names.known
-  pub numbers : AreNameNumbers r.inputs (name_position r.names.positions) (map (λ row. row.items) r.numbers.items)
+  pub indexes : AreNameIndexes r.inputs (name_position r.names.positions) (map (λ row. row.items) r.indexes.items)
   pub bound : AllBound r.inputs
   pub chosen : AreChosen r.inputs r.commons.items
   pub symbols : AreSymbols r.inputs r.commons.items

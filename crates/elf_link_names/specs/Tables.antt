@@ -52,41 +52,41 @@ place_among hash count = hash % 2 ^ 32 * count / 2 ^ 32
 
 -- those used for a slot and an entry that aren't there
 abbrev pub free_slot : Slot
-free_slot = record { upper = 0; number = 0 }
+free_slot = record { upper = 0; ordinal = 0 }
 
 abbrev pub no_name_entry : Entry
 no_name_entry = record { name = record { ref_ptr = (0, 0); now = [] }; position = 0 }
 
--- the entry of a number, which counts from 1
-abbrev pub numbered_entry : List Entry → ℕ → Entry
-numbered_entry entries number = get_or entries (number - 1) no_name_entry
+-- the entry of an ordinal, which counts from 1
+abbrev pub ordinal_entry : List Entry → ℕ → Entry
+ordinal_entry entries ordinal = get_or entries (ordinal - 1) no_name_entry
 
 -- slot s from a place on, and that the first n of them are taken
 abbrev pub slot_from : List Slot → ℕ → ℕ → Slot
 slot_from slots place s = get_or slots (place + s) free_slot
 
 abbrev pub AreSlotsTaken : List Slot → ℕ → ℕ → Type 0
-AreSlotsTaken slots place n = (s : ℕ) → s < n → 0 < (slot_from slots place s).number
+AreSlotsTaken slots place n = (s : ℕ) → s < n → 0 < (slot_from slots place s).ordinal
 
 -- a slot is the one of this name, whose hash has this upper half
 abbrev pub IsOfName : List Entry → Slot → ℕ → List ℕ → Type 0
-IsOfName entries slot upper name = (slot.upper ≡ upper) × ((numbered_entry entries slot.number).name.now ≡ name)
+IsOfName entries slot upper name = (slot.upper ≡ upper) × ((ordinal_entry entries slot.ordinal).name.now ≡ name)
 
 -- a slot leads to the entry of this name
 abbrev pub LeadsTo : List Entry → Slot → ℕ → List ℕ → Type 0
-LeadsTo entries slot upper name = (0 < slot.number) × (slot.number ≤ length entries) × IsOfName entries slot upper name
+LeadsTo entries slot upper name = (0 < slot.ordinal) × (slot.ordinal ≤ length entries) × IsOfName entries slot upper name
 
 -- none of the first n slots from a place on is
 abbrev pub IsInNone : List Slot → List Entry → ℕ → ℕ → List ℕ → ℕ → Type 0
 IsInNone slots entries place upper name n = (s : ℕ) → s < n → ¬ IsOfName entries (slot_from slots place s) upper name
 
--- each slot that is taken has a number of these entries
-abbrev pub AreEntryNumbers : List Slot → ℕ → Type 0
-AreEntryNumbers slots count = (i : ℕ) → (get_or slots i free_slot).number ≤ count
+-- each slot that is taken has an ordinal of these entries
+abbrev pub AreEntryOrdinals : List Slot → ℕ → Type 0
+AreEntryOrdinals slots count = (i : ℕ) → (get_or slots i free_slot).ordinal ≤ count
 
 -- what the slots from a place on say about a name: the first of them that is free; or its position; or that all are others'
 abbrev pub Sees : List Slot → List Entry → ℕ → ℕ → List ℕ → Seen → Type 0
-Sees slots entries place upper name (Free at) = (s : ℕ) × (s < MOST_STEPS) × (at ≡ place + s) × ((slot_from slots place s).number ≡ 0)
+Sees slots entries place upper name (Free at) = (s : ℕ) × (s < MOST_STEPS) × (at ≡ place + s) × ((slot_from slots place s).ordinal ≡ 0)
     × AreSlotsTaken slots place s × IsInNone slots entries place upper name s
 Sees slots entries place upper name (Here position) =
     (k : ℕ) × (k < length entries) × ((get_or entries k no_name_entry).name.now ≡ name) × (position ≡ (get_or entries k no_name_entry).position)
@@ -98,9 +98,9 @@ home slots name = place_among (name_hash name) (length slots - MOST_STEPS)
 
 -- the slots from a place on end at slot n: it is the last of a name, or free
 abbrev pub IsEnd : List Slot → ℕ → ℕ → Type 0
-IsEnd slots place n = (n ≡ MOST_STEPS) ⊎ ((slot_from slots place n).number ≡ 0)
+IsEnd slots place n = (n ≡ MOST_STEPS) ⊎ ((slot_from slots place n).ordinal ≡ 0)
 
--- what its slots say about a name: that it may take a free one; or its position; or that it is in none, and as long as there are numbers
+-- what its slots say about a name: that it may take a free one; or its position; or that it is in none, and as long as there are ordinals
 -- all of them are taken
 abbrev pub SlotsTell : List Slot → List Entry → List ℕ → Seen → Type 0
 SlotsTell slots entries name (Free at) = (length entries < MOST_NAMES) × Sees slots entries (home slots name) (upper_of (name_hash name)) name (Free at)
@@ -108,20 +108,20 @@ SlotsTell slots entries name (Here position) = Sees slots entries (home slots na
 SlotsTell slots entries name Taken = (length entries < MOST_NAMES → AreSlotsTaken slots (home slots name) MOST_STEPS)
     × ((n : ℕ) × IsEnd slots (home slots name) n × IsInNone slots entries (home slots name) (upper_of (name_hash name)) name n)
 
--- a name is in one of its slots, by its number, after slots that are taken
+-- a name is in one of its slots, by its ordinal, after slots that are taken
 abbrev pub IsFound : List Slot → List ℕ → ℕ → Type 0
-IsFound slots name number = (s : ℕ) × (s < MOST_STEPS) × AreSlotsTaken slots (home slots name) s
-    × (slot_from slots (home slots name) s ≡ record { upper = upper_of (name_hash name); number = number })
+IsFound slots name ordinal = (s : ℕ) × (s < MOST_STEPS) × AreSlotsTaken slots (home slots name) s
+    × (slot_from slots (home slots name) s ≡ record { upper = upper_of (name_hash name); ordinal = ordinal })
 
 -- the name of entry k, from 0 on
 abbrev pub entry_name : List Entry → ℕ → List ℕ
 entry_name entries k = (get_or entries k no_name_entry).name.now
 
--- each entry is found, and no other has its name; a name of the map is none of an entry, and as long as there are numbers all of its slots
+-- each entry is found, and no other has its name; a name of the map is none of an entry, and as long as there are ordinals all of its slots
 -- are taken
 pub record AreTables (slots : List Slot) (entries : List Entry) (more : List ℕ → Option ℕ) : Type 0 where
   pub room : MOST_STEPS < length slots
-  pub known : AreEntryNumbers slots (length entries)
+  pub known : AreEntryOrdinals slots (length entries)
   pub found : (k : ℕ) → k < length entries → IsFound slots (entry_name entries k) (k + 1)
   pub once : (j k : ℕ) → j < length entries → k < length entries → entry_name entries j ≡ entry_name entries k → j ≡ k
   pub apart : (q : List ℕ) (p k : ℕ) → more q ≡ Some p → k < length entries → entry_name entries k ≢ q

@@ -95,7 +95,7 @@ impl<'l, 'a> NameTable<'l, 'a> {
     }
 }
 
-// The position of each name's common among those that are placed, by the number of the name.
+// The position of each name's common among those that are placed, by the index of the name.
 
 /// The commons that are placed, and their positions.
 #[derive(Drop)]
@@ -116,16 +116,16 @@ impl<'l, 'a> NameTable<'l, 'a> {
         let mut ranks = vec![in alloc; 0; count]?;
         for k in 0..commons.len() {
             let site = commons[k].site;
-            let number = self.number_of(SymbolId {
+            let index = self.index_of(SymbolId {
                 file: site.file,
                 index: site.index,
             });
-            ranks[number] = k;
+            ranks[index] = k;
         }
         Ok(ranks)
     }
 
-    /// All commons that are placed, with their positions by the numbers of the names. Fails only when out of memory.
+    /// All commons that are placed, with their positions by the indexes of the names. Fails only when out of memory.
     pub(crate) fn placed_commons(&self, alloc: Global) -> Result<PlacedCommons, AllocError>
         ensures chosen { IfOk result (λ placed. AreChosen self.now placed.list.items) }
         ensures ranks { IfOk result (λ placed. AreAllRanks self.now placed.list.items placed.ranks.items) }

@@ -4,7 +4,7 @@ ghost use Rattle.std.specs.Prelude.{◌≡◌, ◌↔◌, ◌+◌, ◌<◌, ◌�
 ghost use Rattle.elf_object_type.specs.ObjectView.{symbol_value};
 ghost use Rattle.elf_link_files.specs.Files.{object_at, symbol_with, IsCommon, IsNotWeak, IsStrong};
 ghost use Rattle.elf_link_files.specs.KnownBefore.{IsKnownBefore};
-ghost use Rattle.elf_link_names.specs.KnownNames.{AreAllKnown, AreKnownBefore, IsNotedAt, known_at, AreNameNumbers, IsNameNumber, IsNumberRow, KeepsPositions};
+ghost use Rattle.elf_link_names.specs.KnownNames.{AreAllKnown, AreKnownBefore, IsNotedAt, known_at, AreNameIndexes, IsNameIndex, IsIndexRow, KeepsPositions};
 ghost use Rattle.elf_link_names.specs.Tables.{IsSymbolLookup, name_position};
 ghost use Rattle.elf_field.specs.Abi.{STB_LOCAL};
 ghost use Rattle.elf_object_type.specs.Object.{binding as binding_of};
@@ -61,7 +61,7 @@ pub(crate) fn is_local(symbol: &Symbol<'_>) -> bool
     symbol.binding() == STB_LOCAL
 }
 
-/// Goes past a symbol whose name was looked up, and returns the number of its name; 0 for a local one.
+/// Goes past a symbol whose name was looked up, and returns the index of its name; 0 for a local one.
 fn pass_symbol<'a>(
     symbol: &InputSymbol<'_, '_, 'a>,
     lookup: Lookup,
@@ -70,7 +70,7 @@ fn pass_symbol<'a>(
     requires before { AreKnownBefore symbol.now.inputs.now symbol.now.id.file symbol.now.id.index (name_position names.old.positions) names.old.known }
     requires lookup { IsSymbolLookup symbol.now.inputs.now (name_position names.old.positions) symbol.now.id.file symbol.now.id.index lookup }
     ensures names { OnOk result (AreKnownBefore symbol.now.inputs.now symbol.now.id.file (symbol.now.id.index + 1) (name_position names.new.positions) names.new.known) }
-    ensures number { IfOk result (IsNameNumber symbol.now.inputs.now (name_position names.new.positions) symbol.now.id.file symbol.now.id.index) }
+    ensures index { IfOk result (IsNameIndex symbol.now.inputs.now (name_position names.new.positions) symbol.now.id.file symbol.now.id.index) }
     ensures kept { OnOk result (KeepsPositions (name_position names.old.positions) (name_position names.new.positions)) }
 {
     let own = symbol.symbol();
@@ -94,7 +94,7 @@ fn pass_symbol<'a>(
     }
 }
 
-/// Goes past the next block of symbols of a file, and adds the number of each one's name to the row, which has those of the symbols before.
+/// Goes past the next block of symbols of a file, and adds the index of each one's name to the row, which has those of the symbols before.
 fn pass_block<'a>(
     inputs: &Inputs<'_, 'a>,
     file: usize,
@@ -104,11 +104,11 @@ fn pass_block<'a>(
     requires file { file < length inputs.now }
     requires left { length row.old.items < length (object_at inputs.now file).symbols }
     requires before { AreKnownBefore inputs.now file (length row.old.items) (name_position names.old.positions) names.old.known }
-    requires numbers { IsNumberRow inputs.now (name_position names.old.positions) file (length row.old.items) row.old.items }
+    requires indexes { IsIndexRow inputs.now (name_position names.old.positions) file (length row.old.items) row.old.items }
     ensures more { OnOk result (length row.old.items < length row.new.items) }
     ensures within { OnOk result (length row.new.items ≤ length (object_at inputs.now file).symbols) }
     ensures names { OnOk result (AreKnownBefore inputs.now file (length row.new.items) (name_position names.new.positions) names.new.known) }
-    ensures numbers { OnOk result (IsNumberRow inputs.now (name_position names.new.positions) file (length row.new.items) row.new.items) }
+    ensures indexes { OnOk result (IsIndexRow inputs.now (name_position names.new.positions) file (length row.new.items) row.new.items) }
     ensures kept { OnOk result (KeepsPositions (name_position names.old.positions) (name_position names.new.positions)) }
 {
     let start = row.len();
@@ -122,7 +122,7 @@ fn pass_block<'a>(
     Ok(())
 }
 
-/// Goes past the symbols of a file, and returns the number of each one's name.
+/// Goes past the symbols of a file, and returns the index of each one's name.
 fn pass_file<'a>(
     alloc: Global,
     inputs: &Inputs<'_, 'a>,
@@ -132,7 +132,7 @@ fn pass_file<'a>(
     requires file { file < length inputs.now }
     requires before { AreKnownBefore inputs.now file 0 (name_position names.old.positions) names.old.known }
     ensures names { OnOk result (AreKnownBefore inputs.now file (length (object_at inputs.now file).symbols) (name_position names.new.positions) names.new.known) }
-    ensures numbers { IfOk result (λ row. IsNumberRow inputs.now (name_position names.new.positions) file (length (object_at inputs.now file).symbols) row.items) }
+    ensures indexes { IfOk result (λ row. IsIndexRow inputs.now (name_position names.new.positions) file (length (object_at inputs.now file).symbols) row.items) }
     ensures kept { OnOk result (KeepsPositions (name_position names.old.positions) (name_position names.new.positions)) }
 {
     let count = symbol_count(inputs.object(file));
@@ -152,21 +152,21 @@ fn all_symbol_count(inputs: &Inputs<'_, '_>) -> usize {
     count
 }
 
-/// What is known of all names, and the number of each symbol's name by file and position. It takes one search a symbol.
-#[tactic(auto, unfolding(crate::specs::KnownNames::AreNameNumbers))]
+/// What is known of all names, and the index of each symbol's name by file and position. It takes one search a symbol.
+#[tactic(auto, unfolding(crate::specs::KnownNames::AreNameIndexes))]
 pub(crate) fn known_names<'a>(
     alloc: Global,
     inputs: &Inputs<'_, 'a>,
 ) -> Result<(KnownNames<'a>, Vec<Vec<usize>>), AllocError>
     ensures names { IfOk result (λ both. AreAllKnown inputs.now (name_position both.0.positions) both.0.known) }
-    ensures numbers { IfOk result (λ both. AreNameNumbers inputs.now (name_position both.0.positions) (map (λ row. row.items) both.1.items)) }
+    ensures indexes { IfOk result (λ both. AreNameIndexes inputs.now (name_position both.0.positions) (map (λ row. row.items) both.1.items)) }
 {
     let positions = NameIndex::new(alloc, all_symbol_count(inputs))?;
     let known = KnownTable::new(alloc);
     let mut names = KnownNames { positions, known };
-    let mut numbers = Vec::with_capacity(alloc, inputs.file_count())?;
+    let mut indexes = Vec::with_capacity(alloc, inputs.file_count())?;
     for file in 0..inputs.file_count() {
-        numbers.push(pass_file(alloc, inputs, file, &mut names)?)?;
+        indexes.push(pass_file(alloc, inputs, file, &mut names)?)?;
     }
-    Ok((names, numbers))
+    Ok((names, indexes))
 }

@@ -26,7 +26,7 @@ struct Row {
     not_weak: bool,
 }
 
-/// What is known of a name that does not fit in its row, with the number of the name.
+/// What is known of a name that does not fit in its row, with the index of the name.
 #[derive(Clone, Copy)]
 struct Large {
     name: usize,

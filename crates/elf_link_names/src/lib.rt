@@ -1,10 +1,10 @@
 //! The names of a link (gABI chapter 4, Symbol Table): what is known of each, what it is bound to, which commons are placed, and
 //! rules 1 to 9, which are asked before anything is placed.
 //!
-//! [`judge`](judge::judge) returns the [`Resolution`] of the names, or the first of those rules that is broken. Begin there: it asks rules
-//! 1 to 7, makes one pass over all symbols (`known_names`), and asks rules 8 and 9 of the names (`name_rules`). Where a name is among those
-//! that are known, a [`NameIndex`] answers: a table by hash, and an ordered map for the few whose places in the table are taken. It knows
-//! nothing of ELF.
+//! [`validate`](validate::validate) returns the [`Resolution`] of the names, or the first of those rules that is broken. Begin there: it
+//! asks rules 1 to 7, makes one pass over all symbols (`known_names`), and asks rules 8 and 9 of the names (`name_rules`). Where a name is
+//! among those that are known, a [`NameIndex`] answers: a table by hash, and an ordered map for the few whose places in the table are
+//! taken. It knows nothing of ELF.
 //!
 //! ```
 //! let mut index = NameIndex::new(alloc, 2)?;
@@ -15,7 +15,6 @@
 #![tactic(auto)]
 
 mod commons;
-pub mod judge;
 mod known_names;
 mod known_table;
 mod name_index;
@@ -23,6 +22,7 @@ mod name_rules;
 mod name_table;
 mod resolution;
 mod slots;
+pub mod validate;
 
 pub use name_index::NameIndex;
 pub use name_rules::Choice;

@@ -29,7 +29,7 @@ pub(crate) fn place_ordered<'a>(
     Ok(None)
 }
 
-/// Where each name is. A name's hash gives it some slots, one after the other, and it is in the first that was free, by a number; names
+/// Where each name is. A name's hash gives it some slots, one after the other, and it is in the first that was free, by an ordinal; names
 /// that find all of them taken are in an ordered map. So names that are chosen to share their hashes cost log n comparisons each, as in an
 /// ordered map alone; and most other names cost a look at a slot of 8 bytes, and a comparison where it is the name's own.
 #[derive(Debug, Drop)]
@@ -163,7 +163,7 @@ impl<'a> NameIndex<'a> {
                 })?;
                 self.slots[at] = Slot {
                     upper: upper_of(hash),
-                    number: self.entries.len() as u32,
+                    ordinal: self.entries.len() as u32,
                 };
                 Ok(None)
             }

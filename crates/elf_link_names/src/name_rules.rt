@@ -151,8 +151,8 @@ impl<'l, 'a> NameTable<'l, 'a> {
         None
     }
 
-    /// Rules 8 and 9. What is known of a name is read by its number.
-    pub(crate) fn judge_names(&self) -> Result<(), Broken<Site>>
+    /// Rules 8 and 9. What is known of a name is read by its index.
+    pub(crate) fn validate_names(&self) -> Result<(), Broken<Site>>
         ensures { FirstAmong (link_name_rules self.now) (fault_of result) }
     {
         if let Some(site) = self.first_name(NameRule::TwoDefinitions) {

@@ -2,7 +2,7 @@
 ghost use Rattle.std.specs.Prelude.{◌≡◌, ◌<◌, IfOk, length};
 ghost use Rattle.elf_link_files.specs.Files.{object_at, IsSymbolIn, symbol_with};
 ghost use Rattle.elf_link_names.specs.KnownNames.{IsEntryIn, IsKnownWhole};
-ghost use Rattle.elf_link_names.specs.Resolution.{IsNameCount, IsNumberOf};
+ghost use Rattle.elf_link_names.specs.Resolution.{IsNameCount, IsIndexOf};
 
 use crate::known_names::{KnownNames, known_names};
 use elf_link_files::files::symbol_count;
@@ -15,7 +15,7 @@ use std::marker::Model;
 pub(crate) struct NameTable<'l, 'a> {
     pub(crate) inputs: Inputs<'l, 'a>,
     pub(crate) names: KnownNames<'a>,
-    pub(crate) numbers: Vec<Vec<usize>>,
+    pub(crate) indexes: Vec<Vec<usize>>,
 }
 
 impl<'l, 'a> Model for NameTable<'l, 'a> {
@@ -39,11 +39,11 @@ impl<'l, 'a> NameTable<'l, 'a> {
     ) -> Result<NameTable<'l, 'a>, AllocError>
         ensures { IfOk result (λ table. table ≡ inputs.entry) }
     {
-        let (names, numbers) = known_names(alloc, &inputs)?;
+        let (names, indexes) = known_names(alloc, &inputs)?;
         Ok(NameTable {
             inputs,
             names,
-            numbers,
+            indexes,
         })
     }
 
@@ -69,13 +69,13 @@ impl<'l, 'a> NameTable<'l, 'a> {
         self.names.known.len()
     }
 
-    /// The number of the name of a symbol, which is not local.
-    #[tactic(auto, unfolding(crate::specs::KnownNames::AreNameNumbers))]
-    pub(crate) fn number_of(&self, id: SymbolId) -> usize
+    /// The index of the name of a symbol, which is not local.
+    #[tactic(auto, unfolding(crate::specs::KnownNames::AreNameIndexes))]
+    pub(crate) fn index_of(&self, id: SymbolId) -> usize
         requires { IsEntryIn self.now id }
-        ensures { IsNumberOf self.now (symbol_with self.now id).name result }
+        ensures { IsIndexOf self.now (symbol_with self.now id).name result }
     {
-        self.numbers[id.file][id.index]
+        self.indexes[id.file][id.index]
     }
 
     /// What is known of the name of a symbol, which is not local.
@@ -83,7 +83,7 @@ impl<'l, 'a> NameTable<'l, 'a> {
         requires { IsEntryIn self.now id }
         ensures { IsKnownWhole self.now (symbol_with self.now id).name result }
     {
-        self.names.known.item(self.number_of(id))
+        self.names.known.item(self.index_of(id))
     }
 
     /// A symbol of a file.

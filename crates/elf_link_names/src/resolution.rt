@@ -8,8 +8,8 @@ ghost use Rattle.elf_link_files.specs.Files.{AreDiscardMarks, IsSymbolIn, symbol
 ghost use Rattle.elf_object_type.specs.ObjectView.{symbol_value};
 ghost use Rattle.elf_link_names.specs.Tables.{name_position};
 ghost use Rattle.elf_link_names.specs.declared.name_rules.Choice.TheVariants.{Common};
-ghost use Rattle.elf_link_names.specs.Resolution.{AreAllRanks, AreChosen, IsCommonOf, IsNumberIn, name_in};
-ghost use Rattle.elf_link_names.specs.KnownNames.{AreNameNumbers, ArePositionsOf};
+ghost use Rattle.elf_link_names.specs.Resolution.{AreAllRanks, AreChosen, IsCommonOf, IsIndexIn, name_in};
+ghost use Rattle.elf_link_names.specs.KnownNames.{AreNameIndexes, ArePositionsOf};
 
 use crate::commons::PlacedCommons;
 use crate::known_names::KnownNames;
@@ -63,14 +63,14 @@ pub(crate) fn live_sections(alloc: Global, inputs: &Inputs<'_, '_>) -> Result<Ve
     Ok(sites)
 }
 
-/// The files of a link in which each name is bound, with the commons that are placed. A name is reported by its number: its position among
+/// The files of a link in which each name is bound, with the commons that are placed. A name is reported by its index: its position among
 /// all names that are not local, in the order of the first entry of each. To a contract it is the files, these first entries and these
 /// commons.
 #[derive(Drop)]
 pub struct Resolution<'l, 'a> {
     inputs: Inputs<'l, 'a>,
     names: KnownNames<'a>,
-    numbers: Vec<Vec<usize>>,
+    indexes: Vec<Vec<usize>>,
     commons: Vec<Chosen>,
     ranks: Vec<usize>,
 }
@@ -92,10 +92,10 @@ impl<'l, 'a> Model for Resolution<'l, 'a> {
 pub struct ResolutionParts<'a> {
     /// A mark for each section of each file, whether it is discarded.
     pub marks: Vec<Vec<bool>>,
-    /// The number of each name.
+    /// The index of each name.
     pub positions: NameIndex<'a>,
-    /// For each symbol of each file that is not local the number of its name.
-    pub numbers: Vec<Vec<usize>>,
+    /// For each symbol of each file that is not local the index of its name.
+    pub indexes: Vec<Vec<usize>>,
 }
 
 impl<'l, 'a> Resolution<'l, 'a> {
@@ -109,7 +109,7 @@ impl<'l, 'a> Resolution<'l, 'a> {
         Resolution {
             inputs: table.inputs,
             names: table.names,
-            numbers: table.numbers,
+            indexes: table.indexes,
             commons: placed.list,
             ranks: placed.ranks,
         }
@@ -153,14 +153,14 @@ impl<'l, 'a> Resolution<'l, 'a> {
         self.names.known.len()
     }
 
-    /// The number of a name; None if no symbol that is not local has it.
-    pub fn number(&self, name: &[u8]) -> Option<usize>
-        ensures { MatchOption result (Never (entries self.now.objects name.now)) (IsNumberIn self.now name.now) }
+    /// The index of a name; None if no symbol that is not local has it.
+    pub fn index(&self, name: &[u8]) -> Option<usize>
+        ensures { MatchOption result (Never (entries self.now.objects name.now)) (IsIndexIn self.now name.now) }
     {
         self.names.positions.get(name)
     }
 
-    /// The name of number `k`.
+    /// The name of index `k`.
     pub fn name(&self, k: usize) -> &'a [u8]
         requires { k < length self.now.firsts }
         ensures { result.now ≡ name_in self.now k }
@@ -171,7 +171,7 @@ impl<'l, 'a> Resolution<'l, 'a> {
             .name
     }
 
-    /// What the name of number `k` is bound to.
+    /// What the name of index `k` is bound to.
     pub fn choice(&self, k: usize) -> Choice
         requires { k < length self.now.firsts }
         ensures { Binds self.now.objects (name_in self.now k) result }
@@ -193,13 +193,13 @@ impl<'l, 'a> Resolution<'l, 'a> {
         ensures marks { AreDiscardMarks self.entry.objects (map (λ row. row.items) result.marks.items) }
         ensures firsts { Lists (first_entries self.entry.objects) self.entry.firsts }
         ensures positions { ArePositionsOf self.entry.objects self.entry.firsts (length self.entry.firsts) (name_position result.positions) }
-        ensures numbers { AreNameNumbers self.entry.objects (name_position result.positions) (map (λ row. row.items) result.numbers.items) }
+        ensures indexes { AreNameIndexes self.entry.objects (name_position result.positions) (map (λ row. row.items) result.indexes.items) }
     {
         let names = self.names;
         ResolutionParts {
             marks: self.inputs.into_marks(),
             positions: names.positions,
-            numbers: self.numbers,
+            indexes: self.indexes,
         }
     }
 }

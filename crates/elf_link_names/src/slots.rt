@@ -1,6 +1,6 @@
 //! Slots in which names are by their hashes, and what they say about a name.
 ghost use Rattle.std.specs.Prelude.{◌≡◌, ◌<◌, ◌≤◌, ◌+◌, MatchOption, length};
-ghost use Rattle.elf_link_names.specs.Tables.{name_hash, place_among, upper_of as upper_of_hash, AreEntryNumbers, IsOfName, LeadsTo, Sees, SlotsTell, numbered_entry};
+ghost use Rattle.elf_link_names.specs.Tables.{name_hash, place_among, upper_of as upper_of_hash, AreEntryOrdinals, IsOfName, LeadsTo, Sees, SlotsTell, ordinal_entry};
 
 use std::hash::{FoldHasher, Hasher};
 
@@ -37,22 +37,22 @@ pub(crate) fn home_of(hash: u64, count: usize) -> usize
 /// How many slots a name may be in, one after the other.
 pub(crate) const MOST_STEPS: usize = 8;
 
-/// How many names may have a number.
+/// How many names may have an ordinal.
 const MOST_NAMES: usize = 0xffff_ffff;
 
-/// The number of a name among those that are in slots, from 1 on, and 0 in a slot that is free; and the upper half of its hash, by which
+/// The ordinal of a name among those that are in slots, from 1 on, and 0 in a slot that is free; and the upper half of its hash, by which
 /// most other names are told apart from it without a look at them.
 #[derive(Clone, Copy, Debug)]
 pub struct Slot {
     pub(crate) upper: u32,
-    pub(crate) number: u32,
+    pub(crate) ordinal: u32,
 }
 
 impl Slot {
     /// A free slot, which leads to no name.
     pub const FREE: Slot = Slot {
         upper: 0,
-        number: 0,
+        ordinal: 0,
     };
 }
 
@@ -70,21 +70,21 @@ pub(crate) enum Seen {
     Free(usize),
     /// Its position.
     Here(usize),
-    /// That it is in none, and can take none: none is free, or there is no number left.
+    /// That it is in none, and can take none: none is free, or there is no ordinal left.
     Taken,
 }
 
 /// The position of a name that has this hash, by a slot that is taken; `None` where the slot is another name's.
 fn position_by(slot: Slot, entries: &[Entry<'_>], upper: u32, name: &[u8]) -> Option<usize>
-    requires some { 0 < slot.number }
-    requires known { slot.number ≤ length entries.now }
+    requires some { 0 < slot.ordinal }
+    requires known { slot.ordinal ≤ length entries.now }
     ensures { MatchOption result (¬ IsOfName entries.now slot upper name.now)
-        (λ position. IsOfName entries.now slot upper name.now × (position ≡ (numbered_entry entries.now slot.number).position)) }
+        (λ position. IsOfName entries.now slot upper name.now × (position ≡ (ordinal_entry entries.now slot.ordinal).position)) }
 {
     if slot.upper != upper {
         return None;
     }
-    let entry = entries[slot.number as usize - 1];
+    let entry = entries[slot.ordinal as usize - 1];
     if entry.name == name {
         Some(entry.position)
     } else {
@@ -100,9 +100,9 @@ pub(crate) fn position_of(
     name: &[u8],
 ) -> Option<usize>
     ensures { MatchOption result (¬ LeadsTo entries.now slot (upper_of_hash hash) name.now)
-        (λ position. LeadsTo entries.now slot (upper_of_hash hash) name.now × (position ≡ (numbered_entry entries.now slot.number).position)) }
+        (λ position. LeadsTo entries.now slot (upper_of_hash hash) name.now × (position ≡ (ordinal_entry entries.now slot.ordinal).position)) }
 {
-    if slot.number == 0 || slot.number as usize > entries.len() {
+    if slot.ordinal == 0 || slot.ordinal as usize > entries.len() {
         return None;
     }
     position_by(slot, entries, upper_of(hash), name)
@@ -111,12 +111,12 @@ pub(crate) fn position_of(
 /// What the slots from `home` on say about a name whose hash has this upper half.
 fn look_from(slots: &[Slot], entries: &[Entry<'_>], home: usize, upper: u32, name: &[u8]) -> Seen
     requires room { home + MOST_STEPS ≤ length slots.now }
-    requires known { AreEntryNumbers slots.now (length entries.now) }
+    requires known { AreEntryOrdinals slots.now (length entries.now) }
     ensures { Sees slots.now entries.now home upper name.now result }
 {
     for step in 0..MOST_STEPS {
         let slot = slots[home + step];
-        if slot.number == 0 {
+        if slot.ordinal == 0 {
             return Seen::Free(home + step);
         }
         if let Some(position) = position_by(slot, entries, upper, name) {
@@ -129,7 +129,7 @@ fn look_from(slots: &[Slot], entries: &[Entry<'_>], home: usize, upper: u32, nam
 /// What its slots say about a name of this hash. The last slots are no name's first one, so that each name has as many.
 pub(crate) fn look(slots: &[Slot], entries: &[Entry<'_>], hash: u64, name: &[u8]) -> Seen
     requires room { MOST_STEPS < length slots.now }
-    requires known { AreEntryNumbers slots.now (length entries.now) }
+    requires known { AreEntryOrdinals slots.now (length entries.now) }
     requires hash { hash ≡ name_hash name.now }
     ensures { SlotsTell slots.now entries.now name.now result }
 {

@@ -15,11 +15,11 @@ use Rattle.elf_link_files.specs.Rows.{Before, IsFirstAt}
 use Rattle.elf_link_files.specs.declared.site.Site.{Site}
 use Rattle.elf_link_map.specs.LinkMap.{LinkMapValue}
 use Rattle.elf_link_relocate.specs.Fields.{IsApplied, entry_at, HasField, no_rule, AreApplied, entries_of, Share, AtField, IsFieldOutOfRange, SharesEarlier, fields_overlap}
-use Rattle.elf_link_relocate.specs.Passes.{entry_site, AreFields, AreFieldsBefore, field_at, no_field, BreaksFieldTest, HasNone, IsFirst, IsFirstOf, AreFoundBefore, IsJudgedField, first_of, AllWithin, HasNoOverlap, IsFirstOverlappingField, SharesBefore, IsSeenOf, IsSeenNext, none_seen, IsLast, StandsBehind, AreAscending, IsFirstSite}
+use Rattle.elf_link_relocate.specs.Passes.{entry_site, AreFields, AreFieldsBefore, field_at, no_field, BreaksFieldTest, HasNone, IsFirst, IsFirstOf, AreFoundBefore, IsValidatedField, first_of, AllWithin, HasNoOverlap, IsFirstOverlappingField, SharesBefore, IsSeenOf, IsSeenNext, none_seen, IsLast, StandsBehind, AreAscending, IsFirstSite}
 use Rattle.elf_link_relocate.specs.declared.field.Field.{Field}
 use Rattle.elf_link_relocate.specs.declared.field.FieldTest.TheVariants.{FieldOutOfRange, Unplaced, ValueOutOfRange}
 use Rattle.elf_link_relocate.specs.declared.field.Found.{Found}
-use Rattle.elf_link_relocate.specs.declared.field.Judged.{Judged}
+use Rattle.elf_link_relocate.specs.declared.field.Validated.{Validated}
 use Rattle.elf_link_relocate.specs.declared.field.Seen.{Seen}
 use Rattle.elf_object_type.specs.Object.{ObjectValue}
 use Rattle.elf_object_type.specs.ObjectView.{body_value}
@@ -418,8 +418,8 @@ seen_none fs m = record {
   ascending = ((λ _ k lt. absurd (omega arith)), (λ _. refl));
 }
 
-pub seen_more : (fs : List ObjectValue) (m : LinkMapValue) (rules : List RelocRule) (p : Site) (ds : List Field) (seen : Seen) (j : Judged) (next : Seen) →
-    IsJudgedField fs m rules p j → IsSeenOf fs m ds seen → IsSeenNext seen j next → IsSeenOf fs m (ds ++ j.field ∷ []) next
+pub seen_more : (fs : List ObjectValue) (m : LinkMapValue) (rules : List RelocRule) (p : Site) (ds : List Field) (seen : Seen) (j : Validated) (next : Seen) →
+    IsValidatedField fs m rules p j → IsSeenOf fs m ds seen → IsSeenNext seen j next → IsSeenOf fs m (ds ++ j.field ∷ []) next
 seen_more fs m rules p ds seen j next is old step = record {
   unplaced = first_now (BreaksFieldTest fs m Unplaced) ds j.field seen.unplaced next.unplaced j.unplaced step.unplaced old.unplaced is.unplaced;
   out_of_range = first_now (BreaksFieldTest fs m FieldOutOfRange) ds j.field seen.out_of_range next.out_of_range j.out_of_range step.out_of_range
@@ -439,7 +439,7 @@ pub found_on : (fs : List ObjectValue) (m : LinkMapValue) (rules : List RelocRul
 found_on fs m rules listing stop next found on (ds, before, is) = (ds, on ds before, is)
 
 -- one field more
-pub fields_next : (fs : List ObjectValue) (m : LinkMapValue) (rules : List RelocRule) (p : Site) (ds : List Field) (j : Judged) → IsJudgedField fs m rules p j →
+pub fields_next : (fs : List ObjectValue) (m : LinkMapValue) (rules : List RelocRule) (p : Site) (ds : List Field) (j : Validated) → IsValidatedField fs m rules p j →
     AreFieldsBefore fs rules p ds → AreFieldsBefore fs rules (entry_site p.file p.index (p.entry + 1)) (ds ++ j.field ∷ [])
 fields_next fs m rules p ds j is before =
     let rule = subst (λ (q : Site). IsFirstRelocationRule (entry_at fs q).kind rules j.field.rule) is.site is.has.rule in

@@ -23,7 +23,7 @@ use Rattle.elf_link_outputs.specs.declared.addresses.Target.TheVariants.{Fixed}
 use Rattle.elf_link_relocate.proofs.Collected.{position, one_rule, ordered, ruled, same_item}
 use Rattle.elf_link_relocate.specs.Fields.{target_at, HasField, HasOffset, IsWithin, content_of, field_start, addend_of, field_address, applied_entry_rules, value_at, entry_at, content_in, number_at, field_out_of_range, fields_overlap, entries_of, field_end, unplaced}
 use Rattle.elf_link_relocate.specs.Linked.{item, AreBytesOf, HasLiveBits, IsLinked, HasFieldAt, IsFieldByte, IsMemory, IsMapButOptions, IsMapOfSome, IsSoundMap, IsContentByte, number_byte}
-use Rattle.elf_link_relocate.specs.Passes.{field_at, AreJudged, IsCovered, IsFieldIn, AreRelocated, IsRelocated, entry_site}
+use Rattle.elf_link_relocate.specs.Passes.{field_at, AreValidated, IsCovered, IsFieldIn, AreRelocated, IsRelocated, entry_site}
 use Rattle.elf_link_relocate.specs.declared.field.Field.{Field}
 use Rattle.elf_object_type.specs.Object.{BodyValue, bits, no_bits, relocs, group, ObjectValue, SectionValue, no_section, HasFlag}
 
@@ -63,7 +63,7 @@ never_some b e = cc
 same_copy : (a b : List ℕ) → Some a ≡ Some b → a ≡ b
 same_copy a b e = cc
 
-module _ (fs : List ObjectValue) (m : LinkMapValue) (rules : List RelocRule) (ds : List Field) (are : AreJudged fs m rules ds) (stand : StandApart fs m) where
+module _ (fs : List ObjectValue) (m : LinkMapValue) (rules : List RelocRule) (ds : List Field) (are : AreValidated fs m rules ds) (stand : StandApart fs m) where
   -- whether one of the first n fields has a byte
   covered_or : (n f s x : ℕ) → IsCovered fs ds n f s x ⊎ (IsCovered fs ds n f s x → ⊥)
   covered_or zero f s x = inr (λ (j, lt, at, has). absurd (omega arith))

@@ -11,16 +11,16 @@ use Rattle.elf_link_files.proofs.Public.{table_read}
 use Rattle.elf_link_files.specs.Files.{object_at, symbol_in}
 use Rattle.elf_link_files.specs.declared.site.Site.{Site}
 use Rattle.elf_link_map.specs.LinkMap.{LinkMapValue}
-use Rattle.elf_link_map.specs.Naming.{AreBindingNumbers, IsBindingNumber, IsBindingAt}
+use Rattle.elf_link_map.specs.Naming.{AreBindingIndexes, IsBindingIndex, IsBindingAt}
 use Rattle.elf_link_relocate.proofs.Collected.{kept, last, longer, pushed, fields_none, fields_next, seen_none, seen_more, first_site, none_at_field, none_in_list, none_shared, no_overlap, all_within}
 use Rattle.elf_link_relocate.proofs.Marked.{ascending_apart, grid_with, item_here, item_other}
 use Rattle.elf_link_relocate.specs.Fields.{IsEntrySite, entries_of, entry_at, target_at, target_of, HasField, HasOffset, IsWithin, field_start, addend_of, field_address, number_at, value_at, Share, IsUnplaced, IsFieldOutOfRange, IsValueOutOfRange, SharesEarlier}
 use Rattle.elf_link_relocate.specs.Linked.{IsSectionOf, HasLiveBits, IsGrid, item, with, number_byte}
-use Rattle.elf_link_relocate.specs.Passes.{AreListed, IsListed, field_at, AreKept, IsRead, IsCovered, IsFieldIn, AreAllCopies, AreRelocated, IsCopy, IsRelocated, HaveCopies, IsFieldPatched, IsPatchedOrBroken, AreFoundBefore, AreAllFound, AreFoundInOrder, IsJudgedField, IsSeenNext, copies_view, entry_site, none_seen}
+use Rattle.elf_link_relocate.specs.Passes.{AreListed, IsListed, field_at, AreKept, IsRead, IsCovered, IsFieldIn, AreAllCopies, AreRelocated, IsCopy, IsRelocated, HaveCopies, IsFieldPatched, IsPatchedOrBroken, AreFoundBefore, AreAllFound, AreFoundInOrder, IsValidatedField, IsSeenNext, copies_view, entry_site, none_seen}
 use Rattle.elf_link_relocate.specs.Views.{IsFileSymbol}
 use Rattle.elf_link_relocate.specs.declared.field.Field.{Field}
 use Rattle.elf_link_relocate.specs.declared.field.Found.{Found}
-use Rattle.elf_link_relocate.specs.declared.field.Judged.{Judged}
+use Rattle.elf_link_relocate.specs.declared.field.Validated.{Validated}
 use Rattle.elf_object_type.proofs.Public.{references_there, relocations_there}
 use Rattle.elf_object_type.specs.Object.{BodyValue, bits, no_bits, relocs, group, ObjectValue, no_relocation, section_at, is_bits, binding}
 use Rattle.elf_object_type.specs.ObjectRules.{HasReferences, IsObject}
@@ -73,12 +73,12 @@ target_section fs p there is = (there.file, (target_has_bits (object_at fs p.fil
 
 -- The number of a symbol's name is read.
 
-pub number_stands : (fs : List ObjectValue) (m : LinkMapValue) (rows : List (Vec ℕ)) (row : Vec ℕ) (f i k : ℕ) → f < length fs →
+pub index_stands : (fs : List ObjectValue) (m : LinkMapValue) (rows : List (Vec ℕ)) (row : Vec ℕ) (f i k : ℕ) → f < length fs →
     i < length (object_at fs f).symbols → binding (symbol_in fs f i) ≢ STB_LOCAL → row ≡ get_or rows f row → k ≡ get_or row.items i k →
-    AreBindingNumbers fs m (map (λ (r : Vec ℕ). r.items) rows) → IsBindingAt m.bindings (symbol_in fs f i).name k
-unfolding AreBindingNumbers
-number_stands fs m rows row f i k f_in i_in not_local row_is k_is are =
-    table_read 0 (IsBindingNumber fs m) (λ g. length (object_at fs g).symbols) (length fs) rows row f i k f_in i_in row_is k_is are not_local
+    AreBindingIndexes fs m (map (λ (r : Vec ℕ). r.items) rows) → IsBindingAt m.bindings (symbol_in fs f i).name k
+unfolding AreBindingIndexes
+index_stands fs m rows row f i k f_in i_in not_local row_is k_is are =
+    table_read 0 (IsBindingIndex fs m) (λ g. length (object_at fs g).symbols) (length fs) rows row f i k f_in i_in row_is k_is are not_local
 
 -- ---- at first
 
@@ -392,8 +392,8 @@ found_none fs m rules listing found none seen are = (
   },
 )
 
-pub found_more : (fs : List ObjectValue) (m : LinkMapValue) (rules : List RelocRule) (listing : Bool) (p : Site) (found : Found) (j : Judged) (next : Found) →
-    IsJudgedField fs m rules p j → AreFoundBefore fs m rules listing p found → IsSeenNext found.seen j next.seen →
+pub found_more : (fs : List ObjectValue) (m : LinkMapValue) (rules : List RelocRule) (listing : Bool) (p : Site) (found : Found) (j : Validated) (next : Found) →
+    IsValidatedField fs m rules p j → AreFoundBefore fs m rules listing p found → IsSeenNext found.seen j next.seen →
     IsListed listing found.list.items j.field next.list.items →
     IsPatchedOrBroken fs j (copies_view found.copies.items) (copies_view next.copies.items) →
     AreFoundBefore fs m rules listing (entry_site p.file p.index (p.entry + 1)) next

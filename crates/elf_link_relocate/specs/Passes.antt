@@ -21,7 +21,7 @@ use Rattle.elf_link_relocate.specs.declared.field.Field.{Field}
 use Rattle.elf_link_relocate.specs.declared.field.FieldTest.TheVariants.{FieldOutOfRange, Unplaced, ValueOutOfRange}
 use Rattle.elf_link_relocate.specs.declared.field.FieldTest.{FieldTest}
 use Rattle.elf_link_relocate.specs.declared.field.Found.{Found}
-use Rattle.elf_link_relocate.specs.declared.field.Judged.{Judged}
+use Rattle.elf_link_relocate.specs.declared.field.Validated.{Validated}
 use Rattle.elf_link_relocate.specs.declared.field.Seen.{Seen}
 use Rattle.elf_object_type.specs.Object.{ObjectValue}
 
@@ -129,7 +129,7 @@ AreFieldsRead fs m ds = (k : ℕ) → k < length ds → IsRead fs m (field_at ds
 -- A field with the rules that it breaks.
 
 -- the field of the entry at a site, and which rules it breaks
-pub record IsJudgedField (fs : List ObjectValue) (m : LinkMapValue) (rules : List RelocRule) (p : Site) (j : Judged) : Type 0 where
+pub record IsValidatedField (fs : List ObjectValue) (m : LinkMapValue) (rules : List RelocRule) (p : Site) (j : Validated) : Type 0 where
   pub site : j.field.site ≡ p
   pub has : HasField fs rules j.field.site j.field.rule
   pub read : IsRead fs m j.field
@@ -179,7 +179,7 @@ pub record IsSeenOf (fs : List ObjectValue) (m : LinkMapValue) (ds : List Field)
   pub ascending : (seen.ascending ≡ true) ↔ AreAscending ds
 
 -- of one field more
-pub record IsSeenNext (old : Seen) (j : Judged) (new : Seen) : Type 0 where
+pub record IsSeenNext (old : Seen) (j : Validated) (new : Seen) : Type 0 where
   pub unplaced : new.unplaced ≡ first_of old.unplaced j.unplaced j.field.site
   pub out_of_range : new.out_of_range ≡ first_of old.out_of_range j.out_of_range j.field.site
   pub refused : new.refused ≡ first_of old.refused j.refused j.field.site
@@ -244,7 +244,7 @@ pub record AreKept (fs : List ObjectValue) (m : LinkMapValue) (ds : List Field) 
   pub apart : HasNoOverlap fs ds
 
 -- they are all fields of the link
-pub record AreJudged (fs : List ObjectValue) (m : LinkMapValue) (rules : List RelocRule) (ds : List Field) : Type 0 where
+pub record AreValidated (fs : List ObjectValue) (m : LinkMapValue) (rules : List RelocRule) (ds : List Field) : Type 0 where
   pub fields : AreFields fs rules ds
   pub kept : AreKept fs m ds
 
@@ -310,7 +310,7 @@ pub record IsFieldPatched (fs : List ObjectValue) (d : Field) (old new : List (L
   pub new_is : new ≡ with old d.site.file (target_at fs d.site) (Some after)
 
 -- or the field breaks rule 13 or 14, and the copies are as before
-abbrev pub IsPatchedOrBroken : List ObjectValue → Judged → List (List (Option (List ℕ))) → List (List (Option (List ℕ))) → Type 0
+abbrev pub IsPatchedOrBroken : List ObjectValue → Validated → List (List (Option (List ℕ))) → List (List (Option (List ℕ))) → Type 0
 IsPatchedOrBroken fs j old new = IsFieldPatched fs j.field old new ⊎ (((j.unplaced ≡ true) ⊎ (j.out_of_range ≡ true)) × (new ≡ old))
 
 -- What a pass over the entries finds, and the bytes that it relocates.
@@ -341,7 +341,7 @@ AreAllFound fs m rules listing found = (ds : List Field) × AreFields fs rules d
 
 -- the copies hold the numbers of all fields, which keep rules 13 to 15
 abbrev pub AreRelocatedCopies : List ObjectValue → LinkMapValue → List RelocRule → List (List (Option (List ℕ))) → Type 0
-AreRelocatedCopies fs m rules rows = (ds : List Field) × AreJudged fs m rules ds × AreRelocated fs m ds (length ds) rows
+AreRelocatedCopies fs m rules rows = (ds : List Field) × AreValidated fs m rules ds × AreRelocated fs m ds (length ds) rows
 
 -- the first site of a row, or none where it has none
 abbrev pub IsFirstSite : Row Site → Option Site → Type 0

@@ -1,7 +1,7 @@
 -- What contracts see of the types of this crate.
 use Rattle.std.specs.Prelude.{ℕ, List, map, map as map_list, ◌<◌, length, ◌≡◌}
 use Rattle.elf_link_files.specs.Files.{object_at}
-use Rattle.elf_link_map.specs.Naming.{AreBindingNumbers}
+use Rattle.elf_link_map.specs.Naming.{AreBindingIndexes}
 use Rattle.elf_link_map.specs.Standing.{AreObjects, ObjectsFit}
 use Rattle.elf_link_relocate.specs.Fields.{IsApplied, body_at, entry_at, is_rela, target_at, HasField}
 use Rattle.elf_link_relocate.specs.Linked.{LinkedValue, MappedValue, IsMapOfSome, IsSoundMap}
@@ -30,10 +30,10 @@ pub record HasSoundObjects (l : Inside) : Type 0 where
 abbrev pub mapped_value : MappedInside → MappedValue
 mapped_value l = record { objects = l.objects.items; map = l.link.map }
 
--- the map is the one of the objects, and the numbers those of their names
+-- the map is the one of the objects, and the indexes those of their names
 pub record HasItsMap (l : MappedInside) : Type 0 where
   pub map : IsMapOfSome l.objects.items l.link.map
-  pub numbers : AreBindingNumbers l.objects.items l.link.map (map_list (λ row. row.items) l.link.numbers.items)
+  pub indexes : AreBindingIndexes l.objects.items l.link.map (map_list (λ row. row.items) l.link.indexes.items)
 
 -- The objects, the map and the relocation rules of a link.
 
@@ -44,7 +44,7 @@ linking_value l = record { objects = l.objects.now; map = l.map.now; rules = l.r
 abbrev pub IsReady : LinkingInside → Type 0
 IsReady l = IsSoundMap l.objects.now l.map.now
 
--- A link with the numbers of its names.
+-- A link with the indexes of its names.
 
 -- a symbol of a file
 abbrev pub IsFileSymbol : List ObjectValue → ℕ → ℕ → Type 0
@@ -54,9 +54,9 @@ IsFileSymbol fs f i = (f < length fs) × (i < length (object_at fs f).symbols)
 abbrev pub values_value : ValuesInside → LinkingValue
 values_value v = v.linking.now
 
--- each symbol has the number of its name
+-- each symbol has the index of its name
 abbrev pub HasValues : ValuesInside → Type 0
-HasValues v = AreBindingNumbers v.linking.now.objects v.linking.now.map (map (λ row. row.items) v.numbers.now)
+HasValues v = AreBindingIndexes v.linking.now.objects v.linking.now.map (map (λ row. row.items) v.indexes.now)
 
 -- A field in hand, with its entry.
 

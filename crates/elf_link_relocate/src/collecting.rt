@@ -8,7 +8,7 @@ ghost use Rattle.elf_link_relocate.specs.Passes.{AreAllFound, AreFoundBefore, en
 ghost use Rattle.elf_link_relocate.specs.Views.{IsAppliedEntry};
 
 use crate::copies::{all_copies, patch_field};
-use crate::field::{Entry, Field, Found, Judged, Seen};
+use crate::field::{Entry, Field, Found, Seen, Validated};
 use crate::marks::is_behind;
 use crate::numbers::FieldOf;
 use crate::rules::NO_RULE;
@@ -88,18 +88,18 @@ impl Seen {
     }
 
     /// With one more field.
-    fn with(self, judged: Judged) -> Seen
-        ensures { IsSeenNext self judged result }
+    fn with(self, validated: Validated) -> Seen
+        ensures { IsSeenNext self validated result }
     {
-        let field = judged.field;
+        let field = validated.field;
         let follows = match self.last {
             Some(last) => is_behind(last, field),
             None => true,
         };
         Seen {
-            unplaced: first_of(self.unplaced, judged.unplaced, field.site),
-            out_of_range: first_of(self.out_of_range, judged.out_of_range, field.site),
-            refused: first_of(self.refused, judged.refused, field.site),
+            unplaced: first_of(self.unplaced, validated.unplaced, field.site),
+            out_of_range: first_of(self.out_of_range, validated.out_of_range, field.site),
+            refused: first_of(self.refused, validated.refused, field.site),
             last: Some(field),
             ascending: self.ascending && follows,
         }
@@ -123,10 +123,10 @@ impl<'f, 'v, 'l, 'a> FieldOf<'f, 'v, 'l, 'a> {
         ensures ok { OnOk result (AreFoundBefore self.now.objects self.now.map self.now.rules listing (entry_site self.now.field.site.file self.now.field.site.index (self.now.field.site.entry + 1)) found.new) }
         ensures err { IfErr result (IsRuleFault self.now.objects self.now.rules) }
     {
-        let judged = self.judged();
-        found.seen = found.seen.with(judged);
-        patch_field(self.values.linking(), judged, &mut found.copies);
-        list_field(&mut found.list, listing, judged.field)?;
+        let validated = self.validated();
+        found.seen = found.seen.with(validated);
+        patch_field(self.values.linking(), validated, &mut found.copies);
+        list_field(&mut found.list, listing, validated.field)?;
         Ok(())
     }
 }

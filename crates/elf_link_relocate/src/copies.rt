@@ -2,11 +2,11 @@
 ghost use Rattle.std.specs.Prelude.{◌≡◌, ◌<◌, IfOk, length, map as map_list, ◌+◌, [], get_or};
 ghost use Rattle.elf_link_files.specs.Files.{object_at};
 ghost use Rattle.elf_link_relocate.specs.Linked.{IsSectionOf};
-ghost use Rattle.elf_link_relocate.specs.Passes.{AreAllCopies, AreCopies, HasRoom, HaveCopies, IsCopy, IsJudgedField, IsPatchedIn, IsPatchedOrBroken, copies_view, copy_view};
+ghost use Rattle.elf_link_relocate.specs.Passes.{AreAllCopies, AreCopies, HasRoom, HaveCopies, IsCopy, IsValidatedField, IsPatchedIn, IsPatchedOrBroken, copies_view, copy_view};
 ghost use Rattle.elf_link_field.specs.Field.{size_of};
 
 use crate::collecting::is_live;
-use crate::field::Judged;
+use crate::field::Validated;
 use crate::values::Linking;
 use elf_field::Order;
 use elf_link_field::{Width, patch, patched_field};
@@ -88,15 +88,15 @@ fn patch_in(
 }
 
 /// Puts the number of a field into it, where it has one and ends within its target.
-pub(crate) fn patch_field(linking: &Linking<'_, '_>, judged: Judged, copies: &mut Copies)
-    requires judged { IsJudgedField linking.now.objects linking.now.map linking.now.rules judged.field.site judged }
+pub(crate) fn patch_field(linking: &Linking<'_, '_>, validated: Validated, copies: &mut Copies)
+    requires validated { IsValidatedField linking.now.objects linking.now.map linking.now.rules validated.field.site validated }
     requires copies { HaveCopies linking.now.objects (copies_view copies.old.items) }
-    ensures { IsPatchedOrBroken linking.now.objects judged (copies_view copies.old.items) (copies_view copies.new.items) }
+    ensures { IsPatchedOrBroken linking.now.objects validated (copies_view copies.old.items) (copies_view copies.new.items) }
 {
-    if judged.unplaced || judged.out_of_range {
+    if validated.unplaced || validated.out_of_range {
         return;
     }
-    let field = judged.field;
+    let field = validated.field;
     patched_field();
     let objects = linking.objects;
     prove_rules(objects, field.site.file);

@@ -41,7 +41,7 @@ pub(crate) struct Field {
 
 /// A field, and whether it breaks each rule that looks at one field by itself.
 #[derive(Clone, Copy)]
-pub(crate) struct Judged {
+pub(crate) struct Validated {
     /// The field.
     pub field: Field,
     /// Rule 13: whether its symbol has no value.

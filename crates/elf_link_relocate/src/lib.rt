@@ -31,5 +31,5 @@ pub use laws::{
 };
 pub use linked::{Identity, Linked, Mapped};
 pub use load::{Load, file_size, loads};
-pub use relocating::{relocate, relocate_numbered};
+pub use relocating::{relocate, relocate_indexed};
 pub use values::binding_value;

@@ -6,10 +6,10 @@ ghost use Rattle.elf_link_map.specs.LinkMap.{FirstOfLink, IsLinkFault, IsLinkMap
 ghost use Rattle.elf_link_relocate.specs.Fields.{IsRelocationFault};
 
 use crate::copies::Copies;
-use crate::relocating::relocate_numbered;
+use crate::relocating::relocate_indexed;
 use elf_field::Order;
 use elf_link_field::RelocRule;
-use elf_link_map::{LinkFault, LinkMap, NumberedMap, Options, map_numbered};
+use elf_link_map::{IndexedMap, LinkFault, LinkMap, Options, map_indexed};
 use elf_object_type::Object;
 use std::alloc::Global;
 use std::hash::BuildHasher;
@@ -120,11 +120,11 @@ impl<'m, 'a> Linked<'m, 'a> {
 
 // Objects that are linked, with their map.
 
-/// Some objects, their link map, and the number of the name of each symbol.
+/// Some objects, their link map, and the index of the name of each symbol.
 #[derive(Drop)]
 pub struct Mapped<'a> {
     objects: Vec<Object<'a>>,
-    link: NumberedMap<'a>,
+    link: IndexedMap<'a>,
 }
 
 impl<'a> Model for Mapped<'a> {
@@ -152,7 +152,7 @@ impl<'a> Mapped<'a> {
         ensures sound { OnOk result (FirstOfLink options.now objects.entry.items None) }
         ensures err { IfErr result (IsLinkFault options.now objects.entry.items) }
     {
-        let link = map_numbered(alloc, &objects, options, hasher)?;
+        let link = map_indexed(alloc, &objects, options, hasher)?;
         Ok(Mapped { objects, link })
     }
 
@@ -180,12 +180,12 @@ impl<'a> Mapped<'a> {
         ensures linked { IfOk result (λ linked. IsLinked self.entry.now.objects self.entry.now.map rules.entry.now linked) }
         ensures err { IfErr result (IsRelocationFault self.entry.now.objects self.entry.now.map rules.entry.now) }
     {
-        relocate_numbered(
+        relocate_indexed(
             alloc,
             &self.link.map,
             &self.objects,
             rules,
-            &self.link.numbers,
+            &self.link.indexes,
         )
     }
 }

@@ -1,10 +1,10 @@
 //! The numbers of fields (gABI chapter 4, Relocation).
 ghost use Rattle.std.specs.Prelude.{◌≡◌, ◌↔◌, ◌^◌, ◌<◌, IsTrue, Some, pos, neg_ℤ, ◌<ℤ◌, ◌≤ℤ◌};
 ghost use Rattle.elf_link_relocate.specs.Fields.{HasField, IsWithin, content_at, addend_of as addend_at, field_address as field_address_of, number_at, IsFieldOutOfRange, IsSmall, value_at};
-ghost use Rattle.elf_link_relocate.specs.Passes.{IsJudgedField, IsInTarget};
+ghost use Rattle.elf_link_relocate.specs.Passes.{IsValidatedField, IsInTarget};
 
 use crate::collecting::content;
-use crate::field::{Entry, Field, Judged};
+use crate::field::{Entry, Field, Validated};
 use crate::values::{Linking, Values};
 use elf_link_field::addend_in;
 use elf_link_map::files::prove_rules;
@@ -114,13 +114,13 @@ impl<'f, 'v, 'l, 'a> FieldOf<'f, 'v, 'l, 'a> {
     }
 
     /// It with its number, and which rules it breaks. Here alone its number is worked out.
-    pub(crate) fn judged(&self) -> Judged
-        ensures { IsJudgedField self.now.objects self.now.map self.now.rules self.now.field.site result }
+    pub(crate) fn validated(&self) -> Validated
+        ensures { IsValidatedField self.now.objects self.now.map self.now.rules self.now.field.site result }
     {
         let field = self.field;
         let out_of_range = self.is_out_of_range();
         let Some(value) = self.value() else {
-            return Judged {
+            return Validated {
                 field,
                 unplaced: true,
                 out_of_range,
@@ -128,7 +128,7 @@ impl<'f, 'v, 'l, 'a> FieldOf<'f, 'v, 'l, 'a> {
             };
         };
         if out_of_range {
-            return Judged {
+            return Validated {
                 field,
                 unplaced: false,
                 out_of_range,
@@ -136,7 +136,7 @@ impl<'f, 'v, 'l, 'a> FieldOf<'f, 'v, 'l, 'a> {
             };
         }
         let number = self.number(value);
-        Judged {
+        Validated {
             field: Field { number, ..field },
             unplaced: false,
             out_of_range,

@@ -4,7 +4,7 @@ ghost use Rattle.elf_extent.specs.Extent.{Never};
 ghost use Rattle.elf_link_files.specs.Rows.{FirstAmong};
 ghost use Rattle.elf_link_relocate.specs.Passes.{AreFoundInOrder, AreRelocatedCopies, IsOverlapFault, IsRuleFault, NoneUnruled, copies_view, test_number};
 ghost use Rattle.elf_link_relocate.specs.Fields.{IsRelocationFault, applied_entry_rules, field_out_of_range, fields_overlap};
-ghost use Rattle.elf_link_map.specs.Naming.{AreBindingNumbers};
+ghost use Rattle.elf_link_map.specs.Naming.{AreBindingIndexes};
 ghost use Rattle.elf_link_relocate.specs.Linked.{IsLinked, IsMapButOptions, IsMapOfSome, IsReadyLink};
 
 use crate::collecting::pass_over_entries;
@@ -14,7 +14,7 @@ use crate::linked::Linked;
 use crate::rules::FIELDS_OVERLAP;
 use crate::values::{Linking, Values};
 use elf_link_field::RelocRule;
-use elf_link_map::{Broken, LinkFault, LinkMap, Site, name_numbers, prove_objects};
+use elf_link_map::{Broken, LinkFault, LinkMap, Site, name_indexes, prove_objects};
 use elf_object_type::Object;
 use std::alloc::Global;
 
@@ -94,17 +94,17 @@ fn relocated_copies(alloc: Global, values: Values<'_, '_, '_>) -> Result<Copies,
     Ok(found.copies)
 }
 
-/// The relocated bytes of these objects, as [`relocate`] returns them, by the numbers of the names that `map_numbered` of `elf_link_map`
-/// returns beside the map. It takes the memory of [`relocate`], but for the numbers.
-pub fn relocate_numbered<'m, 'a>(
+/// The relocated bytes of these objects, as [`relocate`] returns them, by the indexes of the names that `map_indexed` of `elf_link_map`
+/// returns beside the map. It takes the memory of [`relocate`], but for the indexes.
+pub fn relocate_indexed<'m, 'a>(
     alloc: Global,
     map: &'m LinkMap<'a>,
     objects: &'m [Object<'a>],
     rules: &'m [RelocRule],
-    numbers: &[Vec<usize>],
+    indexes: &[Vec<usize>],
 ) -> Result<Linked<'m, 'a>, LinkFault>
     requires map { IsMapButOptions objects.now map.now }
-    requires numbers { AreBindingNumbers objects.now map.now (map_list (λ row. row.items) numbers.now) }
+    requires indexes { AreBindingIndexes objects.now map.now (map_list (λ row. row.items) indexes.now) }
     ensures linked { IfOk result (λ linked. IsLinked objects.now map.now rules.now linked) }
     ensures err { IfErr result (IsRelocationFault objects.now map.now rules.now) }
 {
@@ -113,7 +113,7 @@ pub fn relocate_numbered<'m, 'a>(
         map,
         rules,
     };
-    let values = Values::new(&linking, numbers);
+    let values = Values::new(&linking, indexes);
     let copies = relocated_copies(alloc, values)?;
     prove_objects(objects);
     Ok(Linked {
@@ -132,7 +132,7 @@ pub fn relocate_numbered<'m, 'a>(
 /// write the relocated bytes.
 ///
 /// [`LinkFault::Rule`] is the first of rules 12 to 16 ([`rules`](crate::rules)) that is broken, at its first entry by file, section and
-/// position. [`LinkFault::OutOfMemory`] comes only if an allocation fails: a number for each symbol, a copy of each live section
+/// position. [`LinkFault::OutOfMemory`] comes only if an allocation fails: an index for each symbol, a copy of each live section
 /// with bits; and if the fields don't ascend, a list of them, and a mark for each byte of all sections. Takes log n comparisons at most for
 /// each symbol, and a look through the rules for each entry, or two if the fields don't ascend; all else is linear in the bytes, entries
 /// and symbols.
@@ -147,6 +147,6 @@ pub fn relocate<'m, 'a>(
     ensures ready { IfOk result (λ linked. IsMapOfSome objects.now map.now → IsReadyLink linked) }
     ensures err { IfErr result (IsRelocationFault objects.now map.now rules.now) }
 {
-    let numbers = name_numbers(alloc, objects, map)?;
-    relocate_numbered(alloc, map, objects, rules, &numbers)
+    let indexes = name_indexes(alloc, objects, map)?;
+    relocate_indexed(alloc, map, objects, rules, &indexes)
 }

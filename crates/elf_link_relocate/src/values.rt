@@ -2,7 +2,7 @@
 ghost use Rattle.std.specs.Prelude.{◌≡◌, ◌≢◌, ◌+◌, ◌<◌, IfSome, length, map as map_list};
 ghost use Rattle.elf_field.specs.Abi.{STB_LOCAL};
 ghost use Rattle.elf_link_files.specs.Files.{object_at, symbol_in};
-ghost use Rattle.elf_link_map.specs.Naming.{AreBindingNumbers, IsBindingAt};
+ghost use Rattle.elf_link_map.specs.Naming.{AreBindingIndexes, IsBindingAt};
 ghost use Rattle.elf_object_type.specs.Object.{binding as binding_of};
 ghost use Rattle.elf_object_type.specs.declared.parts.Place.TheVariants.{In as InSection};
 ghost use Rattle.elf_link_relocate.specs.Fields.{IsSmall, binding_value as binding_value_of, definition_value as definition_value_of, name_value as name_value_of, place_value as place_value_of, reference_value, resolved_value as resolved_value_of};
@@ -96,11 +96,11 @@ pub fn binding_value(objects: &[Object<'_>], map: &LinkMap<'_>, binding: Binding
     }
 }
 
-/// A link with the number of each symbol's name by file and position. The value of a name is worked out where it is asked for.
+/// A link with the index of each symbol's name by file and position. The value of a name is worked out where it is asked for.
 #[derive(Drop)]
 pub(crate) struct Values<'v, 'l, 'a> {
     pub(crate) linking: &'v Linking<'l, 'a>,
-    pub(crate) numbers: &'v [Vec<usize>],
+    pub(crate) indexes: &'v [Vec<usize>],
 }
 
 impl<'v, 'l, 'a> Model for Values<'v, 'l, 'a> {
@@ -116,12 +116,12 @@ impl<'v, 'l, 'a> Model for Values<'v, 'l, 'a> {
 }
 
 impl<'v, 'l, 'a> Values<'v, 'l, 'a> {
-    /// A link whose names have these numbers.
-    pub(crate) fn new(linking: &'v Linking<'l, 'a>, numbers: &'v [Vec<usize>]) -> Values<'v, 'l, 'a>
-        requires { AreBindingNumbers linking.now.objects linking.now.map (map_list (λ row. row.items) numbers.now) }
+    /// A link whose names have these indexes.
+    pub(crate) fn new(linking: &'v Linking<'l, 'a>, indexes: &'v [Vec<usize>]) -> Values<'v, 'l, 'a>
+        requires { AreBindingIndexes linking.now.objects linking.now.map (map_list (λ row. row.items) indexes.now) }
         ensures { result ≡ linking.entry.now }
     {
-        Values { linking, numbers }
+        Values { linking, indexes }
     }
 
     /// The link.
@@ -132,14 +132,14 @@ impl<'v, 'l, 'a> Values<'v, 'l, 'a> {
     }
 
     /// Where the name of the symbol at `index` of a file, which is not local, is among the names of the map.
-    #[tactic(auto, unfolding(elf_link_map::specs::Naming::AreBindingNumbers))]
-    fn name_number(&self, file: usize, index: usize) -> usize
+    #[tactic(auto, unfolding(elf_link_map::specs::Naming::AreBindingIndexes))]
+    fn name_index(&self, file: usize, index: usize) -> usize
         requires symbol { IsFileSymbol self.now.objects file index }
         requires entry { binding_of (symbol_in self.now.objects file index) ≢ STB_LOCAL }
         ensures { IsBindingAt self.now.map.bindings (symbol_in self.now.objects file index).name result }
     {
-        let numbers = self.numbers;
-        numbers[file][index]
+        let indexes = self.indexes;
+        indexes[file][index]
     }
 
     /// The value of the name of the symbol at `index` of a file, which is not local.
@@ -151,7 +151,7 @@ impl<'v, 'l, 'a> Values<'v, 'l, 'a> {
     {
         let linking = self.linking();
         let names = linking.map.names();
-        let k = self.name_number(file, index);
+        let k = self.name_index(file, index);
         binding_value(linking.objects, linking.map, names[k].binding)
     }
 

@@ -18,7 +18,7 @@ use Rattle.elf_object_reader.specs.FileRules.{file_rules, front_rules, reference
 use Rattle.elf_object_layout.specs.declared.left_out.LeftOut.{LeftOut}
 use Rattle.elf_table_symbols.specs.Sections.{Sections, count, section}
 use Rattle.elf_table_symbols.specs.Symbols.{symbol_table_rules}
-use Rattle.elf_table_symbols.specs.Verdicts.{IsJudgedBehind}
+use Rattle.elf_table_symbols.specs.Verdicts.{IsValidatedBehind}
 
 -- The runs of rules of a file that breaks none: a list without a fault has none in its first run, and none in the rest, so each run has
 -- none.
@@ -59,7 +59,7 @@ references_sound f clean =
 
 -- what a call answers that tests these rules and makes nothing
 abbrev pub IsVerdict : List {1} (Ruled ℕ) → Result (Unit {0}) Fault → Type 0
-IsVerdict rules result = IsJudgedBehind [] rules (λ _. Unit {0}) result
+IsVerdict rules result = IsValidatedBehind [] rules (λ _. Unit {0}) result
 
 -- the first rule that is broken, as a verdict
 pub verdict_told : (rules : List {1} (Ruled ℕ)) (number at : ℕ) (result : Result (Unit {0}) Fault) → FirstIn rules (Some (number, at)) →
@@ -78,11 +78,11 @@ verdict_later xs ys (Err (Io at)) clean told = absurd told
 
 -- the first run's own fault
 pub front_fault : {T : Type 0} (f : Sections) (Is : T → Type 0) (number at : ℕ) (result : Result T Fault) → FirstIn (front_rules f) (Some (number, at)) →
-    IsErrAnd result (λ error. error ≡ Rule number at) → IsJudgedBehind (front_rules f) (file_rules f) Is result
+    IsErrAnd result (λ error. error ≡ Rule number at) → IsValidatedBehind (front_rules f) (file_rules f) Is result
 unfolding file_rules
 front_fault f Is number at (Ok value) found same = absurd same
 front_fault {T} f Is number at (Err error) found same =
-    subst (λ (e : Fault). IsJudgedBehind {T = T} (front_rules f) (file_rules f) Is (Err e)) (sym same) (FirstIn-sooner (front_rules f) _ (number, at) found)
+    subst (λ (e : Fault). IsValidatedBehind {T = T} (front_rules f) (file_rules f) Is (Err e)) (sym same) (FirstIn-sooner (front_rules f) _ (number, at) found)
 
 -- what the rules after it find is what all find
 pub found_behind : (f : Sections) (left : LeftOut) (found : Option (ℕ × ℕ)) → left ≡ left_out f → FirstIn (front_rules f) None →
@@ -94,28 +94,28 @@ found_behind f left found same clean behind =
 -- their fault
 pub fault_behind : {T : Type 0} (f : Sections) (left : LeftOut) (Is : T → Type 0) (fault : Fault) (result : Result T Fault) → left ≡ left_out f →
     FirstIn (front_rules f) None → IsVerdict (rules_behind left f left.symbol_table) (Err fault) → IsErrAnd result (λ error. error ≡ fault) →
-    IsJudgedBehind (front_rules f) (file_rules f) Is result
+    IsValidatedBehind (front_rules f) (file_rules f) Is result
 fault_behind f left Is fault (Ok value) same clean told handed = absurd handed
 fault_behind {T} f left Is fault (Err error) same clean told handed =
-    subst (λ (e : Fault). IsJudgedBehind {T = T} (front_rules f) (file_rules f) Is (Err e)) (sym handed) (known fault told)
+    subst (λ (e : Fault). IsValidatedBehind {T = T} (front_rules f) (file_rules f) Is (Err e)) (sym handed) (known fault told)
   where
-    known : (fault : Fault) → IsVerdict (rules_behind left f left.symbol_table) (Err fault) → IsJudgedBehind {T = T} (front_rules f) (file_rules f) Is (Err fault)
+    known : (fault : Fault) → IsVerdict (rules_behind left f left.symbol_table) (Err fault) → IsValidatedBehind {T = T} (front_rules f) (file_rules f) Is (Err fault)
     known (Rule number at) found = found_behind f left (Some (number, at)) same clean found
     known OutOfMemory found = clean
     known (Io at) found = absurd found
 
 -- where no rule is broken, only memory can be wanted
-pub read_judged : {T : Type 0} (f : Sections) (Is : T → Type 0) (result : Result T Fault) → FirstIn (file_rules f) None → IfOk result Is →
-    IfErr result (λ error. error ≡ OutOfMemory) → IsJudgedBehind (front_rules f) (file_rules f) Is result
-read_judged f Is (Ok value) clean is memory = (clean, is)
-read_judged {T} f Is (Err error) clean is memory =
-    subst (λ (e : Fault). IsJudgedBehind {T = T} (front_rules f) (file_rules f) Is (Err e)) (sym memory) (front_sound f clean)
+pub read_validated : {T : Type 0} (f : Sections) (Is : T → Type 0) (result : Result T Fault) → FirstIn (file_rules f) None → IfOk result Is →
+    IfErr result (λ error. error ≡ OutOfMemory) → IsValidatedBehind (front_rules f) (file_rules f) Is result
+read_validated f Is (Ok value) clean is memory = (clean, is)
+read_validated {T} f Is (Err error) clean is memory =
+    subst (λ (e : Fault). IsValidatedBehind {T = T} (front_rules f) (file_rules f) Is (Err e)) (sym memory) (front_sound f clean)
 
 pub memory_wanted : {T : Type 0} (f : Sections) (Is : T → Type 0) (result : Result T Fault) → FirstIn (file_rules f) None →
-    IsErrAnd result (λ error. error ≡ OutOfMemory) → IsJudgedBehind (front_rules f) (file_rules f) Is result
+    IsErrAnd result (λ error. error ≡ OutOfMemory) → IsValidatedBehind (front_rules f) (file_rules f) Is result
 memory_wanted f Is (Ok value) clean told = absurd told
 memory_wanted {T} f Is (Err error) clean told =
-    subst (λ (e : Fault). IsJudgedBehind {T = T} (front_rules f) (file_rules f) Is (Err e)) (sym told) (front_sound f clean)
+    subst (λ (e : Fault). IsValidatedBehind {T = T} (front_rules f) (file_rules f) Is (Err e)) (sym told) (front_sound f clean)
 
 -- Steps of a loop over the sections. Invariant (`IsFoundByAll`): the first fault in the tables of the kept sections from i on is the first
 -- of all. A section that is left out, or kept without a fault, keeps it for i + 1. If the kept section i has a fault, that is the first one

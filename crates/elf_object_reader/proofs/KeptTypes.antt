@@ -339,7 +339,7 @@ ready : (file : ObjectFile) (i : ℕ) (kind : TableKind) → i < count (sections
 ready file i kind lt typed sound = record {
   there = subst (λ (v : ImageValue). i < length v.sections) (sym file.own_tables) lt;
   typed = subst (λ (v : ImageValue). kind_of (section (sections_of v) i).sh_type ≡ Some kind) (sym file.own_tables) typed;
-  sound = ∥∥₁_elim file.judged (Coded-set (coded_option (coded× coded_ℕ coded_ℕ)) _ _)
+  sound = ∥∥₁_elim file.validated (Coded-set (coded_option (coded× coded_ℕ coded_ℕ)) _ _)
       (λ are. none_kept (sections_of_file file) i (Some kind) file.tables.verdicts are lt typed sound);
 }
 

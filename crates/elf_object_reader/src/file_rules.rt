@@ -6,7 +6,7 @@ ghost use Rattle.elf_object_layout.specs.SectionsLeftOut.{symbol_table as symbol
 ghost use Rattle.elf_object_reader.specs.Denotes.{body_kind, kept};
 ghost use Rattle.elf_image_rules.specs.Rows.{fault_of, FirstIn};
 ghost use Rattle.elf_table_symbols.specs.Sections.{sections_of, count, content, section};
-ghost use Rattle.elf_table_symbols.specs.Verdicts.{IsJudgedBehind};
+ghost use Rattle.elf_table_symbols.specs.Verdicts.{IsValidatedBehind};
 
 use crate::object_file::{BodyKind, FileSection, FileSymbols, ObjectFile};
 use crate::rules::*;
@@ -72,7 +72,10 @@ fn lowest_stray_index_table(image: &Image<'_>, symbol_table: Option<usize>) -> O
 
 /// Rules 70 to 74 of an image with this symbol table.
 #[tactic(auto, unfolding(crate::specs::FileRules::front_rules))]
-pub(crate) fn judge_front(image: &Image<'_>, symbol_table: Option<usize>) -> Result<(), Broken<u64>>
+pub(crate) fn validate_front(
+    image: &Image<'_>,
+    symbol_table: Option<usize>,
+) -> Result<(), Broken<u64>>
     requires { symbol_table ≡ symbol_table_of (sections_of image.now) }
     ensures { FirstIn (front_rules (sections_of image.now)) (fault_of result) }
 {
@@ -273,17 +276,17 @@ fn lower(a: Option<u64>, b: Option<u64>) -> Option<u64>
 
 impl<'i, 'a> ObjectFile<'i, 'a> {
     /// All rules of the image as an object but 70 to 74, by the verdicts on its tables.
-    pub(crate) fn judge(&self, alloc: Global) -> Result<(), Fault>
+    pub(crate) fn validate(&self, alloc: Global) -> Result<(), Fault>
         ensures { let left = self.now.left in
-            IsJudgedBehind [] (rules_behind left (sections_of_file self.now) left.symbol_table) (λ _. Unit {0}) result }
+            IsValidatedBehind [] (rules_behind left (sections_of_file self.now) left.symbol_table) (λ _. Unit {0}) result }
     {
-        self.judge_symbols()?;
-        self.judge_bodies()?;
-        self.judge_references(alloc)
+        self.validate_symbols()?;
+        self.validate_bodies()?;
+        self.validate_references(alloc)
     }
 
     /// The rules of the symbol table, where there is one, and rule 75.
-    fn judge_symbols(&self) -> Result<(), Broken<u64>>
+    fn validate_symbols(&self) -> Result<(), Broken<u64>>
         ensures { FirstIn (symbol_rules_in self.now.left (sections_of_file self.now) self.now.left.symbol_table) (fault_of result) }
     {
         let Some(t) = self.left.symbol_table else {
@@ -314,12 +317,12 @@ impl<'i, 'a> ObjectFile<'i, 'a> {
     }
 
     /// The rules of each relocation section and each group that is kept, in the order of their indexes.
-    fn judge_bodies(&self) -> Result<(), Broken<u64>>
+    fn validate_bodies(&self) -> Result<(), Broken<u64>>
         ensures { let f = sections_of_file self.now in FirstIn (rules_of_bodies f (kept self.now.left f)) (fault_of result) }
     {
         for i in 0..self.image.section_count() {
             if self.is_kept(i) {
-                self.section(i).judge_body()?;
+                self.section(i).validate_body()?;
             }
         }
         Ok(())
@@ -327,8 +330,8 @@ impl<'i, 'a> ObjectFile<'i, 'a> {
 
     /// Rules 76 to 79.
     #[tactic(auto, unfolding(crate::specs::FileRules::reference_rules))]
-    fn judge_references(&self, alloc: Global) -> Result<(), Fault>
-        ensures { IsJudgedBehind [] (reference_rules self.now.left (sections_of_file self.now)) (λ _. Unit {0}) result }
+    fn validate_references(&self, alloc: Global) -> Result<(), Fault>
+        ensures { IsValidatedBehind [] (reference_rules self.now.left (sections_of_file self.now)) (λ _. Unit {0}) result }
     {
         if let Some(at) = self.lowest_reference(ReferenceRule::WrongRelocationTarget) {
             return Err(Fault::from(Broken::new(WRONG_RELOCATION_TARGET, at)));
@@ -348,7 +351,7 @@ impl<'i, 'a> ObjectFile<'i, 'a> {
 
 impl<'f, 'i, 'a> FileSection<'f, 'i, 'a> {
     /// The rules of its relocations or its group; none if it has neither.
-    fn judge_body(&self) -> Result<(), Broken<u64>>
+    fn validate_body(&self) -> Result<(), Broken<u64>>
         ensures { let f = sections_of_file self.now.file.now in let i = self.now.index in
             FirstIn (rules_of_body (body_kind (section f i).sh_type) f i) (fault_of result) }
     {

@@ -54,7 +54,7 @@ pub(crate) struct ObjectFile<'i, 'a> {
     ghost own_left: { left ≡ left_out (sections_of image.now) },
     ghost own_tables: { tables.image ≡ image.now },
     // A broken rule may be shown in more than one way, and a fact of a type in one alone: hence the bars.
-    ghost judged: { ∥ AreVerdicts (sections_of image.now) (length image.now.sections) tables.verdicts ∥₁ },
+    ghost validated: { ∥ AreVerdicts (sections_of image.now) (length image.now.sections) tables.verdicts ∥₁ },
 }
 
 impl<'i, 'a> ObjectFile<'i, 'a> {

@@ -9,9 +9,9 @@ ghost use Rattle.elf_table_symbols.specs.Sections.{sections_of, section};
 ghost use Rattle.elf_image_stream.specs.declared.fault.Fault.TheVariants.{OutOfMemory};
 ghost use Rattle.elf_object_strings.specs.StringTable.{AreTails};
 ghost use Rattle.elf_object_type.specs.ObjectView.{value_of};
-ghost use Rattle.elf_table_symbols.specs.Verdicts.{IsJudgedBehind};
+ghost use Rattle.elf_table_symbols.specs.Verdicts.{IsValidatedBehind};
 
-use crate::file_rules::judge_front;
+use crate::file_rules::validate_front;
 use crate::object_file::ObjectFile;
 use crate::read_symbols::useful_ends;
 use elf_field::Shdr;
@@ -105,7 +105,7 @@ impl<'i, 'a> ObjectFile<'i, 'a> {
 /// is read to its end.
 pub fn object_of<'a>(alloc: Global, image: &Image<'a>) -> Result<Object<'a>, Fault>
     ensures { let f = sections_of image.now in
-        IsJudgedBehind (front_rules f) (file_rules f) (λ o. Denotes f o) result }
+        IsValidatedBehind (front_rules f) (file_rules f) (λ o. Denotes f o) result }
 {
     image.prove_stands();
     let parts = parts_of(alloc, image)?;
@@ -121,7 +121,7 @@ pub fn object_with_ends<'a>(
     image: &Image<'a>,
 ) -> Result<(Object<'a>, Vec<u32>), Fault>
     ensures { let f = sections_of image.now in
-        IsJudgedBehind (front_rules f) (file_rules f)
+        IsValidatedBehind (front_rules f) (file_rules f)
         (λ (o, ends). Denotes f o × (ends.items ≡ useful_ends o.symbols f) × AreTails (map (λ s. s.name) o.symbols) ends.items)
         result }
 {
@@ -133,17 +133,17 @@ pub fn object_with_ends<'a>(
 /// The parts of the object that the image denotes.
 fn parts_of<'a>(alloc: Global, image: &Image<'a>) -> Result<ObjectParts<'a>, Fault>
     ensures { let f = sections_of image.now in
-        IsJudgedBehind (front_rules f) (file_rules f) (λ parts. Denotes f (value_of parts)) result }
+        IsValidatedBehind (front_rules f) (file_rules f) (λ parts. Denotes f (value_of parts)) result }
 {
     let left = LeftOut::of(image);
-    judge_front(image, left.symbol_table)?;
+    validate_front(image, left.symbol_table)?;
     let tables = Tables::new(alloc, image)?;
     let file = ObjectFile {
         image,
         left,
         tables,
     };
-    file.judge(alloc)?;
+    file.validate(alloc)?;
     read_parts(alloc, file)
 }
 

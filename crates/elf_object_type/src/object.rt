@@ -4,7 +4,7 @@ ghost use Rattle.elf_object_type.specs.ObjectRules.{IsObject, IsObjectFault};
 ghost use Rattle.elf_object_type.specs.ObjectView.{section_value, symbol_value, value_of};
 ghost use Rattle.elf_object_type.specs.Object.{ObjectFits};
 
-use crate::object_rules::judge;
+use crate::object_rules::validate;
 use crate::parts::{ObjectParts, Section, Symbol, prove_parts};
 use crate::rule_names::rule_name;
 use elf_field::Order;
@@ -103,7 +103,7 @@ impl<'a> Object<'a> {
         ensures kept { OnOk result (IsObject (value_of parts.entry)) }
         ensures err { IfErr result (IsObjectFault (value_of parts.entry)) }
     {
-        judge(alloc, &parts)?;
+        validate(alloc, &parts)?;
         prove_parts(&parts);
         Ok(Object { parts })
     }

@@ -9,7 +9,7 @@ ghost use Rattle.elf_image_rules.specs.Rows.{fault_of, FirstIn};
 use crate::object::ObjectFault;
 use crate::parts::{Body, ObjectParts, Place, Symbol};
 use crate::rules::*;
-use crate::section_rules::{has_zero, is_group, is_past, judge_sections, section_at, symbol_at};
+use crate::section_rules::{has_zero, is_group, is_past, section_at, symbol_at, validate_sections};
 use elf_field::abi::*;
 use elf_image_rules::Broken;
 use std::alloc::{AllocError, Global};
@@ -136,7 +136,7 @@ fn lowest_misplaced_local(parts: &ObjectParts<'_>) -> Option<u64>
 
 /// Rules 7 to 9; what is broken is broken at a position.
 #[tactic(auto, unfolding(crate::specs::ObjectRules::object_symbol_rules))]
-pub(crate) fn judge_symbols(parts: &ObjectParts<'_>) -> Result<(), Broken<u64>>
+pub(crate) fn validate_symbols(parts: &ObjectParts<'_>) -> Result<(), Broken<u64>>
     ensures fault { FirstIn (object_symbol_rules (value_of parts.now)) (fault_of result) }
     ensures number { IfErr result (λ broken. 6 < broken.rule) }
 {
@@ -153,11 +153,11 @@ pub(crate) fn judge_symbols(parts: &ObjectParts<'_>) -> Result<(), Broken<u64>>
 }
 
 /// All rules of these parts.
-pub(crate) fn judge(alloc: Global, parts: &ObjectParts<'_>) -> Result<(), ObjectFault>
+pub(crate) fn validate(alloc: Global, parts: &ObjectParts<'_>) -> Result<(), ObjectFault>
     ensures ok { OnOk result (IsObject (value_of parts.now)) }
     ensures err { IfErr result (IsObjectFault (value_of parts.now)) }
 {
-    if let Err(broken) = judge_sections(parts) {
+    if let Err(broken) = validate_sections(parts) {
         return Err(ObjectFault::Section {
             rule: broken.rule,
             position: broken.at as usize,
@@ -169,7 +169,7 @@ pub(crate) fn judge(alloc: Global, parts: &ObjectParts<'_>) -> Result<(), Object
             position,
         });
     }
-    if let Err(broken) = judge_symbols(parts) {
+    if let Err(broken) = validate_symbols(parts) {
         return Err(ObjectFault::Symbol {
             rule: broken.rule,
             position: broken.at as usize,

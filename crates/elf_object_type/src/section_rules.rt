@@ -254,7 +254,7 @@ fn lowest_section(parts: &ObjectParts<'_>, rule: SectionRule) -> Option<u64>
 
 /// Rules 1 to 5; what is broken is broken at a position.
 #[tactic(auto, unfolding(crate::specs::ObjectRules::object_section_rules))]
-pub(crate) fn judge_sections(parts: &ObjectParts<'_>) -> Result<(), Broken<u64>>
+pub(crate) fn validate_sections(parts: &ObjectParts<'_>) -> Result<(), Broken<u64>>
     ensures fault { FirstIn (object_section_rules (value_of parts.now)) (fault_of result) }
     ensures number { IfErr result (λ broken. broken.rule ≤ 5) }
 {

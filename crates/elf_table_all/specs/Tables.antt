@@ -37,7 +37,7 @@ rules_of_kind (Some HashTable) f i = hash_table_rules f i
 unfoldable pub table_rules : Sections → ℕ → List {1} (Ruled ℕ)
 table_rules f i = rules_of_kind (kind_of (section f i).sh_type) f i
 
--- A judgement that may take memory, as a verdict.
+-- A validation that may take memory, as a verdict.
 
 -- nothing was read for it
 abbrev pub IsUnread : {T : Type 0} → Result T Fault → Type 0

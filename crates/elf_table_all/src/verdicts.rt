@@ -10,12 +10,13 @@ use elf_field::abi::*;
 use elf_image_rules::Broken;
 use elf_image_stream::Fault;
 use elf_image_type::Image;
-use elf_table_hash::judge_hash_table;
+use elf_table_hash::validate_hash_table;
 use elf_table_lists::{
-    judge_dynamic_section, judge_group_section, judge_note_section, judge_relocation_section,
+    validate_dynamic_section, validate_group_section, validate_note_section,
+    validate_relocation_section,
 };
 use elf_table_symbols::{
-    IndexTables, SymbolVerdicts, TableKind, TableSection, Verdicts, judge_symbol_table,
+    IndexTables, SymbolVerdicts, TableKind, TableSection, Verdicts, validate_symbol_table,
 };
 use std::alloc::{AllocError, Global};
 use std::collections::BTreeMap;
@@ -111,7 +112,7 @@ fn symbol_verdict(
         kind_of (section f table.entry.index).sh_type ≡ Some kind.SymbolTable → FirstIn (symbol_table_rules f table.entry.index) (fault_of result) }
 {
     match TableKind::of(table.header().sh_type) {
-        Some(TableKind::SymbolTable) => judge_symbol_table(table, index_tables.of(table.index)),
+        Some(TableKind::SymbolTable) => validate_symbol_table(table, index_tables.of(table.index)),
         _ => Ok(()),
     }
 }
@@ -129,21 +130,21 @@ fn table_verdict(
     let known = SymbolVerdicts::All(symbols);
     match TableKind::of(table.header().sh_type) {
         Some(TableKind::SymbolTable) => Ok(symbols.get(table.index)),
-        Some(TableKind::RelocationTable) => Ok(judge_relocation_section(table, known)),
-        Some(TableKind::SectionGroup) => verdict_of(judge_group_section(alloc, table, known)),
-        Some(TableKind::NoteSection) => Ok(judge_note_section(table)),
-        Some(TableKind::DynamicArray) => Ok(judge_dynamic_section(table)),
-        Some(TableKind::HashTable) => verdict_of(judge_hash_table(alloc, table, known)),
+        Some(TableKind::RelocationTable) => Ok(validate_relocation_section(table, known)),
+        Some(TableKind::SectionGroup) => verdict_of(validate_group_section(alloc, table, known)),
+        Some(TableKind::NoteSection) => Ok(validate_note_section(table)),
+        Some(TableKind::DynamicArray) => Ok(validate_dynamic_section(table)),
+        Some(TableKind::HashTable) => verdict_of(validate_hash_table(alloc, table, known)),
         None => Ok(Ok(())),
     }
 }
 
 // What a test of a table returned, as a verdict; out of memory aside.
-fn verdict_of(judged: Result<(), Fault>) -> Result<Result<(), Broken<u64>>, AllocError>
-    requires { IsUnread judged }
-    ensures { IfOk result (IsVerdictOf judged) }
+fn verdict_of(validated: Result<(), Fault>) -> Result<Result<(), Broken<u64>>, AllocError>
+    requires { IsUnread validated }
+    ensures { IfOk result (IsVerdictOf validated) }
 {
-    match judged {
+    match validated {
         Ok(()) => Ok(Ok(())),
         Err(Fault::Rule { rule, at }) => Ok(Err(Broken::new(rule, at))),
         Err(Fault::OutOfMemory) => Err(AllocError),

@@ -1,7 +1,7 @@
 //! Hash tables (gABI chapter 5, Hash Table).
 ghost use Rattle.std.specs.Prelude.{◌≡◌, ◌↔◌, ◌<◌, ◌≤◌, ℕ, None, IsSome, length, get_or};
 ghost use Rattle.elf_image_rules.specs.Rows.{FirstIn};
-ghost use Rattle.elf_table_symbols.specs.Verdicts.{IsJudgedBehind};
+ghost use Rattle.elf_table_symbols.specs.Verdicts.{IsValidatedBehind};
 ghost use Rattle.elf_table_symbols.specs.Sections.{sections_of};
 ghost use Rattle.elf_table_hash.specs.HashView.{words_left, hash_of_section};
 ghost use Rattle.elf_table_hash.specs.HashRules.{hash_table_front, hash_table_rules};
@@ -9,7 +9,7 @@ ghost use Rattle.elf_table_hash.specs.HashTable.{nbucket as nbucket_of, nchain a
 
 use crate::hash_building::elf_hash;
 use crate::hash_parts::HashParts;
-use crate::hash_rules::judge_hash_table;
+use crate::hash_rules::validate_hash_table;
 use crate::hash_words::{HashWords, SymbolNames};
 use elf_field::Order;
 use elf_image_stream::Fault;
@@ -48,10 +48,10 @@ impl<'a> Hash<'a> {
     pub fn new(alloc: Global, image: &Image<'a>, i: usize) -> Result<Hash<'a>, Fault>
         requires { i < length image.now.sections }
         ensures { let f = sections_of image.now in
-            IsJudgedBehind (hash_table_front f i) (hash_table_rules f i) (λ hash. hash ≡ hash_of_section f i) result }
+            IsValidatedBehind (hash_table_front f i) (hash_table_rules f i) (λ hash. hash ≡ hash_of_section f i) result }
     {
         let table = TableSection { image, index: i };
-        judge_hash_table(alloc, table, SymbolVerdicts::Unknown)?;
+        validate_hash_table(alloc, table, SymbolVerdicts::Unknown)?;
         Ok(sound_hash(image, i))
     }
 

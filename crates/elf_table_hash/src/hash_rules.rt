@@ -4,7 +4,7 @@ ghost use Rattle.elf_extent.specs.Extent.{IsLowest};
 ghost use Rattle.elf_image_rules.specs.Rows.{fault_of, FirstIn};
 ghost use Rattle.elf_table_hash.specs.HashRules.{hash_parts_value, hash_word_past_end, word_rules, hash_parts, chain_rules, hash_rules, hash_table_front, hash_table_rules, symbol_off_chain};
 ghost use Rattle.elf_table_hash.specs.HashTable.{AreHashWords, nbucket, nchain, bucket};
-ghost use Rattle.elf_table_symbols.specs.Verdicts.{IsJudgedBehind};
+ghost use Rattle.elf_table_symbols.specs.Verdicts.{IsValidatedBehind};
 ghost use Rattle.elf_table_symbols.specs.Symbols.{AreKnown, symbol_table_rules};
 ghost use Rattle.elf_table_symbols.specs.Sections.{own_rules, section, sections_of};
 ghost use Rattle.elf_table_hash.specs.ChainDepths.{IsDepthKnown};
@@ -15,14 +15,14 @@ use elf_field::abi::*;
 use elf_image_rules::Broken;
 use elf_image_stream::Fault;
 use elf_table_symbols::rules::*;
-use elf_table_symbols::{LinkedTable, SymbolVerdicts, TableKind, TableSection, judge_own_rules};
+use elf_table_symbols::{LinkedTable, SymbolVerdicts, TableKind, TableSection, validate_own_rules};
 use std::alloc::{AllocError, Global};
 
 // Rules 65 to 67: the words of a hash table (gABI chapter 5, Hash Table).
 
 /// Rules 65 to 67 of a hash table.
 #[tactic(auto, unfolding(crate::specs::HashRules::word_rules))]
-pub(crate) fn judge_words(parts: &HashParts<'_>) -> Result<(), Broken<u64>>
+pub(crate) fn validate_words(parts: &HashParts<'_>) -> Result<(), Broken<u64>>
     ensures fault { FirstIn (word_rules (hash_parts_value parts.now)) (fault_of result) }
     ensures some_bucket { OnOk result (nbucket parts.now.words ≢ 0) }
     ensures one_each { OnOk result (nchain parts.now.words ≡ length parts.now.names) }
@@ -65,40 +65,43 @@ fn lowest_hash_word_past_end(parts: &HashParts<'_>) -> Option<u64>
 /// All rules of a hash table, by these verdicts on the symbol tables. [`Fault::OutOfMemory`] comes only if no rule
 /// from 40 to 67 is broken.
 #[tactic(auto, unfolding(crate::specs::HashRules::hash_table_rules, crate::specs::HashRules::hash_table_front))]
-pub fn judge_hash_table(
+pub fn validate_hash_table(
     alloc: Global,
     table: TableSection<'_, '_>,
     symbols: SymbolVerdicts<'_>,
 ) -> Result<(), Fault>
     requires { AreKnown (sections_of table.image.now) symbols }
     ensures { let f = sections_of table.entry.image.now in
-        IsJudgedBehind (hash_table_front f table.entry.index) (hash_table_rules f table.entry.index) (λ _. ⊤) result }
+        IsValidatedBehind (hash_table_front f table.entry.index) (hash_table_rules f table.entry.index) (λ _. ⊤) result }
 {
-    judge_own_rules(table, TableKind::HashTable)?;
+    validate_own_rules(table, TableKind::HashTable)?;
     let linked = LinkedTable { table };
     symbols.of(linked)?;
-    judge_hash(alloc, linked)
+    validate_hash(alloc, linked)
 }
 
 /// Rules 65 to 69 of a hash table whose section header breaks no rule, as the symbol table that it links to.
 /// [`Fault::OutOfMemory`] comes only if none of 65 to 67 is broken.
 #[tactic(auto, unfolding(crate::specs::HashRules::hash_rules))]
-fn judge_hash(alloc: Global, linked: LinkedTable<'_, '_>) -> Result<(), Fault>
+fn validate_hash(alloc: Global, linked: LinkedTable<'_, '_>) -> Result<(), Fault>
     requires own { FirstIn (own_rules TableKind.HashTable (sections_of linked.table.image.now) linked.table.index) None }
     requires symbols { let f = sections_of linked.table.image.now in
         FirstIn (symbol_table_rules f (section f linked.table.index).sh_link) None }
     ensures { let f = sections_of linked.entry.table.image.now in let i = linked.entry.table.index in
-        IsJudgedBehind (word_rules (hash_parts f i)) (hash_rules f i) (λ _. ⊤) result }
+        IsValidatedBehind (word_rules (hash_parts f i)) (hash_rules f i) (λ _. ⊤) result }
 {
     let parts = HashParts::new(linked);
-    judge_words(&parts)?;
-    let verdict = judge_chains(alloc, &parts)?;
+    validate_words(&parts)?;
+    let verdict = validate_chains(alloc, &parts)?;
     Ok(verdict?)
 }
 
 // Rules 68 and 69.
 #[tactic(auto, unfolding(crate::specs::HashRules::chain_rules))]
-fn judge_chains(alloc: Global, parts: &HashParts<'_>) -> Result<Result<(), Broken<u64>>, AllocError>
+fn validate_chains(
+    alloc: Global,
+    parts: &HashParts<'_>,
+) -> Result<Result<(), Broken<u64>>, AllocError>
     requires some_bucket { nbucket parts.now.words ≢ 0 }
     requires one_each { nchain parts.now.words ≡ length parts.now.names }
     requires linked { AreHashWords parts.now.words }

@@ -17,4 +17,4 @@ mod hash_words;
 
 pub use hash::{Hash, HashIter, find_in, sound_hash};
 pub use hash_building::{HashFault, build_hash, elf_hash};
-pub use hash_rules::judge_hash_table;
+pub use hash_rules::validate_hash_table;

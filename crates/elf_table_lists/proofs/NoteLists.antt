@@ -160,25 +160,25 @@ note_in_file o b e x within =
     (part_of_part b e.start e.len (name_start x) (namesz o t x - 1) (namesz o b (e.start + x) - 1) (name_start (e.start + x)) (omega arith) less first)
     (part_of_part b e.start e.len (desc_start o t x) (descsz o t x) (descsz o b (e.start + x)) (desc_start o b (e.start + x)) (omega arith) descs second)
 
--- Notes are tested one by one: all so far are whole, and the lowest name of theirs that is not closed is kept (`AreJudged`, `judged_more`).
--- A note that is cut short is the last one and breaks one of rules 59 to 61, which is the fault (`cut_fault`). If all are whole, the kept
--- name breaks rule 62, or no rule is broken; conversely, rule 61 makes all notes whole.
+-- Notes are tested one by one: all so far are whole, and the lowest name of theirs that is not closed is kept (`AreValidated`,
+-- `validated_more`). A note that is cut short is the last one and breaks one of rules 59 to 61, which is the fault (`cut_fault`). If all
+-- are whole, the kept name breaks rule 62, or no rule is broken; conversely, rule 61 makes all notes whole.
 
 -- where one of the first n notes has a name that isn't closed, the last byte of it
 abbrev pub UnclosedBefore : Order → List ℕ → ℕ → ℕ → Type 0
 UnclosedBefore o table n = λ y. (k : ℕ) × (k < n) × IsUnclosedNoteName o table (note_offset o table 0 k) × (y ≡ name_last o table (note_offset o table 0 k))
 
 -- the notes before offset x are whole, and this is the lowest name of theirs that isn't closed
-pub record AreJudged (o : Order) (table : List ℕ) (x : ℕ) (unclosed : Option ℕ) : Type 0 where
+pub record AreValidated (o : Order) (table : List ℕ) (x : ℕ) (unclosed : Option ℕ) : Type 0 where
   pub count : ℕ
   pub here : note_offset o table 0 count ≡ x
   pub inside : x ≤ length table
   pub whole : (k : ℕ) → k < count → note_end o table (note_offset o table 0 k) ≤ length table
   pub lowest : IsLowest (UnclosedBefore o table count) unclosed
 
-pub none_judged : (o : Order) (table : List ℕ) → AreJudged o table 0 None
+pub none_validated : (o : Order) (table : List ℕ) → AreValidated o table 0 None
 unfolding note_offset
-none_judged o table = record {
+none_validated o table = record {
   count = 0;
   here = refl;
   inside = omega arith;
@@ -189,7 +189,7 @@ none_judged o table = record {
 -- ---- a note that is cut short
 
 -- a note is one of those before x, or begins at x or after it
-behind : (o : Order) (table : List ℕ) (x : ℕ) (unclosed : Option ℕ) (are : AreJudged o table x unclosed) (k : ℕ) → are.count ≤ k → x ≤ note_offset o table 0 k
+behind : (o : Order) (table : List ℕ) (x : ℕ) (unclosed : Option ℕ) (are : AreValidated o table x unclosed) (k : ℕ) → are.count ≤ k → x ≤ note_offset o table 0 k
 behind o table x unclosed are k le =
     let rises = place_rises o table 0 are.count (k - are.count) in
     let same : note_offset o table 0 (are.count + (k - are.count)) ≡ note_offset o table 0 k = ap (note_offset o table 0) (omega arith) in
@@ -197,7 +197,7 @@ behind o table x unclosed are k le =
     omega arith
 
 -- and where the one at x is cut short none begins after it
-at_cut : (o : Order) (table : List ℕ) (x : ℕ) (unclosed : Option ℕ) (are : AreJudged o table x unclosed) → length table < note_end o table x →
+at_cut : (o : Order) (table : List ℕ) (x : ℕ) (unclosed : Option ℕ) (are : AreValidated o table x unclosed) → length table < note_end o table x →
     (k : ℕ) → note_offset o table 0 k < length table → are.count ≤ k → note_offset o table 0 k ≡ x
 at_cut o table x unclosed are cut k begins le = elim (cases_eq are.count k) [
   | inl same ↦ sym (ap (note_offset o table 0) same) ∙ are.here
@@ -209,7 +209,7 @@ at_cut o table x unclosed are cut k begins le = elim (cases_eq are.count k) [
 ]
 
 -- a rule that is broken at none of the notes before x, nor at x, is broken at none
-never_at : (o : Order) (table : List ℕ) (x : ℕ) (unclosed : Option ℕ) (P : ℕ → Type 0) (place : ℕ → ℕ) → AreJudged o table x unclosed →
+never_at : (o : Order) (table : List ℕ) (x : ℕ) (unclosed : Option ℕ) (P : ℕ → Type 0) (place : ℕ → ℕ) → AreValidated o table x unclosed →
     length table < note_end o table x → ((y : ℕ) → note_end o table y ≤ length table → P y → ⊥) → (P x → ⊥) → Never (AtNote o table P place)
 never_at o table x unclosed P place are cut past other y broken = elim (cases_lt broken.0 are.count) [
   | inl before ↦ past (note_offset o table 0 broken.0) (are.whole broken.0 before) broken.2
@@ -217,7 +217,7 @@ never_at o table x unclosed P place are cut past other y broken = elim (cases_lt
 ]
 
 -- and one that is broken at x is broken there first
-least_at : (o : Order) (table : List ℕ) (x : ℕ) (unclosed : Option ℕ) (P : ℕ → Type 0) (place : ℕ → ℕ) → AreJudged o table x unclosed → x < length table →
+least_at : (o : Order) (table : List ℕ) (x : ℕ) (unclosed : Option ℕ) (P : ℕ → Type 0) (place : ℕ → ℕ) → AreValidated o table x unclosed → x < length table →
     length table < note_end o table x → ((y : ℕ) → note_end o table y ≤ length table → P y → ⊥) → P x → IsLeast (AtNote o table P place) (place x)
 least_at o table x unclosed P place are within cut past holds = record {
   holds = (are.count, rw are.here within, subst P (sym are.here) holds, ap place (sym are.here));
@@ -246,7 +246,7 @@ name_whole o table y whole cut = let below = desc_below o table y in omega arith
 note_whole : (o : Order) (table : List ℕ) (y : ℕ) → note_end o table y ≤ length table → length table < note_end o table y → ⊥
 note_whole o table y whole cut = omega arith
 
-pub cut_fault : (o : Order) (table : List ℕ) (start x : ℕ) (unclosed : Option ℕ) (broken : Broken ℕ) → AreJudged o table x unclosed → x < length table →
+pub cut_fault : (o : Order) (table : List ℕ) (start x : ℕ) (unclosed : Option ℕ) (broken : Broken ℕ) → AreValidated o table x unclosed → x < length table →
     IsCut o table start x broken → FirstIn (note_rules o table start) (Some (broken.rule, broken.at))
 unfolding note_rules
 cut_fault o table start x unclosed broken are within (inl (short, rule, at)) =
@@ -276,7 +276,7 @@ unfolding name_last note_end desc_start
 last_inside o table y unclosed = let some = unclosed.0 in (omega arith, omega arith)
 
 -- the notes before x have their names before x
-last_before : (o : Order) (table : List ℕ) (x : ℕ) (unclosed : Option ℕ) (are : AreJudged o table x unclosed) (y : ℕ) → UnclosedBefore o table are.count y → y < x
+last_before : (o : Order) (table : List ℕ) (x : ℕ) (unclosed : Option ℕ) (are : AreValidated o table x unclosed) (y : ℕ) → UnclosedBefore o table are.count y → y < x
 last_before o table x unclosed are y here =
     let k = here.0 in
     let inside = last_inside o table (note_offset o table 0 k) here.2 in
@@ -307,7 +307,7 @@ abbrev pub FindsUnclosed : Order → List ℕ → ℕ → Option ℕ → Type 0
 FindsUnclosed o table x found = MatchOption found (IsUnclosedNoteName o table x → ⊥)
     (λ last. IsUnclosedNoteName o table x × (last ≡ name_last o table x) × (last < length table))
 
-lowest_more : (o : Order) (table : List ℕ) (x : ℕ) (unclosed found : Option ℕ) (are : AreJudged o table x unclosed) → FindsUnclosed o table x found →
+lowest_more : (o : Order) (table : List ℕ) (x : ℕ) (unclosed found : Option ℕ) (are : AreValidated o table x unclosed) → FindsUnclosed o table x found →
     IsLowest (UnclosedBefore o table (suc are.count)) (option_or unclosed found)
 lowest_more o table x None None are told = λ y here. elim (one_further o table are.count y here) [
   | inl before ↦ are.lowest y before
@@ -332,9 +332,9 @@ lowest_more o table x (Some low) found are told = record {
   ];
 }
 
-pub judged_more : (o : Order) (table : List ℕ) (x : ℕ) (unclosed found : Option ℕ) → AreJudged o table x unclosed →
-    note_end o table x ≤ length table → FindsUnclosed o table x found → AreJudged o table (note_end o table x) (option_or unclosed found)
-judged_more o table x unclosed found are whole told = record {
+pub validated_more : (o : Order) (table : List ℕ) (x : ℕ) (unclosed found : Option ℕ) → AreValidated o table x unclosed →
+    note_end o table x ≤ length table → FindsUnclosed o table x found → AreValidated o table (note_end o table x) (option_or unclosed found)
+validated_more o table x unclosed found are whole told = record {
   count = suc are.count;
   here = place_next o table 0 are.count ∙ ap (note_end o table) are.here;
   inside = whole;
@@ -347,38 +347,38 @@ judged_more o table x unclosed found are whole told = record {
 
 -- ---- at the end
 
--- all notes are among those judged
-all_judged : (o : Order) (table : List ℕ) (x : ℕ) (unclosed : Option ℕ) (are : AreJudged o table x unclosed) → length table ≤ x → (k : ℕ) →
+-- all notes are among those validated
+all_validated : (o : Order) (table : List ℕ) (x : ℕ) (unclosed : Option ℕ) (are : AreValidated o table x unclosed) → length table ≤ x → (k : ℕ) →
     note_offset o table 0 k < length table → k < are.count
-all_judged o table x unclosed are end k begins = elim (cases_lt k are.count) [
+all_validated o table x unclosed are end k begins = elim (cases_lt k are.count) [
   | inl before ↦ before
   | inr le ↦ (let at = behind o table x unclosed are k le in absurd (omega arith))
 ]
 
-never_broken : (o : Order) (table : List ℕ) (x : ℕ) (unclosed : Option ℕ) (P : ℕ → Type 0) (place : ℕ → ℕ) → AreJudged o table x unclosed →
+never_broken : (o : Order) (table : List ℕ) (x : ℕ) (unclosed : Option ℕ) (P : ℕ → Type 0) (place : ℕ → ℕ) → AreValidated o table x unclosed →
     length table ≤ x → ((y : ℕ) → note_end o table y ≤ length table → P y → ⊥) → Never (AtNote o table P place)
 never_broken o table x unclosed P place are end past y broken =
-    past (note_offset o table 0 broken.0) (are.whole broken.0 (all_judged o table x unclosed are end broken.0 broken.1)) broken.2
+    past (note_offset o table 0 broken.0) (are.whole broken.0 (all_validated o table x unclosed are end broken.0 broken.1)) broken.2
 
-begins_inside : (o : Order) (table : List ℕ) (x : ℕ) (unclosed : Option ℕ) (are : AreJudged o table x unclosed) (k : ℕ) → k < are.count →
+begins_inside : (o : Order) (table : List ℕ) (x : ℕ) (unclosed : Option ℕ) (are : AreValidated o table x unclosed) (k : ℕ) → k < are.count →
     note_offset o table 0 k < length table
 begins_inside o table x unclosed are k lt =
     let whole = are.whole k lt in let above = end_above o table (note_offset o table 0 k) in omega arith
 
-unclosed_rule : (o : Order) (table : List ℕ) (start x : ℕ) (unclosed : Option ℕ) → AreJudged o table x unclosed → length table ≤ x →
+unclosed_rule : (o : Order) (table : List ℕ) (start x : ℕ) (unclosed : Option ℕ) → AreValidated o table x unclosed → length table ≤ x →
     IsLowest (unclosed_note_name o table start) (option_map (λ last. start + last) unclosed)
 unclosed_rule o table start x None are end = λ y broken.
-    are.lowest (name_last o table (note_offset o table 0 broken.0)) (broken.0, all_judged o table x None are end broken.0 broken.1, broken.2, refl)
+    are.lowest (name_last o table (note_offset o table 0 broken.0)) (broken.0, all_validated o table x None are end broken.0 broken.1, broken.2, refl)
 unclosed_rule o table start x (Some low) are end = record {
   holds =
       (let here = are.lowest.holds in
       (here.0, begins_inside o table x (Some low) are here.0 here.1, here.2, ap (λ (n : ℕ). start + n) here.3));
   lowest = λ y broken.
-      (let le = are.lowest.lowest (name_last o table (note_offset o table 0 broken.0)) (broken.0, all_judged o table x (Some low) are end broken.0 broken.1, broken.2, refl) in
+      (let le = are.lowest.lowest (name_last o table (note_offset o table 0 broken.0)) (broken.0, all_validated o table x (Some low) are end broken.0 broken.1, broken.2, refl) in
       let is = broken.3 in omega arith);
 }
 
-whole_rules : (o : Order) (table : List ℕ) (start x : ℕ) (unclosed : Option ℕ) → AreJudged o table x unclosed → length table ≤ x →
+whole_rules : (o : Order) (table : List ℕ) (start x : ℕ) (unclosed : Option ℕ) → AreValidated o table x unclosed → length table ≤ x →
     Never (partial_note o table start) × Never (note_name_past_end o table start) × Never (note_desc_past_end o table start)
 whole_rules o table start x unclosed are end = (
   never_broken o table x unclosed _ (λ y. start + y) are end (header_whole o table),
@@ -386,13 +386,13 @@ whole_rules o table start x unclosed are end = (
   never_broken o table x unclosed _ (λ y. start + y + N_DESCSZ_AT) are end (note_whole o table),
 )
 
-pub closed_notes : (o : Order) (table : List ℕ) (start x : ℕ) → AreJudged o table x None → length table ≤ x → FirstIn (note_rules o table start) None
+pub closed_notes : (o : Order) (table : List ℕ) (start x : ℕ) → AreValidated o table x None → length table ≤ x → FirstIn (note_rules o table start) None
 unfolding note_rules
 closed_notes o table start x are end =
     let whole = whole_rules o table start x None are end in
     (whole.0, (whole.1, (whole.2, (unclosed_rule o table start x None are end, tt))))
 
-pub unclosed_fault : (o : Order) (table : List ℕ) (start x last : ℕ) → AreJudged o table x (Some last) → length table ≤ x →
+pub unclosed_fault : (o : Order) (table : List ℕ) (start x last : ℕ) → AreValidated o table x (Some last) → length table ≤ x →
     FirstIn (note_rules o table start) (Some (62, start + last))
 unfolding note_rules
 unclosed_fault o table start x last are end =

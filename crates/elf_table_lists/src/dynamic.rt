@@ -5,7 +5,7 @@ ghost use Rattle.elf_extent.specs.Extent.{IsLowest};
 ghost use Rattle.elf_image_rules.specs.Rows.{fault_of, AtEntry, FirstIn};
 ghost use Rattle.elf_image_rules.specs.Rules.{MAX_LEN};
 ghost use Rattle.elf_table_symbols.specs.Sections.{sections_of};
-ghost use Rattle.elf_table_symbols.specs.Verdicts.{IsJudged};
+ghost use Rattle.elf_table_symbols.specs.Verdicts.{IsValidated};
 ghost use Rattle.elf_table_lists.specs.Left.{dynamic_left};
 
 use elf_field::abi::*;
@@ -15,7 +15,7 @@ use elf_image_stream::Fault;
 use elf_image_type::Image;
 use elf_table_symbols::rules::*;
 use elf_table_symbols::{
-    LinkedTable, TableKind, TableSection, judge_linked_strings, judge_own_rules,
+    LinkedTable, TableKind, TableSection, validate_linked_strings, validate_own_rules,
 };
 use std::marker::Model;
 
@@ -63,18 +63,18 @@ pub fn is_string_tag(tag: i64) -> bool
 /// All rules of a dynamic section. [`Broken`] is the first that is broken, at its lowest offset: 40, 42, 43, 44, then 41 of the
 /// string table that the section links to, then 63 and 64.
 #[tactic(auto, unfolding(crate::specs::Dynamic::dynamic_section_rules))]
-pub fn judge_dynamic_section(table: TableSection<'_, '_>) -> Result<(), Broken<u64>>
+pub fn validate_dynamic_section(table: TableSection<'_, '_>) -> Result<(), Broken<u64>>
     ensures { FirstIn (dynamic_section_rules (sections_of table.entry.image.now) table.entry.index) (fault_of result) }
 {
-    judge_own_rules(table, TableKind::DynamicArray)?;
+    validate_own_rules(table, TableKind::DynamicArray)?;
     let linked = LinkedTable { table };
-    judge_linked_strings(linked.linked_content(), linked.linked_header().sh_offset)?;
-    judge_dynamic_array(linked)
+    validate_linked_strings(linked.linked_content(), linked.linked_header().sh_offset)?;
+    validate_dynamic_array(linked)
 }
 
 /// Rules 63 and 64 of a dynamic section.
 #[tactic(auto, unfolding(crate::specs::Dynamic::dynamic_rules))]
-fn judge_dynamic_array(linked: LinkedTable<'_, '_>) -> Result<(), Broken<u64>>
+fn validate_dynamic_array(linked: LinkedTable<'_, '_>) -> Result<(), Broken<u64>>
     ensures { FirstIn (dynamic_rules (sections_of linked.entry.table.image.now) linked.entry.table.index) (fault_of result) }
 {
     let order = linked.table.order();
@@ -144,9 +144,9 @@ impl<'a> Dynamic<'a> {
     /// the section links to, then 63 and 64. No other fault comes. Linear in the entries.
     pub fn new(image: &Image<'a>, i: usize) -> Result<Dynamic<'a>, Fault>
         requires { i < length image.now.sections }
-        ensures { IsJudged (dynamic_section_rules (sections_of image.now) i) (λ dynamic. dynamic ≡ dynamic_array_of (sections_of image.now) i) result }
+        ensures { IsValidated (dynamic_section_rules (sections_of image.now) i) (λ dynamic. dynamic ≡ dynamic_array_of (sections_of image.now) i) result }
     {
-        judge_dynamic_section(TableSection { image, index: i })?;
+        validate_dynamic_section(TableSection { image, index: i })?;
         Ok(sound_dynamic(image, i))
     }
 

@@ -2,7 +2,7 @@
 ghost use Rattle.std.specs.Prelude.{◌≡◌, ◌<◌, IfErr, None, length, slice_index, ◌↔◌, ◌+◌, ◌*◌, ◌%◌, IfOk, IsTrue, OnErr};
 ghost use Rattle.elf_image_stream.specs.declared.fault.Fault.TheVariants.{OutOfMemory};
 ghost use Rattle.elf_image_rules.specs.Rows.{FirstIn, fault_of};
-ghost use Rattle.elf_table_symbols.specs.Verdicts.{IsJudgedBehind};
+ghost use Rattle.elf_table_symbols.specs.Verdicts.{IsValidatedBehind};
 ghost use Rattle.elf_table_symbols.specs.Sections.{content, order, sections_of, Below, section};
 ghost use Rattle.elf_table_lists.specs.Groups.{group_section_front, group_section_rules, MembersAscend, group_of, IsUnfit, IsWrongMember, group_front_rules, group_rules, member as member_of, member_count as member_count_of};
 ghost use Rattle.elf_table_lists.specs.Left.{members_left};
@@ -16,7 +16,7 @@ use elf_image_stream::Fault;
 use elf_image_type::Image;
 use elf_table_symbols::rules::*;
 use elf_table_symbols::{
-    LinkedTable, SymbolVerdicts, TableKind, TableSection, judge_own_rules, word,
+    LinkedTable, SymbolVerdicts, TableKind, TableSection, validate_own_rules, word,
 };
 use std::alloc::{AllocError, Global};
 use std::collections::BTreeSet;
@@ -52,13 +52,13 @@ impl<'a> Group<'a> {
     /// each.
     pub fn new(alloc: Global, image: &Image<'a>, i: usize) -> Result<Group<'a>, Fault>
         requires { i < length image.now.sections }
-        ensures judged { let f = sections_of image.now in
-            IsJudgedBehind (group_section_front f i) (group_section_rules f i) (λ group. group ≡ group_of f i) result }
+        ensures validated { let f = sections_of image.now in
+            IsValidatedBehind (group_section_front f i) (group_section_rules f i) (λ group. group ≡ group_of f i) result }
         ensures memory { let f = sections_of image.now in
             IfErr result (λ fault. fault ≡ OutOfMemory → ¬ MembersAscend (order f) (content f i)) }
     {
         let section = TableSection { image, index: i };
-        judge_group_section(alloc, section, SymbolVerdicts::Unknown)?;
+        validate_group_section(alloc, section, SymbolVerdicts::Unknown)?;
         Ok(sound_group(image, i))
     }
 
@@ -164,33 +164,33 @@ impl<'s, 'a> Iterator for GroupIter<'s, 'a> {
 /// links to, then 55 to 58. [`Fault::OutOfMemory`] comes only if an allocation fails; memory is taken only if the members don't
 /// ascend and none but 58 is broken. No other fault comes.
 #[tactic(auto, unfolding(crate::specs::Groups::group_section_rules))]
-pub fn judge_group_section(
+pub fn validate_group_section(
     alloc: Global,
     table: TableSection<'_, '_>,
     symbols: SymbolVerdicts<'_>,
 ) -> Result<(), Fault>
     requires { AreKnown (sections_of table.image.now) symbols }
-    ensures judged { let f = sections_of table.entry.image.now in
-        IsJudgedBehind (group_section_front f table.entry.index) (group_section_rules f table.entry.index) (λ _. Unit {0}) result }
+    ensures validated { let f = sections_of table.entry.image.now in
+        IsValidatedBehind (group_section_front f table.entry.index) (group_section_rules f table.entry.index) (λ _. Unit {0}) result }
     ensures memory { let f = sections_of table.entry.image.now in
         IfErr result (λ fault. fault ≡ OutOfMemory → ¬ MembersAscend (order f) (content f table.entry.index)) }
 {
-    judge_own_rules(table, TableKind::SectionGroup)?;
+    validate_own_rules(table, TableKind::SectionGroup)?;
     let linked = LinkedTable { table };
     symbols.of(linked)?;
-    judge_group(alloc, linked)
+    validate_group(alloc, linked)
 }
 
 /// Rules 55 to 58 of a group whose own rules are kept.
-fn judge_group(alloc: Global, linked: LinkedTable<'_, '_>) -> Result<(), Fault>
+fn validate_group(alloc: Global, linked: LinkedTable<'_, '_>) -> Result<(), Fault>
     requires typed { (section (sections_of linked.table.image.now) linked.table.index).sh_type ≡ SHT_GROUP }
     requires sized { (section (sections_of linked.table.image.now) linked.table.index).sh_size % WORD_SIZE ≡ 0 }
-    ensures judged { let f = sections_of linked.entry.table.image.now in
-        IsJudgedBehind (group_front_rules f linked.entry.table.index) (group_rules f linked.entry.table.index) (λ _. Unit {0}) result }
+    ensures validated { let f = sections_of linked.entry.table.image.now in
+        IsValidatedBehind (group_front_rules f linked.entry.table.index) (group_rules f linked.entry.table.index) (λ _. Unit {0}) result }
     ensures memory { let f = sections_of linked.entry.table.image.now in
         IfErr result (λ fault. fault ≡ OutOfMemory → ¬ MembersAscend (order f) (content f linked.entry.table.index)) }
 {
-    judge_group_front(linked)?;
+    validate_group_front(linked)?;
     let wrong = lowest_wrong_member(alloc, linked.table)?;
     match wrong {
         Some(j) => Err(Fault::from(Broken::new(WRONG_MEMBER, member_offset(linked.table, j)))),
@@ -209,7 +209,7 @@ fn member_offset(table: TableSection<'_, '_>, j: usize) -> u64
 
 /// Rules 55 to 57 of a group.
 #[tactic(auto, unfolding(crate::specs::Groups::group_front_rules))]
-fn judge_group_front(linked: LinkedTable<'_, '_>) -> Result<(), Broken<u64>>
+fn validate_group_front(linked: LinkedTable<'_, '_>) -> Result<(), Broken<u64>>
     requires typed { (section (sections_of linked.table.image.now) linked.table.index).sh_type ≡ SHT_GROUP }
     requires sized { (section (sections_of linked.table.image.now) linked.table.index).sh_size % WORD_SIZE ≡ 0 }
     ensures { FirstIn (group_front_rules (sections_of linked.entry.table.image.now) linked.entry.table.index) (fault_of result) }

@@ -17,11 +17,11 @@ mod relocations;
 
 pub use dynamic::{
     Dynamic, DynamicIter, dynamic_entry, dynamic_entry_count, first_null_entry, is_string_tag,
-    judge_dynamic_section, sound_dynamic,
+    sound_dynamic, validate_dynamic_section,
 };
-pub use group::{Group, GroupIter, judge_group_section, member, member_count, sound_group};
-pub use notes::{Note, NoteHeader, NoteIter, Notes, judge_note_section, note_at, sound_notes};
+pub use group::{Group, GroupIter, member, member_count, sound_group, validate_group_section};
+pub use notes::{Note, NoteHeader, NoteIter, Notes, note_at, sound_notes, validate_note_section};
 pub use relocations::{
-    RelocIter, Relocation, Relocs, judge_relocation_section, relocation_at, relocation_count,
-    section_relocs,
+    RelocIter, Relocation, Relocs, relocation_at, relocation_count, section_relocs,
+    validate_relocation_section,
 };

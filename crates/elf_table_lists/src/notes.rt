@@ -5,7 +5,7 @@ ghost use Rattle.elf_table_lists.specs.Notes.{note_at as note_of, note_end as no
 ghost use Rattle.elf_image_rules.specs.Rows.{fault_of, FirstIn};
 ghost use Rattle.elf_image_rules.specs.Rules.{MAX_LEN};
 ghost use Rattle.elf_table_symbols.specs.Sections.{sections_of};
-ghost use Rattle.elf_table_symbols.specs.Verdicts.{IsJudged};
+ghost use Rattle.elf_table_symbols.specs.Verdicts.{IsValidated};
 
 use elf_field::abi::*;
 use elf_field::{Order, get_at};
@@ -113,7 +113,7 @@ pub fn note_at<'a>(order: Order, table: &'a [u8], at: usize) -> Note<'a>
 
 /// Rules 40 and 59 to 62 of a note section. [`Broken`] is the first of them that is broken, at its lowest offset.
 #[tactic(auto, unfolding(crate::specs::Notes::note_section_rules))]
-pub fn judge_note_section(table: TableSection<'_, '_>) -> Result<(), Broken<u64>>
+pub fn validate_note_section(table: TableSection<'_, '_>) -> Result<(), Broken<u64>>
     ensures { FirstIn (note_section_rules (sections_of table.entry.image.now) table.entry.index) (fault_of result) }
 {
     let section = table.header();
@@ -121,19 +121,19 @@ pub fn judge_note_section(table: TableSection<'_, '_>) -> Result<(), Broken<u64>
         let at = table.header_offset() + SH_TYPE_AT;
         return Err(Broken::new(WRONG_TABLE_TYPE, at));
     }
-    judge_notes(table.order(), table.content(), section.sh_offset)
+    validate_notes(table.order(), table.content(), section.sh_offset)
 }
 
 /// Rules 59 to 62, of the notes of a content at `start` in the file. A name that is not closed is answered only once all notes are
 /// seen to be whole.
-pub(crate) fn judge_notes(order: Order, table: &[u8], start: u64) -> Result<(), Broken<u64>>
+pub(crate) fn validate_notes(order: Order, table: &[u8], start: u64) -> Result<(), Broken<u64>>
     requires { 0 < length table.now → start + length table.now ≤ MAX_LEN }
     ensures { FirstIn (note_rules order table.now start) (fault_of result) }
 {
     let mut unclosed = None;
     let mut at = 0;
     while at < table.len() {
-        let end = judge_end(order, table, start, at)?;
+        let end = validate_end(order, table, start, at)?;
         unclosed = unclosed.or(unclosed_note_name(order, table, at));
         at = end;
     }
@@ -144,7 +144,7 @@ pub(crate) fn judge_notes(order: Order, table: &[u8], start: u64) -> Result<(), 
 }
 
 /// Where the note at this offset ends, or the one of rules 59 to 61 that it breaks.
-fn judge_end(order: Order, table: &[u8], start: u64, at: usize) -> Result<usize, Broken<u64>>
+fn validate_end(order: Order, table: &[u8], start: u64, at: usize) -> Result<usize, Broken<u64>>
     requires there { at < length table.now }
     requires inside { start + length table.now ≤ MAX_LEN }
     ensures { MatchResult result
@@ -207,9 +207,9 @@ impl<'a> Notes<'a> {
     /// Linear in the notes.
     pub fn new(image: &Image<'a>, i: usize) -> Result<Notes<'a>, Fault>
         requires { i < length image.now.sections }
-        ensures { IsJudged (note_section_rules (sections_of image.now) i) (λ notes. notes ≡ notes_of (sections_of image.now) i) result }
+        ensures { IsValidated (note_section_rules (sections_of image.now) i) (λ notes. notes ≡ notes_of (sections_of image.now) i) result }
     {
-        judge_note_section(TableSection { image, index: i })?;
+        validate_note_section(TableSection { image, index: i })?;
         Ok(sound_notes(image, i))
     }
 

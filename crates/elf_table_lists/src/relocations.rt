@@ -7,7 +7,7 @@ ghost use Rattle.elf_extent.specs.Extent.{IsLowest};
 ghost use Rattle.elf_image_rules.specs.Rows.{fault_of, AtEntry, FirstIn};
 ghost use Rattle.elf_table_symbols.specs.Symbols.{AreKnown};
 ghost use Rattle.elf_table_symbols.specs.Sections.{sections_of};
-ghost use Rattle.elf_table_symbols.specs.Verdicts.{IsJudged};
+ghost use Rattle.elf_table_symbols.specs.Verdicts.{IsValidated};
 ghost use Rattle.elf_table_lists.specs.Left.{relocations_left};
 
 use elf_field::abi::*;
@@ -16,7 +16,7 @@ use elf_image_rules::Broken;
 use elf_image_stream::Fault;
 use elf_image_type::Image;
 use elf_table_symbols::rules::*;
-use elf_table_symbols::{LinkedTable, SymbolVerdicts, TableKind, TableSection, judge_own_rules};
+use elf_table_symbols::{LinkedTable, SymbolVerdicts, TableKind, TableSection, validate_own_rules};
 use std::marker::Model;
 
 // A relocation (gABI chapter 4, Relocation).
@@ -87,22 +87,22 @@ pub(crate) fn relocation_offset(addends: bool, start: u64, j: usize) -> u64
 /// All rules of a relocation section, by these verdicts on the symbol tables. [`Broken`] is the first that is broken, at its lowest
 /// offset: 40, 42, 43, 44, then all rules of the symbol table that the section links to, then 53 and 54.
 #[tactic(auto, unfolding(crate::specs::Relocations::relocation_section_rules))]
-pub fn judge_relocation_section(
+pub fn validate_relocation_section(
     table: TableSection<'_, '_>,
     symbols: SymbolVerdicts<'_>,
 ) -> Result<(), Broken<u64>>
     requires { AreKnown (sections_of table.image.now) symbols }
     ensures { FirstIn (relocation_section_rules (sections_of table.entry.image.now) table.entry.index) (fault_of result) }
 {
-    judge_own_rules(table, TableKind::RelocationTable)?;
+    validate_own_rules(table, TableKind::RelocationTable)?;
     let linked = LinkedTable { table };
     symbols.of(linked)?;
-    judge_relocations(linked)
+    validate_relocations(linked)
 }
 
 /// Rules 53 and 54 of a relocation section.
 #[tactic(auto, unfolding(crate::specs::Relocations::relocation_entry_rules))]
-fn judge_relocations(linked: LinkedTable<'_, '_>) -> Result<(), Broken<u64>>
+fn validate_relocations(linked: LinkedTable<'_, '_>) -> Result<(), Broken<u64>>
     ensures { FirstIn (relocation_entry_rules (sections_of linked.entry.table.image.now) linked.entry.table.index) (fault_of result) }
 {
     let table = linked.table;
@@ -176,9 +176,9 @@ impl<'a> Relocs<'a> {
     /// relocations.
     pub fn new(image: &Image<'a>, i: usize) -> Result<Relocs<'a>, Fault>
         requires { i < length image.now.sections }
-        ensures { IsJudged (relocation_section_rules (sections_of image.now) i) (λ relocs. relocs ≡ relocations_of (sections_of image.now) i) result }
+        ensures { IsValidated (relocation_section_rules (sections_of image.now) i) (λ relocs. relocs ≡ relocations_of (sections_of image.now) i) result }
     {
-        judge_relocation_section(TableSection { image, index: i }, SymbolVerdicts::Unknown)?;
+        validate_relocation_section(TableSection { image, index: i }, SymbolVerdicts::Unknown)?;
         Ok(section_relocs(image, i))
     }
 

@@ -13,18 +13,18 @@ use Rattle.elf_table_symbols.specs.declared.verdicts.Verdicts.TheInside.{Inside}
 -- that is, at its lowest offset.
 
 -- of a call that takes no memory: the table is this value, by its view
-abbrev pub IsJudged : {T : Type 0} → List {1} (Ruled ℕ) → (T → Type 0) → Result T Fault → Type 0
-IsJudged rules Is (Ok table) = FirstIn rules None × Is table
-IsJudged rules Is (Err (Rule rule at)) = FirstIn rules (Some (rule, at))
-IsJudged rules Is (Err OutOfMemory) = ⊥
-IsJudged rules Is (Err (Io at)) = ⊥
+abbrev pub IsValidated : {T : Type 0} → List {1} (Ruled ℕ) → (T → Type 0) → Result T Fault → Type 0
+IsValidated rules Is (Ok table) = FirstIn rules None × Is table
+IsValidated rules Is (Err (Rule rule at)) = FirstIn rules (Some (rule, at))
+IsValidated rules Is (Err OutOfMemory) = ⊥
+IsValidated rules Is (Err (Io at)) = ⊥
 
 -- of a call that takes memory: it is refused only where no rule of `front` is broken, which are tested before any is taken
-abbrev pub IsJudgedBehind : {T : Type 0} → List {1} (Ruled ℕ) → List {1} (Ruled ℕ) → (T → Type 0) → Result T Fault → Type 0
-IsJudgedBehind front rules Is (Ok table) = FirstIn rules None × Is table
-IsJudgedBehind front rules Is (Err (Rule rule at)) = FirstIn rules (Some (rule, at))
-IsJudgedBehind front rules Is (Err OutOfMemory) = FirstIn front None
-IsJudgedBehind front rules Is (Err (Io at)) = ⊥
+abbrev pub IsValidatedBehind : {T : Type 0} → List {1} (Ruled ℕ) → List {1} (Ruled ℕ) → (T → Type 0) → Result T Fault → Type 0
+IsValidatedBehind front rules Is (Ok table) = FirstIn rules None × Is table
+IsValidatedBehind front rules Is (Err (Rule rule at)) = FirstIn rules (Some (rule, at))
+IsValidatedBehind front rules Is (Err OutOfMemory) = FirstIn front None
+IsValidatedBehind front rules Is (Err (Io at)) = ⊥
 
 -- What contracts see of the verdicts on the first sections of an image.
 

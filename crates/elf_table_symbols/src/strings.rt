@@ -3,7 +3,7 @@ ghost use Rattle.std.specs.Prelude.{◌≡◌, ◌≢◌, ◌<◌, ◌≤◌, �
 ghost use Rattle.elf_image_rules.specs.Rules.{MAX_LEN};
 ghost use Rattle.elf_image_rules.specs.Rows.{fault_of, FirstIn};
 ghost use Rattle.elf_image_type.specs.ImageView.{string};
-ghost use Rattle.elf_table_symbols.specs.Verdicts.{IsJudged};
+ghost use Rattle.elf_table_symbols.specs.Verdicts.{IsValidated};
 ghost use Rattle.elf_table_symbols.specs.Sections.{content, sections_of};
 ghost use Rattle.elf_table_symbols.specs.Symbols.{linked_string_rules, string_table_rules};
 
@@ -38,10 +38,10 @@ impl<'a> Strings<'a> {
     /// It looks at the first and the last byte of the table alone.
     pub fn new(image: &Image<'a>, i: usize) -> Result<Strings<'a>, Fault>
         requires { i < length image.now.sections }
-        ensures { IsJudged (string_table_rules (sections_of image.now) i) (λ strings. strings ≡ content (sections_of image.now) i) result }
+        ensures { IsValidated (string_table_rules (sections_of image.now) i) (λ strings. strings ≡ content (sections_of image.now) i) result }
     {
         let table = TableSection { image, index: i };
-        judge_string_table(table)?;
+        validate_string_table(table)?;
         Ok(Strings {
             table: table.content(),
         })
@@ -63,7 +63,7 @@ impl<'a> Strings<'a> {
 
 /// Rules 40 and 41 of a string table.
 #[tactic(auto, unfolding(crate::specs::Symbols::string_table_rules))]
-fn judge_string_table(table: TableSection<'_, '_>) -> Result<(), Broken<u64>>
+fn validate_string_table(table: TableSection<'_, '_>) -> Result<(), Broken<u64>>
     ensures { FirstIn (string_table_rules (sections_of table.entry.image.now) table.entry.index) (fault_of result) }
 {
     let section = table.header();
@@ -71,13 +71,13 @@ fn judge_string_table(table: TableSection<'_, '_>) -> Result<(), Broken<u64>>
     if section.sh_type != SHT_STRTAB {
         return Err(Broken::new(WRONG_TABLE_TYPE, at + SH_TYPE_AT));
     }
-    judge_linked_strings(table.content(), section.sh_offset)
+    validate_linked_strings(table.content(), section.sh_offset)
 }
 
 /// Rule 41 of a string table at this offset in the file, which another table links to. [`Broken`] has the lowest offset where the rule is
 /// broken: that of the first byte where this isn't 0, else of the last.
 #[tactic(auto, unfolding(crate::specs::Symbols::linked_string_rules))]
-pub fn judge_linked_strings(table: &[u8], start: u64) -> Result<(), Broken<u64>>
+pub fn validate_linked_strings(table: &[u8], start: u64) -> Result<(), Broken<u64>>
     requires { 0 < length table.now → start + length table.now ≤ MAX_LEN }
     ensures { FirstIn (linked_string_rules table.now start) (fault_of result) }
 {

@@ -9,9 +9,9 @@ ghost use Rattle.elf_image_rules.specs.Rows.{fault_of, AtEntry, FirstIn};
 
 use crate::index_tables::IndexTables;
 use crate::rules::*;
-use crate::strings::judge_linked_strings;
+use crate::strings::validate_linked_strings;
 use crate::symbol_parts::SymbolParts;
-use crate::table_section::{LinkedTable, TableKind, TableSection, judge_own_rules};
+use crate::table_section::{LinkedTable, TableKind, TableSection, validate_own_rules};
 use elf_field::abi::*;
 use elf_field::{Order, Sym, get_at};
 use elf_image_rules::Broken;
@@ -129,7 +129,7 @@ fn lowest_symbol_0_not_null(parts: &SymbolParts<'_>) -> Option<u64>
 
 /// Rules 45 to 48.
 #[tactic(auto, unfolding(crate::specs::Symbols::symbol_entry_rules))]
-fn judge_entries(parts: &SymbolParts<'_>) -> Result<(), Broken<u64>>
+fn validate_entries(parts: &SymbolParts<'_>) -> Result<(), Broken<u64>>
     ensures { FirstIn (symbol_entry_rules (parts_value parts.now)) (fault_of result) }
 {
     if let Some(at) = lowest_symbol_0_not_null(parts) {
@@ -149,7 +149,7 @@ fn judge_entries(parts: &SymbolParts<'_>) -> Result<(), Broken<u64>>
 
 /// Rules 49 and 50, of the index tables of a table of so many symbols.
 #[tactic(auto, unfolding(crate::specs::Symbols::index_table_rules))]
-fn judge_index_table(
+fn validate_index_table(
     table: TableSection<'_, '_>,
     tables: IndexTables,
     symbols: usize,
@@ -208,7 +208,7 @@ fn is_wrong_index_word(symbol: &Sym, index: u32, sections: usize) -> bool
 
 /// Rules 51 and 52.
 #[tactic(auto, unfolding(crate::specs::Symbols::place_rules))]
-fn judge_places(parts: &SymbolParts<'_>) -> Result<(), Broken<u64>>
+fn validate_places(parts: &SymbolParts<'_>) -> Result<(), Broken<u64>>
     requires { (j : ℕ) → parts.now.index_table ≡ Some j → length parts.now.words.now ≡ WORD_SIZE * entry_count parts.now.table.now }
     ensures { FirstIn (place_rules (parts_value parts.now)) (fault_of result) }
 {
@@ -223,7 +223,7 @@ fn judge_places(parts: &SymbolParts<'_>) -> Result<(), Broken<u64>>
 
 /// All rules of a symbol table after its own, of the table with these parts.
 #[tactic(auto, unfolding(crate::specs::Symbols::rest_rules))]
-fn judge_rest(
+fn validate_rest(
     table: TableSection<'_, '_>,
     tables: IndexTables,
     parts: &SymbolParts<'_>,
@@ -232,23 +232,23 @@ fn judge_rest(
     requires parts { parts_value parts.now ≡ symbol_parts (sections_of table.image.now) table.index }
     ensures { FirstIn (rest_rules (sections_of table.entry.image.now) table.entry.index (parts_value parts.now)) (fault_of result) }
 {
-    judge_linked_strings(parts.names, parts.names_start)?;
-    judge_entries(parts)?;
-    judge_index_table(table, tables, parts.len())?;
-    judge_places(parts)
+    validate_linked_strings(parts.names, parts.names_start)?;
+    validate_entries(parts)?;
+    validate_index_table(table, tables, parts.len())?;
+    validate_places(parts)
 }
 
 /// All rules of a symbol table, which has these index tables. [`Broken`] is the first that is broken, at its lowest
 /// offset: 40, 42, 43, 44, then 41 of the string table that the section links to, then 45 to 52.
 #[tactic(auto, unfolding(crate::specs::Symbols::symbol_table_rules))]
-pub fn judge_symbol_table(
+pub fn validate_symbol_table(
     table: TableSection<'_, '_>,
     tables: IndexTables,
 ) -> Result<(), Broken<u64>>
     requires { AreIndexTables (sections_of table.image.now) table.index (length table.image.now.sections) tables }
     ensures { FirstIn (symbol_table_rules (sections_of table.entry.image.now) table.entry.index) (fault_of result) }
 {
-    judge_own_rules(table, TableKind::SymbolTable)?;
+    validate_own_rules(table, TableKind::SymbolTable)?;
     let parts = SymbolParts::new(LinkedTable { table }, tables);
-    judge_rest(table, tables, &parts)
+    validate_rest(table, tables, &parts)
 }

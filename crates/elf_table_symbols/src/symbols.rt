@@ -2,13 +2,13 @@
 ghost use Rattle.std.specs.Prelude.{◌≡◌, ◌*◌, ◌+◌, ◌≤◌, length, ◌<◌, None, OnOk, get_or};
 ghost use Rattle.elf_table_symbols.specs.Symbols.{word as word_of, place_of, AreIndexTables, symbol_table_rules, symbols_of};
 ghost use Rattle.elf_image_rules.specs.Rows.{fault_of, FirstIn};
-ghost use Rattle.elf_table_symbols.specs.Verdicts.{IsJudged};
+ghost use Rattle.elf_table_symbols.specs.Verdicts.{IsValidated};
 ghost use Rattle.elf_table_symbols.specs.Sections.{sections_of};
 ghost use Rattle.elf_table_symbols.specs.SymbolView.{no_symbol_entry, symbol_entry_value, symbols_left};
 
 use crate::index_tables::{IndexTables, index_tables_of};
 use crate::symbol_parts::SymbolParts;
-use crate::symbol_rules::{entry, judge_symbol_table, word};
+use crate::symbol_rules::{entry, validate_symbol_table, word};
 use crate::table_section::{LinkedTable, TableSection};
 use elf_field::Order;
 use elf_field::abi::*;
@@ -97,11 +97,11 @@ impl<'a> Symbols<'a> {
     /// table that it links to, then 45 to 52. No other fault comes. Linear in the section headers and the symbols.
     pub fn new(image: &Image<'a>, i: usize) -> Result<Symbols<'a>, Fault>
         requires { i < length image.now.sections }
-        ensures { IsJudged (symbol_table_rules (sections_of image.now) i) (λ symbols. symbols ≡ symbols_of (sections_of image.now) i) result }
+        ensures { IsValidated (symbol_table_rules (sections_of image.now) i) (λ symbols. symbols ≡ symbols_of (sections_of image.now) i) result }
     {
         let table = TableSection { image, index: i };
         let tables = index_tables_of(image, i);
-        judge_symbol_table(table, tables)?;
+        validate_symbol_table(table, tables)?;
         Ok(sound_symbols(image, i, tables))
     }
 

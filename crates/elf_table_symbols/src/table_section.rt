@@ -172,7 +172,7 @@ impl<'i, 'a> LinkedTable<'i, 'a> {
 
 /// Rules 40 and 42 to 44 of a table of this kind.
 #[tactic(auto, unfolding(crate::specs::Sections::own_rules))]
-pub fn judge_own_rules(table: TableSection<'_, '_>, kind: TableKind) -> Result<(), Broken<u64>>
+pub fn validate_own_rules(table: TableSection<'_, '_>, kind: TableKind) -> Result<(), Broken<u64>>
     ensures fault { FirstIn (own_rules kind (sections_of table.entry.image.now) table.entry.index) (fault_of result) }
     ensures typed { OnOk result (kind_of (section (sections_of table.entry.image.now) table.entry.index).sh_type ≡ Some kind) }
     ensures sized { let s = section (sections_of table.entry.image.now) table.entry.index in OnOk result (s.sh_size % entry_size kind s.sh_type ≡ 0) }

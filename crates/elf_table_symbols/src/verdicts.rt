@@ -5,7 +5,7 @@ ghost use Rattle.elf_table_symbols.specs.Symbols.{AreKnown, symbol_table_rules};
 ghost use Rattle.elf_table_symbols.specs.Sections.{section, sections_of, IsSymbolType};
 
 use crate::index_tables::index_tables_of;
-use crate::symbol_rules::judge_symbol_table;
+use crate::symbol_rules::validate_symbol_table;
 use crate::table_section::{LinkedTable, TableSection};
 use elf_image_rules::Broken;
 use std::alloc::{AllocError, Global};
@@ -94,7 +94,7 @@ impl SymbolVerdicts<'_> {
             SymbolVerdicts::Unknown => {
                 let image = linked.table.image;
                 let table = TableSection { image, index };
-                judge_symbol_table(table, index_tables_of(image, index))
+                validate_symbol_table(table, index_tables_of(image, index))
             }
         }
     }

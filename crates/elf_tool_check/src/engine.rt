@@ -2,12 +2,12 @@
 ghost use Rattle.std.specs.Prelude.{◌≡◌, length, IfOk, string_bytes};
 ghost use Rattle.elf_image_rules.specs.Rows.{fault_of};
 ghost use Rattle.elf_image_rules.specs.Rules.{IsFault};
-ghost use Rattle.elf_image_rules.specs.JudgedRecords.{file_of};
+ghost use Rattle.elf_image_rules.specs.ValidatedRecords.{file_of};
 ghost use Rattle.elf_tool_check.specs.Check.{CheckSays, IsChecked, file_sections, file_segments, verdict_of};
 ghost use Rattle.elf_tool_check.specs.FileLines.{ok_line as ok_line_of, refused_line as refused_line_of};
 
 use crate::calls::{Refusal, ToolFault, Verdict, read_input};
-use elf_image_rules::{Broken, JudgedRecords, judge_by_sorting};
+use elf_image_rules::{Broken, ValidatedRecords, validate_by_sorting};
 use elf_image_stream::send;
 use std::alloc::{AllocError, Global};
 use std::io::{Read, Write};
@@ -33,28 +33,28 @@ pub fn check<R: Read, W: Write>(
     let mut buf = Vec::new(alloc);
     read_input(reader, &mut buf)?;
     let bytes = buf.as_slice();
-    let judged = judge_by_sorting(alloc, bytes);
-    let line = line_on(alloc, bytes, judged)?;
+    let validated = validate_by_sorting(alloc, bytes);
+    let line = line_on(alloc, bytes, validated)?;
     send(writer, 0, line.as_bytes())?;
-    Ok(verdict_on(judged))
+    Ok(verdict_on(validated))
 }
 
 fn line_on(
     alloc: Global,
     bytes: &[u8],
-    judged: Result<JudgedRecords<'_>, Broken<u64>>,
+    validated: Result<ValidatedRecords<'_>, Broken<u64>>,
 ) -> Result<String, AllocError>
-    requires fault { IsFault bytes.now (fault_of judged) }
-    requires file { IfOk judged (λ records. file_of records ≡ bytes.now) }
-    ensures { IfOk result (λ line. CheckSays bytes.now (verdict_of (fault_of judged.entry)) (string_bytes line)) }
+    requires fault { IsFault bytes.now (fault_of validated) }
+    requires file { IfOk validated (λ records. file_of records ≡ bytes.now) }
+    ensures { IfOk result (λ line. CheckSays bytes.now (verdict_of (fault_of validated.entry)) (string_bytes line)) }
 {
-    match judged {
+    match validated {
         Ok(records) => line_on_image(alloc, &records),
         Err(Broken { rule, at }) => refused_line(alloc, rule, at),
     }
 }
 
-fn line_on_image(alloc: Global, records: &JudgedRecords<'_>) -> Result<String, AllocError>
+fn line_on_image(alloc: Global, records: &ValidatedRecords<'_>) -> Result<String, AllocError>
     ensures { let b = file_of records.now in
         IfOk result (λ line. string_bytes line ≡ ok_line_of (length b) (file_sections b) (file_segments b)) }
 {
@@ -63,10 +63,10 @@ fn line_on_image(alloc: Global, records: &JudgedRecords<'_>) -> Result<String, A
     ok_line(alloc, records.bytes().len(), sections, segments)
 }
 
-fn verdict_on(judged: Result<JudgedRecords<'_>, Broken<u64>>) -> Verdict
-    ensures { result ≡ verdict_of (fault_of judged.entry) }
+fn verdict_on(validated: Result<ValidatedRecords<'_>, Broken<u64>>) -> Verdict
+    ensures { result ≡ verdict_of (fault_of validated.entry) }
 {
-    match judged {
+    match validated {
         Ok(_) => Verdict::Done,
         Err(Broken { rule, at }) => Verdict::Refused(Refusal::File { file: 0, rule, at }),
     }

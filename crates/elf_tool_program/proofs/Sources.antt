@@ -55,24 +55,24 @@ image_says b o image =
     let same_length : o.len ≡ length b = image.stands.len in
     (image.clean, rw (same_length, same_sections, same_segments) refl)
 
-check_says : (b : List ℕ) (judged : Result OutlineValue (Broken ℕ)) → IsScanned b judged → CheckSays b (verdict_of (fault_of judged)) (line_of_scan judged)
+check_says : (b : List ℕ) (validated : Result OutlineValue (Broken ℕ)) → IsScanned b validated → CheckSays b (verdict_of (fault_of validated)) (line_of_scan validated)
 check_says b (Ok o) image = image_says b o image
 check_says b (Err broken) is = (is, refl, refl)
 
-is_line : (judged : Result OutlineValue (Broken ℕ)) → IsCheckLine (verdict_of (fault_of judged)) (line_of_scan judged)
+is_line : (validated : Result OutlineValue (Broken ℕ)) → IsCheckLine (verdict_of (fault_of validated)) (line_of_scan validated)
 is_line (Ok o) = (o.len, length o.sections, length o.segments, refl)
 is_line (Err broken) = (refl, refl)
 
 -- the line of what was scanned, with its verdict
-source_says : (content : Option (List ℕ)) (judged : Result OutlineValue (Broken ℕ)) → ((b : List ℕ) → content ≡ Some b → IsBytes b → IsScanned b judged)
-    → SourceSays content (verdict_of (fault_of judged)) (line_of_scan judged)
-source_says content judged told = (is_line judged, λ b same are. check_says b judged (told b same are))
+source_says : (content : Option (List ℕ)) (validated : Result OutlineValue (Broken ℕ)) → ((b : List ℕ) → content ≡ Some b → IsBytes b → IsScanned b validated)
+    → SourceSays content (verdict_of (fault_of validated)) (line_of_scan validated)
+source_says content validated told = (is_line validated, λ b same are. check_says b validated (told b same are))
 
 -- what is said when the line is out, and when only its first bytes are
-module _ (content old new : Option (List ℕ)) (judged : Result OutlineValue (Broken ℕ)) (bytes : List ℕ) (is : bytes ≡ line_of_scan judged)
-    (told : (b : List ℕ) → content ≡ Some b → IsBytes b → IsScanned b judged) where
-  pub said_whole : (verdict : Verdict) → verdict ≡ verdict_of (fault_of judged) → Appends old new bytes → Prints (SourceSays content) old new (Ok verdict)
-  said_whole verdict same out = (bytes, rw (same, is) (source_says content judged told), out)
+module _ (content old new : Option (List ℕ)) (validated : Result OutlineValue (Broken ℕ)) (bytes : List ℕ) (is : bytes ≡ line_of_scan validated)
+    (told : (b : List ℕ) → content ≡ Some b → IsBytes b → IsScanned b validated) where
+  pub said_whole : (verdict : Verdict) → verdict ≡ verdict_of (fault_of validated) → Appends old new bytes → Prints (SourceSays content) old new (Ok verdict)
+  said_whole verdict same out = (bytes, rw (same, is) (source_says content validated told), out)
 
   pub said_in_part : (written : ℕ) → StoppedIn old new 0 bytes written → Prints (SourceSays content) old new (Err (Write written))
-  said_in_part written cut = (verdict_of (fault_of judged), bytes, rw is (source_says content judged told), cut)
+  said_in_part written cut = (verdict_of (fault_of validated), bytes, rw is (source_says content validated told), cut)

@@ -29,14 +29,14 @@ pub fn check_source<S: Source, W: Write>(
     ensures failures { Remembers (check_failure result) (S.failures source.old) (S.failures source.new) }
     ensures said { IsSourceSaid (S.content source.old) (W.contents writer.old) (W.contents writer.new) result }
 {
-    let judged = judged_by_scan(alloc, source)?;
-    let line = line_on_scan(alloc, &judged)?;
+    let validated = validated_by_scan(alloc, source)?;
+    let line = line_on_scan(alloc, &validated)?;
     send(writer, 0, line.as_bytes())?;
-    Ok(verdict_on_scan(&judged))
+    Ok(verdict_on_scan(&validated))
 }
 
 /// The outline of a source that breaks no rule, or the first one that it breaks.
-fn judged_by_scan<S: Source>(
+fn validated_by_scan<S: Source>(
     alloc: Global,
     source: &mut S,
 ) -> Result<Result<Outline, Broken<u64>>, ToolFault>
@@ -53,10 +53,13 @@ fn judged_by_scan<S: Source>(
     }
 }
 
-fn line_on_scan(alloc: Global, judged: &Result<Outline, Broken<u64>>) -> Result<String, AllocError>
-    ensures { IfOk result (λ line. string_bytes line ≡ line_of_scan judged.now) }
+fn line_on_scan(
+    alloc: Global,
+    validated: &Result<Outline, Broken<u64>>,
+) -> Result<String, AllocError>
+    ensures { IfOk result (λ line. string_bytes line ≡ line_of_scan validated.now) }
 {
-    match judged {
+    match validated {
         Ok(outline) => line_on_outline(alloc, outline),
         Err(broken) => refused_line(alloc, broken.rule, broken.at),
     }
@@ -70,10 +73,10 @@ fn line_on_outline(alloc: Global, outline: &Outline) -> Result<String, AllocErro
     ok_line(alloc, outline.len() as usize, sections, segments)
 }
 
-fn verdict_on_scan(judged: &Result<Outline, Broken<u64>>) -> Verdict
-    ensures { result ≡ verdict_of (fault_of judged.now) }
+fn verdict_on_scan(validated: &Result<Outline, Broken<u64>>) -> Verdict
+    ensures { result ≡ verdict_of (fault_of validated.now) }
 {
-    match judged {
+    match validated {
         Ok(_) => Verdict::Done,
         Err(broken) => Verdict::Refused(Refusal::File {
             file: 0,

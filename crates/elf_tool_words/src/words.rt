@@ -236,7 +236,7 @@ struct LinkWords<'a> {
 }
 
 // Refuses more files than a command takes.
-fn judge_count(files: &[&str]) -> Result<(), WordsFault>
+fn validate_count(files: &[&str]) -> Result<(), WordsFault>
     ensures ok { OnOk result (length files.now ≤ 64) }
     ensures err { IfErr result (λ fault. (fault ≡ TooManyFiles) × (64 < length files.now)) }
 {
@@ -251,7 +251,7 @@ fn link_words<'a>(alloc: Global, matches: &ArgMatches<'a>) -> Result<LinkWords<'
     ensures err { IfErr result (RefusesLinkWords (rows_of (found_of matches.now))) }
 {
     let files = texts_at(alloc, matches, "FILE")?;
-    judge_count(&files)?;
+    validate_count(&files)?;
     let Some(base) = number_of(text_at(matches, "B")) else {
         return Err(WordsFault::BadNumber);
     };

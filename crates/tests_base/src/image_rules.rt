@@ -2,26 +2,26 @@
 //! more than 2^30 bytes: `tools/test explain` has one.
 use crate::asserts::assert_same;
 use elf_field::Order;
-use elf_image_rules::{Broken, judge_by_sorting, rules, verdict};
+use elf_image_rules::{Broken, rules, validate_by_sorting, verdict};
 use std::alloc::Global;
 use tests_files::{one_section, set};
 
 /// What sorting finds in the file of one section, after the content of section 1 is moved to this offset; and the verdict.
-fn judged_at(alloc: Global, offset: u64) -> (Option<Broken<u64>>, Option<(u16, u64)>) {
+fn validated_at(alloc: Global, offset: u64) -> (Option<Broken<u64>>, Option<(u16, u64)>) {
     let mut file = one_section(Order::Little);
     // Section header 1 is at 200, and its field `sh_offset` at 24 in it.
     set(&mut file, Order::Little, &[(224, 8, offset)]);
-    (judge_by_sorting(alloc, &file).err(), verdict(&file))
+    (validate_by_sorting(alloc, &file).err(), verdict(&file))
 }
 
 // After all other contents, where it shares no byte; and on the content of section 3. The last one is the example of the root of
 // elf_image_rules.
 #[test]
-fn judges_contents_out_of_order(rt: HostRuntime) {
+fn validates_contents_out_of_order(rt: HostRuntime) {
     let shared = rules::SHARED_BYTE;
     assert_same(
         &rt,
-        [judged_at(rt.alloc(), 130), judged_at(rt.alloc(), 96)],
+        [validated_at(rt.alloc(), 130), validated_at(rt.alloc(), 96)],
         [
             (None, None),
             (Some(Broken::new(shared, 96)), Some((shared, 96))),

@@ -69,13 +69,13 @@ pub(crate) fn fault_of(
 }
 
 /// That of the three sections with relocations of this kind and size, and the two symbols.
-fn judged(alloc: Global, rela: bool, entsize: u64) -> Result<(), ObjectFault> {
+fn validated(alloc: Global, rela: bool, entsize: u64) -> Result<(), ObjectFault> {
     let sections = sections(alloc, rela, entsize)?;
     fault_of(alloc, sections, symbols(alloc)?)
 }
 
 /// That of the three sections, with this one at this position, and the two symbols.
-fn judged_with(
+fn validated_with(
     alloc: Global,
     position: usize,
     section: Section<'static>,
@@ -88,12 +88,12 @@ fn judged_with(
 }
 
 /// That of the three sections, with one in the middle whose name has a zero.
-fn judged_named(alloc: Global) -> Result<(), ObjectFault> {
+fn validated_named(alloc: Global) -> Result<(), ObjectFault> {
     let named = Section {
         name: b"a\0",
         ..bits(6)
     };
-    judged_with(alloc, 1, named)
+    validated_with(alloc, 1, named)
 }
 
 fn in_section(rule: u16, position: usize) -> Result<(), ObjectFault> {
@@ -101,17 +101,17 @@ fn in_section(rule: u16, position: usize) -> Result<(), ObjectFault> {
 }
 
 /// The fault of the sections, with one of this alignment and address in the middle.
-fn judged_at(alloc: Global, align: u64, addr: u64) -> Result<(), ObjectFault> {
+fn validated_at(alloc: Global, align: u64, addr: u64) -> Result<(), ObjectFault> {
     let aligned = Section {
         align,
         addr,
         ..bits(6)
     };
-    judged_with(alloc, 1, aligned)
+    validated_with(alloc, 1, aligned)
 }
 
 /// The fault of the sections, with these relocations after them.
-fn judged_relocs(
+fn validated_relocs(
     alloc: Global,
     rela: bool,
     entsize: u64,
@@ -123,27 +123,27 @@ fn judged_relocs(
         target,
         entries: list(alloc, [entry(addend)])?.into(),
     };
-    judged_with(alloc, 2, section(0, entsize, relocs))
+    validated_with(alloc, 2, section(0, entsize, relocs))
 }
 
 // Parts that break no rule; and each rule of sections, at the section that breaks it.
 #[test]
 fn each_rule_of_sections_is_answered_at_its_section(rt: HostRuntime) {
     let alloc = rt.alloc();
-    let judged = [
-        judged(alloc, true, 24),
-        judged(alloc, false, 16),
+    let validated = [
+        validated(alloc, true, 24),
+        validated(alloc, false, 16),
         fault_of(alloc, Vec::new(alloc), Vec::new(alloc)),
-        judged_named(alloc),
-        judged_with(alloc, 0, section(6, 0, Body::Bits(11, b""))),
-        judged_at(alloc, 3, 0),
-        judged_at(alloc, 8, 4),
+        validated_named(alloc),
+        validated_with(alloc, 0, section(6, 0, Body::Bits(11, b""))),
+        validated_at(alloc, 3, 0),
+        validated_at(alloc, 8, 4),
         // A section without bits has no relocations.
-        judged_relocs(alloc, true, 24, 1, 0),
+        validated_relocs(alloc, true, 24, 1, 0),
         // A number where the flag says section, entries of another size, and REL with an addend.
-        judged_with(alloc, 0, bits(0x46)),
-        judged_relocs(alloc, false, 24, 0, 0),
-        judged_relocs(alloc, false, 16, 0, -4),
+        validated_with(alloc, 0, bits(0x46)),
+        validated_relocs(alloc, false, 24, 0, 0),
+        validated_relocs(alloc, false, 16, 0, -4),
     ];
     let expected = [
         Ok(()),
@@ -158,11 +158,11 @@ fn each_rule_of_sections_is_answered_at_its_section(rt: HostRuntime) {
         in_section(rules::WRONG_FIELD, 2),
         in_section(rules::WRONG_FIELD, 2),
     ];
-    assert_same(&rt, judged, expected);
+    assert_same(&rt, validated, expected);
 }
 
 /// The fault of an object of these two symbols.
-fn judged_symbols(
+fn validated_symbols(
     alloc: Global,
     first: Symbol<'static>,
     second: Symbol<'static>,
@@ -184,17 +184,17 @@ fn each_rule_of_symbols_is_answered_at_its_symbol(rt: HostRuntime) {
     };
     let past = symbol(0, Place::In(3));
     let late = symbol(0, Place::Common);
-    let judged = [
-        judged_symbols(alloc, named, symbol(1, Place::Undef)),
-        judged_symbols(alloc, past, symbol(1, Place::Undef)),
-        judged_symbols(alloc, symbol(1, Place::Abs), late),
+    let validated = [
+        validated_symbols(alloc, named, symbol(1, Place::Undef)),
+        validated_symbols(alloc, past, symbol(1, Place::Undef)),
+        validated_symbols(alloc, symbol(1, Place::Abs), late),
     ];
     let expected = [
         at_symbol(rules::ZERO_IN_SYMBOL_NAME, 0),
         at_symbol(rules::WRONG_PLACE, 0),
         at_symbol(rules::MISPLACED_LOCAL, 1),
     ];
-    assert_same(&rt, judged, expected);
+    assert_same(&rt, validated, expected);
 }
 
 // Rule 6 of objects: groups of two sections.
@@ -210,42 +210,42 @@ fn group(members: Vec<usize>) -> Section<'static> {
 }
 
 /// The fault of an object of these sections, and a symbol that signs their groups.
-fn judged_of_group(alloc: Global, sections: Vec<Section<'static>>) -> Result<(), ObjectFault> {
+fn validated_of_group(alloc: Global, sections: Vec<Section<'static>>) -> Result<(), ObjectFault> {
     let symbols = list(alloc, [symbol(1, Place::Undef)])?;
     fault_of(alloc, sections, symbols)
 }
 
 /// That of a group of these members, and two sections of these flags.
-fn judged_group(alloc: Global, members: [usize; 2], flags: u64) -> Result<(), ObjectFault> {
+fn validated_group(alloc: Global, members: [usize; 2], flags: u64) -> Result<(), ObjectFault> {
     let [first, second] = members;
     let group = group(list(alloc, [first, second])?);
-    judged_of_group(alloc, list(alloc, [group, bits(flags), bits(0x200)])?)
+    validated_of_group(alloc, list(alloc, [group, bits(flags), bits(0x200)])?)
 }
 
 /// That of two groups of one member, the same section.
-fn judged_twice(alloc: Global) -> Result<(), ObjectFault> {
+fn validated_twice(alloc: Global) -> Result<(), ObjectFault> {
     let first = group(list(alloc, [2])?);
     let second = group(list(alloc, [2])?);
-    judged_of_group(alloc, list(alloc, [first, second, bits(0x200)])?)
+    validated_of_group(alloc, list(alloc, [first, second, bits(0x200)])?)
 }
 
 // Two members; one at no position; one named twice, the group itself, one without the flag GROUP, and a member of an earlier group too.
 #[test]
 fn wrong_members_are_answered_at_the_group(rt: HostRuntime) {
-    let judged_of_group = [
-        judged_group(rt.alloc(), [1, 2], 0x200),
-        judged_group(rt.alloc(), [1, 9], 0x200),
-        judged_group(rt.alloc(), [1, 1], 0x200),
-        judged_group(rt.alloc(), [0, 1], 0x200),
-        judged_group(rt.alloc(), [1, 2], 2),
-        judged_twice(rt.alloc()),
+    let validated_of_group = [
+        validated_group(rt.alloc(), [1, 2], 0x200),
+        validated_group(rt.alloc(), [1, 9], 0x200),
+        validated_group(rt.alloc(), [1, 1], 0x200),
+        validated_group(rt.alloc(), [0, 1], 0x200),
+        validated_group(rt.alloc(), [1, 2], 2),
+        validated_twice(rt.alloc()),
     ];
     let past = in_section(rules::WRONG_POSITION, 0);
     let first = in_section(rules::WRONG_MEMBERSHIP, 0);
     let second = in_section(rules::WRONG_MEMBERSHIP, 1);
     assert_same(
         &rt,
-        judged_of_group,
+        validated_of_group,
         [Ok(()), past, first, first, first, second],
     );
 }

@@ -1,5 +1,5 @@
 """Cases: the words with which elfmap is run, the files that it is given, and what it has to answer. `tools/test cases` tries those of
-cases/*.txt, whose heads say how they are written; `tools/test make-cases` generates the files cases/made-*.txt.
+cases/*.txt, whose heads say how they are written; `tools/test make-cases` generates the files cases/generated-*.txt.
 
 Generated files are sound ones, made by their fields and laid out by the reference implementation, and files with a few fields changed. All
 of it goes by a source of chance, so that the same seed makes the same files."""
@@ -373,7 +373,7 @@ def changed_field(chance: Chance, file: bytes, of_rule: int) -> bytes | None:
 # What cases/ was made by.
 SEED, COUNT = "elfmap", 60
 HEAD = """# Made by `tools/test make-cases --seed {seed} --count {count}`, with the answers of the reference implementation (reference/).
-# How a case is written the head of worked.txt says.
+# How a case is written the head of hand-written.txt says.
 """
 RULES = (
     b"1 abs 8 wrap\n2 pc 4 signed\n3 none 1 wrap\n",
@@ -530,8 +530,8 @@ def executable_cases(text: Text) -> None:
         text.case(f"link --base {base} --page {page} --entry {entry} --rules r {' '.join(files)}", {**files, "r": rules})
 
 
-GENERATED = {"made-images.txt": image_cases, "made-objects.txt": object_cases}
-GENERATED |= {"made-links.txt": link_cases, "made-executables.txt": executable_cases}
+GENERATED = {"generated-images.txt": image_cases, "generated-objects.txt": object_cases}
+GENERATED |= {"generated-links.txt": link_cases, "generated-executables.txt": executable_cases}
 COUNTED = number("count", COUNT, "cases of each kind")
 SEEDED = word("--seed", "the same seed makes the same cases", default=SEED)
 INTO = word("--in", "write them there", dest="folder", metavar="FOLDER")

@@ -274,7 +274,7 @@ def doc_examples(tally: Tally, options: Options) -> None:
         path = examples[int(number)][1]
         faults.setdefault(number, []).append(path + line.replace(name, path))
     if not faults and not re.search(r"^src/lib\.rt:\d+:.*borrow-e0", output, re.M):
-        raise SystemExit(f"the compiler does not judge the examples:\n{output}")
+        raise SystemExit(f"the compiler gives no verdict on the examples:\n{output}")
     tally.count(len(examples), map("\n".join, faults.values()))
     tally.note(", ".join(f"{crate} {count}" for crate, count in Counter(crate for crate, *_ in examples).items()))
 

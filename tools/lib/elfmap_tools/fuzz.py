@@ -1,8 +1,8 @@
 """Files and programs by chance, and all changes of one byte, beside the reference implementation, which was written from docs/RULES.md and
 shares nothing with the crates. The same seed makes the same; what went wrong is put into the current folder, as fuzzed-SEED-K or
-made-program-SEED-K.
+generated-program-SEED-K.
 
-`tools/test mutants`: so many fuzzed files, every other one of a file: of real ones, objects, libraries and executables of gcc, clang,
+`tools/test fuzzed-files`: so many fuzzed files, every other one of a file: of real ones, objects, libraries and executables of gcc, clang,
 rustc, `as` and their linkers in both byte orders, and every fourth time of a generated one; through `check`, `show` and `rewrite`. Each
 call ends by itself within ten seconds, with status 0 or 1; they say what the reference implementation says: the verdict, all lines, the
 object in its canonical layout or why there is none; `check --seek` says what `check` does; and what `rewrite` wrote it writes again. The
@@ -15,8 +15,8 @@ value. The program `tests_calls` makes the calls of the library on all of them: 
 says; a file that is accepted is written back unchanged; it is an object, or breaks the rule of objects that the reference says; and
 `rewrite` of it is the reference's. (What `elfmap` says of such files by the rules is in cases/image_rules.txt.)
 
-`tools/test made-programs`: programs for Linux on x86-64, made of one to three objects, are linked by `elfmap link` and run: each ends by a
-system call, with the status that its steps come to. A step adds to a register a number, a word of memory, what a pointer leads to, or the
+`tools/test generated-programs`: programs for Linux on x86-64, made of one to three objects, are linked by `elfmap link` and run: each ends
+by a system call, with the status that its steps come to. A step adds to a register a number, a word of memory, what a pointer leads to, or the
 value of a name, or adds the register to a word; then it goes to the next step, in another section, or another file. So the status depends
 on where words, commons, weak and absolute names and groups that are in two files come to, and on each relocated field. What is written is
 the executable of the reference implementation, byte for byte, and `elfmap check` accepts it."""
@@ -51,9 +51,9 @@ def count_tries(tally: Tally, options: Options, name: str, wrong_in: Callable[[i
     tally.count(options.count, filter(None, side_by_side(tries, range(options.count), True)))
 
 
-# ---- mutants
+# ---- fuzzed files
 
-ABOUT_MUTANTS, COMPILERS = "files and links with fields changed, beside the reference implementation", "gcc g++ clang ld.lld rustc as"
+ABOUT_FUZZED, COMPILERS = "files and links with fields changed, beside the reference implementation", "gcc g++ clang ld.lld rustc as"
 LONGEST = 1 << 19
 BIG = "--target=powerpc64-unknown-linux-gnu"
 BUILDS = f"""gcc -c -g defining.c -o part.o
@@ -122,7 +122,7 @@ def wrong_answer(folder: str, words: list[str], files: dict[str, bytes]) -> str:
     return "" if is_right else f"{command} of what is written {ending(again)}"
 
 
-def wrong_mutant(sources: list[str], pair: list[str], seed: int, number: int, folder: str) -> str:
+def wrong_fuzzed_file(sources: list[str], pair: list[str], seed: int, number: int, folder: str) -> str:
     """What is wrong with the answers on fuzzed file NUMBER, or on a link of two files, which are written into a folder."""
     chance, files = random.Random(f"{seed} {number}"), dict[str, bytes]()
     names = pair if number % 2 else [sources[number // 2 % len(sources)]]
@@ -147,13 +147,13 @@ def wrong_mutant(sources: list[str], pair: list[str], seed: int, number: int, fo
         return f"{late.cmd[1]} did not end"
 
 
-@Test("mutants", ABOUT_MUTANTS, COMPILERS, "elfmap", alone=True, family="fuzz", options=by_chance(500, "files"))
-def mutants(tally: Tally, options: Options) -> None:
+@Test("fuzzed-files", ABOUT_FUZZED, COMPILERS, "elfmap", alone=True, family="fuzz", options=by_chance(500, "files"))
+def fuzzed_files(tally: Tally, options: Options) -> None:
     system = [it for it in SYSTEM if os.path.exists(it) and os.path.getsize(it) <= LONGEST]
     files, pair = [*compiled(tally.folder, BUILDS), *system], compiled(tally.folder, PAIR)
     if not tally.check(files and len(pair) == 2, "the compilers make no files"):
         return
-    count_tries(tally, options, "fuzzed", partial(wrong_mutant, files, pair))
+    count_tries(tally, options, "fuzzed", partial(wrong_fuzzed_file, files, pair))
     tally.note(f"{options.count} fuzzed files of {len(files)} files and a link, seed {options.seed}")
 
 
@@ -215,7 +215,7 @@ def changed_files(tally: Tally, options: Options) -> None:
         tally.count(count, wrong)
 
 
-# ---- made-programs
+# ---- generated-programs
 
 ABOUT_PROGRAMS, ASSEMBLER = "programs of chance objects, linked and run", "x86_64-linux-gnu-as"
 # Every so many programs has the larger page, for which the file has megabytes of zeros.
@@ -363,6 +363,6 @@ def wrong_program(seed: int, k: int, folder: str) -> str:
     return f"it ends with {status}, and not with {made.status & 0xFF}" if status != made.status & 0xFF else ""
 
 
-@Test("made-programs", ABOUT_PROGRAMS, ASSEMBLER, "elfmap", alone=True, family="linked", options=by_chance(100, "programs"))
-def made_programs(tally: Tally, options: Options) -> None:
-    count_tries(tally, options, "made-program", wrong_program)
+@Test("generated-programs", ABOUT_PROGRAMS, ASSEMBLER, "elfmap", alone=True, family="linked", options=by_chance(100, "programs"))
+def generated_programs(tally: Tally, options: Options) -> None:
+    count_tries(tally, options, "generated-program", wrong_program)

@@ -1,6 +1,6 @@
 """What commands and the gate take.
 
-`tools/test instructions`: counts the instructions of each command on generated files (bench/made.py), and compares the counts with the
+`tools/test instructions`: counts the instructions of each command on generated files (bench/generated.py), and compares the counts with the
 numbers in bench/instructions, which `--store` stores (docs/PERFORMANCE.md). A row is a command and its input. It fails if its count is more
 than PERCENT above its number, or has none; and so do a number without a row, and a command of `elfmap --help` without one. valgrind counts
 (its tool callgrind). It interprets the program, so the same run always has the same count. The program runs in its own folder, with
@@ -17,7 +17,7 @@ from collections.abc import Callable
 from pathlib import Path
 from typing import Any
 
-import made
+import generated
 
 from .suite import Tally, Test, flag
 from .tree import PROGRAM, TOP, Options, read_bytes, read_text, said, write
@@ -36,17 +36,17 @@ COMMANDS = {
 }  # fmt: skip
 # Each input, its length in bytes, and the commands that run on it. What goes through a pipe has at most PIPE_LENGTH bytes.
 ROWS: list[tuple[Callable[[int], Any], int, list[str]]] = [
-    (made.scattered_sections, 1000000, ["check", "check of a pipe", "check --seek", "show", "rewrite"]),
-    (made.distinct_names, 640000, ["show", "rewrite"]),
-    (made.relocations_in_order, 1280000, ["show", "rewrite"]),
-    (made.groups_of_one, 680000, ["show", "rewrite"]),
-    (made.hash_chain, 640000, ["show"]),
-    (made.dynamic, 60000, ["show"]),
-    (made.notes, 240000, ["show"]),
-    (made.empty_sections_of_many_names, 1440000, ["map"]),
-    (made.commons_of_many_names, 640000, ["map"]),
-    (made.definitions_and_relocations, 2000000, ["map", "map --rules", "link"]),
-    (made.falling_relocations, 500000, ["map --rules", "link"]),
+    (generated.scattered_sections, 1000000, ["check", "check of a pipe", "check --seek", "show", "rewrite"]),
+    (generated.distinct_names, 640000, ["show", "rewrite"]),
+    (generated.relocations_in_order, 1280000, ["show", "rewrite"]),
+    (generated.groups_of_one, 680000, ["show", "rewrite"]),
+    (generated.hash_chain, 640000, ["show"]),
+    (generated.dynamic, 60000, ["show"]),
+    (generated.notes, 240000, ["show"]),
+    (generated.empty_sections_of_many_names, 1440000, ["map"]),
+    (generated.commons_of_many_names, 640000, ["map"]),
+    (generated.definitions_and_relocations, 2000000, ["map", "map --rules", "link"]),
+    (generated.falling_relocations, 500000, ["map --rules", "link"]),
 ]
 # The C library chooses its routines by the processor and its caches. These features of processors are switched off. The last comma has to
 # be there: without it the library reads beyond the end of the list.
@@ -64,7 +64,7 @@ def written(folder: str, make: Callable[[int], Any], length: int) -> list[str]:
     for number, file in enumerate(files if isinstance(files, list) else [files]):
         names.append(f"{make.__name__}/{number:02}.o")
         write(f"{folder}/{names[-1]}", bytes(file.bytes()))
-    write(f"{folder}/{make.__name__}/rules", getattr(make, "rules", made.RULES))
+    write(f"{folder}/{make.__name__}/rules", getattr(make, "rules", generated.RULES))
     return names
 
 

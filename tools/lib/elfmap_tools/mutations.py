@@ -169,7 +169,7 @@ def mutations(tally: Tally, options: Options) -> None:
                 tally.count(len(ends), (f"{bug.crate}: {bug.name}: {end}" for bug, end in ends if end != "refused"))
                 tally.note(f"{ends[0][0].crate}: {sum(end == 'refused' for _, end in ends)} of {len(ends)} refused")
     if not options.crates and not options.only:
-        tried = [it for it in LIBRARIES_OF if must_fail_of(it) or any(bug.is_for_gate for bug in bugs_of(it))]
+        planted_in = [it for it in LIBRARIES_OF if must_fail_of(it) or any(bug.is_for_gate for bug in bugs_of(it))]
         for public in deps("elf"):
-            is_tried = any(f"{it}_".startswith(f"{public}_") for it in tried)
+            is_tried = any(f"{it}_".startswith(f"{public}_") for it in planted_in)
             tally.check(is_tried, f"{public}: neither it nor a crate behind it has a bug with 'gate: yes', or one in must-fail/")

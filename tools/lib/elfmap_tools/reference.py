@@ -41,7 +41,7 @@ def mapped(contents: Sequence[bytes], base: str, page: str, rules: bytes | None 
 
 def entries_of(contents: Sequence[bytes]) -> list[str]:
     """The names of the files, of letters alone, that an executable may begin at."""
-    _, it = link.judged(contents, 0x400000, 0x1000)
+    _, it = link.validated(contents, 0x400000, 0x1000)
     names = [name for name in it.entries if link.value_of(it, it.at, it.common_at, name)[1] != "zero"] if hasattr(it, "at") else []
     return [name.decode("ascii") for name in names if name.isalpha()]
 

@@ -8,7 +8,7 @@ use Rattle.elf_extent.specs.declared.sorted.Member.{Member}
 use Rattle.elf_extent.specs.Account.{Accounts, gap_between}
 use Rattle.elf_extent.proofs.Public.{AccountsBelow, member_end, member_piece, member_start, walk_ends, walk_pushed}
 use Rattle.elf_image_rules.specs.Rules.{extents_of_file}
-use Rattle.elf_image_rules.specs.JudgedRecords.{file_of}
+use Rattle.elf_image_rules.specs.ValidatedRecords.{file_of}
 use Rattle.elf_c_parts.specs.declared.parts.Part.{Part}
 use Rattle.elf_c_parts.specs.Slots.{member_of_part, piece_of_part}
 use Rattle.elf_c_parts.proofs.Slots.{few_extents, inside_file, short_file, ascending_members, map_more, member_at, no_member, owned_piece}

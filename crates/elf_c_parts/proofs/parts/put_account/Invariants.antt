@@ -1,7 +1,7 @@
 use Rattle.std.proofs.Common.{◌≤◌, ◌*◌, length, map, take}
 use Rattle.elf_extent.proofs.Public.{AccountsBelow}
 use Rattle.elf_image_rules.specs.Rules.{extents_of_file}
-use Rattle.elf_image_rules.specs.JudgedRecords.{file_of}
+use Rattle.elf_image_rules.specs.ValidatedRecords.{file_of}
 use Rattle.elf_c_parts.specs.Slots.{member_of_part, piece_of_part}
 use Rattle.elf_c_parts.proofs.parts.put_account.Given as goal
 

@@ -5,7 +5,7 @@ use Rattle.std.proofs.Common.{◌≤◌, ◌<◌, ◌≡◌, ◌+◌, ℕ, ap, a
 use Rattle.std.proofs.lemmas.List.{take_all}
 use Rattle.elf_extent.specs.Extent.{holds_any, AreMembers}
 use Rattle.elf_extent.proofs.Public.{members_more, members_none, members_skip}
-use Rattle.elf_image_rules.specs.JudgedRecords.{file_extents}
+use Rattle.elf_image_rules.specs.ValidatedRecords.{file_extents}
 use Rattle.elf_c_parts.specs.declared.parts.Part.{Part}
 use Rattle.elf_c_parts.specs.Slots.{member_of_part}
 use Rattle.elf_c_parts.proofs.Slots.{held_past, held_then, map_more}

@@ -1,6 +1,6 @@
 use Rattle.std.proofs.Common.{◌≡◌, ◌≤◌, filter, map, take}
 use Rattle.elf_extent.specs.Extent.{holds_any, AreMembers}
-use Rattle.elf_image_rules.specs.JudgedRecords.{file_extents}
+use Rattle.elf_image_rules.specs.ValidatedRecords.{file_extents}
 use Rattle.elf_c_parts.specs.Slots.{extent_of_part, member_of_part}
 use Rattle.elf_c_parts.proofs.parts.put_members.Given as goal
 

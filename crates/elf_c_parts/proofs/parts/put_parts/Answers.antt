@@ -4,7 +4,7 @@ use Rattle.std.proofs.Common.{None, Some, rules}
 use Rattle.std.proofs.lemmas.List.Sorted.{IsNonDecreasingBy-from_sort_by_key}
 use Rattle.elf_extent.proofs.Public.{disjoint_from_never, lowest_sorted, nonempty_sorted}
 use Rattle.elf_image_rules.specs.Rules.{extents_of_file}
-use Rattle.elf_image_rules.specs.JudgedRecords.{file_of}
+use Rattle.elf_image_rules.specs.ValidatedRecords.{file_of}
 use Rattle.elf_image_rules.proofs.Public.{fault_of_extents}
 use Rattle.elf_c_parts.specs.declared.parts.Part.{Part}
 use Rattle.elf_c_parts.proofs.Slots.{held_moved, members_moved}

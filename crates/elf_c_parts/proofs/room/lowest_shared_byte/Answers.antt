@@ -1,4 +1,4 @@
-use Rattle.elf_image_rules.specs.JudgedRecords.{file_extents}
+use Rattle.elf_image_rules.specs.ValidatedRecords.{file_extents}
 use Rattle.elf_extent.proofs.Public.{held_nonempty, lowest_held}
 use Rattle.elf_c_parts.proofs.room.lowest_shared_byte.Goals as goal
 

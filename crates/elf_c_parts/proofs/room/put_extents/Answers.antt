@@ -3,7 +3,7 @@
 use Rattle.std.proofs.Common.{◌≤◌, ◌<◌, ap, arith, filter, length, refl, sym, ◌∙◌}
 use Rattle.std.proofs.lemmas.List.{take_all}
 use Rattle.elf_extent.specs.Extent.{holds_any}
-use Rattle.elf_image_rules.specs.JudgedRecords.{file_extents}
+use Rattle.elf_image_rules.specs.ValidatedRecords.{file_extents}
 use Rattle.elf_c_parts.specs.declared.room.Slot.{Slot}
 use Rattle.elf_c_parts.proofs.Slots.{gathered_none, gathered_one}
 use Rattle.elf_c_parts.proofs.room.put_extents.Goals.{then-extent-gt0, else-extent-gt0}

@@ -1,6 +1,6 @@
 use Rattle.std.proofs.Common.{◌≡◌, ◌≤◌, filter, map, take}
 use Rattle.elf_extent.specs.Extent.{holds_any}
-use Rattle.elf_image_rules.specs.JudgedRecords.{file_extents}
+use Rattle.elf_image_rules.specs.ValidatedRecords.{file_extents}
 use Rattle.elf_c_parts.specs.Slots.{extent_in}
 use Rattle.elf_c_parts.proofs.room.put_extents.Given as goal
 

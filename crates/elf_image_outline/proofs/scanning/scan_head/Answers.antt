@@ -5,32 +5,32 @@ use Rattle.elf_image_rules.specs.Tables.{header}
 use Rattle.elf_image_outline.proofs.Scanned.{header_broken, header_of_block, ident_broken, length_broken, scans_rule, told_length}
 use Rattle.elf_image_outline.proofs.scanning.scan_head.Goals as goal
 
-pub returns-in_err-judge_length-clause-told : goal.returns-in_err-judge_length-clause-told
-returns-in_err-judge_length-clause-told g c b told =
+pub returns-in_err-validate_length-clause-told : goal.returns-in_err-validate_length-clause-told
+returns-in_err-validate_length-clause-told g c b told =
     let says = told_length _ b c.in-Ok.len told c.in-Ok.ensures.length in
-    let broken = c.in_err-judge_length.field-0.0 in
-    scans_rule b _ broken _ (length_broken b c.in-Ok.len (broken.rule, broken.at) says c.in_err-judge_length.ensures.fault) c.from_residual.ensures.1
+    let broken = c.in_err-validate_length.field-0.0 in
+    scans_rule b _ broken _ (length_broken b c.in-Ok.len (broken.rule, broken.at) says c.in_err-validate_length.ensures.fault) c.from_residual.ensures.1
 
-pub returns-in_err-judge_ident-clause-told : goal.returns-in_err-judge_ident-clause-told
-returns-in_err-judge_ident-clause-told g c b told =
+pub returns-in_err-validate_ident-clause-told : goal.returns-in_err-validate_ident-clause-told
+returns-in_err-validate_ident-clause-told g c b told =
     let says = told_length _ b c.in-Ok.len told c.in-Ok.ensures.length in
     let is : c.header_of-header.result ≡ header b =
     c.header_of-header.ensures ∙ header_of_block b _ c.in_ok-read_exactly.ensures.same (c.in_ok-read_exactly.ensures.reads.1 b (c.in-Ok.ensures.kept ∙ told)) in
-    let broken = c.in_err-judge_ident.field-0.0 in
+    let broken = c.in_err-validate_ident.field-0.0 in
     scans_rule b _ broken _
-    (ident_broken b c.in-Ok.len c.header_of-header.result (broken.rule, broken.at) says is c.in_ok-judge_length.ensures.fault c.in_err-judge_ident.ensures)
-    c.from_residual-in_err-judge_ident.ensures.1
+    (ident_broken b c.in-Ok.len c.header_of-header.result (broken.rule, broken.at) says is c.in_ok-validate_length.ensures.fault c.in_err-validate_ident.ensures)
+    c.from_residual-in_err-validate_ident.ensures.1
 
-pub returns-in_err-judge_header-clause-told : goal.returns-in_err-judge_header-clause-told
-returns-in_err-judge_header-clause-told g c b told =
+pub returns-in_err-validate_header-clause-told : goal.returns-in_err-validate_header-clause-told
+returns-in_err-validate_header-clause-told g c b told =
     let says = told_length _ b c.in-Ok.len told c.in-Ok.ensures.length in
     let is : c.header_of-header.result ≡ header b =
     c.header_of-header.ensures ∙ header_of_block b _ c.in_ok-read_exactly.ensures.same (c.in_ok-read_exactly.ensures.reads.1 b (c.in-Ok.ensures.kept ∙ told)) in
-    let broken = c.in_err-judge_header.field-0.0 in
+    let broken = c.in_err-validate_header.field-0.0 in
     scans_rule b _ broken _
-    (header_broken b c.in-Ok.len c.header_of-header.result (broken.rule, broken.at) says is c.in_ok-judge_length.ensures.fault c.in_ok-judge_ident.ensures
-    c.in_err-judge_header.ensures.fault)
-    c.from_residual-in_err-judge_header.ensures.1
+    (header_broken b c.in-Ok.len c.header_of-header.result (broken.rule, broken.at) says is c.in_ok-validate_length.ensures.fault c.in_ok-validate_ident.ensures
+    c.in_err-validate_header.ensures.fault)
+    c.from_residual-in_err-validate_header.ensures.1
 
 pub returns-clause-told : goal.returns-clause-told
 returns-clause-told g c b told = (

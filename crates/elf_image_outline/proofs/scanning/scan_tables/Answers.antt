@@ -7,26 +7,26 @@ use Rattle.elf_image_rules.specs.Tables.{sections, shdr_offset}
 use Rattle.elf_image_outline.proofs.Scanned.{counts_are, first_at, program_table_broken, scans_fault, scans_rule, section_table_broken, table_rules_kept, tables_read}
 use Rattle.elf_image_outline.proofs.scanning.scan_tables.Goals as goal
 
-pub returns-in_err-judge_section_table-clause-told : goal.returns-in_err-judge_section_table-clause-told
-returns-in_err-judge_section_table-clause-told g c b told says is =
+pub returns-in_err-validate_section_table-clause-told : goal.returns-in_err-validate_section_table-clause-told
+returns-in_err-validate_section_table-clause-told g c b told says is =
     let h = c.args.head.now.header in
     let first = c.in_ok-first.first in
     let read : first ≡ sections b h 0 = c.in_ok-first.ensures.told b told is in
-    let broken = c.in_err-judge_section_table.field-0.0 in
+    let broken = c.in_err-validate_section_table.field-0.0 in
     scans_rule b _ broken _
-    (section_table_broken b c.args.head.now.len h first (broken.rule, broken.at) says is c.requires.kept read c.in_err-judge_section_table.ensures.fault)
-    c.from_residual-in_err-judge_section_table.ensures.1
+    (section_table_broken b c.args.head.now.len h first (broken.rule, broken.at) says is c.requires.kept read c.in_err-validate_section_table.ensures.fault)
+    c.from_residual-in_err-validate_section_table.ensures.1
 
-pub returns-in_err-judge_program_table-clause-told : goal.returns-in_err-judge_program_table-clause-told
-returns-in_err-judge_program_table-clause-told g c b told says is =
+pub returns-in_err-validate_program_table-clause-told : goal.returns-in_err-validate_program_table-clause-told
+returns-in_err-validate_program_table-clause-told g c b told says is =
     let h = c.args.head.now.header in
     let first = c.in_ok-first.first in
     let read : first ≡ sections b h 0 = c.in_ok-first.ensures.told b told is in
-    let broken = c.in_err-judge_program_table.field-0.0 in
+    let broken = c.in_err-validate_program_table.field-0.0 in
     scans_rule b _ broken _
-    (program_table_broken b c.args.head.now.len h first (broken.rule, broken.at) says is c.requires.kept read c.in_ok-judge_section_table.ensures.fault
-    c.in_err-judge_program_table.ensures.fault)
-    c.from_residual-in_err-judge_program_table.ensures.1
+    (program_table_broken b c.args.head.now.len h first (broken.rule, broken.at) says is c.requires.kept read c.in_ok-validate_section_table.ensures.fault
+    c.in_err-validate_program_table.ensures.fault)
+    c.from_residual-in_err-validate_program_table.ensures.1
 
 pub returns-in_err-sections-clause-told : goal.returns-in_err-sections-clause-told
 returns-in_err-sections-clause-told g c b told says is =
@@ -35,10 +35,10 @@ returns-in_err-sections-clause-told g c b told says is =
     let count = c.counts_of-counts.result.sections in
     let read : first ≡ sections b h 0 = c.in_ok-first.ensures.told b told is in
     let counted = ap (λ (k : Counts). k.sections) c.counts_of-counts.ensures.value in
-    let inside : shdr_offset h count ≤ length b = rw counted (rw says at c.in_ok-judge_section_table.ensures.inside) in
+    let inside : shdr_offset h count ≤ length b = rw counted (rw says at c.in_ok-validate_section_table.ensures.inside) in
     scans_fault b _ c.in_err-sections.field-0.0 _
     (c.in_err-sections.ensures.told b (c.in_ok-first.ensures.kept ∙ told)
-    (table_rules_kept b c.args.head.now.len h first says is c.requires.kept read c.in_ok-judge_section_table.ensures.fault c.in_ok-judge_program_table.ensures.fault)
+    (table_rules_kept b c.args.head.now.len h first says is c.requires.kept read c.in_ok-validate_section_table.ensures.fault c.in_ok-validate_program_table.ensures.fault)
     is (ap (λ (k : Counts). k.sections) (counts_are b h first _ is read c.counts_of-counts.ensures.value)) (λ some. first_at b h first count read counted some))
     c.from_residual-in_err-sections.ensures.1
 
@@ -49,9 +49,9 @@ returns-clause-told g c b told says is =
     let counts = c.counts_of-counts.result in
     let read : first ≡ sections b h 0 = c.in_ok-first.ensures.told b told is in
     let counted = ap (λ (k : Counts). k.sections) c.counts_of-counts.ensures.value in
-    let inside : shdr_offset h counts.sections ≤ length b = rw counted (rw says at c.in_ok-judge_section_table.ensures.inside) in
+    let inside : shdr_offset h counts.sections ≤ length b = rw counted (rw says at c.in_ok-validate_section_table.ensures.inside) in
     tables_read b h first counts c.in_ok-sections.sections.items c.in_ok-segments.segments.items is read c.counts_of-counts.ensures.value
     (c.in_ok-sections.ensures.told b (c.in_ok-first.ensures.kept ∙ told)
-    (table_rules_kept b c.args.head.now.len h first says is c.requires.kept read c.in_ok-judge_section_table.ensures.fault c.in_ok-judge_program_table.ensures.fault)
+    (table_rules_kept b c.args.head.now.len h first says is c.requires.kept read c.in_ok-validate_section_table.ensures.fault c.in_ok-validate_program_table.ensures.fault)
     is (ap (λ (k : Counts). k.sections) (counts_are b h first _ is read c.counts_of-counts.ensures.value)) (λ some. first_at b h first counts.sections read counted some))
     (rw c.order_in-order.ensures at (c.in_ok-segments.ensures.ok.told b (c.in_ok-sections.ensures.kept ∙ c.in_ok-first.ensures.kept ∙ told)))

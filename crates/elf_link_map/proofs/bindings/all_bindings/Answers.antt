@@ -1,9 +1,9 @@
--- The names are in the order of their first entries, so the position of each there is where its binding is, and its number too.
+-- The names are in the order of their first entries, so the position of each there is where its binding is, and its index too.
 use Rattle.std.proofs.Common.{map, sym, subst}
 use Rattle.elf_link_names.specs.Tables.{name_position}
 use Rattle.elf_link_outputs.specs.Placed.{common_value}
 use Rattle.elf_link_map.specs.LinkMap.{AreBindings, AreNames, named_value}
-use Rattle.elf_link_map.proofs.OneMap.{numbers_in, bindings_are, names_are, positions_are}
+use Rattle.elf_link_map.proofs.OneMap.{indexes_in, bindings_are, names_are, positions_are}
 use Rattle.elf_link_map.proofs.bindings.all_bindings.Goals as goal
 
 pub new-requires : goal.new-requires
@@ -29,9 +29,9 @@ returns-clause-names c =
     subst (AreNames r.objects) (sym c.new.ensures)
     (names_are r.objects cs r.firsts (map named_value c.in_ok-list.list.items) c.into_parts-parts.ensures.firsts c.in_ok-list.ensures)
 
-pub returns-clause-numbers : goal.returns-clause-numbers
-returns-clause-numbers c =
+pub returns-clause-indexes : goal.returns-clause-indexes
+returns-clause-indexes c =
     let r = c.args.resolution in
     let parts = c.into_parts-parts in
-    numbers_in r.objects (map common_value c.args.commons.now) r.firsts (map named_value c.in_ok-list.list.items) _ (name_position parts.result.positions) _
-    parts.ensures.firsts c.in_ok-list.ensures parts.ensures.positions parts.ensures.numbers c.new.ensures
+    indexes_in r.objects (map common_value c.args.commons.now) r.firsts (map named_value c.in_ok-list.list.items) _ (name_position parts.result.positions) _
+    parts.ensures.firsts c.in_ok-list.ensures parts.ensures.positions parts.ensures.indexes c.new.ensures

@@ -1,9 +1,9 @@
--- File by file: a row of numbers joins those before it, which still hold, since no name loses its position.
+-- File by file: a row of indexes joins those before it, which still hold, since no name loses its position.
 use Rattle.std.proofs.Common.{◌≡◌, ℕ, [], length, map, subst, arith}
 use Rattle.std.proofs.lemmas.List.{map-append}
 use Rattle.elf_link_files.specs.Files.{object_at}
 use Rattle.elf_link_files.proofs.Public.{each_more}
-use Rattle.elf_link_names.specs.KnownNames.{AreKnownBefore, IsNumberRow}
+use Rattle.elf_link_names.specs.KnownNames.{AreKnownBefore, IsIndexRow}
 use Rattle.elf_link_names.specs.Tables.{name_position}
 use Rattle.elf_link_names.proofs.KnownNames.{rows_kept, names_file}
 use Rattle.elf_link_names.proofs.known_names.known_names.Goals as goal
@@ -14,13 +14,13 @@ loop-file-preserved c =
     let n = c.loop-file.file in
     let old = name_position c.loop-file.names.positions in
     let now = name_position c.pass_file.new.names.positions in
-    let rows = map (λ row. row.items) c.loop-file.numbers.items in
+    let rows = map (λ row. row.items) c.loop-file.indexes.items in
     let passed = c.in_ok-pass_file.ensures in
     record {
       names = names_file fs n _ _ passed.names;
-      numbers = rw (c.in_ok-push.ensures.items, map-append)
-          (each_more [] (λ f. IsNumberRow fs now f (length (object_at fs f).symbols)) n rows c.in_ok-pass_file.field-0.items passed.numbers
-          (rows_kept fs old now n rows passed.kept c.loop-file.invariant.numbers));
+      indexes = rw (c.in_ok-push.ensures.items, map-append)
+          (each_more [] (λ f. IsIndexRow fs now f (length (object_at fs f).symbols)) n rows c.in_ok-pass_file.field-0.items passed.indexes
+          (rows_kept fs old now n rows passed.kept c.loop-file.invariant.indexes));
     }
 
 pub returns-clause-names : goal.returns-clause-names

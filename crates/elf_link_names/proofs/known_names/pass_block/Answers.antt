@@ -1,7 +1,7 @@
--- Symbol by symbol: a number joins the row before it, which still holds, since no name loses its position; nor do the lookups.
+-- Symbol by symbol: an index joins the row before it, which still holds, since no name loses its position; nor do the lookups.
 use Rattle.std.proofs.Common.{arith}
 use Rattle.elf_link_files.proofs.Public.{each_more}
-use Rattle.elf_link_names.specs.KnownNames.{IsNameNumber}
+use Rattle.elf_link_names.specs.KnownNames.{IsNameIndex}
 use Rattle.elf_link_names.specs.Tables.{name_position}
 use Rattle.elf_link_names.proofs.KnownNames.{keeps_on, row_kept}
 use Rattle.elf_link_names.proofs.known_names.pass_block.Goals as goal
@@ -18,8 +18,8 @@ loop-index-preserved c =
     record {
       behind = (let behind = before.behind in omega arith);
       names = passed.names;
-      numbers = rw c.in_ok-push.ensures.items
-          (each_more 0 (IsNameNumber fs now f) c.loop-index.index c.loop-index.row.items c.in_ok-pass_symbol.field-0 passed.number
-          (row_kept fs old now f c.loop-index.index c.loop-index.row.items passed.kept before.numbers));
+      indexes = rw c.in_ok-push.ensures.items
+          (each_more 0 (IsNameIndex fs now f) c.loop-index.index c.loop-index.row.items c.in_ok-pass_symbol.field-0 passed.index
+          (row_kept fs old now f c.loop-index.index c.loop-index.row.items passed.kept before.indexes));
       kept = keeps_on first old now before.kept passed.kept;
     }

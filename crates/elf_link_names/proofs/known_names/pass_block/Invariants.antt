@@ -1,5 +1,5 @@
 use Rattle.std.proofs.Common.{◌≤◌}
-use Rattle.elf_link_names.specs.KnownNames.{AreKnownBefore, IsNumberRow, KeepsPositions}
+use Rattle.elf_link_names.specs.KnownNames.{AreKnownBefore, IsIndexRow, KeepsPositions}
 use Rattle.elf_link_names.specs.Tables.{name_position}
 use Rattle.elf_link_names.proofs.known_names.pass_block.Given as goal
 
@@ -7,6 +7,6 @@ abbrev pub invariant-loop-index : goal.invariant-loop-index
 invariant-loop-index l = record {
   behind : l.start ≤ l.index;
   names : AreKnownBefore l.inputs l.file l.index (name_position l.names.positions) l.names.known;
-  numbers : IsNumberRow l.inputs (name_position l.names.positions) l.file l.index l.row.items;
+  indexes : IsIndexRow l.inputs (name_position l.names.positions) l.file l.index l.row.items;
   kept : KeepsPositions (name_position l.fn.names.positions) (name_position l.names.positions);
 }

@@ -1,7 +1,7 @@
--- Block by block: no name loses its position; after the last one the row has as many numbers as the file symbols.
+-- Block by block: no name loses its position; after the last one the row has as many indexes as the file symbols.
 use Rattle.std.proofs.Common.{◌≡◌, ℕ, length, subst, arith}
 use Rattle.elf_link_files.specs.Files.{object_at}
-use Rattle.elf_link_names.specs.KnownNames.{AreKnownBefore, IsNumberRow}
+use Rattle.elf_link_names.specs.KnownNames.{AreKnownBefore, IsIndexRow}
 use Rattle.elf_link_names.specs.Tables.{name_position}
 use Rattle.elf_link_names.proofs.KnownNames.{keeps_on}
 use Rattle.elf_link_names.proofs.known_names.pass_file.Goals as goal
@@ -24,7 +24,7 @@ loop-names-preserved c =
     record {
       within = passed.within;
       names = passed.names;
-      numbers = passed.numbers;
+      indexes = passed.indexes;
       kept = keeps_on (name_position c.args.names.now.positions) (name_position c.loop-names.names.positions) (name_position c.pass_block.new.names.positions)
           c.loop-names.invariant.kept passed.kept;
     }
@@ -38,11 +38,11 @@ returns-clause-names c =
     let end : length c.loop-names.row.items ≡ length (object_at fs c.args.file).symbols = omega arith in
     subst (λ (n : ℕ). AreKnownBefore fs c.args.file n (name_position c.loop-names.names.positions) c.loop-names.names.known) end c.loop-names.invariant.names
 
-pub returns-clause-numbers : goal.returns-clause-numbers
-returns-clause-numbers c =
+pub returns-clause-indexes : goal.returns-clause-indexes
+returns-clause-indexes c =
     let fs = c.args.inputs.now in
     let count = rw c.object.ensures at c.symbol_count-count.ensures in
     let within = c.loop-names.invariant.within in
     let past = c.loop-names-test.false in
     let end : length c.loop-names.row.items ≡ length (object_at fs c.args.file).symbols = omega arith in
-    subst (λ (n : ℕ). IsNumberRow fs (name_position c.loop-names.names.positions) c.args.file n c.loop-names.row.items) end c.loop-names.invariant.numbers
+    subst (λ (n : ℕ). IsIndexRow fs (name_position c.loop-names.names.positions) c.args.file n c.loop-names.row.items) end c.loop-names.invariant.indexes

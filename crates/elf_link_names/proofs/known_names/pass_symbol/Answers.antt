@@ -19,8 +19,8 @@ returns-then-is_local-clause-names c =
     names_local s.inputs.now s.id.file s.id.index (name_position c.args.names.now.positions) c.args.names.now.known
     (subst (λ (s : SymbolValue). binding s ≡ STB_LOCAL) c.symbol-own.ensures (c.if-is_local.ensures.0 refl)) c.requires.before
 
-pub returns-then-is_local-clause-number : goal.returns-then-is_local-clause-number
-returns-then-is_local-clause-number c = λ not_local.
+pub returns-then-is_local-clause-index : goal.returns-then-is_local-clause-index
+returns-then-is_local-clause-index c = λ not_local.
     absurd (not_local (subst (λ (s : SymbolValue). binding s ≡ STB_LOCAL) c.symbol-own.ensures (c.if-is_local.ensures.0 refl)))
 
 pub place_looked_up-requires : goal.place_looked_up-requires
@@ -37,8 +37,8 @@ note_again-requires-clause-within c =
     let at = subst (λ (n : List ℕ). old n ≡ Some c.in-Some.k) (ap (λ (s : SymbolValue). s.name) c.symbol-own.ensures) (sym c.in_ok-place.ensures.old ∙ c.in-Some.is) in
     (placed_at s.inputs.now s.id.file s.id.index old c.args.names.now.known _ c.in-Some.k at c.requires.before).0
 
-pub returns-in_ok-note_again-in-Some-clause-number : goal.returns-in_ok-note_again-in-Some-clause-number
-returns-in_ok-note_again-in-Some-clause-number c = λ not_local.
+pub returns-in_ok-note_again-in-Some-clause-index : goal.returns-in_ok-note_again-in-Some-clause-index
+returns-in_ok-note_again-in-Some-clause-index c = λ not_local.
     let s = c.args.symbol.now in
     let old = name_position c.args.names.now.positions in
     let name = (symbol_in s.inputs.now s.id.file s.id.index).name in

@@ -6,10 +6,10 @@ use Rattle.elf_tool_program.proofs.scan_check.check_source.Goals as goal
 pub returns-in_err-send-clause-said : goal.returns-in_err-send-clause-said
 returns-in_err-send-clause-said g c =
     let told = err_from_is_err_and c.from_residual-in_err-send.result c.from_residual-in_err-send.ensures.1 in
-    rw (told.1, told.2) (said_in_part _ _ _ c.in_ok-judged.judged c.as_bytes.result.now (c.as_bytes.ensures.value ∙ c.in_ok-line.ensures) c.in_ok-judged.ensures.told
+    rw (told.1, told.2) (said_in_part _ _ _ c.in_ok-validated.validated c.as_bytes.result.now (c.as_bytes.ensures.value ∙ c.in_ok-line.ensures) c.in_ok-validated.ensures.told
     _ c.in_err-send.ensures)
 
 pub returns-clause-said : goal.returns-clause-said
 returns-clause-said g c =
-    said_whole _ _ _ c.in_ok-judged.judged c.as_bytes.result.now (c.as_bytes.ensures.value ∙ c.in_ok-line.ensures) c.in_ok-judged.ensures.told
+    said_whole _ _ _ c.in_ok-validated.validated c.as_bytes.result.now (c.as_bytes.ensures.value ∙ c.in_ok-line.ensures) c.in_ok-validated.ensures.told
     _ c.verdict_on_scan.ensures c.in_ok-send.ensures.1

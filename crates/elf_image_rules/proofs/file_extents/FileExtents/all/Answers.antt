@@ -2,7 +2,7 @@ use Rattle.std.proofs.Common.{◌∙◌, ◌++◌, ◌<◌, ◌≤◌, [], ◌�
 use Rattle.std.proofs.lemmas.List.{take_all, take_more}
 use Rattle.std.proofs.lemmas.Option.{get_or_from_slice_get}
 use Rattle.elf_extent.specs.declared.extent.Extent.{Extent}
-use Rattle.elf_image_rules.specs.JudgedRecords.{file_extents}
+use Rattle.elf_image_rules.specs.ValidatedRecords.{file_extents}
 use Rattle.elf_image_rules.proofs.file_extents.FileExtents.all.Goals as goal
 
 pub loop-index-preserved : goal.loop-index-preserved

@@ -5,7 +5,7 @@ use Rattle.std.specs.List.{slice_get}
 use Rattle.elf_field.specs.Abi.{EHDR_SIZE, PHDR_SIZE, SHDR_SIZE}
 use Rattle.elf_extent.specs.declared.extent.Extent.{Extent}
 use Rattle.elf_field.specs.declared.ehdr.Ehdr.{Ehdr}
-use Rattle.elf_image_rules.specs.JudgedRecords.{file_extents, file_of}
+use Rattle.elf_image_rules.specs.ValidatedRecords.{file_extents, file_of}
 use Rattle.elf_image_rules.specs.Rules.{extents}
 use Rattle.elf_image_rules.specs.Tables.{file_counts, header}
 use Rattle.elf_image_rules.proofs.file_extents.FileExtents.at.Goals as goal

@@ -1,6 +1,6 @@
 use Rattle.std.proofs.Common.{◌≡◌, ◌+◌, ◌-◌, ◌∙◌, ℕ, Some, ap, arith, sym}
 use Rattle.elf_field.specs.declared.shdr.Shdr.{Shdr}
-use Rattle.elf_image_rules.specs.JudgedRecords.{file_extents, file_of}
+use Rattle.elf_image_rules.specs.ValidatedRecords.{file_extents, file_of}
 use Rattle.elf_image_rules.specs.Tables.{content_extent, file_counts, header, sections}
 use Rattle.elf_image_rules.proofs.Clean.{content_extent_at, length-file_extents}
 use Rattle.elf_image_rules.proofs.file_extents.FileExtents.content.Goals as goal

@@ -3,7 +3,7 @@
 -- are the extents from index 3 on.
 use Rattle.std.proofs.Common.{rules, ◌<◌, length, arith}
 use Rattle.std.proofs.lemmas.Option.{slice_get_within}
-use Rattle.elf_image_rules.specs.JudgedRecords.{file_extents}
+use Rattle.elf_image_rules.specs.ValidatedRecords.{file_extents}
 use Rattle.elf_image_rules.proofs.Clean.{length-file_extents}
 use Rattle.elf_image_rules.proofs.file_extents.FileExtents.hull_of_ascending.Goals as goal
 

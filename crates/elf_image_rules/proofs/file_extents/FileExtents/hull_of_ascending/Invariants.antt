@@ -1,5 +1,5 @@
 use Rattle.std.proofs.Common.{◌+◌}
-use Rattle.elf_image_rules.specs.JudgedRecords.{file_extents}
+use Rattle.elf_image_rules.specs.ValidatedRecords.{file_extents}
 use Rattle.elf_image_rules.proofs.Clean.{HasAscended}
 use Rattle.elf_image_rules.proofs.file_extents.FileExtents.hull_of_ascending.Given as goal
 

@@ -1,5 +1,5 @@
 use Rattle.elf_extent.specs.Extent.{IsLowest}
-use Rattle.elf_image_rules.specs.JudgedRecords.{file_extents}
+use Rattle.elf_image_rules.specs.ValidatedRecords.{file_extents}
 use Rattle.elf_image_rules.specs.Rules.{DoublyBelow}
 use Rattle.elf_image_rules.proofs.file_extents.FileExtents.lowest_double.Given as goal
 

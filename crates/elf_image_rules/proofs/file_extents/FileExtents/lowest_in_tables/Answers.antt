@@ -1,6 +1,6 @@
 use Rattle.std.proofs.Common.{◌∙◌, ℕ, Option, ap, arith, subst, sym}
 use Rattle.elf_extent.specs.Extent.{IsLowest, lower_of}
-use Rattle.elf_image_rules.specs.JudgedRecords.{file_extents}
+use Rattle.elf_image_rules.specs.ValidatedRecords.{file_extents}
 use Rattle.elf_image_rules.specs.Rules.{SharedBelow}
 use Rattle.elf_image_rules.proofs.Clean.{shared_with_three, three_first}
 use Rattle.elf_image_rules.proofs.file_extents.FileExtents.lowest_in_tables.Goals as goal

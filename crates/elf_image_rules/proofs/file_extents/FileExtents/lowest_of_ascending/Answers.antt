@@ -1,5 +1,5 @@
 -- Contents that ascend share no byte. If the header and the tables lie outside of the hull, they share none with a content either.
-use Rattle.elf_image_rules.specs.JudgedRecords.{file_extents}
+use Rattle.elf_image_rules.specs.ValidatedRecords.{file_extents}
 use Rattle.elf_image_rules.proofs.Clean.{doubly_ascending, doubly_outside, three_first}
 use Rattle.elf_image_rules.proofs.file_extents.FileExtents.lowest_of_ascending.Goals as goal
 

@@ -1,6 +1,6 @@
 use Rattle.std.proofs.Common.{ℕ, ◌+◌, Option, subst, sym, arith, ◌≡◌}
 use Rattle.elf_extent.specs.Extent.{IsLowest}
-use Rattle.elf_image_rules.specs.JudgedRecords.{file_extents}
+use Rattle.elf_image_rules.specs.ValidatedRecords.{file_extents}
 use Rattle.elf_image_rules.specs.Rules.{SharedBelow}
 use Rattle.elf_image_rules.proofs.Clean.{shared_more}
 use Rattle.elf_image_rules.proofs.file_extents.FileExtents.lowest_shared.Goals as goal

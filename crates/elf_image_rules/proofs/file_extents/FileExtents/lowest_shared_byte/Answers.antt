@@ -1,6 +1,6 @@
 use Rattle.std.proofs.Common.{ℕ, subst}
 use Rattle.elf_extent.specs.Extent.{IsLowest}
-use Rattle.elf_image_rules.specs.JudgedRecords.{file_extents}
+use Rattle.elf_image_rules.specs.ValidatedRecords.{file_extents}
 use Rattle.elf_image_rules.specs.Rules.{DoublyBelow}
 use Rattle.elf_image_rules.proofs.Clean.{doubly_all}
 use Rattle.elf_image_rules.proofs.file_extents.FileExtents.lowest_shared_byte.Goals as goal

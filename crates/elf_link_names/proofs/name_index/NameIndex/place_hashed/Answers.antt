@@ -12,8 +12,8 @@ invariant_of-self-in-Free c =
     let p = c.self.inside in
     let e : Entry = record { name = c.args.name; position = c.args.next } in
     let tells = rw (c.deref.ensures.value, c.deref-2.ensures.value, c.in-Free.is) at c.look.ensures in
-    let number : c.len.result ≡ length p.entries.items + 1 = search rules in
-    rw (c.in_ok-push-in-Free.ensures.items, c.upper_of.ensures, c.requires, number)
+    let ordinal : c.len.result ≡ length p.entries.items + 1 = search rules in
+    rw (c.in_ok-push-in-Free.ensures.items, c.upper_of.ensures, c.requires, ordinal)
     (entered p.slots.items p.entries.items (position_by p.more) c.self.invariant e c.in-Free.at tells)
 
 pub invariant_of-self-in-Taken : goal.invariant_of-self-in-Taken

@@ -2,7 +2,7 @@ use Rattle.std.proofs.Common.{◌<◌, map, length, sym, subst, arith}
 use Rattle.std.proofs.lemmas.List.{length-map}
 use Rattle.elf_link_names.specs.Tables.{name_position}
 use Rattle.elf_link_names.specs.KnownNames.{IsKnownWhole, first_site}
-use Rattle.elf_link_names.specs.Resolution.{numbered}
+use Rattle.elf_link_names.specs.Resolution.{indexed}
 use Rattle.elf_link_names.proofs.KnownNames.{whole_at}
 use Rattle.elf_link_names.proofs.resolution.Resolution.choice.Goals as goal
 
@@ -11,7 +11,7 @@ returns c =
     let r = c.self.inside in
     let fs = r.inputs in
     let ks = r.names.known in
-    let name = numbered fs (map first_site ks) c.args.k in
+    let name = indexed fs (map first_site ks) c.args.k in
     let asked = rw (← c.self.view_is) at c.requires in
     let many = length-map ks first_site in
     let within : c.args.k < length ks = omega arith in

@@ -1,6 +1,6 @@
 use Rattle.std.proofs.Common.{◌≡◌, ◌<◌, map, length, get_or, sym, ◌∙◌, subst, arith}
 use Rattle.std.proofs.lemmas.List.{get_or_default}
-use Rattle.elf_link_names.specs.Resolution.{IsCommonOf, numbered}
+use Rattle.elf_link_names.specs.Resolution.{IsCommonOf, indexed}
 use Rattle.elf_link_names.specs.KnownNames.{first_site}
 use Rattle.elf_link_names.proofs.resolution.Resolution.common_position.Goals as goal
 
@@ -9,7 +9,7 @@ returns c =
     let r = c.self.inside in
     let fs = r.inputs in
     let cs = r.commons.items in
-    let name = numbered fs (map first_site r.names.known) c.args.k in
+    let name = indexed fs (map first_site r.names.known) c.args.k in
     let asked = rw (← c.self.view_is) at c.requires in
     let (size, align, binds) = asked.common in
     let (j, is) = c.self.invariant.all name size align binds in

@@ -14,7 +14,7 @@ invariant_of-result c =
     let ranks = rw (← c.table.view_is) at c.requires.ranks in
     record {
       names = c.table.invariant.names;
-      numbers = c.table.invariant.numbers;
+      indexes = c.table.invariant.indexes;
       bound = rw (← c.table.view_is) at c.requires.bound;
       chosen = chosen;
       symbols = chosen_symbols fs cs chosen;

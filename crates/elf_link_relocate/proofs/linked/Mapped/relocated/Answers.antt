@@ -3,8 +3,8 @@ use Rattle.elf_object_type.specs.Object.{ObjectValue}
 use Rattle.elf_link_relocate.specs.Linked.{MappedValue, IsMapButOptions, IsMapOfSome}
 use Rattle.elf_link_relocate.proofs.linked.Mapped.relocated.Goals as goal
 
-pub relocate_numbered-requires-clause-map : goal.relocate_numbered-requires-clause-map
-relocate_numbered-requires-clause-map c =
+pub relocate_indexed-requires-clause-map : goal.relocate_indexed-requires-clause-map
+relocate_indexed-requires-clause-map c =
     let m = c.self.inside.link.map in
     subst (λ (fs : List ObjectValue). IsMapButOptions fs m) (sym c.deref.ensures.value) (m.base, m.page, m.entry, c.self.invariant.map)
 

@@ -1,5 +1,5 @@
 use Rattle.std.proofs.Common.{refl}
-use Rattle.elf_table_symbols.proofs.JudgedLemmas.{verdict_get}
+use Rattle.elf_table_symbols.proofs.ValidatedLemmas.{verdict_get}
 use Rattle.elf_table_symbols.proofs.verdicts.Verdicts.get.Goals as goal
 
 pub returns-in-Some : goal.returns-in-Some

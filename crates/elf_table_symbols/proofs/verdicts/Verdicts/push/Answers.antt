@@ -1,5 +1,5 @@
 use Rattle.std.proofs.Common.{arith}
-use Rattle.elf_table_symbols.proofs.JudgedLemmas.{broken_added, length_verdicts, sound_added}
+use Rattle.elf_table_symbols.proofs.ValidatedLemmas.{broken_added, length_verdicts, sound_added}
 use Rattle.elf_table_symbols.proofs.verdicts.Verdicts.push.Goals.{in-Err+in_ok-insert, in_default}
 use Rattle.elf_table_symbols.proofs.verdicts.Verdicts.push.Goals as goal
 
