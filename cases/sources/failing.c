@@ -11,7 +11,7 @@
 
 extern void *__libc_malloc(size_t), *__libc_realloc(void *, size_t);
 enum { FILES = 256 };
-static char kind[16], how[16], told[512];
+static char kind[16], how[16], told[512], ended[FILES];
 static long left, at[FILES], failed_file = -1, opened, vain, grown, asked;
 
 __attribute__((constructor)) static void begin(void) {
@@ -26,8 +26,8 @@ static void say(const char *word, long number) {
     syscall(SYS_close, file);
 }
 
-/* How many files were opened; how many calls were in vain: empty ones, and those that wait for a disk; how many growths there were, and how
-   many bytes they asked for. */
+/* How many files were opened; how many calls were in vain: empty ones, reads after the one that found the end, and those that wait for a
+   disk; how many growths there were, and how many bytes they asked for. */
 __attribute__((destructor)) static void end(void) {
     if (strcmp(kind, "count") != 0) return;
     say("opened", opened); say("vain", vain); say("grown", grown); say("asked", asked);
@@ -36,13 +36,20 @@ __attribute__((destructor)) static void end(void) {
 int fsync(int file) { return vain++, syscall(SYS_fsync, file); }
 int fdatasync(int file) { return vain++, syscall(SYS_fdatasync, file); }
 
-/* Whether this call of a kind is the one; it says so, with the offset where it was to begin. */
+/* Whether this call of a kind is the one; it says so, with the offset where it was to begin, and of each call on a file after it. */
 static int is_it(const char *this, int file, long offset) {
-    if (file >= 0 && file == failed_file) say("again", offset);
+    if (file >= 0 && failed_file >= 0) say("again", offset);
     if (left == 0 || strcmp(this, kind) != 0 || --left > 0) return 0;
     failed_file = file;
     if (strcmp(how, "rest") == 0 || strcmp(how, "bytes") == 0) left = 1;
     if (strcmp(how, "bytes") != 0 || offset == 0) say("failed", offset);
+    return 1;
+}
+
+/* Whether this call of a kind gives or takes one byte alone, and the next one fails. */
+static int is_short(const char *this) {
+    if (left != 1 || strcmp(this, kind) != 0 || strcmp(how, "short") != 0) return 0;
+    strcpy(how, "fail");
     return 1;
 }
 
@@ -71,32 +78,35 @@ int open(const char *name, int flags, ...) {
     if (is_it("open", -1, 0)) return errno = EACCES, -1;
     opened++;
     int file = syscall(SYS_openat, AT_FDCWD, name, flags, 0600);
-    if (file >= 0 && file < FILES) at[file] = 0;
+    if (file >= 0 && file < FILES) at[file] = ended[file] = 0;
     return file;
 }
 
 ssize_t read(int file, void *block, size_t size) {
-    vain += size == 0;
-    if (is_it("read", file, at[file])) {
+    vain += size == 0 || ended[file];
+    if (is_short("read")) size = size > 0;
+    else if (is_it("read", file, at[file])) {
         if (fails()) return -1;
         failed_file = -1;
         size = strcmp(how, "nothing") == 0 ? 0 : size > 0;
     }
     long count = syscall(SYS_read, file, block, size);
     if (count > 0) at[file] += count;
+    ended[file] = size > 0 && count == 0;
     return count;
 }
 
 off_t lseek(int file, off_t offset, int from) {
     if (is_it("lseek", file, from == SEEK_SET ? offset : 0) && fails()) return -1;
     off_t found = syscall(SYS_lseek, file, offset, from);
-    if (found >= 0) at[file] = found;
+    if (found >= 0) at[file] = found, ended[file] = 0;
     return found;
 }
 
 ssize_t write(int file, const void *block, size_t size) {
     vain += size == 0;
-    if (file == 1 && is_it("write", file, at[file])) {
+    if (file == 1 && is_short("write")) size = size > 0;
+    else if (file == 1 && is_it("write", file, at[file])) {
         if (fails()) return -1;
         if (strcmp(how, "nothing") == 0) return 0;
         failed_file = -1;
