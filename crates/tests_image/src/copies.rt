@@ -2,14 +2,13 @@
 ghost use Rattle.std.specs.Prelude.{◌≤◌, length};
 
 use crate::asserts::assert_same;
-use crate::image_faults::{Written, written};
 use elf_field::{Order, Rela};
 use elf_image_outline::{CopyFault, NoSection, Outline, copy_image, scan, write_records};
 use elf_image_stream::output::write_zeros;
 use elf_image_stream::{Bytes, Fault, WriteFault};
 use std::alloc::Global;
 use std::io;
-use std::io::{ErrorKind, Write};
+use std::io::Write;
 use std::process::Abort;
 use tests_files::{
     Field, OnceFailingWriter, PartialSource, caller, empty_object, filled_gap, long_parts,
@@ -18,21 +17,16 @@ use tests_files::{
 
 // A writer that knows which bytes are to come.
 
-/// Takes bytes, at most `piece` a call, and reports whether they are those that are to come. The call of number `failing`, counted from 1,
-/// fails, or takes no byte where `takes_none`, and so does every call after it is full.
+/// Takes bytes, at most `piece` a call, and reports whether they are those that are to come. It takes none after these.
 #[derive(Drop)]
 pub struct ComparingWriter<'a> {
     rest: &'a [u8],
     pub piece: usize,
-    pub room: usize,
-    pub failing: u64,
-    pub takes_none: bool,
     pub calls: u64,
     pub flushes: u64,
     /// The most bytes of a call.
     pub longest: usize,
-    /// How many bytes it took, and whether they are those that were to come.
-    pub taken: usize,
+    /// Whether the bytes that it took are those that were to come.
     pub agrees: bool,
 }
 
@@ -41,13 +35,9 @@ impl<'a> ComparingWriter<'a> {
         ComparingWriter {
             rest: expected,
             piece: expected.len(),
-            room: expected.len(),
-            failing: 0,
-            takes_none: false,
             calls: 0,
             flushes: 0,
             longest: 0,
-            taken: 0,
             agrees: true,
         }
     }
@@ -59,17 +49,14 @@ impl<'a> ComparingWriter<'a> {
 }
 
 impl ComparingWriter<'_> {
-    /// Takes these bytes, as many as a piece, its room and what is to come allow.
+    /// Takes these bytes, as many as a piece and what is to come allow.
     fn take(&mut self, buf: &[u8]) -> usize
         ensures { result ≤ length buf.now }
     {
-        let offered = buf.len().min(self.piece);
-        let count = offered.min(self.room).min(self.rest.len());
+        let count = buf.len().min(self.piece).min(self.rest.len());
         let (expected, rest) = self.rest.split_at(count);
         self.agrees = self.agrees && &buf[..count] == expected;
         self.rest = rest;
-        self.room -= count;
-        self.taken = self.taken.saturating_add(count);
         count
     }
 }
@@ -78,13 +65,7 @@ impl Write for ComparingWriter<'_> {
     fn write(&mut self, buf: &[u8]) -> io::Result<usize> {
         self.calls = self.calls.saturating_add(1);
         self.longest = self.longest.max(buf.len());
-        if self.calls != self.failing && self.room > 0 {
-            return Ok(self.take(buf));
-        }
-        if self.takes_none {
-            return Ok(0);
-        }
-        Err(ErrorKind::Other.into())
+        Ok(self.take(buf))
     }
 
     fn flush(&mut self) -> io::Result<()> {
@@ -227,121 +208,7 @@ fn a_source_that_changed_is_copied(rt: HostRuntime) {
     assert_same(&rt, copied, (Ok(Ok(())), true));
 }
 
-// Copies of the object of a call, stopped by a call of the source or of the writer.
-
-/// The offsets that a source of 24 bytes a call is asked for, and how many bytes are written then: six bytes of `.text`, a gap, the
-/// relocations, three symbols, their names, those of the sections in two calls, and a gap.
-const ASKED: [(u64, u64); 10] = [
-    (64, 64),
-    (70, 70),
-    (72, 72),
-    (96, 96),
-    (120, 96),
-    (144, 96),
-    (168, 168),
-    (181, 181),
-    (205, 181),
-    (225, 225),
-];
-
-/// How many bytes are written at each call of a writer that takes all: a call for each part.
-const OUT: [u64; 9] = [0, 64, 70, 72, 96, 168, 181, 225, 232];
-
-/// What a copy answers, and whether exactly so many of the file's first bytes are written.
-fn copy_through(
-    alloc: Global,
-    file: &[u8],
-    source: &mut PartialSource<'_>,
-    written: u64,
-) -> (Answer, bool) {
-    let mut writer = ComparingWriter::new(file);
-    let answer = copy_scanned(alloc, file, source, &mut writer);
-    (answer, writer.agrees && writer.taken as u64 == written)
-}
-
-/// The same where the read of this number fails, or gives no byte.
-fn copy_to_a_read(alloc: Global, failing: u64, gives_none: bool, written: u64) -> (Answer, bool) {
-    let file = caller();
-    let mut source = PartialSource::new(&file, 24);
-    source.failing = failing;
-    source.gives_none = gives_none;
-    copy_through(alloc, &file, &mut source, written)
-}
-
-#[test]
-fn each_failed_read_is_answered(rt: HostRuntime) {
-    for k in 0..2 * ASKED.len() {
-        let (at, written) = ASKED[k / 2];
-        let copied = copy_to_a_read(rt.alloc(), k as u64 / 2 + 1, k % 2 == 1, written);
-        assert_same(
-            &rt,
-            copied,
-            (Ok(Err(CopyFault::Read { at, written })), true),
-        );
-    }
-}
-
-/// What a copy answers whose write of this number fails, or takes no byte; whether the writer has first bytes of the file, and how many.
-fn copy_to_a_write(alloc: Global, failing: u64, takes_none: bool) -> (Answer, bool, u64) {
-    let file = caller();
-    let mut writer = ComparingWriter::new(&file);
-    writer.failing = failing;
-    writer.takes_none = takes_none;
-    let mut source = PartialSource::new(&file, 4096);
-    let answer = copy_scanned(alloc, &file, &mut source, &mut writer);
-    (answer, writer.agrees, writer.taken as u64)
-}
-
-#[test]
-fn each_failed_write_is_answered(rt: HostRuntime) {
-    for k in 0..2 * OUT.len() {
-        let written = OUT[k / 2];
-        let copied = copy_to_a_write(rt.alloc(), k as u64 / 2 + 1, k % 2 == 1);
-        assert_same(
-            &rt,
-            copied,
-            (Ok(Err(CopyFault::Write { written })), true, written),
-        );
-    }
-}
-
-/// The same of bytes in memory, and a writer that takes so many in all.
-fn copy_to_a_full_writer(
-    alloc: Global,
-    room: usize,
-) -> Result<(Result<(), CopyFault>, bool, usize), Fault> {
-    let file = caller();
-    let outline = scan(alloc, &mut Bytes(&file))?;
-    let mut writer = ComparingWriter::new(&file);
-    writer.room = room;
-    let answer = copy_image(&outline, &mut Bytes(&file), &mut writer);
-    Ok((answer, writer.agrees, writer.taken))
-}
-
-#[test]
-fn a_full_writer_has_the_first_bytes(rt: HostRuntime) {
-    let copied = copy_to_a_full_writer(rt.alloc(), 100);
-    assert_same(
-        &rt,
-        copied,
-        Ok((Err(CopyFault::Write { written: 100 }), true, 100)),
-    );
-}
-
-/// The file ends in its symbol table since the scan.
-#[test]
-fn a_source_that_got_shorter_is_told(rt: HostRuntime) {
-    let file = caller();
-    let mut source = PartialSource::new(&file[..100], 4096);
-    let copied = copy_through(rt.alloc(), &file, &mut source, 96);
-    let fault = CopyFault::Read {
-        at: 100,
-        written: 96,
-    };
-    assert_same(&rt, copied, (Ok(Err(fault)), true));
-}
-
-// Zeros, padding and records of more than one block, onto a writer of which one call alone fails: exactly what is reported is out, and no
+// Zeros and records of more than one block, onto a writer of which one call alone fails: exactly what is reported is out, and no
 // call comes after it.
 
 /// Two blocks of 4,096 zeros and 100 more.
@@ -362,7 +229,20 @@ const RELOCATIONS_OUT: [usize; 12] = [
 
 /// A writer that takes 1,000 bytes a call, and whose call of number `failing`, from 1, alone fails.
 fn once_failing(alloc: Global, failing: usize) -> OnceFailingWriter {
-    OnceFailingWriter::new(alloc, 1000, failing, Some(ErrorKind::Interrupted))
+    OnceFailingWriter::new(alloc, 1000, failing)
+}
+
+/// What a call answered that wrote; and of its writer the bytes, how many calls and flushes there were, and whether a call offered no byte.
+type Written<'a> = (Result<(), WriteFault>, &'a [u8], [usize; 2], bool);
+
+fn written(writer: &OnceFailingWriter, answer: Result<(), WriteFault>) -> Written<'_> {
+    let counts = [writer.offers.len(), writer.flushes];
+    (
+        answer,
+        writer.bytes.as_slice(),
+        counts,
+        writer.offers.contains(&0),
+    )
 }
 
 /// What is seen of these bytes, of which `outs[k]` were out before call `k + 1`: where that one failed, no more are out, the answer reports

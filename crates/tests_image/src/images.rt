@@ -4,7 +4,7 @@ ghost use Rattle.std.specs.Prelude.{◌<◌};
 use crate::asserts::assert_same;
 use elf_field::Order;
 use elf_image_outline::{NoSection, Owner, Part, ReplaceFault, scan};
-use elf_image_stream::{Failures, Fault, read_to_end};
+use elf_image_stream::{Fault, read_to_end};
 use elf_image_type::{Image, parse, verdict, write};
 use std::alloc::Global;
 use std::io::Read;
@@ -15,10 +15,6 @@ use tests_files::{
 };
 
 // Sources read as images, without their contents. Files that a scan rejects are in `cases/`, under `check --seek`.
-
-/// The offsets that a scan of the file of one section asks for, where each call gives all: the header, section header 0, the section
-/// headers, and the ends of the section name string table.
-const ASKED: [u64; 5] = [0, 136, 136, 97, 129];
 
 fn part(owner: Owner, start: u64, len: u64) -> Part {
     Part { owner, start, len }
@@ -80,24 +76,6 @@ fn a_scan_reads_no_content(rt: HostRuntime) {
     );
 }
 
-// Each call fails in turn, and then gives nothing.
-#[test]
-fn each_failed_call_is_answered_with_its_offset(rt: HostRuntime) {
-    let file = one_section(Order::Little);
-    for k in 0..2 * ASKED.len() {
-        let at = ASKED[k / 2];
-        let mut source = PartialSource::new(&file, 4096);
-        source.failing = k as u64 / 2 + 1;
-        source.gives_none = k % 2 == 1;
-        let fault = scan(rt.alloc(), &mut source).err();
-        assert_same(
-            &rt,
-            (fault, source.failures),
-            (Some(Fault::Io { at }), Failures { count: 1, last: at }),
-        );
-    }
-}
-
 const LITTLE: Order = Order::Little;
 
 /// The image is written as these bytes.
@@ -112,7 +90,6 @@ fn assert_kept(rt: &impl Abort, alloc: Global, file: &[u8]) -> Result<(), Fault>
     let mut reader = Pieces {
         bytes: file,
         piece: 1,
-        failure: None,
     };
     let bytes = bytes_read(alloc, &mut reader)?;
     let image = parse(alloc, &bytes)?;

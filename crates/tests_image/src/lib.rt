@@ -1,5 +1,5 @@
 //! Tests of images: read, edited, written, loaded, scanned from a source and copied; and readers, sources and writers that give or take
-//! little, or fail at one call.
+//! little, or fail at one call where `tools/test failing-calls` makes none fail.
 #![tactic(auto)]
 
 #[cfg(test)]

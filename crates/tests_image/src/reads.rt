@@ -69,26 +69,6 @@ fn a_table_is_read_in_three_calls_or_a_byte_a_call(rt: HostRuntime) {
     assert_same(&rt, reads, [Ok((true, 3)), Ok((true, 16 * COUNT as u64))]);
 }
 
-/// Why the table is not read whose second call fails, and how many calls there were.
-fn table_fault(alloc: Global, bytes: &[u8]) -> (Option<RecordsFault>, u64) {
-    let mut source = PartialSource::new(bytes, 4096);
-    source.failing = 2;
-    let relocations: Result<Vec<Rel>, _> = read_records(
-        alloc,
-        &mut source,
-        Order::Little,
-        3,
-        COUNT,
-    );
-    (relocations.err(), source.calls)
-}
-
-#[test]
-fn a_fault_is_told_with_its_offset(rt: HostRuntime) {
-    let fault = RecordsFault::Io { at: 4099 };
-    assert_same(&rt, table_fault(rt.alloc(), &table()), (Some(fault), 2));
-}
-
 // Whole reads.
 
 /// What a call that asks for three bytes at this offset comes to, and the bytes.
@@ -197,15 +177,6 @@ const ENDS: [(Result<TableEnds, ReadFault>, u64); 3] = [
 #[test]
 fn the_ends_of_a_table_are_two_bytes(rt: HostRuntime) {
     assert_same(&rt, [ends(1, 3), ends(4, 1), ends(9, 0)], ENDS);
-}
-
-#[test]
-fn a_failed_call_is_told(rt: HostRuntime) {
-    let mut source = PartialSource::new(b"abcde", 8);
-    source.failing = 1;
-    let mut buf = [0; 2];
-    let answers = [source.read_at(0, &mut buf), source.read_at(0, &mut buf)];
-    assert_same(&rt, answers, [Err(Failed), Ok(2)]);
 }
 
 // A read of no byte is a failure if the buffer is not empty. Failures are counted modulo 2^64.

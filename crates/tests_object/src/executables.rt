@@ -1,4 +1,4 @@
-//! A function in one file that is called in another; and no file at all. Executables byte for byte are in `cases/links.txt`.
+//! The executable of no file at all, and how one goes out. Executables byte for byte are in `cases/links.txt`.
 ghost use Rattle.std.specs.Prelude.{IfOk};
 ghost use Rattle.elf_link_relocate.specs.Linked.{IsMapButOptions, IsMapOfSome};
 
@@ -8,14 +8,13 @@ use elf_field::Order;
 use elf_link_field::{Form, Range, RelocRule, Width};
 use elf_link_map::{LinkFault, LinkMap, Options, map};
 use elf_link_relocate::relocate;
+use elf_object_file::write_object;
 use elf_object_type::{Object, ObjectFault};
+use elf_object_writer::ObjectWriteFault;
 use std::alloc::Global;
 use std::hash::{BuildHasherDefault, DefaultHasher};
-use std::io::{ErrorKind, Write};
-use std::process::Abort;
-use tests_files::{
-    Failure, OnceFailingWriter, callee_object, caller_object, executable_of_a_call, set_header,
-};
+use std::io::Write;
+use tests_files::{OnceFailingWriter, callee_object, caller_object, set_header};
 
 // The executable of objects: their link, written.
 
@@ -96,81 +95,33 @@ fn the_executable_of_no_files(rt: HostRuntime) {
     );
 }
 
-// The executable of a call onto writers that take little or fail.
-
-/// How many bytes it has.
-const LEN: usize = 127;
+// The executable of a call, and one of its objects, onto a writer that takes a byte a call.
 
 /// The caller and the function that it calls.
 fn both(alloc: Global) -> Result<[Object<'static>; 2], ObjectFault> {
     Ok([caller_object(alloc)?, callee_object(alloc)?])
 }
 
-/// Writes the executable of a call.
-fn write_call(alloc: Global, writer: &mut OnceFailingWriter) -> Result<Ended, ObjectFault> {
-    let objects = both(alloc)?;
-    let options = options(0x1000, 1, Some(b"main"));
-    Ok(write_linked(alloc, &objects, &options, writer))
-}
-
-/// Exactly so many of its bytes are written, in so many calls, and then it ends so.
-fn assert_ended(
-    rt: &impl Abort,
+/// Writes the executable, and then the object of the function that is called.
+fn write_call(
     alloc: Global,
     writer: &mut OnceFailingWriter,
-    out: usize,
-    calls: usize,
-    answer: Result<(), ExecFault>,
-) {
-    let ended = write_call(alloc, writer);
-    let seen = (writer.offers.len(), writer.flushes);
+) -> Result<(Ended, Result<(), ObjectWriteFault>), ObjectFault> {
+    let objects = both(alloc)?;
+    let options = options(0x1000, 1, Some(b"main"));
+    let linked = write_linked(alloc, &objects, &options, writer);
+    Ok((linked, write_object(alloc, &objects[1], writer)))
+}
+
+// The executable has 127 bytes, and the object 488. There are as many calls as bytes, so none is empty.
+#[test]
+fn nothing_is_flushed_and_nothing_empty_is_written(rt: HostRuntime) {
+    let mut writer = OnceFailingWriter::new(rt.alloc(), 1, 0);
+    let ended = write_call(rt.alloc(), &mut writer);
+    let counts = [writer.bytes.len(), writer.offers.len(), writer.flushes];
     assert_same(
-        rt,
-        (ended, Some(writer.bytes.as_slice()), seen),
-        (
-            Ok(Ok(answer)),
-            executable_of_a_call().get(..out),
-            (calls, 0),
-        ),
+        &rt,
+        (ended, counts),
+        (Ok((Ok(Ok(())), Ok(()))), [127 + 488, 127 + 488, 0]),
     );
-}
-
-/// Writes the executable to a writer that takes so many bytes a call, and whose call of number `failing`, after so many bytes, alone fails
-/// so: that is the answer, and no call came after it.
-fn assert_stopped(
-    rt: &impl Abort,
-    alloc: Global,
-    piece: usize,
-    failing: usize,
-    out: usize,
-    failure: Failure,
-) {
-    let mut writer = OnceFailingWriter::new(alloc, piece, failing, failure);
-    let written = out as u64;
-    let answer = Err(ExecFault::Io { written });
-    assert_ended(rt, alloc, &mut writer, out, failing, answer);
-}
-
-#[test]
-fn a_write_that_fails_is_not_tried_again(rt: HostRuntime) {
-    let interrupted = Some(ErrorKind::Interrupted);
-    for out in 0..LEN {
-        assert_stopped(&rt, rt.alloc(), 1, out + 1, out, interrupted);
-        assert_stopped(&rt, rt.alloc(), 1, out + 1, out, None);
-    }
-}
-
-/// The calls of a writer that takes all that it is offered, each with how many bytes are out before it: the header; the program header; the
-/// bytes of each member.
-const CALLS: [(usize, usize); 4] = [(1, 0), (2, 64), (3, 120), (4, 126)];
-
-#[test]
-fn each_call_fails_alone(rt: HostRuntime) {
-    for (failing, out) in &CALLS {
-        let other = Some(ErrorKind::Other);
-        assert_stopped(&rt, rt.alloc(), LEN, *failing, *out, other);
-    }
-    // A writer that takes a byte a call has the whole file.
-    let mut writer = OnceFailingWriter::new(rt.alloc(), 1, 0, None);
-    assert_ended(&rt, rt.alloc(), &mut writer, LEN, LEN, Ok(()));
 }

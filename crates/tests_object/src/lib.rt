@@ -1,5 +1,5 @@
 //! Tests of objects: made from their parts, read from a file, and written; each rule of parts has a row with the rule's name. And of
-//! executables: their limits, and writers that take little or fail. Executables byte for byte are in `cases/links.txt`.
+//! executables: their limits, and how one goes out. Executables byte for byte are in `cases/links.txt`.
 #![tactic(auto)]
 
 #[cfg(test)]

@@ -8,12 +8,11 @@ use elf_object_type::{
 };
 use elf_object_writer::ObjectWriteFault;
 use std::alloc::{AllocError, Global};
-use std::io::ErrorKind;
 use std::process::Abort;
 use std::test::Fail;
 use tests_files::{
-    Counter, DIGITS, Failure, Field, OnceFailingWriter, list, numbered, object, one_section,
-    section, set, set_header, symbol,
+    Counter, DIGITS, Field, OnceFailingWriter, list, numbered, object, one_section, section, set,
+    set_header, symbol,
 };
 
 /// A global function of one byte.
@@ -226,81 +225,7 @@ fn objects_are_written_in_both_orders(rt: HostRuntime) {
     assert_same(&rt, found, [Ok(Ok(true)); 4]);
 }
 
-// Objects onto writers that take little or fail, and objects that are not written.
-
-/// Writes the object of one section to a writer whose call of number `failing`, after so many bytes, alone fails: that is the answer, and
-/// no call comes after it.
-fn assert_stopped(
-    rt: &impl Abort,
-    alloc: Global,
-    object: &Object<'_>,
-    writer: &mut OnceFailingWriter,
-    out: u16,
-) {
-    let answer = write_object(alloc, object, writer);
-    let written = u64::from(out);
-    let file = one_section(Order::Little);
-    let is_out = Some(writer.bytes.as_slice()) == file.get(..out as usize);
-    assert_same(
-        rt,
-        (answer, is_out, (writer.offers.len(), writer.flushes)),
-        (
-            Err(ObjectWriteFault::Io { written }),
-            true,
-            (writer.failing, 0),
-        ),
-    );
-}
-
-/// The same of a writer that takes a byte a call, and fails so after so many bytes.
-fn assert_stopped_after(
-    rt: &impl Abort,
-    alloc: Global,
-    object: &Object<'_>,
-    out: u16,
-    failure: Failure,
-) {
-    let failing = out as usize + 1;
-    let mut writer = OnceFailingWriter::new(alloc, 1, failing, failure);
-    assert_stopped(rt, alloc, object, &mut writer, out);
-}
-
-#[test]
-fn a_write_that_fails_is_not_tried_again(rt: HostRuntime) -> Result<(), Fail> {
-    let alloc = rt.alloc();
-    let object = text_object(alloc, Order::Little)?;
-    for out in 0..456 {
-        assert_stopped_after(&rt, alloc, &object, out, Some(ErrorKind::Other));
-        assert_stopped_after(&rt, alloc, &object, out, Some(ErrorKind::Interrupted));
-        assert_stopped_after(&rt, alloc, &object, out, None);
-    }
-    Ok(())
-}
-
-/// The same of call number `failing` of a writer that takes all that it is offered.
-fn assert_stopped_at(
-    rt: &impl Abort,
-    alloc: Global,
-    object: &Object<'_>,
-    failing: usize,
-    out: u16,
-) {
-    let other = Some(ErrorKind::Other);
-    let mut writer = OnceFailingWriter::new(alloc, usize::MAX, failing, other);
-    assert_stopped(rt, alloc, object, &mut writer, out);
-}
-
-// Its calls: the header; the contents, which are short, with the zeros between them; zeros and the section header table.
-#[test]
-fn each_call_fails_alone(rt: HostRuntime) -> Result<(), Fail> {
-    let alloc = rt.alloc();
-    let object = text_object(alloc, Order::Little)?;
-    assert_stopped_at(&rt, alloc, &object, 1, 0);
-    assert_stopped_at(&rt, alloc, &object, 2, 64);
-    assert_stopped_at(&rt, alloc, &object, 3, 130);
-    assert_stopped_at(&rt, alloc, &object, 4, 136);
-    Ok(())
-}
+// In how many calls objects go out, and objects that are not written.
 
 /// So many sections with empty names, this alignment and these contents.
 fn equal_sections(
@@ -318,7 +243,7 @@ fn equal_sections(
 
 /// How many calls a writer gets that takes all of an object.
 fn call_count(alloc: Global, object: &Object<'_>) -> Result<usize, ObjectWriteFault> {
-    let mut writer = OnceFailingWriter::new(alloc, usize::MAX, 0, None);
+    let mut writer = OnceFailingWriter::new(alloc, usize::MAX, 0);
     write_object(alloc, object, &mut writer)?;
     Ok(writer.offers.len())
 }

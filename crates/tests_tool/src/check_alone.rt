@@ -5,11 +5,10 @@ ghost use Rattle.elf_tool_check.specs.Ending.{AsksFor};
 ghost use Rattle.elf_tool_words.specs.Words.{IsAskedBy};
 ghost use Rattle.elf_tool_words.specs.declared.words.Request.TheVariants.{Check};
 
-use crate::program::{
-    LimitedWriter, OneFile, Outcome, ROOM, assert_line_or_out_of_memory, assert_ran,
-};
+use crate::program::{LimitedWriter, OneFile, Outcome, ROOM, assert_ran};
 use elf_tool_check::run_check;
 use std::alloc::Global;
+use std::process::Abort;
 
 /// The words with which it opens a file ask the program with all commands to check this file.
 pub fn takes_the_same_file()
@@ -18,10 +17,9 @@ pub fn takes_the_same_file()
 
 /// What it comes to where `a.o` is a header.
 fn run_on(alloc: Global, words: &[&str]) -> Outcome {
-    let mut files = OneFile::header(7);
-    let mut out = LimitedWriter::new(ROOM, None);
-    let mut err = LimitedWriter::new(ROOM, None);
-    let status = run_check(alloc, words, &mut files, &mut out, &mut err);
+    let mut out = LimitedWriter::new(ROOM);
+    let mut err = LimitedWriter::new(ROOM);
+    let status = run_check(alloc, words, &mut OneFile, &mut out, &mut err);
     Outcome { status, out, err }
 }
 
@@ -58,6 +56,14 @@ fn behind_dashes_each_word_is_a_file(rt: HostRuntime) {
     for &(file, status, said, complained) in FILES {
         let ran = run_on(rt.alloc(), &["elfmap", "check", "--", file]);
         assert_ran(&rt, &ran, status, said, complained);
+    }
+}
+
+/// The run came to this line, or to out of memory with nothing written.
+fn assert_line_or_out_of_memory(rt: &impl Abort, ran: &Outcome, line: &str) {
+    match ran.status {
+        0 => assert_ran(rt, ran, 0, line, ""),
+        _ => assert_ran(rt, ran, 3, "", "out of memory\n"),
     }
 }
 

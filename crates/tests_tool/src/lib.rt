@@ -1,5 +1,5 @@
-//! Tests of the program and its commands, over readers, writers and openers that fail, and of files of many sections and segments. What
-//! a command answers of a file whose reader and writer are sound is in `cases/`.
+//! Tests of the program and its commands, over openers that fail and writers that count their calls, and of files of many sections and
+//! segments. What a command answers of a file is in `cases/`; where one call of the machine fails, `tools/test failing-calls` shows it.
 #![tactic(auto)]
 
 #[cfg(test)]
@@ -7,14 +7,10 @@ mod asserts;
 #[cfg(test)]
 mod check_alone;
 #[cfg(test)]
-mod failing_calls;
+mod flushes;
 #[cfg(test)]
 mod known_files;
-#[cfg(test)]
-mod link_calls;
 #[cfg(test)]
 mod many_parts;
 #[cfg(test)]
 mod program;
-#[cfg(test)]
-mod rewrite_calls;

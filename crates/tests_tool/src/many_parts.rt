@@ -164,7 +164,7 @@ fn counts_in_the_header_and_in_section_header_0(rt: HostRuntime) -> Result<(), A
 #[test]
 fn is_sought_by_a_byte_a_call(rt: HostRuntime) -> Result<(), AllocError> {
     let file = object(rt.alloc(), 65_277)?;
-    let mut out = Sink::new(1000, None);
+    let mut out = Sink::new();
     let mut source = PartialSource::new(&file, 1);
     let answer = check_source(rt.alloc(), &mut source, &mut out);
     let line = b"ok 4178104 65281 0\n".as_slice();
@@ -183,7 +183,7 @@ const END_LINES: &[u8] =
 
 /// `show` of the file of 65,275 sections goes out in pieces of less than this.
 fn assert_shown_in_pieces(rt: &impl Abort, alloc: Global, mut file: &[u8], piece: usize) {
-    let mut out = OnceFailingWriter::new(alloc, usize::MAX, 0, None);
+    let mut out = OnceFailingWriter::new(alloc, usize::MAX, 0);
     let answer = show(alloc, &mut file, &mut out);
     let are_short = out.offers.iter().max() < Some(&piece);
     assert_same(rt, (answer, are_short), (Ok(Verdict::Done), true));

@@ -1,87 +1,64 @@
-//! The whole program over fakes: what it answers, writes and says for each way that it can end.
-ghost use Rattle.std.specs.Prelude.{◌<◌};
-
+//! The whole program over fakes: the names that it opens, an opener that wants memory, and a standard error that takes nothing; and what
+//! the machine gives it.
 use crate::asserts::assert_same;
-use elf_field::Order;
 use elf_image_stream::Bytes;
-use elf_tool_program::{MachineFiles, OpenFault, Opener, ToolFault, refuse_words, run, show};
+use elf_tool_program::{MachineFiles, OpenFault, Opener, refuse_words, run};
 use elf_tool_text::line::{begin_line, end_line, push_decimal, push_hexadecimal};
 use std::alloc::Global;
 use std::io;
-use std::io::{ErrorKind, Read, Write};
+use std::io::{ErrorKind, Write};
 use std::process::Abort;
 use std::test::Fail;
-use tests_files::{Pieces, one_segment};
+use tests_files::Pieces;
 
 /// A header alone, of 64 bytes, in little order.
-pub(crate) const HEADER: &[u8; 64] = b"\x7fELF\x02\x01\x01\0\0\0\0\0\0\0\0\0\x01\0\x3e\0\x01\0\0\0\
+const HEADER: &[u8; 64] = b"\x7fELF\x02\x01\x01\0\0\0\0\0\0\0\0\0\x01\0\x3e\0\x01\0\0\0\
     \0\0\0\0\0\0\0\0\0\0\0\0\0\0\0\0\0\0\0\0\0\0\0\0\0\0\0\0\x40\0\0\0\0\0\0\0\0\0\0\0";
-
-/// The words that ask for its check.
-const CHECK: &[&str] = &["elfmap", "check", "a.o"];
 
 /// More than the program ever writes here.
 pub(crate) const ROOM: usize = 800;
 
-/// Has one file, `a.o`.
+/// Has a header as `a.o`, and gives it a few bytes a call.
 #[derive(Drop)]
-pub(crate) struct OneFile<'a> {
-    pub bytes: &'a [u8],
-    pub piece: usize,
-    pub failure: Option<ErrorKind>,
-}
+pub(crate) struct OneFile;
 
-impl OneFile<'static> {
-    /// A header, of which a read gives so many bytes.
-    pub(crate) fn header(piece: usize) -> OneFile<'static> {
-        OneFile {
-            bytes: HEADER,
-            piece,
-            failure: None,
-        }
-    }
-}
+impl Opener for OneFile {
+    type Input = Pieces<'static>;
 
-impl<'a> Opener for OneFile<'a> {
-    type Input = Pieces<'a>;
+    type Seek = Bytes<'static>;
 
-    type Seek = Bytes<'a>;
-
-    fn reader(&mut self, name: &str) -> Result<Pieces<'a>, OpenFault> {
+    fn reader(&mut self, name: &str) -> Result<Pieces<'static>, OpenFault> {
         match name {
             "a.o" => Ok(Pieces {
-                bytes: self.bytes,
-                piece: self.piece,
-                failure: self.failure,
+                bytes: HEADER,
+                piece: 7,
             }),
             _ => Err(OpenFault::Refused),
         }
     }
 
-    fn source(&mut self, name: &str) -> Result<Bytes<'a>, OpenFault> {
+    fn source(&mut self, name: &str) -> Result<Bytes<'static>, OpenFault> {
         match name {
-            "a.o" => Ok(Bytes(self.bytes)),
+            "a.o" => Ok(Bytes(HEADER)),
             _ => Err(OpenFault::Refused),
         }
     }
 }
 
-/// Takes a byte at a time, up to `room` of them, and then fails, or takes none. It needs no memory.
+/// Takes a byte at a time, up to `room` of them, and then none. It needs no memory.
 #[derive(Drop)]
 pub(crate) struct LimitedWriter {
     bytes: [u8; ROOM],
     len: usize,
     room: usize,
-    failure: Option<ErrorKind>,
 }
 
 impl LimitedWriter {
-    pub(crate) fn new(room: usize, failure: Option<ErrorKind>) -> LimitedWriter {
+    pub(crate) fn new(room: usize) -> LimitedWriter {
         LimitedWriter {
             bytes: [0; ROOM],
             len: 0,
             room,
-            failure,
         }
     }
 
@@ -98,10 +75,7 @@ impl Write for LimitedWriter {
                 self.len += 1;
                 Ok(1)
             }
-            _ => match self.failure {
-                Some(kind) => Err(io::Error::from(kind)),
-                None => Ok(0),
-            },
+            _ => Ok(0),
         }
     }
 
@@ -118,24 +92,6 @@ pub(crate) struct Outcome {
     pub err: LimitedWriter,
 }
 
-/// A run by these words onto outputs that take all.
-fn run_on(alloc: Global, words: &[&str], files: &mut OneFile<'_>) -> Outcome {
-    run_onto(alloc, words, files, LimitedWriter::new(ROOM, None), ROOM)
-}
-
-/// A run onto this output, and onto a standard error that takes so many bytes.
-fn run_onto(
-    alloc: Global,
-    words: &[&str],
-    files: &mut OneFile<'_>,
-    mut out: LimitedWriter,
-    err_room: usize,
-) -> Outcome {
-    let mut err = LimitedWriter::new(err_room, None);
-    let status = run(alloc, words, files, &mut out, &mut err);
-    Outcome { status, out, err }
-}
-
 /// It came to this status, and to these texts on the output and on standard error.
 pub(crate) fn assert_ran(rt: &impl Abort, ran: &Outcome, status: u8, said: &str, complained: &str) {
     assert_same(
@@ -148,8 +104,10 @@ pub(crate) fn assert_ran(rt: &impl Abort, ran: &Outcome, status: u8, said: &str,
 /// The check of a file of this name, onto a standard error that takes nothing.
 fn run_unheard(alloc: Global, name: &str) -> Outcome {
     let words = ["elfmap", "check", name];
-    let out = LimitedWriter::new(ROOM, None);
-    run_onto(alloc, &words, &mut OneFile::header(7), out, 0)
+    let mut out = LimitedWriter::new(ROOM);
+    let mut err = LimitedWriter::new(0);
+    let status = run(alloc, &words, &mut OneFile, &mut out, &mut err);
+    Outcome { status, out, err }
 }
 
 #[test]
@@ -158,70 +116,9 @@ fn a_failed_write_to_standard_error_changes_nothing(rt: HostRuntime) {
     assert_ran(&rt, &run_unheard(rt.alloc(), "b.o"), 3, "", "");
 }
 
-const OTHER_WORDS: &[&[&str]] = &[
-    &["elfmap", "check", "a.o", "a.o"],
-    &["elfmap", "help"],
-    &["elfmap"],
-    &[],
-];
-
-// How clap words its errors is clap's own: the end of each text is looked at.
-#[test]
-fn refuses_other_words(rt: HostRuntime) {
-    for &words in OTHER_WORDS {
-        let ran = run_on(rt.alloc(), words, &mut OneFile::header(7));
-        let told = ran.err.text().ends_with(b"try '--help'.\n");
-        assert_same(
-            &rt,
-            (ran.status, ran.out.text(), told),
-            (2, b"".as_slice(), true),
-        );
-    }
-}
-
-/// The check of a file whose reader fails so after ten bytes.
-fn assert_read_fails(rt: &impl Abort, alloc: Global, kind: ErrorKind) {
-    let mut files = OneFile {
-        bytes: &HEADER[..10],
-        piece: 3,
-        failure: Some(kind),
-    };
-    let ran = run_on(alloc, CHECK, &mut files);
-    assert_ran(rt, &ran, 3, "", "read failed at 10\n");
-}
-
-#[test]
-fn a_failed_read_is_told_with_its_place(rt: HostRuntime) {
-    assert_read_fails(&rt, rt.alloc(), ErrorKind::Interrupted);
-    assert_read_fails(&rt, rt.alloc(), ErrorKind::Other);
-}
-
-/// The check of a header, onto an output that is too small and fails in this way when it is full.
-fn assert_write_fails(rt: &impl Abort, alloc: Global, room: usize, failure: Option<ErrorKind>)
-    requires { room < 10 }
-{
-    let out = LimitedWriter::new(room, failure);
-    let ran = run_onto(alloc, CHECK, &mut OneFile::header(1), out, ROOM);
-    let mut told = *b"write failed after N\n";
-    told[19] = b"0123456789"[room];
-    assert_same(
-        rt,
-        (ran.status, ran.out.text(), ran.err.text()),
-        (3, &b"ok 64 0 0\n"[..room], told.as_slice()),
-    );
-}
-
-#[test]
-fn a_failed_write_is_told_with_what_is_out(rt: HostRuntime) {
-    let failures = [None, Some(ErrorKind::Interrupted), Some(ErrorKind::Other)];
-    for k in 0..30 {
-        assert_write_fails(&rt, rt.alloc(), k % 10, failures[k / 10]);
-    }
-}
-
 /// The status and the text that the program ends with where the machine gives no words.
 fn assert_refused(rt: &impl Abort, kind: ErrorKind, status: u8, told: &str) {
-    let mut err = LimitedWriter::new(ROOM, None);
+    let mut err = LimitedWriter::new(ROOM);
     let ended = refuse_words(&io::Error::from(kind), &mut err);
     assert_same(rt, (ended, err.text()), (status, told.as_bytes()));
 }
@@ -233,49 +130,6 @@ fn words_that_the_machine_does_not_give(rt: HostRuntime) {
     assert_refused(&rt, ErrorKind::OutOfMemory, 3, "out of memory\n");
     // The text of any other error is std's own.
     assert_refused(&rt, ErrorKind::Other, 3, "other error\n");
-}
-
-/// The run came to this line, or to out of memory with nothing written.
-pub(crate) fn assert_line_or_out_of_memory(rt: &impl Abort, ran: &Outcome, line: &str) {
-    match ran.status {
-        0 => assert_ran(rt, ran, 0, line, ""),
-        _ => assert_ran(rt, ran, 3, "", "out of memory\n"),
-    }
-}
-
-// Where an allocation fails, the answer is out of memory, and nothing was written.
-#[test]
-fn a_refused_growth_leaves_nothing_out(rt: HostRuntime) {
-    let ran = run_on(rt.alloc(), CHECK, &mut OneFile::header(64));
-    assert_line_or_out_of_memory(&rt, &ran, "ok 64 0 0\n");
-}
-
-/// The text on [`one_segment`].
-const ONE_SEGMENT_TEXT: &str = "file little 2 62 0x0 0x0
-part 0x0 0x40 header
-part 0x40 0x38 segments
-segment 0 1 0x5 0x0 0x1000 0x1000 0x78 0x78 0x1000
-";
-
-/// `show` of the file, onto an output that is too small.
-fn assert_show_fails(rt: &impl Abort, alloc: Global, mut file: &[u8], room: usize) {
-    let mut writer = LimitedWriter::new(room, Some(ErrorKind::Other));
-    let answer = show(alloc, &mut file, &mut writer);
-    let written = room as u64;
-    let out = ONE_SEGMENT_TEXT.as_bytes().get(..room);
-    assert_same(
-        rt,
-        (answer, Some(writer.text())),
-        (Err(ToolFault::Write { written }), out),
-    );
-}
-
-#[test]
-fn a_failed_write_of_many_lines_is_told_with_what_is_out(rt: HostRuntime) {
-    let file = one_segment(Order::Little);
-    for room in 0..ONE_SEGMENT_TEXT.len() {
-        assert_show_fails(&rt, rt.alloc(), &file, room);
-    }
 }
 
 // The word for the file is the name that is opened, as it is. More names that don't open are in `cases/worked.txt`.
