@@ -8,7 +8,7 @@ use std::alloc::{AllocError, Global};
 use std::fmt;
 use std::fmt::Write;
 
-// Worked files of images, in either byte order.
+// Hand-written files of images, in either byte order.
 
 /// The header's places and the section headers of an object without sections of its own.
 const EMPTY_OBJECT: [Field; 22] = [
@@ -212,7 +212,7 @@ pub fn long_parts() -> [u8; 18192] {
     file
 }
 
-// Worked files of two objects: a function that calls another one, and that one.
+// Hand-written files of two objects: a function that calls another one, and that one.
 
 /// The header's places, the code, the relocation, the symbols and the section headers of the caller.
 const CALLER: [Field; 46] = [

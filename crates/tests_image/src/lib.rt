@@ -7,8 +7,8 @@ mod asserts;
 #[cfg(test)]
 mod copies;
 #[cfg(test)]
-mod image_faults;
-#[cfg(test)]
 mod images;
+#[cfg(test)]
+mod offers;
 #[cfg(test)]
 mod reads;

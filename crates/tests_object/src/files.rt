@@ -1,5 +1,5 @@
 //! Objects read from a file of a group with one member, a section beside it, relocations and a symbol table. Each of rules 70 to 79 broken
-//! in it is in `cases/worked.txt`, under the rule's name.
+//! in it is in `cases/hand-written.txt`, under the rule's name.
 use crate::asserts::assert_same;
 use elf_field::Order;
 use elf_field::abi::*;

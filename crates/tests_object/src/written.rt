@@ -1,5 +1,5 @@
 //! Objects as they are written, byte by byte: what is in their files is given field by field. An empty object, and one of a group, are in
-//! `cases/worked.txt`.
+//! `cases/hand-written.txt`.
 use crate::asserts::assert_same;
 use elf_field::Order;
 use elf_object_file::write_object;

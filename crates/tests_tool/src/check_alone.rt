@@ -1,4 +1,5 @@
-//! The program that has `check` alone: which words it takes. That it ends as the program with all commands does, `cases/` shows.
+//! The program that has `check` alone: which words it takes. That it ends as the program with all commands does, `cases/` and
+//! `failing-calls` show.
 ghost use Rattle.std.specs.Prelude.{ℕ, List};
 ghost use Rattle.std.specs.Borrow.{Bor};
 ghost use Rattle.elf_tool_check.specs.Ending.{AsksFor};
@@ -8,7 +9,6 @@ ghost use Rattle.elf_tool_words.specs.declared.words.Request.TheVariants.{Check}
 use crate::program::{LimitedWriter, OneFile, Outcome, ROOM, assert_ran};
 use elf_tool_check::run_check;
 use std::alloc::Global;
-use std::process::Abort;
 
 /// The words with which it opens a file ask the program with all commands to check this file.
 pub fn takes_the_same_file()
@@ -57,19 +57,4 @@ fn behind_dashes_each_word_is_a_file(rt: HostRuntime) {
         let ran = run_on(rt.alloc(), &["elfmap", "check", "--", file]);
         assert_ran(&rt, &ran, status, said, complained);
     }
-}
-
-/// The run came to this line, or to out of memory with nothing written.
-fn assert_line_or_out_of_memory(rt: &impl Abort, ran: &Outcome, line: &str) {
-    match ran.status {
-        0 => assert_ran(rt, ran, 0, line, ""),
-        _ => assert_ran(rt, ran, 3, "", "out of memory\n"),
-    }
-}
-
-// Run with the Nth allocation failing too, this one sees out of memory in place of the answer, and nothing else changes.
-#[test]
-fn a_refused_growth_leaves_nothing_out(rt: HostRuntime) {
-    let ran = run_on(rt.alloc(), &["elfmap", "check", "a.o"]);
-    assert_line_or_out_of_memory(&rt, &ran, "ok 64 0 0\n");
 }

@@ -132,7 +132,7 @@ fn words_that_the_machine_does_not_give(rt: HostRuntime) {
     assert_refused(&rt, ErrorKind::Other, 3, "other error\n");
 }
 
-// The word for the file is the name that is opened, as it is. More names that don't open are in `cases/worked.txt`.
+// The word for the file is the name that is opened, as it is. More names that don't open are in `cases/hand-written.txt`.
 
 /// Has a header alone under one name, and returns a fault for every other.
 #[derive(Drop)]
