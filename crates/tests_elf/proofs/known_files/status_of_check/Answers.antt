@@ -1,6 +1,6 @@
 use Rattle.std.proofs.Common.{◌∙◌, refl, sym}
-use Rattle.tests_tool.proofs.Statuses.{run_says}
-use Rattle.tests_tool.proofs.known_files.status_of_check.Goals as goal
+use Rattle.tests_elf.proofs.Statuses.{run_says}
+use Rattle.tests_elf.proofs.known_files.status_of_check.Goals as goal
 
 pub returns : goal.returns
 returns c =

@@ -1,7 +1,7 @@
 use Rattle.std.proofs.Common.{◌∙◌, arith, refl, sym}
 use Rattle.elf_field.specs.Bytes.{IsBytes}
-use Rattle.tests_tool.proofs.Statuses.{seek_run_says}
-use Rattle.tests_tool.proofs.known_files.status_of_check_by_seeking.Goals as goal
+use Rattle.tests_elf.proofs.Statuses.{seek_run_says}
+use Rattle.tests_elf.proofs.known_files.status_of_check_by_seeking.Goals as goal
 
 pub returns : goal.returns
 returns c =
