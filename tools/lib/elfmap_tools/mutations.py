@@ -80,16 +80,16 @@ def verdict(bug: Edit, said: str, others: Iterable[Edit]) -> str:
     told: list[str] = re.findall(r"^(?:note: \S+:\d+:\d+: |\S+:\d+:\d+: error: ).*$", said, re.M)
     lost = [it for it in told if re.match(r"(\./)?proofs/.*(has no field|is not in scope|has no `|was not admitted)", it)]
     proofs = [f"proofs/{it.function.removeprefix(f'{it.crate}::').replace('::', '/')}/" for it in others]
+    # A proof takes the functions that it calls by their contracts: what the check doesn't prove of this one is due to its own text.
+    is_own = "it calls" not in line or "did not prove" in line
     if proofs:
-        # A proof takes the functions that it calls by their contracts: what the check doesn't prove of this one is due to its own text.
-        is_own = "it calls" not in line or "did not prove" in line
         is_lost = any(not any(own in it for own in proofs) for it in lost)
         return "refused" if is_own and not is_lost else ""
     if lost and lost == told:
         return "NOT REFUSED: proof files name what it took away, and no more"
     # What it calls and is open has to be a closure in it: no other function of the text has a bug.
     inside = f"::{bug.function.rsplit('::', 1)[1]}::"
-    is_own = "it calls" not in line or any(inside in name for name in re.findall("`([^`]+)`", line))
+    is_own = is_own or any(inside in name for name in re.findall("`([^`]+)`", line))
     return "refused" if is_own else "NOT REFUSED: another function than its own is open"
 
 
