@@ -17,7 +17,7 @@ use Rattle.elf_link_files.specs.declared.fault.Options.{Options}
 use Rattle.elf_link_files.specs.declared.site.Chosen.{Chosen}
 use Rattle.elf_link_files.specs.declared.site.Site.{Site}
 use Rattle.elf_link_map.specs.Entry.{HasSite, IsChoiceTarget, IsEntrySymbolTarget, IsNameTarget, IsPlaceTarget, IsSectionTarget}
-use Rattle.elf_link_map.specs.LinkMap.{IsLinkPlan, LinkPlan, link_parts, IsPlan, FirstOfAddresses, FirstOfLink, IsLinkFault, IsPlacedAt, IsAddressingFault}
+use Rattle.elf_link_map.specs.LinkMap.{IsLinkPlan, LinkPlan, link_parts, IsPlan, FirstOfAddresses, FirstOfLink, IsLinkFault, IsOnlyFault, IsPlacedAt, IsAddressingFault}
 use Rattle.elf_link_names.proofs.ChosenCommons.{have_chosen}
 use Rattle.elf_link_names.proofs.Public.{bound_excludes, one_choice, one_chosen, one_common}
 use Rattle.elf_link_names.specs.Binds.{input_rules, Binds, IsUnbound, IsChosen}
@@ -406,3 +406,9 @@ link_fault opt fs OutOfMemory clean options is = options
 pub if_err_map : {A : Type 0} (P Q : LinkFault → Type 0) (r : Result A LinkFault) → ((fault : LinkFault) → P fault → Q fault) → IfErr r P → IfErr r Q
 if_err_map P Q (Ok a) into is = tt
 if_err_map P Q (Err fault) into is = into fault is
+
+-- the first rule that is broken is the only answer
+pub only_fault : (opt : Options) (fs : List ObjectValue) (fault : LinkFault) → IsLinkFault opt fs fault → IsOnlyFault (FirstOfLink opt fs) fault
+only_fault opt fs (Rule number file index entry) is = λ x there.
+    one_link_fault opt fs x (Some (number, record { file = file; index = index; entry = entry })) there is
+only_fault opt fs OutOfMemory is = tt

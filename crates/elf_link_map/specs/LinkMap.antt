@@ -144,6 +144,17 @@ IsLinkFault opt fs (Rule number file index entry) =
     FirstOfLink opt fs (Some (number, record { file = file; index = index; entry = entry }))
 IsLinkFault opt fs OutOfMemory = FirstAmong (option_rules opt fs) None
 
+-- these are the only answers: no other map is the link map of these files and options, and no other rule or site the first that is broken
+abbrev pub IsOnlyLinkMap : Options → List ObjectValue → LinkMapValue → Type 0
+IsOnlyLinkMap opt fs m = (n : LinkMapValue) → IsLinkMap opt fs n → n ≡ m
+
+abbrev pub IsOnlyFirst : (Option (ℕ × Site) → Type 0) → Option (ℕ × Site) → Type 0
+IsOnlyFirst First found = (x : Option (ℕ × Site)) → First x → x ≡ found
+
+abbrev pub IsOnlyFault : (Option (ℕ × Site) → Type 0) → LinkFault → Type 0
+IsOnlyFault First (Rule number file index entry) = IsOnlyFirst First (Some (number, record { file = file; index = index; entry = entry }))
+IsOnlyFault First OutOfMemory = Unit {0}
+
 -- A plan at the addresses that a link gives it.
 
 abbrev pub plan_at : AddressedValue → Target → LinkPlan

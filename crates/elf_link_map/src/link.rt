@@ -6,7 +6,7 @@ ghost use Rattle.elf_link_outputs.specs.Addresses.{IsTargetBelow};
 ghost use Rattle.elf_link_outputs.specs.Outputs.{placed as placed_sites, plan_parts};
 ghost use Rattle.elf_link_outputs.specs.Placed.{AreAddresses, ArePlacedCommons, ArePlacedOutputs, common_value, output_value};
 ghost use Rattle.elf_link_map.specs.Entry.{HasSite, IsBoundTarget, IsEntrySymbolTarget, IsNameTarget, IsSectionTarget, IsSymbolTarget};
-ghost use Rattle.elf_link_map.specs.LinkMap.{FirstOfLink, IsLinkFault, IsLinkMap, IsAddressedFor, IsAddressingFault};
+ghost use Rattle.elf_link_map.specs.LinkMap.{FirstOfLink, IsAddressedFor, IsAddressingFault, IsLinkFault, IsLinkMap, IsOnlyFault, IsOnlyFirst, IsOnlyLinkMap};
 ghost use Rattle.elf_link_map.specs.Naming.{AreBindingIndexes};
 ghost use Rattle.elf_link_map.specs.Standing.{StandApart, ArePaged, OutputsStand};
 
@@ -200,7 +200,7 @@ pub fn map_indexed<'a, S: BuildHasher + Drop>(
 /// No address lies in two sections, in a section and a common, or in two commons; the outputs are disjoint and in order, each begins at a
 /// multiple of the page, and each live section is a member of just one, once.
 ///
-/// The hasher is for speed alone: outputs are compared by the hashes of their names first. The map is the same for every hasher.
+/// The hasher is for speed alone: output sections are found by numbers, which it hashes. The map is the same for every hasher.
 ///
 /// [`LinkFault::Rule`] is the first of the link's rules ([`rules`](crate::rules)) that is broken, at its first site;
 /// [`LinkFault::OutOfMemory`] comes only if an allocation fails; memory is taken only if rules 1 and 2 are not broken: for each
@@ -217,6 +217,9 @@ pub fn map<'a, S: BuildHasher + Drop>(
     ensures outputs { IfOk result (OutputsStand objects.now) }
     ensures paged { IfOk result ArePaged }
     ensures err { IfErr result (IsLinkFault options.now objects.now) }
+    ensures only_sound { OnOk result (IsOnlyFirst (FirstOfLink options.now objects.now) None) }
+    ensures only_map { IfOk result (IsOnlyLinkMap options.now objects.now) }
+    ensures only_err { IfErr result (IsOnlyFault (FirstOfLink options.now objects.now)) }
 {
     prove_objects(objects);
     Ok(map_indexed(alloc, objects, options, hasher)?.map)

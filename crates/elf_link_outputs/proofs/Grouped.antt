@@ -1,29 +1,23 @@
--- Sections in order are grouped by key, site by site. A section joins the group whose first section has its key, or opens one if none has.
--- The groups of live sections with bytes, and then those without, are the outputs, in the order of their openers (`outputs_all`).
-use Rattle.std.proofs.Common.{◌≡◌, ℕ, ◌+◌, ◌<◌, List, [], ◌∷◌, ◌++◌, length, inl, inr, refl, sym, ◌∙◌, subst, arith, ◌&&◌, Bool, true, false, ◌⊎◌, get_or, map, set, zero, suc, ap, length-append}
-use Rattle.std.proofs.lemmas.Bool.{cases_lt, eq-eqb, cases_eq, eqb-true}
-use Rattle.std.specs.Prelude.{◌==◌, cond, Option, None, Some}
-use Rattle.std.specs.Cmp.{nat_cmp_is}
-use Rattle.std.specs.Cmp.Lexicographic.{slice_cmp}
-use Rattle.std.specs.Ordering.{bool_cmp, is_eq, nat_cmp, ordering_then}
-use Rattle.std.specs.Str.{bytes_eq}
-use Rattle.std.specs.declared.cmp.Ordering.{Ordering}
-use Rattle.std.specs.declared.cmp.Ordering.TheVariants.{Less, Equal, Greater}
-use Rattle.std.proofs.lemmas.Map.Text.{is_eq-slice_cmp}
-use Rattle.std.proofs.lemmas.Slice.Eq.{bytes_eq-Decides}
+-- Sections in order are grouped by number, site by site. A section joins the group whose first section has its number, or opens one if none
+-- has. The groups of those with bits, and then the others, are the outputs, in the order of their openers (`outputs_all`).
+use Rattle.std.proofs.Common.{◌≡◌, ℕ, ◌+◌, ◌<◌, List, [], ◌∷◌, ◌++◌, length, inl, inr, refl, sym, ◌∙◌, subst, arith, Bool, true, false, get_or, map, set, zero, suc, ap, length-append, nat_eq, position, Some, None}
+use Rattle.std.proofs.lemmas.Bool.{cases_lt, cases_eq, eq-eqb, eqb-true, true≢false}
 use Rattle.std.specs.Global.{Vec}
+use Rattle.std.specs.List.{slice_index}
+use Rattle.std.specs.Map.{keys_of, values_of, lookup}
 use Rattle.std.specs.Option.{unwrap_or}
+use Rattle.std.specs.Prelude.{slice_get}
+use Rattle.std.proofs.lemmas.List.Quantifiers.{position-Some}
+use Rattle.std.proofs.lemmas.Option.{none-some, slice_get-get_or}
 use Rattle.std.proofs.lemmas.List.{get_or-map, get_or_push, get_or-set_other, get_or-set_same, length-set, map-set}
-use Rattle.std.proofs.lemmas.Option.{none-some}
 use Rattle.std.proofs.Math.ListN.{get_or-append}
-use mathlib.Core.Bool.{beq}
+use Rattle.indexmap.specs.IndexMap.{set_value_at}
 use Rattle.elf_image_rules.specs.Rows.{Row}
-use Rattle.elf_link_files.proofs.Public.{lists_more, lists_same, not_true, same_bool, one_before, each_more}
+use Rattle.elf_link_files.proofs.Public.{lists_more, lists_same, not_true, one_before, each_more}
 use Rattle.elf_link_files.specs.Rows.{Lists, site_at, Before, site, AreEach}
 use Rattle.elf_link_files.specs.declared.site.Site.{Site}
 use Rattle.elf_link_outputs.proofs.OutputLists.{key_join, key_swap}
-use Rattle.elf_link_outputs.specs.Outputs.{Picks, is_hashed_key, is_same_key, AreGrouped, AreGroups, AreGroupsOfKind, AreHeaded, AreInOrder, IsHead, IsKeyOf, IsMemberAdded, HaveOneKey, members, of_kind, openers, IsRanked, AreOpeners, AreOutputMembers}
-use Rattle.elf_link_outputs.specs.declared.outputs.OutputKey.{OutputKey}
+use Rattle.elf_link_outputs.specs.Outputs.{Picks, AreGrouped, AreGroups, AreHeaded, AreHeadNumbers, AreInOrder, AreLiveGroups, AreNumbered, AreOfKind, AreOutputs, AreSplit, IsHead, IsJoined, IsMemberAdded, IsOpened, IsOpener, HaveOneKey, is_no_bits, live, members, openers, section_at_site, AreOutputMembers}
 use Rattle.elf_object_type.specs.Object.{ObjectValue}
 
 -- What is picked from a list of sites, in order: a site that passes is one more, and any other adds nothing. After the whole list all that
@@ -58,43 +52,6 @@ picked_done row ps P out is picks =
     lists_same (λ p. P p × ((j : ℕ) × (j < length ps) × (site_at ps j ≡ p))) (λ p. row p × P p) out
     (λ p (holds, earlier). (let (j, below, at) = earlier in (subst row at (is.each j below), holds)))
     (λ p (there, holds). (holds, is.all p there)) picks
-
--- Two keys with their hashes compare equal exactly if the keys alone do, provided that equal names have equal hashes. A comparison in parts
--- is equal exactly if each part is, and the test of the hash follows from that of the name (`implied`).
-
-both_equal : (a b : Ordering) → is_eq (ordering_then a b) ≡ (is_eq a && is_eq b)
-both_equal Less b = refl
-both_equal Equal b = refl
-both_equal Greater b = refl
-
-one_number : (x y : ℕ) → is_eq (nat_cmp x y) ≡ (x == y)
-one_number x y = grind (arith, nat_cmp_is)
-
-one_kind : (a b : Bool) → is_eq (bool_cmp a b) ≡ beq a b
-one_kind true true = refl
-one_kind true false = refl
-one_kind false true = refl
-one_kind false false = refl
-
--- a test that follows from the next one adds nothing
-implied : (a b c : Bool) → (b ≡ true → a ≡ true) → (a && (b && c)) ≡ (b && c)
-implied a true c is = rw (is refl) refl
-implied true false c is = refl
-implied false false c is = refl
-
-pub same_keys : (h i : ℕ) (k q : OutputKey) → (k.name.now ≡ q.name.now → h ≡ i) → is_hashed_key h k (record { hash = i; key = q }) ≡ is_same_key k q
-same_keys h i k q hash =
-    both_equal (nat_cmp h i) _ ∙
-    rw (
-      one_number h i,
-      both_equal (slice_cmp nat_cmp k.name.now q.name.now) (ordering_then (nat_cmp k.flags q.flags) (bool_cmp k.no_bits q.no_bits)),
-      is_eq-slice_cmp k.name.now q.name.now,
-      both_equal (nat_cmp k.flags q.flags) (bool_cmp k.no_bits q.no_bits),
-      one_number k.flags q.flags,
-      one_kind k.no_bits q.no_bits,
-    )
-    (implied (h == i) (bytes_eq k.name.now q.name.now) (k.flags == q.flags && beq k.no_bits q.no_bits)
-    (λ same. eq-eqb h i (hash ((bytes_eq-Decides k.name.now q.name.now).0 same))))
 
 -- ---- picks in order
 
@@ -227,11 +184,11 @@ opens fs ps k heads groups order lt none are =
 
 -- ---- no section yet
 
-pub grouped_none : (fs : List ObjectValue) (ps : List Site) (rank : OutputKey → Option ℕ) (groups : List (List Site)) →
-    ((key : OutputKey) → rank key ≡ None) → groups ≡ [] → AreGrouped fs ps 0 rank groups
-grouped_none fs ps rank groups unknown none = subst (AreGrouped fs ps 0 rank) (sym none) (
+pub grouped_none : (fs : List ObjectValue) (ps : List Site) (numbers keys : List ℕ) (groups : List (List Site)) → keys ≡ [] → groups ≡ [] →
+    AreGrouped fs ps numbers 0 keys groups
+grouped_none fs ps numbers keys groups no_keys none = rw (no_keys, none) (
   [],
-  record { each = λ r key lt. absurd (omega arith); only = λ r key is. absurd (none-some r (sym (unknown key) ∙ is)) },
+  record { count = refl; each = λ r lt. absurd (omega arith) },
   record {
     opened = picks_none ps 0 (IsHead fs ps) (λ j lt. absurd (omega arith));
     covers = λ j lt. absurd (omega arith);
@@ -241,125 +198,63 @@ grouped_none fs ps rank groups unknown none = subst (AreGrouped fs ps 0 rank) (s
 
 -- ---- the next section
 
-and_left : (a b : Bool) → (a && b) ≡ true → a ≡ true
-and_left true b both = refl
-and_left false b both = both
+module _ (fs : List ObjectValue) (ps : List Site) (numbers : List ℕ) (k number : ℕ) (keys : List ℕ) (groups : List (List Site)) (keys_now : List ℕ) (now : List (List Site))
+    (order : AreInOrder ps) (lt : k < length ps) (numbered : AreNumbered fs ps numbers) (its : slice_index numbers k ≡ number) where
+  grouped_again : IsJoined keys groups number (site_at ps k) keys_now now → AreGrouped fs ps numbers k keys groups → AreGrouped fs ps numbers (k + 1) keys_now now
+  grouped_again (r, r_in, at, keys_are, groups_are) (heads, named, are) =
+      let count = named.count in
+      let within : r < length heads = omega arith in
+      let (j, j_in, here, is) = named.each r within in
+      let key = subst (λ p. HaveOneKey fs (site_at ps k) p) here ((numbered.same k j lt j_in).0 (its ∙ sym at ∙ sym is)) in (
+        heads,
+        subst (AreHeadNumbers ps numbers heads) (sym keys_are) named,
+        subst (AreHeaded fs ps (k + 1) heads) (sym groups_are) (joins fs ps k heads groups r order lt within key are),
+      )
 
-and_right : (a b : Bool) → (a && b) ≡ true → b ≡ true
-and_right true b both = both
-and_right false b both = absurd (cc)
+  grouped_new : IsOpened keys groups number (site_at ps k) keys_now now → AreGrouped fs ps numbers k keys groups → AreGrouped fs ps numbers (k + 1) keys_now now
+  grouped_new (none, keys_are, groups_are) (heads, named, are) =
+      let s = site_at ps k in
+      let count = named.count in
+      let long : length (heads ++ s ∷ []) ≡ length heads + 1 = simp length-append in
+      let last : site_at (heads ++ s ∷ []) (length heads) ≡ s = get_or_push heads s (site 0 0) (length heads) refl in
+      let other : (r : ℕ) → r < length heads → HaveOneKey fs s (site_at heads r) → ⊥ =
+      λ r r_in one. (
+      let (j, j_in, here, is) = named.each r r_in in
+      none r (omega arith) (sym is ∙ sym ((numbered.same k j lt j_in).1 (subst (λ p. HaveOneKey fs s p) (sym here) one)) ∙ its)) in (
+        heads ++ s ∷ [],
+        subst (AreHeadNumbers ps numbers (heads ++ s ∷ [])) (sym keys_are)
+            (subst (λ n. AreEach 0 (λ r m. (j : ℕ) × (j < length ps) × (site_at ps j ≡ site_at (heads ++ s ∷ []) r) × (slice_index numbers j ≡ m)) n (keys ++ number ∷ [])) (sym long)
+            (each_more 0 (λ r m. (j : ℕ) × (j < length ps) × (site_at ps j ≡ site_at (heads ++ s ∷ []) r) × (slice_index numbers j ≡ m)) (length heads) keys number
+            (k, lt, sym last, its)
+            (record {
+              count = count;
+              each = λ r r_in. (
+                  let (j, j_in, here, is) = named.each r r_in in
+                  (j, j_in, here ∙ sym (get_or-append heads (s ∷ []) (site 0 0) r r_in), is));
+            }))),
+        subst (AreHeaded fs ps (k + 1) (heads ++ s ∷ [])) (sym groups_are) (opens fs ps k heads groups order lt other are),
+      )
 
-beq_is : (a b : Bool) → beq a b ≡ true → a ≡ b
-beq_is true true is = refl
-beq_is false false is = refl
-beq_is true false is = absurd (cc)
-beq_is false true is = absurd (cc)
+  -- so a section is passed
+  pub grouped_next : IsMemberAdded keys groups number (site_at ps k) keys_now now → AreGrouped fs ps numbers k keys groups → AreGrouped fs ps numbers (k + 1) keys_now now
+  grouped_next (inl joined) are = grouped_again joined are
+  grouped_next (inr opened) are = grouped_new opened are
 
-beq_of : (a b : Bool) → a ≡ b → beq a b ≡ true
-beq_of true b is = subst (λ c. beq true c ≡ true) is refl
-beq_of false b is = subst (λ c. beq false c ≡ true) is refl
-
--- a section has each key that is the same as one of its own
-key_moves : (fs : List ObjectValue) (p : Site) (a b : OutputKey) → IsKeyOf fs p a → is_same_key a b ≡ true → IsKeyOf fs p b
-key_moves fs p a b (name, flags, kind) same =
-    let rest = and_right (bytes_eq a.name.now b.name.now) (a.flags == b.flags && beq a.no_bits b.no_bits) same in (
-      sym ((bytes_eq-Decides a.name.now b.name.now).0 (and_left (bytes_eq a.name.now b.name.now) (a.flags == b.flags && beq a.no_bits b.no_bits) same)) ∙ name,
-      sym (eqb-true a.flags b.flags (and_left (a.flags == b.flags) (beq a.no_bits b.no_bits) rest)) ∙ flags,
-      sym (beq_is a.no_bits b.no_bits (and_right (a.flags == b.flags) (beq a.no_bits b.no_bits) rest)) ∙ kind,
-    )
-
--- all keys of a section are the same
-one_same : (fs : List ObjectValue) (p : Site) (a b : OutputKey) → IsKeyOf fs p a → IsKeyOf fs p b → is_same_key a b ≡ true
-one_same fs p a b (name, flags, kind) (name_2, flags_2, kind_2) =
-    rw ((bytes_eq-Decides a.name.now b.name.now).1 (name ∙ sym name_2), eq-eqb a.flags b.flags (flags ∙ sym flags_2), beq_of a.no_bits b.no_bits (kind ∙ sym kind_2)) refl
-
--- two sections have a key in common exactly if they go to one output section
-one_key : (fs : List ObjectValue) (p q : Site) (key : OutputKey) → IsKeyOf fs p key → IsKeyOf fs q key → HaveOneKey fs p q
-one_key fs p q key (name, flags, kind) (name_2, flags_2, kind_2) = (sym name ∙ name_2, sym flags ∙ flags_2, sym kind ∙ kind_2)
-
-key_of_one : (fs : List ObjectValue) (p q : Site) (key : OutputKey) → IsKeyOf fs p key → HaveOneKey fs p q → IsKeyOf fs q key
-key_of_one fs p q key (name, flags, kind) (one, two, three) = (name ∙ one, flags ∙ two, kind ∙ three)
-
-some_is : (a b : ℕ) → Some a ≡ Some b → a ≡ b
-some_is a b is = ap (λ (o : Option ℕ). unwrap_or o 0) is
-
--- a key has a rank, or none
-rank_of : (rank : Option ℕ) → ((r : ℕ) × (rank ≡ Some r)) ⊎ (rank ≡ None)
-rank_of (Some r) = inl (r, refl)
-rank_of None = inr refl
-
--- the section's key has a rank
-grouped_again : (fs : List ObjectValue) (ps : List Site) (k answer r : ℕ) (key : OutputKey) (old now : OutputKey → Option ℕ) (groups after : List (List Site)) →
-    AreInOrder ps → k < length ps → IsKeyOf fs (site_at ps k) key → IsRanked key (length groups) answer old now → IsMemberAdded groups answer (site_at ps k) after →
-    old key ≡ Some r → AreGrouped fs ps k old groups → AreGrouped fs ps (k + 1) now after
-grouped_again fs ps k answer r key old now groups after order lt is placed added known (heads, ranked, are) =
-    let (r_in, head) = ranked.only r key known in
-    let count = are.grouped.count in
-    let at : answer ≡ r = placed.rank ∙ rw known refl in
-    let within : answer < length groups = omega arith in
-    let kept : (q : OutputKey) → now q ≡ old q = λ q. placed.ranks q ∙ rw known refl in (
-      heads,
-      record { each = λ s q s_in its. kept q ∙ ranked.each s q s_in its; only = λ s q has. ranked.only s q (sym (kept q) ∙ has) },
-      subst (AreHeaded fs ps (k + 1) heads) (sym (added.joined within ∙ ap (λ n. set groups n (get_or groups n [] ++ site_at ps k ∷ [])) at))
-          (joins fs ps k heads groups r order lt r_in (one_key fs (site_at ps k) (site_at heads r) key is head) are),
-    )
-
--- no group has the section's key
-grouped_new : (fs : List ObjectValue) (ps : List Site) (k answer : ℕ) (key : OutputKey) (old now : OutputKey → Option ℕ) (groups after : List (List Site)) →
-    AreInOrder ps → k < length ps → IsKeyOf fs (site_at ps k) key → IsRanked key (length groups) answer old now → IsMemberAdded groups answer (site_at ps k) after →
-    old key ≡ None → AreGrouped fs ps k old groups → AreGrouped fs ps (k + 1) now after
-grouped_new fs ps k answer key old now groups after order lt is placed added unknown (heads, ranked, are) =
-    let s = site_at ps k in
-    let count = are.grouped.count in
-    let at : answer ≡ length groups = placed.rank ∙ rw unknown refl in
-    let past : answer < length groups → ⊥ = λ within. absurd (omega arith) in
-    let long : length (heads ++ s ∷ []) ≡ length heads + 1 = simp length-append in
-    let last : site_at (heads ++ s ∷ []) (length heads) ≡ s = get_or_push heads s (site 0 0) (length heads) refl in
-    let next : (q : OutputKey) → now q ≡ cond (is_same_key key q) (Some (length groups)) (old q) = λ q. placed.ranks q ∙ rw unknown refl in
-    let other : (r : ℕ) → r < length heads → HaveOneKey fs s (site_at heads r) → ⊥ =
-    λ r r_in one. none-some r (sym unknown ∙ ranked.each r key r_in (key_of_one fs s (site_at heads r) key is one)) in (
-      heads ++ s ∷ [],
-      record {
-        each = λ r q r_in its. next q ∙ elim (cases_lt r (length heads)) [
-          | inl before ↦ (
-              let head = subst (λ p. IsKeyOf fs p q) (get_or-append heads (s ∷ []) (site 0 0) r before) its in
-              elim (same_bool (is_same_key key q) true) [
-                | inl same ↦ absurd (other r before (one_key fs s (site_at heads r) q (key_moves fs s key q is same) head))
-                | inr differ ↦ rw (not_true (is_same_key key q) differ) (ranked.each r q before head)
-              ])
-          | inr above ↦ (
-              let end : length heads ≡ r = omega arith in
-              let here = subst (λ p. IsKeyOf fs p q) last (subst (λ n. IsKeyOf fs (site_at (heads ++ s ∷ []) n) q) (sym end) its) in
-              rw (one_same fs s key q is here) (ap Some (count ∙ end)))
-        ];
-        only = λ r q has. elim (same_bool (is_same_key key q) true) [
-          | inl same ↦ (
-              let number : length groups ≡ r = some_is (length groups) r (rw same at (sym (next q) ∙ has)) in (
-                omega arith,
-                subst (λ n. IsKeyOf fs (site_at (heads ++ s ∷ []) n) q) (sym count ∙ number) (subst (λ p. IsKeyOf fs p q) (sym last) (key_moves fs s key q is same)),
-              ))
-          | inr differ ↦ (
-              let (r_in, head) = ranked.only r q (rw (not_true (is_same_key key q) differ) at (sym (next q) ∙ has)) in
-              (omega arith, subst (λ p. IsKeyOf fs p q) (sym (get_or-append heads (s ∷ []) (site 0 0) r r_in)) head))
-        ];
-      },
-      subst (AreHeaded fs ps (k + 1) (heads ++ s ∷ [])) (sym (added.opened past)) (opens fs ps k heads groups order lt other are),
-    )
-
--- so a section is passed
-pub grouped_next : (fs : List ObjectValue) (ps : List Site) (k answer : ℕ) (key : OutputKey) (old now : OutputKey → Option ℕ) (groups after : List (List Site)) →
-    AreInOrder ps → k < length ps → IsKeyOf fs (site_at ps k) key → IsRanked key (length groups) answer old now → IsMemberAdded groups answer (site_at ps k) after →
-    AreGrouped fs ps k old groups → AreGrouped fs ps (k + 1) now after
-grouped_next fs ps k answer key old now groups after order lt is placed added are = elim (rank_of (old key)) [
-  | inl (r, known) ↦ grouped_again fs ps k answer r key old now groups after order lt is placed added known are
-  | inr unknown ↦ grouped_new fs ps k answer key old now groups after order lt is placed added unknown are
-]
-
-pub grouped_all : (fs : List ObjectValue) (ps : List Site) (rank : OutputKey → Option ℕ) (groups : List (List Site)) → AreGrouped fs ps (length ps) rank groups →
+pub grouped_all : (fs : List ObjectValue) (ps : List Site) (numbers keys : List ℕ) (groups : List (List Site)) → AreGrouped fs ps numbers (length ps) keys groups →
     AreGroups fs ps groups
-grouped_all fs ps rank groups (heads, ranked, are) = (heads, are)
+grouped_all fs ps numbers keys groups (heads, named, are) = (heads, are)
 
--- ---- a site joins a group, as lists of lists
+-- ---- a site joins a group of a map, or opens one
+
+keys_kept : (es : List (ℕ × Vec Site)) (r : ℕ) (v : Vec Site) → keys_of (set_value_at es r v) ≡ keys_of es
+keys_kept [] r v = refl
+keys_kept (e ∷ es) zero v = refl
+keys_kept (e ∷ es) (suc r) v = ap (λ ks. e.0 ∷ ks) (keys_kept es r v)
+
+value_set : (es : List (ℕ × Vec Site)) (r : ℕ) (v : Vec Site) → values_of (set_value_at es r v) ≡ set (values_of es) r v
+value_set [] r v = refl
+value_set (e ∷ es) zero v = refl
+value_set (e ∷ es) (suc r) v = ap (λ vs. e.1 ∷ vs) (value_set es r v)
 
 pub member_added : (groups : List (Vec Site)) (group more : Vec Site) (rank : ℕ) (s : Site) → rank < length groups → group ≡ get_or groups rank group →
     more.items ≡ group.items ++ s ∷ [] →
@@ -369,31 +264,70 @@ member_added groups group more rank s lt at added =
     map-set items groups rank more ∙
     ap (λ ms. set (map items groups) rank ms) (added ∙ ap (λ ms. ms ++ s ∷ []) (ap items at ∙ sym (get_or-map items groups rank group [] lt)))
 
--- ---- the outputs
+lengths : (es : List (ℕ × Vec Site)) → length (values_of es) ≡ length (keys_of es)
+lengths [] = refl
+lengths (e ∷ es) = ap suc (lengths es)
 
-kind_heads : (fs : List ObjectValue) (without : Bool) (ps : List Site) (groups : List (List Site)) (heads : List Site) → Lists (of_kind fs without) ps →
-    AreHeaded fs ps (length ps) heads groups → Lists (openers fs without) heads
-kind_heads fs without ps groups heads is are =
-    lists_same (λ p. of_kind fs without p × IsHead fs ps p) (openers fs without) heads
-    (λ p (row, head). (
-      row.0,
-      (
+no_key : (es : List (ℕ × Vec Site)) (n : ℕ) → lookup (nat_eq n) es ≡ None → (r : ℕ) → r < length (keys_of es) → get_or (keys_of es) r 0 ≡ n → ⊥
+no_key [] n none r lt at = absurd (omega arith)
+no_key (e ∷ es) n none zero lt at = none-some e.1 (sym (rw (eq-eqb n e.0 (sym at)) at none))
+no_key (e ∷ es) n none (suc r) lt at = elim (cases_eq n e.0) [
+  | inl same ↦ none-some e.1 (sym (rw (eq-eqb n e.0 same) at none))
+  | inr differ ↦ no_key es n (rw (not_true (nat_eq n e.0) (λ is. differ (eqb-true n e.0 is))) at none) r (omega arith) at
+]
+
+pub entry_joined : (es : List (ℕ × Vec Site)) (n r : ℕ) (group more : Vec Site) (s : Site) → position (nat_eq n) (keys_of es) ≡ Some r →
+    slice_get (values_of es) r ≡ Some group → more.items ≡ group.items ++ s ∷ [] →
+    IsMemberAdded (keys_of es) (map (λ ms. ms.items) (values_of es)) n s (keys_of (set_value_at es r more)) (map (λ ms. ms.items) (values_of (set_value_at es r more)))
+entry_joined es n r group more s found at added =
+    let (r_in, passes, first) = position-Some (nat_eq n) (keys_of es) r 0 found in
+    let many = lengths es in
+    let within : r < length (values_of es) = omega arith in
+    let read : group ≡ get_or (values_of es) r group = ap (λ o. unwrap_or o group) (sym at ∙ slice_get-get_or (values_of es) r group within) in
+    inl (
+      r,
+      r_in,
+      sym (eqb-true n (get_or (keys_of es) r 0) passes),
+      keys_kept es r more,
+      ap (map (λ (ms : Vec Site). ms.items)) (value_set es r more) ∙ member_added (values_of es) group more r s within read added,
+    )
+
+keys_more : (es : List (ℕ × Vec Site)) (n : ℕ) (v : Vec Site) → keys_of (es ++ (n, v) ∷ []) ≡ keys_of es ++ n ∷ []
+keys_more [] n v = refl
+keys_more (e ∷ es) n v = ap (λ ks. e.0 ∷ ks) (keys_more es n v)
+
+values_more : (es : List (ℕ × Vec Site)) (n : ℕ) (v : Vec Site) → map (λ ms. ms.items) (values_of (es ++ (n, v) ∷ [])) ≡ map (λ ms. ms.items) (values_of es) ++ v.items ∷ []
+values_more [] n v = refl
+values_more (e ∷ es) n v = ap (λ vs. e.1.items ∷ vs) (values_more es n v)
+
+pub entry_opened : (es : List (ℕ × Vec Site)) (n : ℕ) (v : Vec Site) (s : Site) → lookup (nat_eq n) es ≡ None → v.items ≡ s ∷ [] →
+    IsMemberAdded (keys_of es) (map (λ ms. ms.items) (values_of es)) n s (keys_of (es ++ (n, v) ∷ [])) (map (λ ms. ms.items) (values_of (es ++ (n, v) ∷ [])))
+entry_opened es n v s none one = inr (
+  no_key es n none,
+  keys_more es n v,
+  values_more es n v ∙ ap (λ ms. map (λ (ms : Vec Site). ms.items) (values_of es) ++ ms ∷ []) one,
+)
+
+-- the openers of live sections, and their members
+pub groups_live : (fs : List ObjectValue) (ps : List Site) (groups : List (List Site)) → Lists (live fs) ps → AreGroups fs ps groups → AreLiveGroups fs groups
+groups_live fs ps groups is (heads, are) = (
+  heads,
+  lists_same (λ p. live fs p × IsHead fs ps p) (λ p. live fs p × IsOpener fs p) heads
+      (λ p (row, head). (
+        row,
         (λ q there before key. (
-            let (j, j_in, at) = is.all q (there, key.2 ∙ row.1) in
+            let (j, j_in, at) = is.all q there in
             head j j_in (subst (λ r. Before r p) (sym at) before) (subst (λ r. HaveOneKey fs r p) (sym at) key))),
-        row.1,
-      ),
-    ))
-    (λ p (there, (opener, kind)). ((there, kind), (λ j j_in before key. opener (site_at ps j) (is.each j j_in).0 before key)))
-    (picked_done (of_kind fs without) ps (IsHead fs ps) heads is are.opened)
+      ))
+      (λ p (row, opener). (row, (λ j j_in before key. opener (site_at ps j) (is.each j j_in) before key)))
+      (picked_done (live fs) ps (IsHead fs ps) heads is are.opened),
+  record {
+    count = are.grouped.count;
+    each = λ r r_in. picked_done (live fs) ps (λ p. HaveOneKey fs p (site_at heads r)) (get_or groups r []) is (are.grouped.each r r_in);
+  },
+)
 
-kind_members : (fs : List ObjectValue) (without : Bool) (ps : List Site) (groups : List (List Site)) (heads : List Site) (r : ℕ) → Lists (of_kind fs without) ps →
-    AreHeaded fs ps (length ps) heads groups → r < length heads → Lists (members fs (site_at heads r)) (get_or groups r [])
-kind_members fs without ps groups heads r is are r_in =
-    let kind = ((kind_heads fs without ps groups heads is are).each r r_in).1.1 in
-    lists_same (λ p. of_kind fs without p × HaveOneKey fs p (site_at heads r)) (members fs (site_at heads r)) (get_or groups r [])
-    (λ p (row, key). (row.0, key)) (λ p (there, key). ((there, key.2 ∙ kind), key))
-    (picked_done (of_kind fs without) ps (λ p. HaveOneKey fs p (site_at heads r)) (get_or groups r []) is (are.grouped.each r r_in))
+-- ---- the outputs
 
 -- all numbers below n + 1, from 0 and the others
 first_or : (P : ℕ → Type 0) (n : ℕ) → P 0 → ((k : ℕ) → suc k < n → P (suc k)) → (k : ℕ) → k < n → P k
@@ -413,19 +347,99 @@ each_append fs (x ∷ xs) ys (g ∷ gs) hs front back =
           (λ k lt. rest.each k (omega arith));
     }
 
-pub outputs_are : (fs : List ObjectValue) (ps qs : List Site) (gs hs : List (List Site)) → Lists (of_kind fs false) ps → Lists (of_kind fs true) qs →
-    AreGroups fs ps gs → AreGroups fs qs hs → (xs : List Site) × AreOpeners fs xs × AreOutputMembers fs xs (length xs) (gs ++ hs)
-outputs_are fs ps qs gs hs with without (heads, are) (others, rest) =
-    let count = are.grouped.count in
-    let more = rest.grouped.count in (
-      heads ++ others,
-      (heads, others, kind_heads fs false ps gs heads with are, kind_heads fs true qs hs others without rest, refl),
-      each_append fs heads others gs hs
-          (record { count = are.grouped.count; each = λ r lt. kind_members fs false ps gs heads r with are lt })
-          (record { count = rest.grouped.count; each = λ r lt. kind_members fs true qs hs others r without rest lt }),
+-- ---- groups split by kind
+
+kind_none : (fs : List ObjectValue) (heads : List Site) (without : Bool) → AreOfKind fs heads 0 without []
+kind_none fs heads without = (
+  [],
+  picks_none heads 0 (λ p. is_no_bits (section_at_site fs p).body ≡ without) (λ j lt. absurd (omega arith)),
+  record { count = refl; each = λ r lt. absurd (omega arith) },
+)
+
+kind_more : (fs : List ObjectValue) (heads : List Site) (k : ℕ) (without : Bool) (ms : List Site) (outputs : List (List Site)) →
+    Lists (λ p. live fs p × IsOpener fs p) heads → k < length heads → is_no_bits (section_at_site fs (site_at heads k)).body ≡ without →
+    Lists (members fs (site_at heads k)) ms → AreOfKind fs heads k without outputs → AreOfKind fs heads (k + 1) without (outputs ++ ms ∷ [])
+kind_more fs heads k without ms outputs is lt kind those (ps, picks, are) = (
+  ps ++ site_at heads k ∷ [],
+  picked_more (λ p. live fs p × IsOpener fs p) heads k (λ p. is_no_bits (section_at_site fs p).body ≡ without) ps is lt kind picks,
+  each_append fs ps (site_at heads k ∷ []) outputs (ms ∷ []) are
+      (record { count = refl; each = first_or (λ i. Lists (members fs (site_at (site_at heads k ∷ []) i)) (get_or (ms ∷ []) i [])) 1 those (λ i below. absurd (omega arith)) }),
+)
+
+kind_past : (fs : List ObjectValue) (heads : List Site) (k : ℕ) (without : Bool) (outputs : List (List Site)) →
+    (is_no_bits (section_at_site fs (site_at heads k)).body ≡ without → ⊥) → AreOfKind fs heads k without outputs → AreOfKind fs heads (k + 1) without outputs
+kind_past fs heads k without outputs other (ps, picks, are) =
+    (ps, picked_past heads k (λ p. is_no_bits (section_at_site fs p).body ≡ without) ps other picks, are)
+
+pub split_none : (fs : List ObjectValue) (groups : List (List Site)) → AreLiveGroups fs groups → AreSplit fs groups [] []
+split_none fs groups (heads, is, are) =
+    let count = are.count in (
+      heads,
+      0,
+      is,
+      omega arith,
+      (λ r i r_in at. (let same : r ≡ i = omega arith in subst (λ n. Lists (members fs (site_at heads n)) (get_or groups r [])) same (are.each r (omega arith)))),
+      kind_none fs heads false,
+      kind_none fs heads true,
     )
 
-pub outputs_all : (fs : List ObjectValue) (gs hs oss : List (List Site)) → AreGroupsOfKind fs false gs → AreGroupsOfKind fs true hs → oss ≡ gs ++ hs →
-    (zs : List Site) × AreOpeners fs zs × AreOutputMembers fs zs (length zs) oss
-outputs_all fs gs hs oss (ps, with, one) (qs, without, other) all =
-    subst (λ os. (zs : List Site) × AreOpeners fs zs × AreOutputMembers fs zs (length zs) os) (sym all) (outputs_are fs ps qs gs hs with without one other)
+-- the first group of the rest has a member, and its kind is that of its opener
+pub split_first : (fs : List ObjectValue) (ms : List Site) (rest outputs behind : List (List Site)) → AreSplit fs (ms ∷ rest) outputs behind →
+    (0 < length ms) × live fs (site_at ms 0)
+split_first fs ms rest outputs behind (heads, k, is, count, those, with, without) =
+    let here = those 0 k (omega arith) (omega arith) in
+    let (j, j_in, at) = here.all (site_at heads k) ((is.each k (omega arith)).0, (refl, refl, refl)) in
+    (omega arith, (here.each 0 (omega arith)).0)
+
+pub split_bits : (fs : List ObjectValue) (ms : List Site) (rest outputs behind : List (List Site)) → is_no_bits (section_at_site fs (site_at ms 0)).body ≡ false →
+    AreSplit fs (ms ∷ rest) outputs behind → AreSplit fs rest (outputs ++ ms ∷ []) behind
+split_bits fs ms rest outputs behind kind split =
+    let some = (split_first fs ms rest outputs behind split).0 in
+    let (heads, k, is, count, those, with, without) = split in
+    let here = those 0 k (omega arith) (omega arith) in
+    let its = sym (here.each 0 some).1.2 ∙ kind in (
+      heads,
+      k + 1,
+      is,
+      omega arith,
+      (λ r i r_in at. those (suc r) i (omega arith) (omega arith)),
+      kind_more fs heads k false ms outputs is (omega arith) its here with,
+      kind_past fs heads k true behind (λ other. true≢false (sym other ∙ its)) without,
+    )
+
+pub split_no_bits : (fs : List ObjectValue) (ms : List Site) (rest outputs behind : List (List Site)) → is_no_bits (section_at_site fs (site_at ms 0)).body ≡ true →
+    AreSplit fs (ms ∷ rest) outputs behind → AreSplit fs rest outputs (behind ++ ms ∷ [])
+split_no_bits fs ms rest outputs behind kind split =
+    let some = (split_first fs ms rest outputs behind split).0 in
+    let (heads, k, is, count, those, with, without) = split in
+    let here = those 0 k (omega arith) (omega arith) in
+    let its = sym (here.each 0 some).1.2 ∙ kind in (
+      heads,
+      k + 1,
+      is,
+      omega arith,
+      (λ r i r_in at. those (suc r) i (omega arith) (omega arith)),
+      kind_past fs heads k false outputs (λ other. true≢false (sym its ∙ other)) with,
+      kind_more fs heads k true ms behind is (omega arith) its here without,
+    )
+
+kind_all : (fs : List ObjectValue) (heads : List Site) (without : Bool) (ps : List Site) → Lists (λ p. live fs p × IsOpener fs p) heads →
+    Picks heads (length heads) (λ p. is_no_bits (section_at_site fs p).body ≡ without) ps → Lists (openers fs without) ps
+kind_all fs heads without ps is picks =
+    lists_same (λ p. (live fs p × IsOpener fs p) × (is_no_bits (section_at_site fs p).body ≡ without)) (openers fs without) ps
+    (λ p (row, kind). (row.0, (row.1, kind))) (λ p (there, (opener, kind)). ((there, opener), kind))
+    (picked_done (λ p. live fs p × IsOpener fs p) heads (λ p. is_no_bits (section_at_site fs p).body ≡ without) ps is picks)
+
+pub split_all : (fs : List ObjectValue) (outputs behind : List (List Site)) → AreSplit fs [] outputs behind → AreOutputs fs (outputs ++ behind)
+split_all fs outputs behind (heads, k, is, count, those, (ps, picks, are), (qs, picks_2, are_2)) =
+    let end : k ≡ length heads = omega arith in (
+      ps ++ qs,
+      (
+        ps,
+        qs,
+        kind_all fs heads false ps is (subst (λ n. Picks heads n (λ p. is_no_bits (section_at_site fs p).body ≡ false) ps) end picks),
+        kind_all fs heads true qs is (subst (λ n. Picks heads n (λ p. is_no_bits (section_at_site fs p).body ≡ true) qs) end picks_2),
+        refl,
+      ),
+      each_append fs ps qs outputs behind are are_2,
+    )

@@ -1,44 +1,20 @@
 -- Output sections: live sections of one name, the same flags but GROUP, and bits or none, in order of first appearance.
 -- (gABI chapter 4, Sections: sh_flags; the placement is this project's profile.)
-use Rattle.std.specs.Prelude.{◌≡◌, ◌==◌, ◌&&◌, ℕ, cond, Bool, List, Option, Some, is_some, ◌-◌, ◌^◌, ◌<◌, true, false, [], ◌∷◌, bit_and, fold, length, max, ◌++◌, get_or, set, map}
-use Rattle.std.specs.BTreeMap.{BTreeMap}
+use Rattle.std.specs.Prelude.{◌≡◌, ◌↔◌, ◌⊎◌, ℕ, Bool, List, ◌+◌, ◌-◌, ◌^◌, ◌<◌, true, false, [], ◌∷◌, All, Contains, bit_and, fold, length, max, ◌++◌, get_or, set, map, slice_index}
 use Rattle.std.specs.Cmp.Lexicographic.{slice_cmp}
-use Rattle.std.specs.Map.{lookup}
-use Rattle.std.specs.Option.{unwrap_or}
-use Rattle.std.specs.Str.{bytes_eq}
-use Rattle.std.specs.Ordering.{bool_cmp, is_eq, nat_cmp, ordering_then}
+use Rattle.std.specs.declared.cmp.Ordering.{Ordering}
+use Rattle.std.specs.Ordering.{bool_cmp, nat_cmp, ordering_then}
 use Rattle.std.specs.List.{flat_map}
-use mathlib.Core.Bool.{beq}
+use Rattle.std.specs.List.Sorted.{IsSortedByKey}
 use Rattle.elf_field.specs.Abi.{SHF_GROUP}
 use Rattle.elf_image_rules.specs.Rows.{Row}
 use Rattle.elf_link_files.specs.Files.{section_in, Live}
 use Rattle.elf_link_files.specs.Rows.{Lists, site_at, AtSection, Before, AreEach, Pairs}
 use Rattle.elf_link_files.specs.declared.site.Chosen.{Chosen}
 use Rattle.elf_link_files.specs.declared.site.Site.{Site}
-use Rattle.elf_link_outputs.specs.declared.outputs.HashedKey.{HashedKey}
+use Rattle.elf_link_outputs.specs.declared.outputs.Keyed.{Keyed}
 use Rattle.elf_link_outputs.specs.declared.outputs.OutputKey.{OutputKey}
 use Rattle.elf_object_type.specs.Object.{BodyValue, bits, no_bits, relocs, group, ObjectValue, SectionValue}
-
--- The ranks of output sections by what their sections have in common.
-
--- a key of this hash is the other one
-abbrev pub is_hashed_key : ℕ → OutputKey → HashedKey → Bool
-is_hashed_key hash key other =
-    is_eq (ordering_then (nat_cmp hash other.hash)
-    (ordering_then (slice_cmp nat_cmp key.name.now other.key.name.now) (ordering_then (nat_cmp key.flags other.key.flags) (bool_cmp key.no_bits other.key.no_bits))))
-
--- the rank of a key, by its name's hash
-abbrev pub rank_by : {A : Type 0} → (A → ℕ) → (A → List ℕ → A) → A → BTreeMap HashedKey ℕ → OutputKey → Option ℕ
-rank_by finish write start known key = lookup (is_hashed_key (finish (write start key.name.now)) key) known.entries
-
--- two keys of one output section
-abbrev pub is_same_key : OutputKey → OutputKey → Bool
-is_same_key a b = bytes_eq a.name.now b.name.now && (a.flags == b.flags && beq a.no_bits b.no_bits)
-
--- the rank of a key that has one, and all stay; or the next one, which this key gets
-pub record IsRanked (key : OutputKey) (next : ℕ) (answer : ℕ) (old : OutputKey → Option ℕ) (now : OutputKey → Option ℕ) : Type 0 where
-  pub rank : answer ≡ unwrap_or (old key) next
-  pub ranks : (q : OutputKey) → now q ≡ cond (is_some (old key)) (old q) (cond (is_same_key key q) (Some next) (old q))
 
 abbrev pub live : List ObjectValue → Row Site
 live fs = AtSection fs (Live fs)
@@ -66,10 +42,6 @@ HaveOneKey fs p q =
 -- a live section opens an output section where no live section before it goes to the same one
 abbrev pub IsOpener : List ObjectValue → Site → Type 0
 IsOpener fs p = (q : Site) → live fs q → Before q p → HaveOneKey fs q p → ⊥
-
--- the live sections with bits, or without
-abbrev pub of_kind : List ObjectValue → Bool → Row Site
-of_kind fs without p = live fs p × (is_no_bits (section_at_site fs p).body ≡ without)
 
 -- the sections that open the outputs with bits, and those without
 abbrev pub openers : List ObjectValue → Bool → Row Site
@@ -105,7 +77,27 @@ Picks ps k P out = Lists (λ p. P p × ((j : ℕ) × (j < k) × (site_at ps j �
 -- a section has this key
 abbrev pub IsKeyOf : List ObjectValue → Site → OutputKey → Type 0
 IsKeyOf fs p key =
-    (key.name.now ≡ (section_at_site fs p).name) × (key.flags ≡ output_flags (section_at_site fs p).flags) × (key.no_bits ≡ is_no_bits (section_at_site fs p).body)
+    (key.name.now ≡ (section_at_site fs p).name) × (key.flags ≡ output_flags (section_at_site fs p).flags) ×
+    (key.no_bits ≡ is_no_bits (section_at_site fs p).body) × (key.length ≡ length (section_at_site fs p).name)
+
+-- the keys of the first n sites, each beside the position of its site
+pub record AreKeyed (fs : List ObjectValue) (ps : List Site) (n : ℕ) (keyed : List Keyed) : Type 0 where
+  pub each : All (λ x. (x.position < n) × IsKeyOf fs (site_at ps x.position) x.key) keyed
+  pub all : (k : ℕ) → k < n → (x : Keyed) × Contains keyed x × (x.position ≡ k)
+
+-- lengths of names first, then flags, then those with bits, then names
+abbrev pub key_cmp : OutputKey → OutputKey → Ordering
+key_cmp a b =
+    ordering_then (nat_cmp a.length b.length)
+    (ordering_then (nat_cmp a.flags b.flags) (ordering_then (bool_cmp a.no_bits b.no_bits) (slice_cmp nat_cmp a.name.now b.name.now)))
+
+abbrev pub AreAscending : List Keyed → Type 0
+AreAscending = IsSortedByKey (λ x. x.key) key_cmp
+
+-- a number for each site: two have one number exactly if they go to one output section
+pub record AreNumbered (fs : List ObjectValue) (ps : List Site) (numbers : List ℕ) : Type 0 where
+  pub count : length numbers ≡ length ps
+  pub same : (i j : ℕ) → i < length ps → j < length ps → (slice_index numbers i ≡ slice_index numbers j) ↔ HaveOneKey fs (site_at ps i) (site_at ps j)
 
 abbrev pub AreInOrder : List Site → Type 0
 AreInOrder ps = Pairs Before ps
@@ -120,26 +112,47 @@ pub record AreHeaded (fs : List ObjectValue) (ps : List Site) (k : ℕ) (heads :
   pub covers : (j : ℕ) → j < k → (r : ℕ) × (r < length heads) × HaveOneKey fs (site_at ps j) (site_at heads r)
   pub grouped : AreEach [] (λ r. Picks ps k (λ p. HaveOneKey fs p (site_at heads r))) (length heads) groups
 
--- each key of a group's sections has the group's number as its rank, and no other key has one
-pub record AreRanked (fs : List ObjectValue) (heads : List Site) (rank : OutputKey → Option ℕ) : Type 0 where
-  pub each : (r : ℕ) (key : OutputKey) → r < length heads → IsKeyOf fs (site_at heads r) key → rank key ≡ Some r
-  pub only : (r : ℕ) (key : OutputKey) → rank key ≡ Some r → (r < length heads) × IsKeyOf fs (site_at heads r) key
+-- the first i of these keys, which ascend, are numbered: the last of them has this number, and the others that or a lower one
+pub record AreCounted (fs : List ObjectValue) (ps : List Site) (keyed : List Keyed) (i number : ℕ) (numbers : List ℕ) : Type 0 where
+  pub count : length numbers ≡ length ps
+  pub small : number < i
+  pub last : (m : ℕ) (d : Keyed) → m + 1 ≡ i → m < length keyed → slice_index numbers (get_or keyed m d).position ≡ number
+  pub below : (a : ℕ) (d : Keyed) → a < i → a < length keyed → slice_index numbers (get_or keyed a d).position < number + 1
+  pub same : (a b : ℕ) (d : Keyed) → a < i → b < i → a < length keyed → b < length keyed →
+      (slice_index numbers (get_or keyed a d).position ≡ slice_index numbers (get_or keyed b d).position) ↔
+      HaveOneKey fs (site_at ps (get_or keyed a d).position) (site_at ps (get_or keyed b d).position)
 
--- and their ranks
-abbrev pub AreGrouped : List ObjectValue → List Site → ℕ → (OutputKey → Option ℕ) → List (List Site) → Type 0
-AreGrouped fs ps k rank groups = (heads : List Site) × AreRanked fs heads rank × AreHeaded fs ps k heads groups
+-- each group has the number of its head
+abbrev pub AreHeadNumbers : List Site → List ℕ → List Site → List ℕ → Type 0
+AreHeadNumbers ps numbers heads = AreEach 0 (λ r n. (j : ℕ) × (j < length ps) × (site_at ps j ≡ site_at heads r) × (slice_index numbers j ≡ n)) (length heads)
+
+-- the groups of the first k sites, and their numbers
+abbrev pub AreGrouped : List ObjectValue → List Site → List ℕ → ℕ → List ℕ → List (List Site) → Type 0
+AreGrouped fs ps numbers k keys groups = (heads : List Site) × AreHeadNumbers ps numbers heads keys × AreHeaded fs ps k heads groups
 
 abbrev pub AreGroups : List ObjectValue → List Site → List (List Site) → Type 0
 AreGroups fs ps groups = (heads : List Site) × AreHeaded fs ps (length ps) heads groups
 
--- a site is added to the group of this rank, or opens one where there is none
-pub record IsMemberAdded (groups : List (List Site)) (rank : ℕ) (s : Site) (now : List (List Site)) : Type 0 where
-  pub joined : rank < length groups → now ≡ set groups rank (get_or groups rank [] ++ s ∷ [])
-  pub opened : (rank < length groups → ⊥) → now ≡ groups ++ (s ∷ []) ∷ []
+-- a site is added to the group of this number
+abbrev pub IsJoined : List ℕ → List (List Site) → ℕ → Site → List ℕ → List (List Site) → Type 0
+IsJoined keys groups number s keys_now now =
+    (r : ℕ) × (r < length keys) × (get_or keys r 0 ≡ number) × (keys_now ≡ keys) × (now ≡ set groups r (get_or groups r [] ++ s ∷ []))
 
--- the groups of the live sections with bits, or without
-abbrev pub AreGroupsOfKind : List ObjectValue → Bool → List (List Site) → Type 0
-AreGroupsOfKind fs without groups = (ps : List Site) × Lists (of_kind fs without) ps × AreGroups fs ps groups
+-- a site opens a group, since none has this number
+abbrev pub IsOpened : List ℕ → List (List Site) → ℕ → Site → List ℕ → List (List Site) → Type 0
+IsOpened keys groups number s keys_now now =
+    ((r : ℕ) → r < length keys → get_or keys r 0 ≡ number → ⊥) × (keys_now ≡ keys ++ number ∷ []) × (now ≡ groups ++ (s ∷ []) ∷ [])
+
+abbrev pub IsMemberAdded : List ℕ → List (List Site) → ℕ → Site → List ℕ → List (List Site) → Type 0
+IsMemberAdded keys groups number s keys_now now = IsJoined keys groups number s keys_now now ⊎ IsOpened keys groups number s keys_now now
+
+-- the members of the first n outputs, by the sections that open them
+abbrev pub AreOutputMembers : List ObjectValue → List Site → ℕ → List (List Site) → Type 0
+AreOutputMembers fs ps = AreEach [] (λ k. Lists (members fs (site_at ps k)))
+
+-- the groups of all live sections, by the sections that open them
+abbrev pub AreLiveGroups : List ObjectValue → List (List Site) → Type 0
+AreLiveGroups fs groups = (heads : List Site) × Lists (λ p. live fs p × IsOpener fs p) heads × AreOutputMembers fs heads (length heads) groups
 
 -- Which sections are in each output, in order, and the commons after them; and their parts. (gABI chapter 4, Sections, Symbol Table:
 -- SHN_COMMON; the placement is this project's profile.)
@@ -153,9 +166,16 @@ abbrev pub AreOpeners : List ObjectValue → List Site → Type 0
 AreOpeners fs ps =
     (with without : List Site) × Lists (openers fs false) with × Lists (openers fs true) without × (ps ≡ with ++ without)
 
--- the members of the first n outputs, by the sections that open them
-abbrev pub AreOutputMembers : List ObjectValue → List Site → ℕ → List (List Site) → Type 0
-AreOutputMembers fs ps = AreEach [] (λ k. Lists (members fs (site_at ps k)))
+-- the outputs of some of the openers: those whose sections have bits, or none
+abbrev pub AreOfKind : List ObjectValue → List Site → ℕ → Bool → List (List Site) → Type 0
+AreOfKind fs heads k without outputs =
+    (ps : List Site) × Picks heads k (λ p. is_no_bits (section_at_site fs p).body ≡ without) ps × AreOutputMembers fs ps (length ps) outputs
+
+-- the groups of the first openers are split by kind, and the rest is left
+abbrev pub AreSplit : List ObjectValue → List (List Site) → List (List Site) → List (List Site) → Type 0
+AreSplit fs rest outputs behind =
+    (heads : List Site) × (k : ℕ) × Lists (λ p. live fs p × IsOpener fs p) heads × (k + length rest ≡ length heads) ×
+    ((r i : ℕ) → r < length rest → k + r ≡ i → Lists (members fs (site_at heads i)) (get_or rest r [])) × AreOfKind fs heads k false outputs × AreOfKind fs heads k true behind
 
 abbrev pub AreOutputs : List ObjectValue → List (List Site) → Type 0
 AreOutputs fs outputs = (ps : List Site) × AreOpeners fs ps × AreOutputMembers fs ps (length ps) outputs

@@ -1,15 +1,14 @@
 -- What contracts see of outputs, of plans and of addressed plans.
 use Rattle.std.specs.Prelude.{map, ◌≡◌}
-use Rattle.elf_link_files.specs.Rows.{AreIn, Lists, AreSymbols}
-use Rattle.elf_link_outputs.specs.Outputs.{AreInOrder, live, AreOutputs, flat, OutputsValue, SectionsValue, parts_of, PlanValue, AddressedValue, plan_parts}
+use Rattle.elf_link_files.specs.Rows.{AreIn, AreSymbols}
+use Rattle.elf_link_outputs.specs.Outputs.{AreInOrder, AreOutputs, flat, OutputsValue, SectionsValue, parts_of, PlanValue, AddressedValue, plan_parts}
 use Rattle.elf_link_outputs.specs.Placed.{AreAllIn, AreLive, AreSome, ArePlaced}
 use Rattle.elf_link_outputs.specs.declared.addresses.Addressed.TheInside.{Inside as AddressedInside}
-use Rattle.elf_link_outputs.specs.declared.outputs.LiveSections.TheInside.{Inside as LiveInside}
 use Rattle.elf_link_outputs.specs.declared.outputs.Outputs.TheInside.{Inside as OutputsInside}
 use Rattle.elf_link_outputs.specs.declared.outputs.Sections.TheInside.{Inside as SectionsInside}
 use Rattle.elf_link_outputs.specs.declared.plan.Plan.TheInside.{Inside}
 
--- What contracts see of sections of some files, of their live sections, and of their output sections; and what is true of these.
+-- What contracts see of sections of some files, and of their output sections; and what is true of these.
 
 abbrev pub sections_value : SectionsInside → SectionsValue
 sections_value l = record { objects = l.objects.now; sites = l.sites.now }
@@ -18,13 +17,6 @@ sections_value l = record { objects = l.objects.now; sites = l.sites.now }
 pub record AreSections (l : SectionsInside) : Type 0 where
   pub within : AreIn l.objects.now l.sites.now
   pub order : AreInOrder l.sites.now
-
-abbrev pub live_value : LiveInside → SectionsValue
-live_value l = record { objects = l.objects.now; sites = l.sites.now }
-
--- they are those of the files, in order
-abbrev pub AreLiveSections : LiveInside → Type 0
-AreLiveSections l = Lists (live l.objects.now) l.sites.now
 
 abbrev pub outputs_value : OutputsInside → OutputsValue
 outputs_value o = record { objects = o.objects.now; groups = map (λ ms. ms.items) o.groups.items }

@@ -1,9 +1,10 @@
 //! Output sections: the live sections of each, in order.
 ghost use Rattle.std.specs.Prelude.{◌≡◌, [], IfOk, ◌↔◌, ◌+◌, ◌<◌, IsTrue, OnOk, length, map};
 ghost use Rattle.std.specs.List.{flat_map};
-ghost use Rattle.elf_link_outputs.specs.Outputs.{IsRanked, rank_by, AreGrouped, AreGroups, AreGroupsOfKind, IsKeyOf, IsMemberAdded, Picks, is_no_bits as is_no_bits_of, live as live_row, of_kind, output_flags as output_flags_of, section_at_site, AreOutputs, flat, output_parts};
+ghost use Rattle.indexmap.specs.IndexMap.{keys, values};
+ghost use Rattle.elf_link_outputs.specs.Outputs.{AreAscending, AreGrouped, AreGroups, AreKeyed, AreLiveGroups, AreNumbered, IsKeyOf, IsMemberAdded, is_no_bits as is_no_bits_of, live as live_row, output_flags as output_flags_of, AreOutputs, flat, output_parts};
 ghost use Rattle.elf_link_files.specs.Files.{object_at};
-ghost use Rattle.elf_link_files.specs.Rows.{Lists, site_at};
+ghost use Rattle.elf_link_files.specs.Rows.{Lists};
 ghost use Rattle.elf_object_type.specs.ObjectView.{body_value};
 
 use crate::plan::push_parts;
@@ -11,77 +12,32 @@ use elf_field::abi::*;
 use elf_link_files::Site;
 use elf_link_files::files::section_of;
 use elf_object_type::{Body, Object};
+use indexmap::IndexMap;
 use std::alloc::{AllocError, Global};
-use std::collections::BTreeMap;
-use std::hash::{BuildHasher, Hasher};
+use std::hash::BuildHasher;
 use std::marker::Model;
 
-// The rank of each output section by what its sections have in common.
+// The keys of sections.
 
-/// What the sections of one output section have in common.
+/// What the sections of one output section have in common. Names are compared last, and only those of one length: the names of a file may
+/// share bytes, and be long, but not if they differ and are of one length.
 #[derive(Clone, Copy, PartialEq, Eq, PartialOrd, Ord)]
 pub(crate) struct OutputKey<'a> {
-    /// The name.
-    pub(crate) name: &'a [u8],
+    /// The length of the name.
+    pub(crate) length: usize,
     /// All flags but `SHF_GROUP`.
     pub(crate) flags: u64,
     /// Whether they take memory without bits.
     pub(crate) no_bits: bool,
+    /// The name.
+    pub(crate) name: &'a [u8],
 }
 
-/// A key beside the hash of its name, by which most keys differ: so few comparisons look at a name.
-#[derive(Clone, Copy, PartialEq, Eq, PartialOrd, Ord)]
-pub(crate) struct HashedKey<'a> {
-    hash: u64,
-    key: OutputKey<'a>,
-}
-
-/// The rank of each key. Whatever hasher spreads the names, a key takes log n comparisons at most.
-#[derive(Drop)]
-pub(crate) struct Ranks<'a, S> {
-    pub(crate) hasher: S,
-    pub(crate) known: BTreeMap<HashedKey<'a>, usize>,
-}
-
-impl<'a, S: BuildHasher> Ranks<'a, S> {
-    /// No ranks yet.
-    pub(crate) fn new(alloc: Global, hasher: S) -> Ranks<'a, S> {
-        Ranks {
-            hasher,
-            known: BTreeMap::new(alloc),
-        }
-    }
-
-    /// Forgets all ranks.
-    pub(crate) fn clear(&mut self)
-        ensures { self.new.known.entries ≡ [] }
-    {
-        self.known.clear();
-    }
-
-    /// The rank of a key that has one, which stays; a further key gets the next one.
-    pub(crate) fn place(&mut self, key: OutputKey<'a>, next: usize) -> Result<usize, AllocError>
-        ensures { IfOk result (λ rank. IsRanked key.entry next rank
-            (rank_by (S.Hasher.finish) (S.Hasher.write) (S.build_hasher self.old.hasher) self.old.known)
-            (rank_by (S.Hasher.finish) (S.Hasher.write) (S.build_hasher self.new.hasher) self.new.known)) }
-    {
-        let hash = hash_of(&self.hasher, key.name);
-        let hashed = HashedKey { hash, key };
-        if let Some(rank) = self.known.get(&hashed) {
-            return Ok(*rank);
-        }
-        self.known.insert(hashed, next)?;
-        Ok(next)
-    }
-}
-
-/// The hash of a name.
-fn hash_of<S: BuildHasher>(hasher: &S, name: &[u8]) -> u64
-    ensures { result ≡ S.Hasher.finish (S.Hasher.write (S.build_hasher hasher.now) name.now) }
-{
-    let mut state = hasher.build_hasher();
-    state.write(name);
-    state.finish()
+/// The key of the section at a position.
+#[derive(Clone, Copy)]
+pub(crate) struct Keyed<'a> {
+    pub(crate) key: OutputKey<'a>,
+    pub(crate) position: usize,
 }
 
 /// All flags of a section but `SHF_GROUP`.
@@ -106,26 +62,29 @@ fn key_of<'a>(objects: &[Object<'a>], site: Site) -> OutputKey<'a>
 {
     let section = section_of(objects, site.file, site.index);
     OutputKey {
-        name: section.name,
+        length: section.name.len(),
         flags: output_flags(section.flags),
         no_bits: is_no_bits(&section.body),
+        name: section.name,
     }
 }
 
-/// Adds a site to the group of this rank, or opens a group with it where there is none.
-fn add_member(
+// The sections of each key.
+
+/// Adds a site to the group of this number, or opens a group with it where there is none.
+fn add_member<S: BuildHasher + Drop>(
     alloc: Global,
-    groups: &mut Vec<Vec<Site>>,
-    rank: usize,
+    groups: &mut IndexMap<usize, Vec<Site>, S>,
+    number: usize,
     site: Site,
 ) -> Result<(), AllocError>
-    ensures { OnOk result (IsMemberAdded (map (λ ms. ms.items) groups.old.items) rank site (map (λ ms. ms.items) groups.new.items)) }
+    ensures { OnOk result (IsMemberAdded (keys groups.old) (map (λ ms. ms.items) (values groups.old)) number site (keys groups.new) (map (λ ms. ms.items) (values groups.new))) }
 {
-    if rank < groups.len() {
-        groups[rank].push(site)?;
+    if let Some(group) = groups.get_index_of(&number) {
+        groups[group].push(site)?;
         return Ok(());
     }
-    groups.push(vec![in alloc; site]?)?;
+    groups.insert(number, vec![in alloc; site]?)?;
     Ok(())
 }
 
@@ -149,112 +108,87 @@ impl<'l, 'a> Model for Sections<'l, 'a> {
 }
 
 impl<'l, 'a> Sections<'l, 'a> {
-    /// Puts the section at position `k` into the group of its key, which it opens where no section before it has the key.
-    fn group_section<S: BuildHasher + Drop>(
-        &self,
-        alloc: Global,
-        k: usize,
-        ranks: &mut Ranks<'a, S>,
-        groups: &mut Vec<Vec<Site>>,
-    ) -> Result<(), AllocError>
-        requires k { k < length self.now.sites }
-        requires before { AreGrouped self.now.objects self.now.sites k (rank_by (S.Hasher.finish) (S.Hasher.write) (S.build_hasher ranks.old.hasher) ranks.old.known) (map (λ ms. ms.items) groups.old.items) }
-        ensures { OnOk result (AreGrouped self.now.objects self.now.sites (k + 1) (rank_by (S.Hasher.finish) (S.Hasher.write) (S.build_hasher ranks.new.hasher) ranks.new.known) (map (λ ms. ms.items) groups.new.items)) }
+    /// The key of each, in the order of the sections.
+    fn keys(&self, alloc: Global) -> Result<Vec<Keyed<'a>>, AllocError>
+        ensures { IfOk result (λ keyed. AreKeyed self.now.objects self.now.sites (length self.now.sites) keyed.items) }
     {
         let sites = self.sites;
-        let rank = ranks.place(key_of(self.objects, sites[k]), groups.len())?;
-        add_member(alloc, groups, rank, sites[k])?;
-        Ok(())
+        let mut keyed = Vec::with_capacity(alloc, sites.len())?;
+        for position in 0..sites.len() {
+            let key = key_of(self.objects, sites[position]);
+            keyed.push(Keyed { key, position })?;
+        }
+        Ok(keyed)
     }
 
-    /// Their groups by key, in the order of the first section of each. What was known of ranks is forgotten.
+    /// The key of each, in ascending order of the keys.
+    fn sorted_keys(&self, alloc: Global) -> Result<Vec<Keyed<'a>>, AllocError>
+        ensures keyed { IfOk result (λ keyed. AreKeyed self.now.objects self.now.sites (length self.now.sites) keyed.items) }
+        ensures ascending { IfOk result (λ keyed. AreAscending keyed.items) }
+    {
+        let mut keyed = self.keys(alloc)?;
+        keyed.sort_unstable_by_key(|keyed| keyed.key);
+        Ok(keyed)
+    }
+
+    /// A number for each: two have the same one exactly if they go to one output.
+    ///
+    /// The numbers count the keys in ascending order, so whatever the names are, they are those from 0 on.
+    fn numbers(&self, alloc: Global) -> Result<Vec<usize>, AllocError>
+        ensures { IfOk result (λ numbers. AreNumbered self.now.objects self.now.sites numbers.items) }
+    {
+        let keyed = self.sorted_keys(alloc)?;
+        let mut numbers = vec![in alloc; 0; self.sites.len()]?;
+        let mut number = 0;
+        for i in 1..keyed.len() {
+            let Keyed { key, position } = keyed[i];
+            if key != keyed[i - 1].key {
+                number += 1;
+            }
+            numbers[position] = number;
+        }
+        Ok(numbers)
+    }
+
+    /// Their groups by number, in the order of the first section of each.
     fn groups<S: BuildHasher + Drop>(
         &self,
         alloc: Global,
-        ranks: &mut Ranks<'a, S>,
-    ) -> Result<Vec<Vec<Site>>, AllocError>
-        ensures { IfOk result (λ groups. AreGroups self.now.objects self.now.sites (map (λ ms. ms.items) groups.items)) }
+        hasher: S,
+    ) -> Result<IndexMap<usize, Vec<Site>, S>, AllocError>
+        ensures { IfOk result (λ groups. AreGroups self.now.objects self.now.sites (map (λ ms. ms.items) (values groups))) }
     {
-        ranks.clear();
-        let mut groups = Vec::new(alloc);
-        for k in 0..self.sites.len() {
-            self.group_section(alloc, k, ranks, &mut groups)?;
+        let sites = self.sites;
+        let numbers = self.numbers(alloc)?;
+        let mut groups = IndexMap::with_hasher(alloc, hasher);
+        for k in 0..sites.len() {
+            add_member(alloc, &mut groups, numbers[k], sites[k])?;
         }
         Ok(groups)
     }
 }
 
-/// The live sections of some files, in order.
-#[derive(Drop)]
-pub(crate) struct LiveSections<'l, 'a> {
-    objects: &'l [Object<'a>],
-    sites: &'l [Site],
-}
-
-impl<'l, 'a> Model for LiveSections<'l, 'a> {
-    ghost use Rattle.elf_link_outputs.specs.Outputs.{SectionsValue};
-
-    ghost Value = { SectionsValue };
-
-    ghost use Rattle.elf_link_outputs.specs.Views.{AreLiveSections, live_value};
-
-    ghost view = { live_value };
-
-    ghost invariant = { AreLiveSections };
-}
-
-impl<'l, 'a> LiveSections<'l, 'a> {
-    /// Whether the section at position `k` has bits, or takes memory without them, as asked.
-    fn is_of_kind(&self, without: bool, k: usize) -> bool
-        requires { k < length self.now.sites }
-        ensures { IsTrue result ↔ (is_no_bits_of (section_at_site self.now.objects (site_at self.now.sites k)).body ≡ without) }
-    {
-        let sites = self.sites;
-        let site = sites[k];
-        is_no_bits(&section_of(self.objects, site.file, site.index).body) == without
-    }
-
-    /// Adds the section at position `k` to those of its kind before it, where it is of the kind.
-    fn push_kind(&self, without: bool, k: usize, picked: &mut Vec<Site>) -> Result<(), AllocError>
-        requires k { k < length self.now.sites }
-        requires before { Picks self.now.sites k (λ p. is_no_bits_of (section_at_site self.now.objects p).body ≡ without) picked.old.items }
-        ensures { OnOk result (Picks self.now.sites (k + 1) (λ p. is_no_bits_of (section_at_site self.now.objects p).body ≡ without) picked.new.items) }
-    {
-        let sites = self.sites;
-        if !self.is_of_kind(without, k) {
-            return Ok(());
+/// The groups whose sections have bits, and after them the others.
+fn bits_first<S: BuildHasher + Drop>(
+    alloc: Global,
+    objects: &[Object<'_>],
+    groups: IndexMap<usize, Vec<Site>, S>,
+) -> Result<Vec<Vec<Site>>, AllocError>
+    requires { AreLiveGroups objects.now (map (λ ms. ms.items) (values groups)) }
+    ensures { IfOk result (λ outputs. AreOutputs objects.now (map (λ ms. ms.items) outputs.items)) }
+{
+    let mut outputs = Vec::new(alloc);
+    let mut behind = Vec::new(alloc);
+    for members in groups.into_values() {
+        let opener = members[0];
+        if is_no_bits(&section_of(objects, opener.file, opener.index).body) {
+            behind.push(members)?;
+        } else {
+            outputs.push(members)?;
         }
-        picked.push(sites[k])?;
-        Ok(())
     }
-
-    /// Those with bits or without, in order.
-    fn all_of_kind(&self, alloc: Global, without: bool) -> Result<Vec<Site>, AllocError>
-        ensures { IfOk result (λ picked. Lists (of_kind self.now.objects without) picked.items) }
-    {
-        let mut picked = Vec::new(alloc);
-        for k in 0..self.sites.len() {
-            self.push_kind(without, k, &mut picked)?;
-        }
-        Ok(picked)
-    }
-
-    /// The groups of those with bits or without. What was known of ranks is forgotten.
-    fn groups_of_kind<S: BuildHasher + Drop>(
-        &self,
-        alloc: Global,
-        without: bool,
-        ranks: &mut Ranks<'a, S>,
-    ) -> Result<Vec<Vec<Site>>, AllocError>
-        ensures { IfOk result (λ groups. AreGroupsOfKind self.now.objects without (map (λ ms. ms.items) groups.items)) }
-    {
-        let sites = self.all_of_kind(alloc, without)?;
-        let sections = Sections {
-            objects: self.objects,
-            sites: &sites,
-        };
-        sections.groups(alloc, ranks)
-    }
+    outputs.append(&mut behind)?;
+    Ok(outputs)
 }
 
 /// The output sections of some files: the members of each, in order of placement. Each live section is a member once.
@@ -289,14 +223,12 @@ impl<'l, 'a> Outputs<'l, 'a> {
         ensures objects { IfOk result (λ outputs. outputs.objects ≡ objects.entry.now) }
         ensures groups { IfOk result (λ outputs. AreOutputs objects.entry.now outputs.groups) }
     {
-        let all = LiveSections {
+        let sections = Sections {
             objects,
             sites: live,
         };
-        let mut ranks = Ranks::new(alloc, hasher);
-        let mut groups = all.groups_of_kind(alloc, false, &mut ranks)?;
-        let mut behind = all.groups_of_kind(alloc, true, &mut ranks)?;
-        groups.append(&mut behind)?;
+        let groups = sections.groups(alloc, hasher)?;
+        let groups = bits_first(alloc, objects, groups)?;
         Ok(Outputs { objects, groups })
     }
 
