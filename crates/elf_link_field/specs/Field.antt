@@ -1,5 +1,5 @@
--- The field that a relocation changes: its rule, its number, its bytes, and marks on bytes. (gABI chapter 4, Relocation.)
-use Rattle.std.specs.Prelude.{◌≡◌, ℕ, ◌<◌, Some, List, slice_get, ◌*◌, ◌-◌, ◌^◌, ◌%◌, ℤ, pos, negsuc, neg_ℤ, ◌+ℤ◌, ◌-ℤ◌, ◌<ℤ◌, ◌≤ℤ◌, ◌+◌, ◌≤◌, ◌⊎◌, ◌++◌, drop, length, slice_index, take, Bool, true, false, get_or}
+-- The field that a relocation changes: its rule, its number and its bytes. (gABI chapter 4, Relocation.)
+use Rattle.std.specs.Prelude.{◌≡◌, ℕ, ◌<◌, Some, List, slice_get, ◌*◌, ◌-◌, ◌^◌, ◌%◌, ℤ, pos, negsuc, neg_ℤ, ◌+ℤ◌, ◌-ℤ◌, ◌<ℤ◌, ◌≤ℤ◌, ◌+◌, ◌≤◌, ◌⊎◌, ◌++◌, drop, length, slice_index, take}
 use Rattle.byteorder.specs.Endian.{twos_complement}
 use Rattle.elf_field.specs.Bytes.{from, num, bytes_of}
 use Rattle.elf_field.specs.declared.number.Order.{Order}
@@ -75,15 +75,3 @@ pub record IsPatched (o : Order) (b : List ℕ) (x n : ℕ) (z : ℤ) (after : L
   pub long : length after ≡ length b
   pub inside : (k : ℕ) → k < n → slice_index after (x + k) ≡ slice_index (bytes_of o n (modulo n z)) k
   pub outside : (k : ℕ) → (k < x) ⊎ (x + n ≤ k) → slice_index after k ≡ slice_index b k
-
--- A mark for each byte of a section: whether a field has it.
-
--- one of the n bytes at offset x has a mark
-abbrev pub AreTaken : List Bool → ℕ → ℕ → Type 0
-AreTaken marks x n = (k : ℕ) × (k < n) × (get_or marks (x + k) false ≡ true)
-
--- the n bytes at offset x have marks, and the others have them where they had
-pub record IsMarked (old : List Bool) (x n : ℕ) (new : List Bool) : Type 0 where
-  pub long : length new ≡ length old
-  pub inside : (k : ℕ) → k < n → get_or new (x + k) false ≡ true
-  pub outside : (k : ℕ) → (k < x) ⊎ (x + n ≤ k) → get_or new k false ≡ get_or old k false

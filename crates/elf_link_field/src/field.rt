@@ -1,6 +1,6 @@
-//! The bytes of a field: marked, read and patched.
-ghost use Rattle.std.specs.Prelude.{◌+◌, ◌≤◌, length, ◌≡◌, ◌↔◌, IsTrue};
-ghost use Rattle.elf_link_field.specs.Field.{size_of, AreTaken, IsMarked, patched, patched_by};
+//! The bytes of a field: read and patched.
+ghost use Rattle.std.specs.Prelude.{◌+◌, ◌≤◌, length, ◌≡◌};
+ghost use Rattle.elf_link_field.specs.Field.{size_of, patched, patched_by};
 
 use crate::number::modulo;
 use crate::rule::Width;
@@ -16,21 +16,6 @@ pub(crate) struct BytesField<'b> {
     pub offset: usize,
     pub width: Width,
     ghost inside: { offset + size_of width ≤ length bytes.now },
-}
-
-// Which bytes of a section a field has.
-
-/// Marks the bytes of the field of this width at an offset, and returns whether one of them had a mark before. `marks` has a mark for each
-/// byte of a section, in which the field has to lie whole.
-pub fn mark(marks: &mut [bool], offset: usize, width: Width) -> bool
-    requires { offset + size_of width ≤ length marks.old }
-    ensures taken { IsTrue result ↔ AreTaken marks.old offset (size_of width) }
-    ensures marks { IsMarked marks.old offset (size_of width) marks.new }
-{
-    let field = &mut marks[offset..offset + width.size()];
-    let taken = field.contains(&true);
-    field.fill(true);
-    taken
 }
 
 // A number in a field.

@@ -18,7 +18,7 @@ mod laws;
 mod number;
 mod rule;
 
-pub use field::{mark, patch};
+pub use field::patch;
 pub use laws::patched_field;
 pub use number::addend_in;
 pub use rule::{Form, Range, RelocRule, Width, rule_of};

@@ -1,8 +1,11 @@
 -- `Public` is for the proofs of the crates above, the others are for those of this one.
 mod Collected
 mod Patches
-mod Marked
+mod Grids
+mod Sharing
+mod Spots
 mod Memories
 mod MemoryLaws
+mod Held
 mod LoadSegments
 pub mod Public

@@ -13,7 +13,8 @@ use Rattle.elf_link_files.specs.declared.site.Site.{Site}
 use Rattle.elf_link_map.specs.LinkMap.{LinkMapValue}
 use Rattle.elf_link_map.specs.Naming.{AreBindingIndexes, IsBindingIndex, IsBindingAt}
 use Rattle.elf_link_relocate.proofs.Collected.{kept, last, longer, pushed, fields_none, fields_next, seen_none, seen_more, first_site, none_at_field, none_in_list, none_shared, no_overlap, all_within}
-use Rattle.elf_link_relocate.proofs.Marked.{ascending_apart, grid_with, item_here, item_other}
+use Rattle.elf_link_relocate.proofs.Grids.{grid_with, item_here, item_other}
+use Rattle.elf_link_relocate.proofs.Sharing.{ascending_apart}
 use Rattle.elf_link_relocate.specs.Fields.{IsEntrySite, entries_of, entry_at, target_at, target_of, HasField, HasOffset, IsWithin, field_start, addend_of, field_address, number_at, value_at, Share, IsUnplaced, IsFieldOutOfRange, IsValueOutOfRange, SharesEarlier}
 use Rattle.elf_link_relocate.specs.Linked.{IsSectionOf, HasLiveBits, IsGrid, item, with, number_byte}
 use Rattle.elf_link_relocate.specs.Passes.{AreListed, IsListed, field_at, AreKept, IsRead, IsCovered, IsFieldIn, AreAllCopies, AreRelocated, IsCopy, IsRelocated, HaveCopies, IsFieldPatched, IsPatchedOrBroken, AreFoundBefore, AreAllFound, AreFoundInOrder, IsValidatedField, IsSeenNext, copies_view, entry_site, none_seen}

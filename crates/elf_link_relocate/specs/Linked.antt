@@ -11,7 +11,7 @@ use Rattle.elf_link_files.specs.declared.site.Site.{Site}
 use Rattle.elf_link_map.specs.LinkMap.{FirstOfLink, IsLinkMap, LinkMapValue, with_options}
 use Rattle.elf_link_map.specs.Standing.{StandApart, member_address, member_at, output_at, output_end, BeginsAt}
 use Rattle.elf_link_outputs.specs.Placed.{cell, common_at}
-use Rattle.elf_link_relocate.specs.Fields.{HasField, content_in, field_address, number_at, applied_entry_rules}
+use Rattle.elf_link_relocate.specs.Fields.{HasField, content_in, field_address, field_end, field_start, number_at, target_at, applied_entry_rules}
 use Rattle.elf_link_relocate.specs.declared.linked.Identity.{Identity}
 use Rattle.elf_object_type.specs.Object.{ObjectValue, is_bits}
 
@@ -141,6 +141,23 @@ pub record IsLinked (fs : List ObjectValue) (m : LinkMapValue) (rules : List Rel
   pub same_rules : l.rules ≡ rules
   pub grid : IsGrid fs l.copies
   pub bytes : (f s : ℕ) → MatchOption (bytes_at l f s) (¬ HasLiveBits fs f s) (AreBytesOf fs m rules f s)
+
+-- the field of an applied entry, all of it in the relocated bytes of its target, holds the entry's number
+pub record HoldsNumber (fs : List ObjectValue) (m : LinkMapValue) (l : LinkedValue) (p : Site) (r : RelocRule) : Type 0 where
+  pub bytes : List ℕ
+  pub number : ℤ
+  pub at : bytes_at l p.file (target_at fs p) ≡ Some bytes
+  pub within : field_end fs p r ≤ length bytes
+  pub is : number_at fs m p r ≡ Some number
+  pub holds : (k : ℕ) → k < size_of r.width → slice_index bytes (field_start fs p + k) ≡ number_byte fs p r number k
+
+-- every applied field holds the number of its relocation rule
+abbrev pub FieldsHoldNumbers : List ObjectValue → LinkMapValue → List RelocRule → LinkedValue → Type 0
+FieldsHoldNumbers fs m rules l = (p : Site) (r : RelocRule) → HasField fs rules p r → HoldsNumber fs m l p r
+
+-- no other value is the relocated bytes of the link
+abbrev pub IsOnlyLinked : List ObjectValue → LinkMapValue → List RelocRule → LinkedValue → Type 0
+IsOnlyLinked fs m rules l = (k : LinkedValue) → IsLinked fs m rules k → k ≡ l
 
 -- what file 0 says of itself in its header; without files the first byte order, and zeros
 abbrev pub identity_of : List ObjectValue → Identity

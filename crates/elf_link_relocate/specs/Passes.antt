@@ -1,10 +1,14 @@
 -- What the passes over the entries and the fields of a link look at, collect and return.
-use Rattle.std.specs.Prelude.{List, ◌≡◌, ℕ, ◌<◌, pos, get_or, length, Some, ℤ, ◌↔◌, Bool, true, false, MatchOption, Option, None, [], map, replicate, ◌+◌, ◌≤◌, ◌⊎◌, slice_index, option_map, IfSome, ◌++◌, ◌∷◌}
+use Rattle.std.specs.Prelude.{List, ◌≡◌, ℕ, ◌<◌, pos, get_or, length, Some, ℤ, ◌↔◌, Bool, true, false, if◌then◌else◌, nat_lt, MatchOption, Option, None, [], map, ◌+◌, ◌≤◌, ◌⊎◌, slice_index, option_map, IfSome, ◌++◌, ◌∷◌, All, Contains}
 use Rattle.std.specs.Global.{Vec}
+use Rattle.std.specs.List.Sorted.{IsSorted}
+use Rattle.std.specs.Ordering.{nat_cmp, ordering_then}
+use Rattle.std.specs.declared.cmp.Ordering.{Ordering}
 use Rattle.elf_extent.specs.Extent.{Never}
+use Rattle.elf_extent.specs.declared.extent.Extent.{Extent}
 use Rattle.elf_field.specs.declared.number.Order.{Order}
 use Rattle.elf_image_rules.specs.Rows.{Row}
-use Rattle.elf_link_field.specs.Field.{AreTaken, IsMarked, IsPatched, size_of, patched}
+use Rattle.elf_link_field.specs.Field.{IsPatched, size_of, patched}
 use Rattle.elf_link_field.specs.declared.rule.Form.TheVariants.{Abs}
 use Rattle.elf_link_field.specs.declared.rule.Range.TheVariants.{Signed}
 use Rattle.elf_link_field.specs.declared.rule.RelocRule.{RelocRule}
@@ -22,6 +26,7 @@ use Rattle.elf_link_relocate.specs.declared.field.FieldTest.TheVariants.{FieldOu
 use Rattle.elf_link_relocate.specs.declared.field.FieldTest.{FieldTest}
 use Rattle.elf_link_relocate.specs.declared.field.Found.{Found}
 use Rattle.elf_link_relocate.specs.declared.field.Validated.{Validated}
+use Rattle.elf_link_relocate.specs.declared.overlaps.Spot.{Spot}
 use Rattle.elf_link_relocate.specs.declared.field.Seen.{Seen}
 use Rattle.elf_object_type.specs.Object.{ObjectValue}
 
@@ -186,21 +191,7 @@ pub record IsSeenNext (old : Seen) (j : Validated) (new : Seen) : Type 0 where
   pub last : new.last ≡ Some j.field
   pub ascending : (new.ascending ≡ true) ↔ ((old.ascending ≡ true) × IfSome old.last (λ d. StandsBehind d j.field))
 
--- Marks on the bytes that fields have, a mark for each byte of each section.
-
--- a grid of lists, as contracts see it
-abbrev pub marks_view : List (Vec (Vec Bool)) → List (List (List Bool))
-marks_view rows = map (λ row. map (λ marks. marks.items) row.items) rows
-
-abbrev pub row_view : List (Vec Bool) → List (List Bool)
-row_view row = map (λ marks. marks.items) row
-
--- no byte of the first n sections of a file has a mark; and none of those of the first n files
-abbrev pub IsUnmarkedRow : List ObjectValue → ℕ → ℕ → List (List Bool) → Type 0
-IsUnmarkedRow fs f = AreEach [] (λ s marks. marks ≡ replicate (length (content_in fs f s)) false)
-
-abbrev pub AreUnmarkedRows : List ObjectValue → ℕ → List (List (List Bool)) → Type 0
-AreUnmarkedRows fs = AreEach [] (λ f. IsUnmarkedRow fs f (length (object_at fs f).sections))
+-- Which bytes the first fields of a list have.
 
 -- a field is in section s of file f
 abbrev pub IsFieldIn : List ObjectValue → Field → ℕ → ℕ → Type 0
@@ -210,11 +201,7 @@ IsFieldIn fs d f s = (d.site.file ≡ f) × (target_at fs d.site ≡ s)
 abbrev pub IsCovered : List ObjectValue → List Field → ℕ → ℕ → ℕ → ℕ → Type 0
 IsCovered fs ds n f s x = (j : ℕ) × (j < n) × IsFieldIn fs (field_at ds j) f s × HasOffset fs (field_at ds j).site (field_at ds j).rule x
 
--- the bytes of the first n fields have marks, and no others
-pub record AreMarksFor (fs : List ObjectValue) (ds : List Field) (n : ℕ) (rows : List (List (List Bool))) : Type 0 where
-  pub grid : IsGrid fs rows
-  pub long : (f s : ℕ) → IsSectionOf fs f s → length (item [] rows f s) ≡ length (content_in fs f s)
-  pub right : (f s x : ℕ) → IsSectionOf fs f s → (get_or (item [] rows f s) x false ≡ true) ↔ IsCovered fs ds n f s x
+-- Which fields of a list share a byte.
 
 -- field k shares a byte with one before it
 abbrev pub SharesBefore : List ObjectValue → List Field → ℕ → Type 0
@@ -230,10 +217,69 @@ IsFirstOverlappingField fs ds k = (k < length ds) × SharesBefore fs ds k × ((j
 abbrev pub AllWithin : List ObjectValue → List Field → Type 0
 AllWithin fs ds = (k : ℕ) → k < length ds → IsWithin fs (field_at ds k).site (field_at ds k).rule
 
--- the field of n bytes at offset x of section s of file f has marks now; `taken` says whether one of them had one before
-abbrev pub IsMarkedIn : List (List (List Bool)) → ℕ → ℕ → ℕ → ℕ → Bool → List (List (List Bool)) → Type 0
-IsMarkedIn old f s x n taken new =
-    (after : List Bool) × (new ≡ with old f s after) × ((taken ≡ true) ↔ AreTaken (item [] old f s) x n) × IsMarked (item [] old f s) x n after
+-- The search for them: the sections and starts of the fields, as these carry them.
+
+-- a field has the byte at offset x of its section; two have one of their section
+abbrev pub HasByte : Field → ℕ → Type 0
+HasByte d x = (d.offset ≤ x) × (x < d.offset + size_of d.rule.width)
+
+abbrev pub AreSharing : Field → Field → Type 0
+AreSharing d e = (d.site.file ≡ e.site.file) × (d.target ≡ e.target) × ((x : ℕ) × HasByte d x × HasByte e x)
+
+-- two of the first n fields share a byte; field k is the first one that shares a byte with one before it
+abbrev pub HasShared : List Field → ℕ → Type 0
+HasShared ds n = (j k : ℕ) × (j < k) × (k < n) × AreSharing (field_at ds j) (field_at ds k)
+
+abbrev pub IsFirstSharer : List Field → ℕ → Type 0
+IsFirstSharer ds k = (k < length ds) × HasShared ds (k + 1) × (HasShared ds k → ⊥)
+
+-- the one used for a spot that isn't there
+abbrev pub no_spot : Spot
+no_spot = record { file = 0; target = 0; offset = 0; position = 0 }
+
+abbrev pub spot_at : List Spot → ℕ → Spot
+spot_at spots a = get_or spots a no_spot
+
+-- a spot is that of one of the first n fields
+pub record IsSpotIn (ds : List Field) (n : ℕ) (s : Spot) : Type 0 where
+  pub within : s.position < n
+  pub file : s.file ≡ (field_at ds s.position).site.file
+  pub target : s.target ≡ (field_at ds s.position).target
+  pub offset : s.offset ≡ (field_at ds s.position).offset
+
+-- no two spots have one position
+abbrev pub ArePlacedOnce : List Spot → Type 0
+ArePlacedOnce spots = (a b : ℕ) → a < length spots → b < length spots → (spot_at spots a).position ≡ (spot_at spots b).position → a ≡ b
+
+-- the spots are those of the first n fields, each once
+pub record AreSpots (ds : List Field) (n : ℕ) (spots : List Spot) : Type 0 where
+  pub each : All (IsSpotIn ds n) spots
+  pub all : (k : ℕ) → k < n → (s : Spot) × Contains spots s × (s.position ≡ k)
+  pub once : ArePlacedOnce spots
+
+-- files first, then sections, then starts, then positions
+abbrev pub spot_cmp : Spot → Spot → Ordering
+spot_cmp s t =
+    ordering_then (nat_cmp s.file t.file)
+    (ordering_then (nat_cmp s.target t.target) (ordering_then (nat_cmp s.offset t.offset) (nat_cmp s.position t.position)))
+
+abbrev pub AreSorted : List Spot → Type 0
+AreSorted = IsSorted spot_cmp
+
+-- two spots are in one section
+abbrev pub AreTogether : Spot → Spot → Type 0
+AreTogether s t = (s.file ≡ t.file) × (s.target ≡ t.target)
+
+-- spot i is the last one of its section, or the next one is in it too
+abbrev pub IsLastOfTarget : List Spot → ℕ → Type 0
+IsLastOfTarget spots i = i + 1 < length spots → AreTogether (spot_at spots i) (spot_at spots (i + 1)) → ⊥
+
+abbrev pub IsFollowed : List Spot → ℕ → Type 0
+IsFollowed spots i = (i + 1 < length spots) × AreTogether (spot_at spots i) (spot_at spots (i + 1))
+
+-- the bytes of a field that is one of the first n; no byte of another one
+abbrev pub field_extent : List Field → ℕ → Spot → Extent
+field_extent ds n s = record { start = s.offset; len = if nat_lt s.position n then size_of (field_at ds s.position).rule.width else 0 }
 
 -- The fields of a link that breaks none of rules 12 to 15.
 

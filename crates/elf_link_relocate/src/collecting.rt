@@ -9,8 +9,8 @@ ghost use Rattle.elf_link_relocate.specs.Views.{IsAppliedEntry};
 
 use crate::copies::{all_copies, patch_field};
 use crate::field::{Entry, Field, Found, Seen, Validated};
-use crate::marks::is_behind;
 use crate::numbers::FieldOf;
+use crate::overlaps::is_behind;
 use crate::rules::NO_RULE;
 use crate::values::{Linking, Values};
 use elf_link_field::{Form, rule_of};

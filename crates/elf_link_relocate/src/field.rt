@@ -1,11 +1,10 @@
 //! Fields: the bytes that applied entries change.
-ghost use Rattle.std.specs.Prelude.{◌≡◌, ◌<◌, length};
-ghost use Rattle.elf_link_relocate.specs.Passes.{field_at, IsInTarget, test_number};
-ghost use Rattle.elf_link_relocate.specs.Fields.{HasField, IsWithin};
+ghost use Rattle.std.specs.Prelude.{◌≡◌};
+ghost use Rattle.elf_link_relocate.specs.Passes.{test_number};
 
 use crate::copies::Copies;
 use crate::rules::{FIELD_OUT_OF_RANGE, UNPLACED, VALUE_OUT_OF_RANGE};
-use crate::values::{Linking, Values};
+use crate::values::Values;
 use elf_link_field::RelocRule;
 use elf_link_map::Site;
 use elf_object_type::Relocation;
@@ -97,36 +96,6 @@ impl<'f, 'v, 'l, 'a> Model for FieldList<'f, 'v, 'l, 'a> {
     ghost view = { field_list_value };
 
     ghost invariant = { HasFields };
-}
-
-impl<'f, 'v, 'l, 'a> FieldList<'f, 'v, 'l, 'a> {
-    /// The link.
-    pub(crate) fn linking(&self) -> &'v Linking<'l, 'a>
-        ensures objects { result.now.objects ≡ self.now.objects }
-        ensures map { result.now.map ≡ self.now.map }
-        ensures rules { result.now.rules ≡ self.now.rules }
-    {
-        self.values.linking()
-    }
-
-    /// How many fields there are.
-    pub(crate) fn count(&self) -> usize
-        ensures { result ≡ length self.now.fields }
-    {
-        self.fields.len()
-    }
-
-    /// The field at position `k`.
-    pub(crate) fn field(&self, k: usize) -> Field
-        requires { k < length self.now.fields }
-        ensures is { result ≡ field_at self.now.fields k }
-        ensures has { HasField self.now.objects self.now.rules result.site result.rule }
-        ensures place { IsInTarget self.now.objects result }
-        ensures within { IsWithin self.now.objects result.site result.rule }
-    {
-        let fields = self.fields;
-        fields[k]
-    }
 }
 
 // The rules that look at one field by itself.

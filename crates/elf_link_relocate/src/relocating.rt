@@ -5,7 +5,8 @@ ghost use Rattle.elf_link_files.specs.Rows.{FirstAmong};
 ghost use Rattle.elf_link_relocate.specs.Passes.{AreFoundInOrder, AreRelocatedCopies, IsOverlapFault, IsRuleFault, NoneUnruled, copies_view, test_number};
 ghost use Rattle.elf_link_relocate.specs.Fields.{IsRelocationFault, applied_entry_rules, field_out_of_range, fields_overlap};
 ghost use Rattle.elf_link_map.specs.Naming.{AreBindingIndexes};
-ghost use Rattle.elf_link_relocate.specs.Linked.{IsLinked, IsMapButOptions, IsMapOfSome, IsReadyLink};
+ghost use Rattle.elf_link_map.specs.LinkMap.{IsOnlyFault, IsOnlyFirst};
+ghost use Rattle.elf_link_relocate.specs.Linked.{FieldsHoldNumbers, IsLinked, IsMapButOptions, IsMapOfSome, IsOnlyLinked, IsReadyLink};
 
 use crate::collecting::pass_over_entries;
 use crate::copies::Copies;
@@ -133,9 +134,9 @@ pub fn relocate_indexed<'m, 'a>(
 ///
 /// [`LinkFault::Rule`] is the first of rules 12 to 16 ([`rules`](crate::rules)) that is broken, at its first entry by file, section and
 /// position. [`LinkFault::OutOfMemory`] comes only if an allocation fails: an index for each symbol, a copy of each live section
-/// with bits; and if the fields don't ascend, a list of them, and a mark for each byte of all sections. Takes log n comparisons at most for
-/// each symbol, and a look through the rules for each entry, or two if the fields don't ascend; all else is linear in the bytes, entries
-/// and symbols.
+/// with bits; and if the fields don't ascend, two lists of them, and the extents of those of one section. Takes log n comparisons at most
+/// for each symbol, and for each field if they don't ascend, and a look through the rules for each entry, or then two; all else is linear in
+/// the bytes, entries and symbols. If then two fields share a byte, finding the first such entry takes log n looks at each field.
 pub fn relocate<'m, 'a>(
     alloc: Global,
     map: &'m LinkMap<'a>,
@@ -144,8 +145,12 @@ pub fn relocate<'m, 'a>(
 ) -> Result<Linked<'m, 'a>, LinkFault>
     requires { IsMapButOptions objects.now map.now }
     ensures linked { IfOk result (λ linked. IsLinked objects.now map.now rules.now linked) }
+    ensures numbers { IfOk result (FieldsHoldNumbers objects.now map.now rules.now) }
     ensures ready { IfOk result (λ linked. IsMapOfSome objects.now map.now → IsReadyLink linked) }
     ensures err { IfErr result (IsRelocationFault objects.now map.now rules.now) }
+    ensures only_linked { IfOk result (IsOnlyLinked objects.now map.now rules.now) }
+    ensures only_sound { OnOk result (IsOnlyFirst (FirstAmong (applied_entry_rules objects.now map.now rules.now)) None) }
+    ensures only_err { IfErr result (IsOnlyFault (FirstAmong (applied_entry_rules objects.now map.now rules.now))) }
 {
     let indexes = name_indexes(alloc, objects, map)?;
     relocate_indexed(alloc, map, objects, rules, &indexes)

@@ -1,7 +1,7 @@
 //! The numbers and fields of elf_link_field.
 use crate::asserts::assert_same;
 use elf_field::Order;
-use elf_link_field::{Form, Range, RelocRule, Width, addend_in, mark, patch, rule_of};
+use elf_link_field::{Form, Range, RelocRule, Width, addend_in, patch, rule_of};
 
 // The example of the root of elf_link_field: a call of what is at 0x1006, in code at 0x1000.
 #[test]
@@ -138,21 +138,11 @@ fn rule(kind: u32, form: Form) -> RelocRule {
     }
 }
 
-// Bytes that two fields have; and the first rule of a kind.
+// The first rule of a kind.
 #[test]
-fn marks_and_rules(rt: HostRuntime) {
-    let mut marks = [false; 8];
-    let answers = [
-        mark(&mut marks, 4, Width::W4),
-        mark(&mut marks, 0, Width::W4),
-        mark(&mut marks, 3, Width::W1),
-    ];
+fn first_rules(rt: HostRuntime) {
     let rules = [rule(1, Form::Abs), rule(2, Form::Pc), rule(2, Form::None)];
     let found = [rule_of(&rules, 2), rule_of(&rules, 3)];
     let pc = Some(rule(2, Form::Pc));
-    assert_same(
-        &rt,
-        (answers, marks, found),
-        ([false, false, true], [true; 8], [pc, None]),
-    );
+    assert_same(&rt, found, [pc, None]);
 }

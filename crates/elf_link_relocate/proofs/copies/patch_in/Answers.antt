@@ -5,7 +5,7 @@ use Rattle.std.proofs.Math.Facts.{to_z-of_z}
 use Rattle.std.proofs.lemmas.List.{with_items_is}
 use Rattle.elf_link_relocate.specs.Passes.{copies_view, copy_view}
 use Rattle.elf_link_relocate.specs.Linked.{with}
-use Rattle.elf_link_relocate.proofs.Marked.{view_item, view_row, view_set}
+use Rattle.elf_link_relocate.proofs.Grids.{view_item, view_row, view_set}
 use Rattle.elf_link_relocate.proofs.copies.patch_in.Goals as goal
 
 pub returns-in-Some : goal.returns-in-Some
