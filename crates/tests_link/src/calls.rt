@@ -1,13 +1,16 @@
 //! A function in one file that is called in another, linked by a hasher that gives 0 for every key: the map is the one that any other
 //! hasher gives, which is in `cases/links.txt`, as are links of it that are refused.
 use crate::asserts::assert_same;
-use elf_link_map::{Binding, LinkFault, LinkMap, Member, Named, Options, map};
-use elf_object_type::{Object, ObjectFault};
+use elf_field::Order;
+use elf_link_map::{
+    Binding, LinkFault, LinkMap, Member, Named, Options, map, map_indexed, name_indexes,
+};
+use elf_object_type::{Object, ObjectFault, Place};
 use std::alloc::Global;
 use std::hash::{BuildHasher, Hasher};
 use std::process::Abort;
 use std::test::Fail;
-use tests_files::{callee_object, caller_object};
+use tests_files::{GLOBAL, callee_object, caller_object, list, object, symbol};
 
 /// A hasher that gives 0 for every key, so that all keys meet.
 #[derive(Clone, Copy, Debug)]
@@ -148,5 +151,46 @@ fn maps_two_files(rt: HostRuntime) -> Result<(), Fail> {
     assert_places(&rt, &link);
     assert_numbers(&rt, &link);
     assert_names(&rt, &link);
+    Ok(())
+}
+
+// The index of a local symbol is 0, though a symbol that is not local has its name.
+
+/// An object with a local symbol, and two that are not, the second one of its name.
+fn named_local(alloc: Global) -> Result<Object<'static>, ObjectFault> {
+    let symbols = list(
+        alloc,
+        [
+            symbol(b"b", 0, Place::Abs, 1),
+            symbol(b"a", GLOBAL, Place::Abs, 2),
+            symbol(b"b", GLOBAL, Place::Abs, 3),
+        ],
+    )?;
+    object(alloc, Order::Little, Vec::new(alloc), symbols)
+}
+
+/// The indexes of the first three symbols.
+fn first_three(indexes: &[Vec<usize>]) -> Option<[usize; 3]> {
+    let row = indexes.first()?;
+    Some([*row.first()?, *row.get(1)?, *row.get(2)?])
+}
+
+/// Those that come with a map, and those that are looked up in it.
+fn indexes_of(alloc: Global, objects: &[Object<'_>]) -> Result<[Option<[usize; 3]>; 2], LinkFault> {
+    let options = Options {
+        base: 0x1000,
+        page: 1,
+        entry: None,
+    };
+    let made = map_indexed(alloc, objects, &options, Flat { state: 0 })?;
+    let found = name_indexes(alloc, objects, &made.map)?;
+    Ok([first_three(&made.indexes), first_three(&found)])
+}
+
+#[test]
+fn index_of_a_named_local(rt: HostRuntime) -> Result<(), Fail> {
+    let objects = [named_local(rt.alloc())?];
+    let found = indexes_of(rt.alloc(), &objects)?;
+    assert_same(&rt, found, [Some([0, 0, 1]); 2]);
     Ok(())
 }

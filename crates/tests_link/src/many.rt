@@ -6,6 +6,7 @@ use crate::parts::{data, mapped, relocated_bytes, rule};
 use elf_field::Order;
 use elf_link_field::{Form, Range, RelocRule, Width};
 use elf_link_map::{Binding, LinkFault, LinkMap};
+use elf_link_relocate::relocate;
 use elf_object_type::{Body, Object, ObjectFault, Place, Relocation, Section, Symbol};
 use std::alloc::{AllocError, Global};
 use std::test::Fail;
@@ -122,9 +123,9 @@ fn forty_thousand_addends_in_their_fields(rt: HostRuntime) {
     assert_same(&rt, held, [Ok(Ok(true)); 2]);
 }
 
-// An object of a million symbols, each of a name of its own.
+// An object of a million symbols, more than 2^20, each of a name of its own.
 
-const COUNT: usize = 1_000_000;
+const COUNT: usize = 1_048_577;
 
 /// The symbols of these names.
 fn symbols(alloc: Global, names: &[u8]) -> Result<Vec<Symbol<'_>>, AllocError> {
@@ -139,7 +140,10 @@ fn symbols(alloc: Global, names: &[u8]) -> Result<Vec<Symbol<'_>>, AllocError> {
 fn linked(alloc: Global, names: &[u8]) -> Result<LinkMap<'_>, Fail> {
     let symbols = symbols(alloc, names)?;
     let objects = [object(alloc, Order::Little, Vec::new(alloc), symbols)?];
-    Ok(mapped(alloc, &objects, 0x1000, None)?)
+    let link = mapped(alloc, &objects, 0x1000, None)?;
+    // It takes an index for each symbol.
+    relocate(alloc, &link, &objects, &[])?;
+    Ok(link)
 }
 
 /// The first position whose name is not bound to the symbol there.
@@ -161,7 +165,7 @@ fn first_wrong(link: &LinkMap<'_>) -> Option<usize> {
 type Told = (usize, Option<usize>, [Option<Binding>; 2]);
 
 fn told(link: &LinkMap<'_>) -> Told {
-    let bindings = [link.binding(b"0999999"), link.binding(b"1000000")];
+    let bindings = [link.binding(b"1048576"), link.binding(b"1048577")];
     (link.names().len(), first_wrong(link), bindings)
 }
 
@@ -176,7 +180,7 @@ fn told_of_all(alloc: Global) -> Result<Told, Fail> {
 fn a_million_names(rt: HostRuntime) -> Result<(), Fail> {
     let last = Binding::Strong {
         file: 0,
-        symbol: 999_999,
+        symbol: 1_048_576,
     };
     let told = told_of_all(rt.alloc())?;
     assert_same(&rt, told, (COUNT, None, [Some(last), None]));
