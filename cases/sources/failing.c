@@ -12,7 +12,7 @@
 extern void *__libc_malloc(size_t), *__libc_realloc(void *, size_t);
 enum { FILES = 256 };
 static char kind[16], how[16], told[512], ended[FILES];
-static long left, at[FILES], failed_file = -1, opened, vain, grown, asked;
+static long left, at[FILES], failed_file = -1, opened, vain, late, grown, asked;
 
 __attribute__((constructor)) static void begin(void) {
     const char *words = getenv("FAILING_CALL");
@@ -27,10 +27,10 @@ static void say(const char *word, long number) {
 }
 
 /* How many files were opened; how many calls were in vain: empty ones, reads after the one that found the end, and those that wait for a
-   disk; how many growths there were, and how many bytes they asked for. */
+   disk; how many growths there were after the first byte of standard output, how many in all, and how many bytes they asked for. */
 __attribute__((destructor)) static void end(void) {
     if (strcmp(kind, "count") != 0) return;
-    say("opened", opened); say("vain", vain); say("grown", grown); say("asked", asked);
+    say("opened", opened); say("vain", vain); say("late", late); say("grown", grown); say("asked", asked);
 }
 
 int fsync(int file) { return vain++, syscall(SYS_fsync, file); }
@@ -53,6 +53,10 @@ static int is_short(const char *this) {
     return 1;
 }
 
+static void grow(size_t size) {
+    late += at[1] > 0; grown++; asked += size;
+}
+
 static int fails(void) {
     if (strcmp(how, "interrupt") == 0) errno = EINTR;
     else if (strcmp(how, "fail") == 0) errno = EIO;
@@ -61,14 +65,14 @@ static int fails(void) {
 }
 
 void *malloc(size_t size) {
-    grown++; asked += size;
+    grow(size);
     if (!is_it("malloc", -1, 0)) return __libc_malloc(size);
     errno = ENOMEM;
     return NULL;
 }
 
 void *realloc(void *block, size_t size) {
-    grown++; asked += size;
+    grow(size);
     if (size == 0 || !is_it("malloc", -1, 0)) return __libc_realloc(block, size);
     errno = ENOMEM;
     return NULL;

@@ -1,5 +1,5 @@
 //! An object onto a writer.
-ghost use Rattle.std.specs.Prelude.{◌≡◌, ◌<◌, ◌≤◌, ℕ, ◌+◌, ◌-◌, ◌^◌, ◌++◌, IfErr, List, Option, get_or, length, replicate, slice_index};
+ghost use Rattle.std.specs.Prelude.{◌≡◌, [], ◌<◌, ◌≤◌, ℕ, ◌+◌, ◌-◌, ◌^◌, ◌++◌, IfErr, List, Option, get_or, length, replicate, slice_index};
 ghost use Rattle.elf_field.specs.Headers.{ehdr_bytes};
 ghost use Rattle.elf_image_stream.specs.Output.{Writes};
 ghost use Rattle.elf_object_layout.specs.Laid.{file_header, layout_bytes, PlainSection, plain_sections};
@@ -21,12 +21,14 @@ use thiserror::Error;
 // The parts of an object's canonical layout onto a writer, each at its place, with zeros between (gABI chapter 4, ELF Header,
 // Sections).
 
-/// Writes the bytes of the layout, or exactly the first `written` of them, fewer than all, and a fault.
+/// Writes the bytes of the layout, or exactly the first `written` of them, fewer than all, and a fault. It grows nothing: short contents
+/// are gathered in the room that `waiting` has.
 pub(crate) fn write_placed<W: Write>(
-    alloc: Global,
     placed: &PlacedObject<'_, '_>,
+    waiting: &mut Vec<u8>,
     writer: &mut W,
 ) -> Result<(), WriteFault>
+    requires { waiting.old.items ≡ [] }
     ensures { Writes (W.contents writer.old) (W.contents writer.new)
         (layout_bytes placed.now.object placed.now.layout.places) result }
 {
@@ -36,19 +38,18 @@ pub(crate) fn write_placed<W: Write>(
         Err(fault) => return Err(fault),
     }
     let mut out = EHDR_SIZE;
-    let mut waiting = none_waiting(alloc);
     for position in 0..placed.section_count() {
         let part = NextPart {
             placed,
             position,
             out,
         };
-        match part.pass(&mut waiting, writer) {
+        match part.pass(waiting, writer) {
             Ok(end) => out = end,
             Err(fault) => return Err(fault),
         }
     }
-    match write_waiting(out, &mut waiting, writer) {
+    match write_waiting(out, waiting, writer) {
         Ok(()) => {}
         Err(fault) => return Err(fault),
     }
@@ -217,7 +218,7 @@ pub fn write_layout<W: Write>(
     }
 }
 
-/// Writes the object, which has its layout.
+/// Writes the object, which has its layout. Room for what waits is the last memory that is taken, before the first byte is written.
 fn write_out<W: Write>(
     alloc: Global,
     placed: &PlacedObject<'_, '_>,
@@ -226,7 +227,8 @@ fn write_out<W: Write>(
     ensures { IsLayoutWritten placed.now.object (W.contents writer.old) (W.contents writer.new) result }
 {
     placed.prove_placed();
-    match write_placed(alloc, placed, writer) {
+    let mut waiting = none_waiting(alloc);
+    match write_placed(placed, &mut waiting, writer) {
         Ok(()) => Ok(()),
         Err(fault) => Err(ObjectWriteFault::Io {
             written: fault.written,

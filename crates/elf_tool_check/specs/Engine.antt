@@ -1,9 +1,8 @@
 -- What an engine does between its reader and its writer, in the words that all engines share.
-use Rattle.std.specs.Prelude.{◌≡◌, ◌⊎◌, ℕ, ◌+◌, ◌≤◌, List, length, take, Option, Result, Ok, Err, IfOk, MatchResult, ◌++◌, codes}
+use Rattle.std.specs.Prelude.{◌≡◌, ◌⊎◌, ℕ, ◌+◌, ◌<◌, ◌≤◌, List, length, take, Option, Result, Ok, Err, IfOk, MatchResult, ◌++◌, codes}
 use Rattle.std.specs.Io.KnownBytes.{Appends, Consumes, IsAtEnd, Keeps}
 use Rattle.std.specs.Fmt.{decimal}
 use Rattle.elf_image_rules.specs.Rules.{MAX_LEN}
-use Rattle.elf_image_stream.specs.Output.{StoppedIn}
 use Rattle.elf_tool_check.specs.declared.calls.Refusal.TheVariants.{File, Link, TooLong}
 use Rattle.elf_tool_check.specs.declared.calls.Refusal.{Refusal}
 use Rattle.elf_tool_check.specs.declared.calls.ToolFault.TheVariants.{Read, Write, OutOfMemory}
@@ -20,10 +19,13 @@ IsReadFaultAfter OutOfMemory count = Unit {0}
 abbrev pub IsReadWhole : Option (List ℕ) → List ℕ → Type 0
 IsReadWhole rest bytes = IsAtEnd rest ⊎ (length bytes ≡ MAX_LEN + 1)
 
--- a writer that held `old` holds `new`, with a beginning of a text after it: after a failed write just its first bytes, of which `written`
--- is the count
+-- a writer that held `old` holds `new`, with exactly the first `written` bytes of a text after it, fewer than all
+abbrev pub IsCutAt : Option (List ℕ) → Option (List ℕ) → List ℕ → ℕ → Type 0
+IsCutAt old new text written = (written < length text) × Appends old new (take written text)
+
+-- with a beginning of a text after it: after a failed write its first `written` bytes
 abbrev pub WritesPrefix : List ℕ → Option (List ℕ) → Option (List ℕ) → ToolFault → Type 0
-WritesPrefix text old new (Write written) = StoppedIn old new 0 text written
+WritesPrefix text old new (Write written) = IsCutAt old new text written
 WritesPrefix text old new OutOfMemory = (count : ℕ) × (count ≤ length text) × Appends old new (take count text)
 WritesPrefix text old new (Read at) = ⊥
 
@@ -63,7 +65,7 @@ abbrev pub Prints : (Verdict → List ℕ → Type 0) → Option (List ℕ) → 
 Prints Says old new (Ok verdict) = (text : List ℕ) × Says verdict text × Appends old new text
 Prints Says old new (Err (Read at)) = ⊥
 Prints Says old new (Err (Write written)) =
-    (verdict : Verdict) × (text : List ℕ) × Says verdict text × StoppedIn old new 0 text written
+    (verdict : Verdict) × (text : List ℕ) × Says verdict text × IsCutAt old new text written
 Prints Says old new (Err OutOfMemory) = Keeps old new
 
 -- a call of an engine that takes all its memory before it writes: when out of memory nothing is written

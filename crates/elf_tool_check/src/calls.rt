@@ -67,7 +67,7 @@ pub enum ToolFault {
     /// A call of a reader failed, after it had given `at` bytes.
     Read { at: u64 },
     /// A call of the writer failed or took nothing, with exactly the first `written` bytes of the
-    /// text out: at least so many where it is [`u64::MAX`].
+    /// text out.
     Write { written: u64 },
     /// An allocation failed.
     OutOfMemory,

@@ -8,7 +8,7 @@ ghost use Rattle.elf_tool_check.specs.FileLines.{ok_line as ok_line_of, refused_
 
 use crate::calls::{Refusal, ToolFault, Verdict, read_input};
 use elf_image_rules::{Broken, ValidatedRecords, validate_by_sorting};
-use elf_image_stream::send;
+use elf_image_stream::write_whole;
 use std::alloc::{AllocError, Global};
 use std::io::{Read, Write};
 
@@ -35,7 +35,7 @@ pub fn check<R: Read, W: Write>(
     let bytes = buf.as_slice();
     let validated = validate_by_sorting(alloc, bytes);
     let line = line_on(alloc, bytes, validated)?;
-    send(writer, 0, line.as_bytes())?;
+    write_whole(writer, line.as_bytes())?;
     Ok(verdict_on(validated))
 }
 

@@ -92,3 +92,12 @@ pub reading_stopped : (inputs rests : List (Option (List ℕ))) (bytes : List �
 reading_stopped inputs rests bytes (Read at) stop is = (bytes, stop, is)
 reading_stopped inputs rests bytes (Write written) stop is = absurd is
 reading_stopped inputs rests bytes OutOfMemory stop is = (bytes, stop)
+
+-- each reader gave one file
+pub as_many_read : (inputs rests : List (Option (List ℕ))) (files : List (List ℕ)) → AreRead inputs rests files → length files ≡ length inputs
+as_many_read [] [] [] are = omega arith
+as_many_read [] [] (file ∷ files) are = absurd are
+as_many_read [] (rest ∷ rests) files are = absurd are
+as_many_read (input ∷ inputs) [] files are = absurd are
+as_many_read (input ∷ inputs) (rest ∷ rests) [] are = absurd are
+as_many_read (input ∷ inputs) (rest ∷ rests) (file ∷ files) are = let more = as_many_read inputs rests files are.1 in omega arith

@@ -1,7 +1,8 @@
 -- What `map` says of files.
-use Rattle.std.specs.Prelude.{ℕ, Bool, true, false, Option, None, Some, List, [], ◌∷◌, ◌++◌, codes, if◌then◌else◌, length, unwrap_or, ◌≡◌, ◌⊎◌, Result}
+use Rattle.std.specs.Prelude.{ℕ, Bool, true, false, Option, None, Some, List, [], ◌∷◌, ◌++◌, codes, if◌then◌else◌, length, unwrap_or, ◌≡◌, ◌⊎◌, Result, Ok, Err}
 use Rattle.std.specs.Fmt.{decimal}
 use Rattle.std.specs.List.{flat_map, range_with_len}
+use Rattle.std.specs.Io.KnownBytes.{Appends, Keeps}
 use Rattle.elf_link_field.specs.declared.rule.RelocRule.{RelocRule}
 use Rattle.elf_link_files.specs.Files.{mark, object_at}
 use Rattle.elf_link_files.specs.Rows.{FirstAmong}
@@ -20,9 +21,11 @@ use Rattle.elf_tool_link.specs.declared.mapped.Unlinked.{Unlinked}
 use Rattle.elf_tool_check.specs.Engine.{Prints}
 use Rattle.elf_tool_link.specs.Inputs.{AreRead, FailsReading}
 use Rattle.elf_tool_check.specs.FileLines.{line}
+use Rattle.elf_tool_text.specs.Buffered.{IsCutBy}
 use Rattle.elf_tool_text.specs.Line.{bytes_text, hexadecimal, name_text}
 use Rattle.elf_tool_check.specs.declared.calls.Refusal.TheVariants.{File, Link, TooLong}
 use Rattle.elf_tool_check.specs.declared.calls.Refusal.{Refusal}
+use Rattle.elf_tool_check.specs.declared.calls.ToolFault.TheVariants.{Read, Write, OutOfMemory}
 use Rattle.elf_tool_check.specs.declared.calls.ToolFault.{ToolFault}
 use Rattle.elf_tool_check.specs.declared.calls.Verdict.TheVariants.{Done, Refused}
 use Rattle.elf_tool_check.specs.declared.calls.Verdict.{Verdict}
@@ -183,8 +186,24 @@ abbrev pub TellsUnlinked : Unlinked → Verdict → List ℕ → Type 0
 TellsUnlinked (unlinked.Refused refusal) = IsThis (Refused refusal) (refusal_line refusal)
 TellsUnlinked unlinked.OutOfMemory = λ said text. ⊥
 
+-- What `map` writes. The lines on what is found are written as they are made, and may be more than a count of 64 bits can report.
+
+-- what is said is written, or after a failed write a beginning of it, or when out of memory nothing
+abbrev pub PrintsMap : (Verdict → List ℕ → Type 0) → Option (List ℕ) → Option (List ℕ) → Result Verdict ToolFault → Type 0
+PrintsMap Says old new (Ok verdict) = (text : List ℕ) × Says verdict text × Appends old new text
+PrintsMap Says old new (Err (Read at)) = ⊥
+PrintsMap Says old new (Err (Write written)) =
+    (verdict : Verdict) × (text : List ℕ) × Says verdict text × IsCutBy verdict old new text written
+PrintsMap Says old new (Err OutOfMemory) = Keeps old new
+
 -- a call of `map`: its readers, which had `inputs` left and have `rests`; and its writer, which held `old` and holds `new`
 abbrev pub IsMapped : Options → Option (List RelocRule) → List (Option (List ℕ)) → List (Option (List ℕ)) → Option (List ℕ) → Option (List ℕ) → Result Verdict ToolFault → Type 0
 IsMapped opt rules inputs rests old new result =
+    FailsReading inputs rests old new result
+    ⊎ ((files : List (List ℕ)) × AreRead inputs rests files × PrintsMap (MapSays opt rules files) old new result)
+
+-- and where the text is known to be shorter than 2^64 bytes: after a failed write exactly the first `written` bytes of it are written
+abbrev pub IsMappedExactly : Options → Option (List RelocRule) → List (Option (List ℕ)) → List (Option (List ℕ)) → Option (List ℕ) → Option (List ℕ) → Result Verdict ToolFault → Type 0
+IsMappedExactly opt rules inputs rests old new result =
     FailsReading inputs rests old new result
     ⊎ ((files : List (List ℕ)) × AreRead inputs rests files × Prints (MapSays opt rules files) old new result)

@@ -15,6 +15,7 @@
 #![tactic(auto)]
 
 mod inputs;
+pub mod laws;
 mod linking;
 mod map_lines;
 mod mapped;

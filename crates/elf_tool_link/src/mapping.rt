@@ -1,16 +1,16 @@
 //! `map`: where the sections and names of files are in their link.
-ghost use Rattle.std.specs.Prelude.{◌≡◌, ◌++◌, ◌∷◌, length, Some, option_copied, map as map_list};
+ghost use Rattle.std.specs.Prelude.{◌≡◌, ◌≤◌, ◌++◌, ◌∷◌, length, Some, option_copied, map as map_list};
 ghost use Rattle.std.specs.List.{flat_map};
 ghost use Rattle.elf_tool_check.specs.FileLines.{blank};
 ghost use Rattle.elf_tool_text.specs.Line.{bytes_text};
-ghost use Rattle.elf_tool_link.specs.Map.{bytes_line, bytes_lines, member_bytes, IsMapped, IsThis, MapSays, RelocationSays, TellsUnlinked, refusal_line};
+ghost use Rattle.elf_tool_link.specs.Map.{bytes_line, bytes_lines, member_bytes, IsMapped, IsMappedExactly, IsThis, MapSays, PrintsMap, RelocationSays, TellsUnlinked, refusal_line};
 ghost use Rattle.elf_image_stream.specs.Output.{Sends};
 ghost use Rattle.elf_tool_check.specs.Engine.{Prints};
 
 use crate::inputs::read_inputs;
 use crate::map_lines::{map_text, push_refusal_line};
 use crate::mapped::{Unlinked, mapped_files, slices_of};
-use elf_image_stream::{Chunks, WriteFault, send, send_all};
+use elf_image_stream::{Chunks, WriteFault, send, send_all, write_whole};
 use elf_link_field::RelocRule;
 use elf_link_map::{Member, Options};
 use elf_link_relocate::{Linked, Mapped};
@@ -150,8 +150,8 @@ impl<'l, 'm, 'a> Chunks for MemberBytes<'l, 'm, 'a> {
 /// with the first of the link's rules that is broken.
 ///
 /// The verdict is what the text says. Nothing was written after [`ToolFault::Read`], which carries how many bytes the reader that failed
-/// had given, and after [`ToolFault::OutOfMemory`]. After [`ToolFault::Write`] exactly the first `written` bytes of the text are written.
-/// Memory holds all files, their objects, the link map and its lines, and with relocation rules a copy of each live section with bits. The
+/// had given, and after [`ToolFault::OutOfMemory`]. After [`ToolFault::Write`] exactly the first `written` bytes of the text are written, if
+/// it is shorter than 2^64 bytes, as that of at most 64 files is; of a longer one a beginning. Memory holds all files, their objects, the link map and its lines, and with relocation rules a copy of each live section with bits. The
 /// lines of the relocated bytes are made as they are written. The time is at most that of `object_of` for each file, of `map` and
 /// `relocate` of the library, and of the text.
 pub fn map<R: Read, W: Write>(
@@ -161,8 +161,10 @@ pub fn map<R: Read, W: Write>(
     rules: Option<&[RelocRule]>,
     writer: &mut W,
 ) -> Result<Verdict, ToolFault>
-    ensures { IsMapped options.now (option_copied rules.entry) (map_list R.remaining readers.old) (map_list R.remaining readers.new)
+    ensures any { IsMapped options.now (option_copied rules.entry) (map_list R.remaining readers.old) (map_list R.remaining readers.new)
         (W.contents writer.old) (W.contents writer.new) result }
+    ensures few { length readers.old ≤ 64 → IsMappedExactly options.now (option_copied rules.entry) (map_list R.remaining readers.old)
+        (map_list R.remaining readers.new) (W.contents writer.old) (W.contents writer.new) result }
 {
     let files = read_inputs(alloc, readers)?;
     let contents = slices_of(alloc, &files)?;
@@ -171,8 +173,8 @@ pub fn map<R: Read, W: Write>(
 
 /// Writes the same of files of these bytes, in order.
 ///
-/// Nothing was written after [`ToolFault::OutOfMemory`]; after [`ToolFault::Write`] exactly the first `written` bytes of the text are;
-/// there is no other fault.
+/// Nothing was written after [`ToolFault::OutOfMemory`]. After [`ToolFault::Write`] exactly the first `written` bytes of the text are, if it
+/// is shorter than 2^64 bytes, as that of at most 64 files is; of a longer one a beginning. There is no other fault.
 pub fn map_files<W: Write>(
     alloc: Global,
     files: &[&[u8]],
@@ -180,7 +182,10 @@ pub fn map_files<W: Write>(
     rules: Option<&[RelocRule]>,
     writer: &mut W,
 ) -> Result<Verdict, ToolFault>
-    ensures { Prints (MapSays options.now (option_copied rules.entry) (map_list (λ f. f.now) files.now)) (W.contents writer.old) (W.contents writer.new) result }
+    ensures any { PrintsMap (MapSays options.now (option_copied rules.entry) (map_list (λ f. f.now) files.now)) (W.contents writer.old)
+        (W.contents writer.new) result }
+    ensures few { length files.now ≤ 64 → Prints (MapSays options.now (option_copied rules.entry) (map_list (λ f. f.now) files.now))
+        (W.contents writer.old) (W.contents writer.new) result }
 {
     match mapped_files(alloc, files, options) {
         Ok(mapped) => answer_map(alloc, &mapped, rules, writer),
@@ -194,7 +199,7 @@ fn answer_map<W: Write>(
     rules: Option<&[RelocRule]>,
     writer: &mut W,
 ) -> Result<Verdict, ToolFault>
-    ensures { Prints (RelocationSays (option_copied rules.entry) mapped.now.objects mapped.now.map) (W.contents writer.old) (W.contents writer.new) result }
+    ensures { PrintsMap (RelocationSays (option_copied rules.entry) mapped.now.objects mapped.now.map) (W.contents writer.old) (W.contents writer.new) result }
 {
     match rules {
         Some(rules) => answer_relocations(alloc, mapped, rules, writer),
@@ -211,7 +216,7 @@ fn answer_relocations<W: Write>(
     rules: &[RelocRule],
     writer: &mut W,
 ) -> Result<Verdict, ToolFault>
-    ensures { Prints (RelocationSays (Some rules.now) mapped.now.objects mapped.now.map) (W.contents writer.old) (W.contents writer.new) result }
+    ensures { PrintsMap (RelocationSays (Some rules.now) mapped.now.objects mapped.now.map) (W.contents writer.old) (W.contents writer.new) result }
 {
     match mapped.relocated(alloc, rules) {
         Ok(linked) => {
@@ -254,6 +259,6 @@ fn tell_refusal<W: Write>(
 fn tell<W: Write>(verdict: Verdict, text: &[u8], writer: &mut W) -> Result<Verdict, ToolFault>
     ensures { Prints (IsThis verdict text.now) (W.contents writer.old) (W.contents writer.new) result }
 {
-    send(writer, 0, text)?;
+    write_whole(writer, text)?;
     Ok(verdict)
 }

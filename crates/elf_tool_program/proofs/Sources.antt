@@ -12,10 +12,9 @@ use Rattle.elf_image_outline.specs.Outline.{OutlineValue, image_in}
 use Rattle.elf_image_rules.specs.Rows.{fault_of}
 use Rattle.elf_image_rules.specs.Tables.{program_header_count, section_header_count, sections, segments}
 use Rattle.elf_image_rules.specs.Rows.{Broken}
-use Rattle.elf_image_stream.specs.Output.{StoppedIn}
 use Rattle.elf_tool_check.specs.Check.{CheckSays, file_sections, file_segments, verdict_of}
 use Rattle.elf_tool_program.specs.CheckSource.{IsCheckLine, IsScanned, SourceSays, line_of_scan}
-use Rattle.elf_tool_check.specs.Engine.{Prints}
+use Rattle.elf_tool_check.specs.Engine.{IsCutAt, Prints}
 use Rattle.elf_tool_check.specs.FileLines.{ok_line}
 use Rattle.elf_tool_check.specs.declared.calls.ToolFault.TheVariants.{Write}
 use Rattle.elf_tool_check.specs.declared.calls.Verdict.TheVariants.{Done}
@@ -74,5 +73,5 @@ module _ (content old new : Option (List ℕ)) (validated : Result OutlineValue 
   pub said_whole : (verdict : Verdict) → verdict ≡ verdict_of (fault_of validated) → Appends old new bytes → Prints (SourceSays content) old new (Ok verdict)
   said_whole verdict same out = (bytes, rw (same, is) (source_says content validated told), out)
 
-  pub said_in_part : (written : ℕ) → StoppedIn old new 0 bytes written → Prints (SourceSays content) old new (Err (Write written))
+  pub said_in_part : (written : ℕ) → IsCutAt old new bytes written → Prints (SourceSays content) old new (Err (Write written))
   said_in_part written cut = (verdict_of (fault_of validated), bytes, rw is (source_says content validated told), cut)

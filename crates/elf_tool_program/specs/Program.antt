@@ -10,7 +10,7 @@ use Rattle.elf_tool_check.specs.Ending.{IsOpenFault, EndsFile, ending_of}
 use Rattle.elf_tool_check.specs.declared.ending.Status.TheVariants.{Usage, Failed}
 use Rattle.elf_tool_check.specs.declared.ending.Status.{Status}
 use Rattle.elf_tool_link.specs.Link.{IsLinkCall}
-use Rattle.elf_tool_link.specs.Map.{IsMapped}
+use Rattle.elf_tool_link.specs.Map.{IsMappedExactly}
 use Rattle.elf_tool_program.specs.CheckSource.{IsSourceChecked}
 use Rattle.elf_tool_program.specs.declared.opening.NoRules.TheVariants.{Unopened as NoRulesUnopened, Unread, BadLine, OutOfMemory}
 use Rattle.elf_tool_program.specs.declared.opening.NoRules.{NoRules}
@@ -99,9 +99,9 @@ EndsByRules ends known opens old new status =
 
 -- `map`; with a rule file by its relocation rules
 abbrev pub EndsMap : Options → (Text → Option (List ℕ)) → (Text → Bool) → Option Text → List Text → Option (List ℕ) → Option (List ℕ) → Status → Type 0
-EndsMap opt holds opens None names old new status = EndsFiles (IsMapped opt None) holds opens names old new status
+EndsMap opt holds opens None names old new status = EndsFiles (IsMappedExactly opt None) holds opens names old new status
 EndsMap opt holds opens (Some file) names old new status =
-    EndsByRules (EndsFilesBy (λ rules. IsMapped opt (Some rules)) holds opens names old new) (holds file) (opens file) old new status
+    EndsByRules (EndsFilesBy (λ rules. IsMappedExactly opt (Some rules)) holds opens names old new) (holds file) (opens file) old new status
 
 -- `link`, by the relocation rules of a rule file
 abbrev pub EndsLink : Options → (Text → Option (List ℕ)) → (Text → Bool) → Text → List Text → Option (List ℕ) → Option (List ℕ) → Status → Type 0

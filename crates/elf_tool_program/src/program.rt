@@ -1,12 +1,12 @@
 //! The whole program: from the words of its command line to its exit status.
-ghost use Rattle.std.specs.Prelude.{◌≡◌, map as map_list, option_copied};
+ghost use Rattle.std.specs.Prelude.{◌≡◌, ◌≤◌, length, map as map_list, option_copied};
 ghost use Rattle.elf_tool_check.specs.Ending.{EndsFile, code_of, ending_of};
 ghost use Rattle.elf_tool_check.specs.declared.ending.Status.{Status as Ending};
 ghost use Rattle.elf_tool_program.specs.CheckSource.{IsSourceChecked};
 ghost use Rattle.elf_tool_rewrite.specs.Rewrite.{IsRewritten};
 ghost use Rattle.elf_tool_show.specs.Show.{IsShown};
 ghost use Rattle.elf_tool_link.specs.Link.{IsLinkCall};
-ghost use Rattle.elf_tool_link.specs.Map.{IsMapped};
+ghost use Rattle.elf_tool_link.specs.Map.{IsMappedExactly};
 ghost use Rattle.elf_tool_program.specs.Program.{EndsFiles, EndsLink, EndsMap, EndsRun, unasked, unruled};
 
 use crate::opening::{NoRules, open_all, rules_of};
@@ -167,7 +167,8 @@ fn map_files<O: Opener, W: Write, E: Write>(
     out: &mut W,
     err: &mut E,
 ) -> Status
-    ensures { EndsFiles (IsMapped options.now (option_copied rules.entry)) (O.holds files.old) (O.opens files.old) (map_list (λ name. name.now) names.now)
+    requires { length names.now ≤ 64 }
+    ensures { EndsFiles (IsMappedExactly options.now (option_copied rules.entry)) (O.holds files.old) (O.opens files.old) (map_list (λ name. name.now) names.now)
         (W.contents out.old) (W.contents out.new) result }
 {
     match open_all(alloc, names, files) {
@@ -185,6 +186,7 @@ fn map_by_rules<O: Opener, W: Write, E: Write>(
     out: &mut W,
     err: &mut E,
 ) -> Status
+    requires { length names.now ≤ 64 }
     ensures { EndsMap options.now (O.holds files.old) (O.opens files.old) (option_copied file.entry) (map_list (λ name. name.now) names.now)
         (W.contents out.old) (W.contents out.new) result }
 {

@@ -8,7 +8,7 @@ ghost use Rattle.elf_tool_program.specs.CheckSource.{IsScanStopped, IsScanned, I
 
 use elf_image_outline::{Outline, scan};
 use elf_image_rules::Broken;
-use elf_image_stream::{Fault, Source, send};
+use elf_image_stream::{Fault, Source, write_whole};
 use elf_tool_check::{Refusal, ToolFault, Verdict, ok_line, refused_line};
 use std::alloc::{AllocError, Global};
 use std::io::Write;
@@ -31,7 +31,7 @@ pub fn check_source<S: Source, W: Write>(
 {
     let validated = validated_by_scan(alloc, source)?;
     let line = line_on_scan(alloc, &validated)?;
-    send(writer, 0, line.as_bytes())?;
+    write_whole(writer, line.as_bytes())?;
     Ok(verdict_on_scan(&validated))
 }
 

@@ -1,5 +1,5 @@
 -- What `show` says of a file.
-use Rattle.std.specs.Prelude.{ℕ, List, [], ◌∷◌, codes, take, drop, ℤ, Option, None, Some, get_or, if◌then◌else◌, length, map, ◌≡◌, ◌⊎◌, ◌++◌, Result, Err}
+use Rattle.std.specs.Prelude.{ℕ, List, [], ◌∷◌, codes, take, drop, ℤ, Option, None, Some, get_or, if◌then◌else◌, length, map, ◌≡◌, ◌⊎◌, ◌++◌, ◌<◌, ◌^◌, Result, Err}
 use Rattle.std.specs.Fmt.{decimal, signed_decimal}
 use Rattle.std.specs.List.{flat_map, range_with_len}
 use Rattle.std.specs.Io.KnownBytes.{Keeps}
@@ -233,6 +233,14 @@ RefusedTablesSay b Done text = (tables : TablesValue) × AreVerdictsOf b tables 
 RefusedTablesSay b (Refused (File file rule at)) text = IsFault b (Some (rule, at)) × (file ≡ 0) × (text ≡ [])
 RefusedTablesSay b (Refused (Link rule file index entry)) text = ⊥
 RefusedTablesSay b (Refused TooLong) text = ⊥
+
+-- the numbers of a verdict fit 64 bits; and those of each of n
+abbrev pub IsVerdictShort : Option (ℕ × ℕ) → Type 0
+IsVerdictShort None = Unit {0}
+IsVerdictShort (Some fault) = (fault.0 < 2 ^ 64) × (fault.1 < 2 ^ 64)
+
+abbrev pub VerdictsFit : ℕ → List (Option (ℕ × ℕ)) → Type 0
+VerdictsFit n verdicts = (i : ℕ) → i < n → IsVerdictShort (get_or verdicts i None)
 
 -- a call of `show`
 abbrev pub IsShown : Option (List ℕ) → Option (List ℕ) → Option (List ℕ) → Option (List ℕ) → Result Verdict ToolFault → Type 0

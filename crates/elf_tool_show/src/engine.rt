@@ -2,14 +2,16 @@
 ghost use Rattle.std.specs.Prelude.{◌≡◌, List, length, map};
 ghost use Rattle.std.specs.List.{flat_map};
 ghost use Rattle.elf_tool_check.specs.Engine.{WritesText};
-ghost use Rattle.elf_tool_text.specs.Buffered.{IsBuffered};
+ghost use Rattle.elf_tool_text.specs.Buffered.{IsBuffered, WritesPieces};
 ghost use Rattle.elf_tool_check.specs.FileLines.{refused_line as refused_line_of};
-ghost use Rattle.elf_tool_show.specs.Show.{IsShown, IsShownOf, section_lines, segment_lines, show_text, part_line};
+ghost use Rattle.elf_image_rules.specs.Rows.{fault_of};
+ghost use Rattle.elf_tool_show.specs.Show.{IsShown, IsShownOf, IsVerdictShort, VerdictsFit, section_lines, segment_lines, show_text, part_line};
 
 use crate::show_lines::{push_file_line, push_part_line, push_section_line, push_segment_line};
 use crate::show_tables::show_tables;
 use elf_image_outline::Part;
-use elf_image_stream::{Fault, send};
+use elf_image_rules::Broken;
+use elf_image_stream::{Fault, write_whole};
 use elf_image_type::{Image, parse};
 use elf_table_all::Tables;
 use elf_tool_check::{Refusal, ToolFault, Verdict, read_input, refused_line};
@@ -57,6 +59,7 @@ pub fn show_bytes<W: Write>(
         Ok(image) => {
             // Validated before the first line is written.
             let tables = Tables::new(alloc, &image)?;
+            prove_verdicts(&tables);
             show_image(alloc, bytes, &image, &tables, writer)?;
             Ok(Verdict::Done)
         }
@@ -79,8 +82,25 @@ fn show_refusal<W: Write>(
     ensures { WritesText (refused_line_of rule at) (W.contents writer.old) (W.contents writer.new) result }
 {
     let line = refused_line(alloc, rule, at)?;
-    send(writer, 0, line.as_bytes())?;
+    write_whole(writer, line.as_bytes())?;
     Ok(())
+}
+
+/// Proves that the numbers of each verdict fit their types: a contract does not see the type of a number in a list. It does nothing.
+fn prove_verdicts(tables: &Tables<'_, '_>)
+    ensures { VerdictsFit (length tables.now.image.sections) tables.now.verdicts }
+{
+    for i in 0..tables.section_count() {
+        prove_verdict(tables.verdict(i));
+    }
+}
+
+fn prove_verdict(verdict: Result<(), Broken<u64>>)
+    ensures { IsVerdictShort (fault_of verdict) }
+{
+    if let Err(Broken { rule, at }) = verdict {
+        let _numbers = (rule, at);
+    }
 }
 
 // The lines on an image whose file has these bytes.
@@ -92,7 +112,7 @@ fn show_image<W: Write>(
     writer: &mut W,
 ) -> Result<(), ToolFault>
     requires { tables.now.image ≡ image.now }
-    ensures { WritesText (show_text bytes.now (record { image = image.now; verdicts = tables.now.verdicts })) (W.contents writer.old) (W.contents writer.new) result }
+    ensures { WritesPieces (show_text bytes.now (record { image = image.now; verdicts = tables.now.verdicts })) (W.contents writer.old) (W.contents writer.new) result }
 {
     let mut output = Output::new(alloc);
     push_file_line(&mut output.pending, &image.header())?;

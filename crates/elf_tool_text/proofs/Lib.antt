@@ -1,3 +1,4 @@
--- `Public` is for the proofs of the crates above, the other is for those of this one.
+-- `Public` is for the proofs of the crates above, the others are for those of this one.
+pub mod ShortText
 pub mod TextLines
 pub mod Public

@@ -18,8 +18,7 @@ use Rattle.elf_tool_check.specs.FileLines.{blank, line, further_words}
 use Rattle.std.specs.Io.KnownBytes.{Appends}
 use Rattle.std.proofs.KnownBytes.{Appends-nil, Appends-trans}
 use Rattle.std.specs.Io.Iter.{u64_saturate}
-use Rattle.elf_tool_check.specs.Engine.{WritesPrefix, WritesText}
-use Rattle.elf_tool_text.specs.Buffered.{Buffers, IsBuffered, IsCutShort}
+use Rattle.elf_tool_text.specs.Buffered.{Buffers, IsBeginning, IsBuffered, IsCutShort, WritesPieces}
 use Rattle.elf_tool_text.specs.declared.output.Output.{Output}
 use Rattle.elf_tool_check.specs.declared.calls.ToolFault.TheVariants.{Read, Write, OutOfMemory}
 use Rattle.elf_tool_check.specs.declared.calls.ToolFault.{ToolFault}
@@ -365,10 +364,10 @@ all_written a c o q text empty done sent =
     subst (Appends a c) out sent.went
 
 pub all_cut : (a c : Option (List ℕ)) (o : Output) (text : List ℕ) (fault : ToolFault) → o.pending.items ≡ [] → o.written ≡ 0 → IsCutShort a c o text fault
-    → WritesPrefix text a c fault
+    → IsBeginning text a c fault
 all_cut a c o text (Write written) empty none (n, count, below, went) =
     let whole : o.pending.items ++ text ≡ text = ap (λ (s : List ℕ). s ++ text) empty in
-    (n, omega arith, rw whole at below, rw whole at went)
+    (n, rw whole at below, rw whole at went, λ short. (let within = rw whole at below in omega arith))
 all_cut a c o text OutOfMemory empty none (n, within, went) =
     let whole : o.pending.items ++ text ≡ text = ap (λ (s : List ℕ). s ++ text) empty in
     (n, rw whole at within, rw whole at went)
@@ -376,7 +375,7 @@ all_cut a c o text (Read at) empty none stop = absurd stop
 
 -- a last flush lets all of it out, or only its first bytes
 pub all_out : {T : Type 0} (a b c : Option (List ℕ)) (o p q : Output) (text : List ℕ) (result : Result T ToolFault) → o.pending.items ≡ [] → o.written ≡ 0
-    → Buffers a b o p text → IsBuffered b c p q [] result → OnOk result (q.pending.items ≡ []) → WritesText text a c result
+    → Buffers a b o p text → IsBuffered b c p q [] result → OnOk result (q.pending.items ≡ []) → WritesPieces text a c result
 all_out a b c o p q text (Ok done) empty none sent flushed gone = all_written a c o q text empty gone (buffers_flushed a b c o p q text sent flushed)
 all_out a b c o p q text (Err fault) empty none sent flushed gone =
     all_cut a c o text fault empty none (cut_flushed a b c o p text fault sent flushed)

@@ -1,10 +1,33 @@
--- A text that is written in large pieces.
-use Rattle.std.specs.Prelude.{◌≡◌, ℕ, ◌+◌, ◌≤◌, List, length, take, Option, Result, MatchResult, ◌++◌, ◌<◌}
+-- A text that is written in pieces.
+use Rattle.std.specs.Prelude.{◌≡◌, ℕ, ◌+◌, ◌≤◌, ◌^◌, List, length, take, Option, Result, MatchResult, ◌++◌, ◌<◌}
 use Rattle.std.specs.Io.KnownBytes.{Appends}
 use Rattle.std.specs.Io.Iter.{u64_saturate}
 use Rattle.elf_tool_text.specs.declared.output.Output.{Output}
+use Rattle.elf_tool_check.specs.Engine.{IsCutAt}
 use Rattle.elf_tool_check.specs.declared.calls.ToolFault.TheVariants.{Read, Write, OutOfMemory}
 use Rattle.elf_tool_check.specs.declared.calls.ToolFault.{ToolFault}
+use Rattle.elf_tool_check.specs.declared.calls.Verdict.TheVariants.{Done, Refused}
+use Rattle.elf_tool_check.specs.declared.calls.Verdict.{Verdict}
+
+-- a writer that held `old` holds `new`, with a beginning of a text after it, but not all; `written` is its length, if the text is shorter
+-- than 2^64 bytes
+abbrev pub IsCutIn : Option (List ℕ) → Option (List ℕ) → List ℕ → ℕ → Type 0
+IsCutIn old new text written = (count : ℕ) × (count < length text) × Appends old new (take count text) × (length text < 2 ^ 64 → written ≡ count)
+
+-- what is found is written in pieces; of the line on what is refused exactly the first `written` bytes are written
+abbrev pub IsCutBy : Verdict → Option (List ℕ) → Option (List ℕ) → List ℕ → ℕ → Type 0
+IsCutBy Done old new text written = IsCutIn old new text written
+IsCutBy (Refused refusal) old new text written = IsCutAt old new text written
+
+-- a beginning of a text is written: after a failed write, or when out of memory
+abbrev pub IsBeginning : List ℕ → Option (List ℕ) → Option (List ℕ) → ToolFault → Type 0
+IsBeginning text old new (Write written) = IsCutIn old new text written
+IsBeginning text old new OutOfMemory = (count : ℕ) × (count ≤ length text) × Appends old new (take count text)
+IsBeginning text old new (Read at) = ⊥
+
+-- all of it is, or at a fault a beginning
+abbrev pub WritesPieces : {T : Type 0} → List ℕ → Option (List ℕ) → Option (List ℕ) → Result T ToolFault → Type 0
+WritesPieces text old new result = MatchResult result (λ _. Appends old new text) (IsBeginning text old new)
 
 -- some bytes were written and are counted, and with what is pending now they are what was pending before and the text
 pub record Buffers (old new : Option (List ℕ)) (before after : Output) (text : List ℕ) : Type 0 where

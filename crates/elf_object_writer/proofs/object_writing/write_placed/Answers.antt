@@ -13,7 +13,7 @@ returns-in-Err g c = header_cut c.args.placed.now _ _ c.in-Err.fault.written c.p
 
 pub loop-position-init : goal.loop-position-init
 unfolding header_bytes
-loop-position-init g c = rw c.none_waiting-waiting.ensures (record {
+loop-position-init g c = rw c.requires (record {
   going = none_waits _ _ _ _ _ _ (header_sent c.args.placed.now _ _ c.prove_placed.ensures c.in-Ok.ensures);
   few = omega arith;
 })
@@ -65,8 +65,8 @@ returns-in-Ok-write_table g c =
     table_sent c.args.placed.now _ _ _ c.loop-position.out c.in-Ok-write_table.field-0 c.loop-position.position c.prove_placed.ensures last going
     c.in-Ok-write_table.ensures
 
-pub returns : goal.returns
-returns g c =
+pub returns-in-Err-write_table : goal.returns-in-Err-write_table
+returns-in-Err-write_table g c =
     let count = c.section_count-position-end.ensures.value in
     let last : c.loop-position.position ≡ length (plain_sections c.args.placed.now.object) = omega arith in
     let going = waiting_sent _ _ _ c.loop-position.waiting.items _ _ _ _ c.loop-position.invariant.going c.in-Ok-write_waiting.ensures.ok in

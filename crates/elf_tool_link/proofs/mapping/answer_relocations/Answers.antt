@@ -1,4 +1,4 @@
-use Rattle.elf_tool_check.proofs.EngineCalls.{said_as}
+use Rattle.elf_tool_link.proofs.MapPrints.{at_once}
 use Rattle.elf_tool_link.proofs.MapRefusals.{relocation_refused}
 use Rattle.elf_tool_link.proofs.mapping.answer_relocations.Goals as goal
 
@@ -6,5 +6,5 @@ pub returns-in-Err : goal.returns-in-Err
 returns-in-Err g c =
     let mapped = c.args.mapped.now in
     let told = rw c.into.ensures at c.tell_unlinked.ensures in
-    said_as _ _ _ _ c.tell_unlinked.result
+    at_once _ _ _ _ c.tell_unlinked.result
     (λ v text said. relocation_refused c.args.rules.now mapped.objects mapped.map c.in-Err.fault v text c.in-Err.ensures.err said) told

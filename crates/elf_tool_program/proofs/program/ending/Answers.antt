@@ -1,6 +1,16 @@
-use Rattle.std.proofs.Common.{Some, ap, inl, refl}
+use Rattle.std.proofs.Common.{Some, ap, arith, inl, length, refl}
+use Rattle.std.proofs.lemmas.List.{length-map}
 use Rattle.elf_tool_words.specs.declared.words.Request.TheVariants.{Link, Map}
 use Rattle.elf_tool_program.proofs.program.ending.Goals as goal
+
+pub map_by_rules-requires : goal.map_by_rules-requires
+map_by_rules-requires g c =
+    let r = c.in-Ok-Map in
+    let asked = rw r.field-0-is at r.ensures.ok in
+    let (named, (files, few, base, page), rules) = asked.holds in
+    let same = ap length files in
+    let long = length-map r.names.items (λ f. f.now) in
+    rw c.deref.ensures.value (omega arith)
 
 pub returns-in-Ok-Map : goal.returns-in-Ok-Map
 returns-in-Ok-Map g c =

@@ -1,24 +1,38 @@
 -- If the writer fails, a beginning of the report is written: of the lines of the image and its tables, or of the line on the rule that the
 -- bytes break first.
-use Rattle.std.proofs.Common.{inr, refl}
+use Rattle.std.proofs.Common.{◌<◌, ◌^◌, ℕ, List, Option, inr, length, refl, subst, sym}
 use Rattle.std.proofs.lemmas.Result.{err_from_is_err_and}
 use Rattle.elf_table_all.specs.Tables.{TablesValue}
 use Rattle.elf_tool_check.specs.FileLines.{refused_line}
-use Rattle.elf_tool_show.specs.Show.{show_text}
+use Rattle.elf_tool_show.specs.Show.{VerdictsFit, show_text}
+use Rattle.elf_image_outline.specs.Image.{ImageValue}
+use Rattle.elf_tool_check.specs.Engine.{IsCutAt, WritesPrefix}
+use Rattle.elf_tool_check.specs.declared.calls.ToolFault.TheVariants.{Read, Write, OutOfMemory}
+use Rattle.elf_tool_check.specs.declared.calls.ToolFault.{ToolFault}
+use Rattle.elf_tool_show.proofs.ShortShow.{show_short}
+use Rattle.elf_tool_text.specs.Buffered.{IsBeginning}
 use Rattle.elf_tool_check.specs.declared.calls.Refusal.TheVariants.{File}
 use Rattle.elf_tool_check.specs.declared.calls.Verdict.TheVariants.{Done, Refused}
 use Rattle.elf_tool_show.proofs.engine.show_bytes.Goals as goal
+
+-- the count of a beginning of a short text is exact
+exactly : (text : List ℕ) (old new : Option (List ℕ)) (fault : ToolFault) → length text < 2 ^ 64 → IsBeginning text old new fault → WritesPrefix text old new fault
+exactly text old new (Write written) short (count, below, out, same) = subst (λ (n : ℕ). IsCutAt old new text n) (sym (same short)) (below, out)
+exactly text old new OutOfMemory short begun = begun
+exactly text old new (Read at) short begun = begun
 
 pub returns-in_err-show_image-in-Ok : goal.returns-in_err-show_image-in-Ok
 returns-in_err-show_image-in-Ok g c =
     let q = err_from_is_err_and c.from_residual-in_err-show_image-in-Ok.result c.from_residual-in_err-show_image-in-Ok.ensures.1 in
     let t : TablesValue = record { image = c.in-Ok.image; verdicts = c.in_ok-tables-in-Ok.tables.verdicts } in
+    let fit = subst (λ (v : ImageValue). VerdictsFit (length v.sections) t.verdicts) c.in_ok-tables-in-Ok.ensures.image c.prove_verdicts.ensures in
+    let short = show_short c.in-Ok.image c.args.bytes.now c.in-Ok.ensures.ok t.verdicts fit in
     rw (q.1, q.2) (inr (record {
       verdict = Done;
       text = show_text c.args.bytes.now t;
       is = (t, (record { image = c.in-Ok.ensures.ok; verdicts = c.in_ok-tables-in-Ok.ensures.verdicts }), refl);
       answer = tt;
-      written = c.in_err-show_image-in-Ok.ensures;
+      written = exactly _ _ _ _ short c.in_err-show_image-in-Ok.ensures;
     }))
 
 pub returns-in_err-show_refusal-in-Err-Rule : goal.returns-in_err-show_refusal-in-Err-Rule

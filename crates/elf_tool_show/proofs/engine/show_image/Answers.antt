@@ -9,8 +9,7 @@ use Rattle.elf_image_outline.specs.Image.{ImageValue, PlacedPart}
 use Rattle.elf_image_outline.specs.declared.outline.Part.{Part}
 use Rattle.elf_table_all.specs.Tables.{TablesValue}
 use Rattle.elf_tool_show.specs.Show.{all_table_lines, part_lines, section_lines, segment_lines, show_text, file_line, part_line}
-use Rattle.elf_tool_check.specs.Engine.{WritesPrefix}
-use Rattle.elf_tool_text.specs.Buffered.{Buffers, IsCutShort}
+use Rattle.elf_tool_text.specs.Buffered.{Buffers, IsBeginning, IsCutShort}
 use Rattle.elf_tool_check.specs.declared.calls.ToolFault.{ToolFault}
 use Rattle.elf_tool_text.specs.declared.output.Output.{Output}
 use Rattle.elf_tool_text.proofs.Public.{all_out, all_cut, buffers_both, buffers_line, buffers_none, cut_later, cut_longer}
@@ -31,7 +30,7 @@ file_buffered a o p h header same pushed count =
 parts_cut : (a x y : Option (List ℕ)) (o p q : Output) (b : List ℕ) (v : ImageValue) (h : Ehdr) (ps : List Part) (rest : List ℕ) (fault : ToolFault)
     → o.pending.items ≡ [] → o.written ≡ 0 → h ≡ v.header → p.pending.items ≡ o.pending.items ++ file_line h → p.written ≡ o.written
     → ps ≡ map (λ (l : PlacedPart). l.part) v.parts → Buffers a x p q (flat_map (part_line b) ps) → IsCutShort x y q rest fault
-    → WritesPrefix (file_line v.header ++ (part_lines b v ++ rest)) a y fault
+    → IsBeginning (file_line v.header ++ (part_lines b v ++ rest)) a y fault
 parts_cut a x y o p q b v h ps rest fault empty none header pushed count same sent stop =
     all_cut a y o (file_line v.header ++ (part_lines b v ++ rest)) fault empty none
     (cut_later a a y o p (file_line v.header) (part_lines b v ++ rest) fault (file_buffered a o p h v.header header pushed count)

@@ -1,0 +1,762 @@
+-- The text of `show` is shorter than 2^64 bytes. An image has at most 2^30 bytes, so each name in it is as short, and each line that ends
+-- with a name has less than 2^33 bytes. No entry of a table is without a byte of its own, and contents share none: so there are at most
+-- 2^30 entries and 2^24 sections.
+use Rattle.std.proofs.Common.{◌≡◌, ◌∙◌, ◌<◌, ◌≤◌, ◌+◌, ◌-◌, ◌*◌, ◌/◌, ◌^◌, ◌++◌, ◌==◌, ℕ, ℤ, zero, suc, pos, negsuc, Bool, true, false, List, [], ◌∷◌, None, Option, Some, FitsSigned, ap, arith, codes, drop, get_or, if◌then◌else◌, length, length-append, map, nat_lt, refl, subst, sym, take, slice_get, zero-add}
+use Rattle.std.specs.List.{AllByRecursion, flat_map, range_with_len, sum_by}
+use Rattle.std.specs.Int.{w64}
+use Rattle.std.specs.Fmt.{decimal, signed_decimal}
+use Rattle.std.proofs.lemmas.List.{get_or-map, length-drop, length-take}
+use Rattle.std.proofs.lemmas.List.FromFn.{get_or-map-range_with_len, length-map-range_with_len}
+use Rattle.std.proofs.lemmas.List.Sums.{sum_by-cons}
+use Rattle.elf_extent.specs.declared.extent.Extent.{Extent}
+use Rattle.elf_field.specs.Abi.{SHT_NULL}
+use Rattle.elf_field.specs.Bytes.{IsBytes, IsBytes-nil}
+use Rattle.elf_field.specs.Entries.{dyn_laws, rel_laws, rela_laws, sym_laws, word_laws}
+use Rattle.elf_field.specs.Headers.{IsEhdr, IsPhdr, IsShdr}
+use Rattle.elf_field.specs.declared.dynamic.Dyn.{Dyn}
+use Rattle.elf_field.specs.declared.ehdr.Ehdr.{Ehdr}
+use Rattle.elf_field.specs.declared.number.Order.TheVariants.{Little, Big}
+use Rattle.elf_field.specs.declared.number.Order.{Order}
+use Rattle.elf_field.specs.declared.phdr.Phdr.{Phdr}
+use Rattle.elf_field.specs.declared.shdr.Shdr.{Shdr}
+use Rattle.elf_image_outline.specs.Image.{ImageValue, IsExtentOf, IsImage, IsSoundImage, PlacedPart, Stands, no_program_header, no_section_header, program_header_of, section_header_of, value_names}
+use Rattle.elf_image_outline.specs.declared.outline.Owner.TheVariants.{Header, ProgramTable, SectionTable, Content, Gap}
+use Rattle.elf_image_outline.specs.declared.outline.Owner.{Owner}
+use Rattle.elf_image_outline.specs.declared.outline.Part.{Part}
+use Rattle.elf_image_rules.proofs.Public.{clean_records, extents_disjoint, extents_within, kept_short, sound_file}
+use Rattle.elf_image_rules.specs.Rules.{extents, rules_in}
+use Rattle.elf_image_rules.specs.Tables.{bytes_in, content_extent, header, name_table, names, order_of, program_header_count, section_header_count, sections, segments}
+use Rattle.elf_image_type.proofs.Public.{are_parts, image_is_sound}
+use Rattle.elf_image_type.specs.ImageView.{section_name, string}
+use Rattle.elf_table_all.specs.Tables.{TablesValue, dynamic_strings, signature_name}
+use Rattle.elf_table_hash.specs.HashTable.{nbucket, nchain, words_in}
+use Rattle.elf_table_lists.specs.Dynamic.{dynamic_array_of, dynamic_entries, dynamic_entry, dynamic_entry_count, is_string_tag, no_dynamic_entry}
+use Rattle.elf_table_lists.specs.Groups.{group_of, member, member_count, members_in}
+use Rattle.elf_table_lists.specs.Notes.{first_notes, note_at, notes_in, notes_of, note_end}
+use Rattle.elf_table_lists.specs.Relocations.{has_addends, no_relocation_entry, relocation_count, relocation_in, relocations_in, relocations_of}
+use Rattle.elf_table_lists.specs.declared.relocations.Relocation.{Relocation}
+use Rattle.elf_table_symbols.proofs.Public.{length_symbols}
+use Rattle.elf_table_symbols.specs.Sections.{content, kind_of, order, section, sections_of}
+use Rattle.elf_table_symbols.specs.SymbolView.{no_symbol_entry}
+use Rattle.elf_table_symbols.specs.Symbols.{SymbolEntryValue, entry, entry_count, index_words, place_of, symbol_entry_in, symbol_parts, symbols_in, symbols_of, word}
+use Rattle.elf_table_symbols.specs.declared.symbols.Place.TheVariants.{Undefined, Absolute, Common, Reserved, Section}
+use Rattle.elf_table_symbols.specs.declared.symbols.Place.{Place}
+use Rattle.elf_table_symbols.specs.declared.table_section.TableKind.TheVariants.{SymbolTable, RelocationTable, SectionGroup, NoteSection, DynamicArray, HashTable}
+use Rattle.elf_table_symbols.specs.declared.table_section.TableKind.{TableKind}
+use Rattle.elf_tool_text.proofs.Public.{bytes_short, decimal_short, hexadecimal_short, indexed_short, line_length, lines_short, name_short, words_length}
+use Rattle.elf_tool_text.proofs.ShortText.{length-encode_lower}
+use Rattle.elf_tool_text.specs.Line.{bytes_text, hexadecimal, name_text}
+use Rattle.elf_tool_show.specs.Show.{IsVerdictShort, VerdictsFit, addend_text, all_table_lines, dynamic_line, dynamic_lines, dynamic_text, file_line, group_line, hash_line, kind_lines, note_line, note_lines, order_text, owner_words, part_line, part_lines, place_text, relocation_line, relocation_lines, relocation_text, section_line, section_lines, section_text, segment_line, segment_lines, segment_text, show_text, string_words, symbol_line, symbol_lines, symbol_text, table_lines, table_refused_line, table_text}
+use Rattle.elf_tool_show.proofs.Lengths.{lengths_within}
+
+-- ---- lists, item by item
+
+at_any : {A : Type 0} (P : A → Type 0) (xs : List A) (d : A) (i : ℕ) → AllByRecursion P xs → P d → P (get_or xs i d)
+at_any P [] d i all none = none
+at_any P (x ∷ xs) d zero all none = all.0
+at_any P (x ∷ xs) d (suc i) all none = at_any P xs d i all.1 none
+
+all_mapped : {A B : Type 0} (P : B → Type 0) (f : A → B) → ((x : A) → P (f x)) → (xs : List A) → AllByRecursion P (map f xs)
+all_mapped P f each [] = tt
+all_mapped P f each (x ∷ xs) = (each x, all_mapped P f each xs)
+
+all_taken : {A : Type 0} (P : A → Type 0) (n : ℕ) (xs : List A) → AllByRecursion P xs → AllByRecursion P (take n xs)
+all_taken P zero xs all = tt
+all_taken P (suc n) [] all = tt
+all_taken P (suc n) (x ∷ xs) all = (all.0, all_taken P n xs all.1)
+
+-- ---- pieces of a list of bytes are no longer than it
+
+piece_within : (n at : ℕ) (b : List ℕ) → length (take n (drop at b)) ≤ length b
+piece_within n at b = let some = length-take n (drop at b) in let rest = length-drop at b in omega arith
+
+string_within : (table : List ℕ) (x : ℕ) → length (string table x) ≤ length table
+string_within table x = piece_within _ x table
+
+contents_within : (b : List ℕ) (ss : List Shdr) (i : ℕ) → length (get_or (map (λ s. bytes_in b (content_extent s)) ss) i []) ≤ length b
+contents_within b [] i = omega arith
+contents_within b (s ∷ ss) zero = piece_within (content_extent s).len s.sh_offset b
+contents_within b (s ∷ ss) (suc i) = contents_within b ss i
+
+-- ---- words
+
+signed_short : (z : ℤ) → FitsSigned w64 z → length (signed_decimal z) ≤ 21
+signed_short (pos n) fits = let few = decimal_short n (omega arith) in omega arith
+signed_short (negsuc n) fits = let few = decimal_short (suc n) (omega arith) in omega arith
+
+-- ---- lines
+
+file_line_short : (h : Ehdr) → IsEhdr h → length (file_line h) ≤ 100
+unfolding file_line
+file_line_short h fits =
+    let whole = line_length (codes "file") (order_text (order_of h.e_ident) ∷ decimal h.e_type ∷ decimal h.e_machine ∷ hexadecimal h.e_entry ∷ hexadecimal h.e_flags ∷ []) in
+    let type_fits = fits.e_type in
+    let machine_fits = fits.e_machine in
+    let flags_fit = fits.e_flags in
+    let a = by_order (order_of h.e_ident) in
+    let b = decimal_short h.e_type (omega arith) in
+    let c = decimal_short h.e_machine (omega arith) in
+    let d = hexadecimal_short h.e_entry fits.e_entry in
+    let e = hexadecimal_short h.e_flags (omega arith) in
+    omega arith
+  where
+    by_order : (o : Order) → length (order_text o) ≤ 6
+    by_order Little = omega arith
+    by_order Big = omega arith
+
+-- the words on an owner, of which a section has an index
+abbrev IsIndexed : Owner → Type 0
+IsIndexed Header = Unit {0}
+IsIndexed ProgramTable = Unit {0}
+IsIndexed SectionTable = Unit {0}
+IsIndexed (Content i) = i < 2 ^ 64
+IsIndexed Gap = Unit {0}
+
+owner_short : (gap : List ℕ) (owner : Owner) → IsIndexed owner → words_length (owner_words gap owner) ≤ 40
+owner_short gap Header fits = omega arith
+owner_short gap ProgramTable fits = omega arith
+owner_short gap SectionTable fits = omega arith
+owner_short gap (Content i) fits = let index = decimal_short i fits in omega arith
+owner_short gap Gap fits =
+    let some = length-take 16 gap in
+    let digits = length-encode_lower (take 16 gap) in
+    omega arith
+
+part_line_short : (b : List ℕ) (p : Part) → p.start < 2 ^ 64 → p.len < 2 ^ 64 → IsIndexed p.owner → length (part_line b p) ≤ 100
+unfolding part_line
+part_line_short b p start len owner =
+    let gap = take p.len (drop p.start b) in
+    let whole = line_length (codes "part") (hexadecimal p.start ∷ hexadecimal p.len ∷ owner_words gap p.owner) in
+    let a = hexadecimal_short p.start start in
+    let c = hexadecimal_short p.len len in
+    let d = owner_short gap p.owner owner in
+    omega arith
+
+section_line_short : (i : ℕ) (s : Shdr) (name : List ℕ) → i < 2 ^ 64 → IsShdr s → length name ≤ 2 ^ 30 → length (section_line i s name) ≤ 2 ^ 32
+unfolding section_line
+section_line_short i s name index fits short =
+    let whole = line_length (codes "section") (decimal i ∷ decimal s.sh_type ∷ hexadecimal s.sh_flags ∷ hexadecimal s.sh_addr ∷ hexadecimal s.sh_offset ∷ hexadecimal s.sh_size
+    ∷ decimal s.sh_link ∷ decimal s.sh_info ∷ hexadecimal s.sh_addralign ∷ hexadecimal s.sh_entsize ∷ name_text name ∷ []) in
+    let type_fits = fits.sh_type in
+    let link_fits = fits.sh_link in
+    let info_fits = fits.sh_info in
+    let a = decimal_short i index in
+    let b = decimal_short s.sh_type (omega arith) in
+    let c = hexadecimal_short s.sh_flags fits.sh_flags in
+    let d = hexadecimal_short s.sh_addr fits.sh_addr in
+    let e = hexadecimal_short s.sh_offset fits.sh_offset in
+    let f = hexadecimal_short s.sh_size fits.sh_size in
+    let g = decimal_short s.sh_link (omega arith) in
+    let h = decimal_short s.sh_info (omega arith) in
+    let j = hexadecimal_short s.sh_addralign fits.sh_addralign in
+    let k = hexadecimal_short s.sh_entsize fits.sh_entsize in
+    let l = name_short name in
+    omega arith
+
+segment_line_short : (i : ℕ) (g : Phdr) → i < 2 ^ 64 → IsPhdr g → length (segment_line i g) ≤ 200
+unfolding segment_line
+segment_line_short i s index fits =
+    let whole = line_length (codes "segment") (decimal i ∷ decimal s.p_type ∷ hexadecimal s.p_flags ∷ hexadecimal s.p_offset ∷ hexadecimal s.p_vaddr ∷ hexadecimal s.p_paddr
+    ∷ hexadecimal s.p_filesz ∷ hexadecimal s.p_memsz ∷ hexadecimal s.p_align ∷ []) in
+    let type_fits = fits.p_type in
+    let flags_fit = fits.p_flags in
+    let a = decimal_short i index in
+    let b = decimal_short s.p_type (omega arith) in
+    let c = hexadecimal_short s.p_flags (omega arith) in
+    let d = hexadecimal_short s.p_offset fits.p_offset in
+    let e = hexadecimal_short s.p_vaddr fits.p_vaddr in
+    let f = hexadecimal_short s.p_paddr fits.p_paddr in
+    let g = hexadecimal_short s.p_filesz fits.p_filesz in
+    let h = hexadecimal_short s.p_memsz fits.p_memsz in
+    let j = hexadecimal_short s.p_align fits.p_align in
+    omega arith
+
+table_refused_short : (i rule at : ℕ) → i < 2 ^ 64 → rule < 2 ^ 64 → at < 2 ^ 64 → length (table_refused_line i rule at) ≤ 2 ^ 33
+unfolding table_refused_line
+table_refused_short i rule at index rule_fits at_fits =
+    let whole = line_length (codes "refused") (decimal i ∷ decimal rule ∷ decimal at ∷ []) in
+    let a = decimal_short i index in
+    let b = decimal_short rule rule_fits in
+    let c = decimal_short at at_fits in
+    omega arith
+
+-- ---- symbols
+
+abbrev IsShortPlace : Place → Type 0
+IsShortPlace Undefined = Unit {0}
+IsShortPlace Absolute = Unit {0}
+IsShortPlace Common = Unit {0}
+IsShortPlace (Reserved index) = Unit {0}
+IsShortPlace (Section index) = index < 2 ^ 64
+
+place_short : (place : Place) → IsShortPlace place → length (place_text place) ≤ 20
+place_short Undefined fits = omega arith
+place_short Absolute fits = omega arith
+place_short Common fits = omega arith
+place_short (Reserved index) fits = omega arith
+place_short (Section index) fits = decimal_short index fits
+
+record IsShortEntry (s : SymbolEntryValue) : Type 0 where
+  name : length s.name ≤ 2 ^ 30
+  binding : s.binding < 2 ^ 64
+  symbol_type : s.symbol_type < 2 ^ 64
+  other : s.other < 2 ^ 64
+  place : IsShortPlace s.place
+  value : s.value < 2 ^ 64
+  size : s.size < 2 ^ 64
+
+symbol_line_short : (i j : ℕ) (s : SymbolEntryValue) → i < 2 ^ 64 → j < 2 ^ 64 → IsShortEntry s → length (symbol_line i j s) ≤ 2 ^ 33
+unfolding symbol_line
+symbol_line_short i j s index number short =
+    let whole = line_length (codes "symbol") (decimal i ∷ decimal j ∷ decimal s.binding ∷ decimal s.symbol_type ∷ decimal s.other ∷ place_text s.place
+    ∷ hexadecimal s.value ∷ hexadecimal s.size ∷ name_text s.name ∷ []) in
+    let a = decimal_short i index in
+    let b = decimal_short j number in
+    let c = decimal_short s.binding short.binding in
+    let d = decimal_short s.symbol_type short.symbol_type in
+    let e = decimal_short s.other short.other in
+    let f = place_short s.place short.place in
+    let g = hexadecimal_short s.value short.value in
+    let h = hexadecimal_short s.size short.size in
+    let k = name_short s.name in
+    let l = short.name in
+    omega arith
+
+place_fits : (index extended : ℕ) → index < 2 ^ 16 → extended < 2 ^ 32 → IsShortPlace (place_of index extended)
+place_fits index extended fits wide = first (index == 0)
+  where
+    fifth : (low : Bool) → IsShortPlace (if low then Section index else Reserved index)
+    fifth true = omega arith
+    fifth false = tt
+
+    fourth : (far : Bool) → IsShortPlace (if far then Section extended else (if nat_lt index 65280 then Section index else Reserved index))
+    fourth true = omega arith
+    fourth false = fifth (nat_lt index 65280)
+
+    third : (common : Bool) → IsShortPlace (if common then Common else (if index == 65535 then Section extended else (if nat_lt index 65280 then Section index else Reserved index)))
+    third true = tt
+    third false = fourth (index == 65535)
+
+    second : (absolute : Bool) → IsShortPlace (if absolute then Absolute else (if index == 65522 then Common else (if index == 65535 then Section extended else (if nat_lt index 65280 then Section index else Reserved index))))
+    second true = tt
+    second false = third (index == 65522)
+
+    first : (none : Bool) → IsShortPlace (if none then Undefined else (if index == 65521 then Absolute else (if index == 65522 then Common else (if index == 65535 then Section extended else (if nat_lt index 65280 then Section index else Reserved index)))))
+    first true = tt
+    first false = second (index == 65521)
+
+entry_short : (o : Order) (table strings words : List ℕ) → IsBytes table → IsBytes words → length strings ≤ 2 ^ 30 → (j : ℕ) → IsShortEntry (symbol_entry_in o table strings words j)
+unfolding symbol_entry_in entry word
+entry_short o table strings words bytes are short j =
+    let fits = sym_laws.valid o table (24 * j) bytes in
+    let e = entry o table j in
+    let within = string_within strings e.st_name in
+    let info = fits.st_info in
+    let other = fits.st_other in
+    record {
+      name = omega arith;
+      binding = omega arith;
+      symbol_type = omega arith;
+      other = omega arith;
+      place = place_fits e.st_shndx (word o words j) fits.st_shndx (word_laws.valid o words (4 * j) are);
+      value = fits.st_value;
+      size = fits.st_size;
+    }
+
+no_entry_short : IsShortEntry no_symbol_entry
+no_entry_short = record { name = omega arith; binding = omega arith; symbol_type = omega arith; other = omega arith; place = tt; value = omega arith; size = omega arith }
+
+symbols_short : (i : ℕ) (o : Order) (table names words : List ℕ) → i < 2 ^ 64 → length table ≤ 2 ^ 30 → IsBytes table → IsBytes words → length names ≤ 2 ^ 30
+    → length (symbol_lines i (symbols_in o table names words)) ≤ length table * 2 ^ 33
+unfolding symbol_lines symbols_in
+symbols_short i o table names words index long bytes are short =
+    let symbols = symbols_in o table names words in
+    let count = length_symbols o table names words in
+    let all = all_mapped IsShortEntry (symbol_entry_in o table names words) (entry_short o table names words bytes are short) (range_with_len 0 (entry_count table)) in
+    let each = indexed_short (symbol_text i symbols) (2 ^ 33) (length symbols) (λ j below.
+    symbol_line_short i j (get_or symbols j no_symbol_entry) index (omega arith) (at_any IsShortEntry symbols no_symbol_entry j all no_entry_short)) in
+    omega arith
+
+-- ---- relocations
+
+abbrev IsShortAddend : Option ℤ → Type 0
+IsShortAddend None = Unit {0}
+IsShortAddend (Some z) = FitsSigned w64 z
+
+record IsShortRelocation (r : Relocation) : Type 0 where
+  offset : r.offset < 2 ^ 64
+  symbol : r.symbol < 2 ^ 64
+  relocation_type : r.relocation_type < 2 ^ 64
+  addend : IsShortAddend r.addend
+
+addend_short : (addend : Option ℤ) → IsShortAddend addend → length (addend_text addend) ≤ 21
+addend_short None fits = omega arith
+addend_short (Some z) fits = signed_short z fits
+
+relocation_line_short : (i j : ℕ) (r : Relocation) → i < 2 ^ 64 → j < 2 ^ 64 → IsShortRelocation r → length (relocation_line i j r) ≤ 2 ^ 33
+unfolding relocation_line
+relocation_line_short i j r index number short =
+    let whole = line_length (codes "reloc") (decimal i ∷ decimal j ∷ hexadecimal r.offset ∷ decimal r.symbol ∷ decimal r.relocation_type ∷ addend_text r.addend ∷ []) in
+    let a = decimal_short i index in
+    let b = decimal_short j number in
+    let c = hexadecimal_short r.offset short.offset in
+    let d = decimal_short r.symbol short.symbol in
+    let e = decimal_short r.relocation_type short.relocation_type in
+    let f = addend_short r.addend short.addend in
+    omega arith
+
+relocation_short : (addends : Bool) (o : Order) (table : List ℕ) → IsBytes table → (j : ℕ) → IsShortRelocation (relocation_in addends o table j)
+unfolding relocation_in
+relocation_short true o table bytes j =
+    let fits = rela_laws.valid o table (24 * j) bytes in
+    let info = fits.r_info in
+    record { offset = fits.r_offset; symbol = omega arith; relocation_type = omega arith; addend = fits.r_addend }
+relocation_short false o table bytes j =
+    let fits = rel_laws.valid o table (16 * j) bytes in
+    let info = fits.r_info in
+    record { offset = fits.r_offset; symbol = omega arith; relocation_type = omega arith; addend = tt }
+
+relocations_short : (i : ℕ) (addends : Bool) (o : Order) (table : List ℕ) → i < 2 ^ 64 → length table ≤ 2 ^ 30 → IsBytes table
+    → length (relocation_lines i (relocations_in addends o table)) ≤ length table * 2 ^ 33
+unfolding relocation_lines relocations_in
+relocations_short i addends o table index long bytes =
+    let relocations = relocations_in addends o table in
+    let count = length-map-range_with_len (relocation_in addends o table) 0 (relocation_count addends table) in
+    let few = counted addends in
+    let all = all_mapped IsShortRelocation (relocation_in addends o table) (relocation_short addends o table bytes) (range_with_len 0 (relocation_count addends table)) in
+    let each = indexed_short (relocation_text i relocations) (2 ^ 33) (length relocations) (λ j below.
+    relocation_line_short i j (get_or relocations j no_relocation_entry) index (omega arith)
+    (at_any IsShortRelocation relocations no_relocation_entry j all (record { offset = omega arith; symbol = omega arith; relocation_type = omega arith; addend = tt }))) in
+    omega arith
+  where
+    counted : (with : Bool) → relocation_count with table ≤ length table
+    counted true = omega arith
+    counted false = omega arith
+
+-- ---- groups
+
+numbers_short : (ns : List ℕ) → AllByRecursion (λ n. n < 2 ^ 64) ns → words_length (map decimal ns) ≤ length ns * 21
+numbers_short [] all = omega arith
+numbers_short (n ∷ ns) all =
+    let here = decimal_short n all.0 in
+    let rest = numbers_short ns all.1 in
+    omega arith
+
+group_short : (i : ℕ) (name : List ℕ) (o : Order) (words : List ℕ) (signature : ℕ) → i < 2 ^ 64 → length name ≤ 2 ^ 30 → IsBytes words
+    → length (group_line i name (record { flags = word o words 0; signature = signature; members = members_in o words })) ≤ 2 ^ 33 + length words * 2 ^ 33
+unfolding group_line members_in word
+group_short i name o words signature index short bytes =
+    let members = members_in o words in
+    let flags = word o words 0 in
+    let flags_fit = word_laws.valid o words (4 * 0) bytes in
+    let whole = line_length (codes "group") (decimal i ∷ decimal flags ∷ name_text name ∷ map decimal members) in
+    let a = decimal_short i index in
+    let b = decimal_short flags (omega arith) in
+    let c = name_short name in
+    let count = length-map-range_with_len (member o words) 0 (member_count words) in
+    let all = all_mapped (λ n. n < 2 ^ 64) (member o words) (λ j. (let fits = word_laws.valid o words (4 * (j + 1)) bytes in omega arith)) (range_with_len 0 (member_count words)) in
+    let d = numbers_short members all in
+    omega arith
+
+-- ---- notes
+
+note_short : (i : ℕ) (o : Order) (table : List ℕ) (x : ℕ) → i < 2 ^ 64 → length table ≤ 2 ^ 30 → IsBytes table → length (note_line i (note_at o table x)) ≤ 2 ^ 33
+unfolding note_line note_at
+note_short i o table x index long bytes =
+    let n = note_at o table x in
+    let type_fits = word_laws.valid o table (x + 8) bytes in
+    let name : length n.name ≤ length table = piece_within _ (x + 12) table in
+    let desc : length n.desc ≤ length table = piece_within _ _ table in
+    let whole = line_length (codes "note") (decimal i ∷ decimal n.note_type ∷ name_text n.name ∷ bytes_text n.desc ∷ []) in
+    let a = decimal_short i index in
+    let b = decimal_short n.note_type (omega arith) in
+    let c = name_short n.name in
+    let d = bytes_short n.desc in
+    omega arith
+
+notes_short : (i : ℕ) (o : Order) (table : List ℕ) (n x : ℕ) → i < 2 ^ 64 → length table ≤ 2 ^ 30 → IsBytes table
+    → length (flat_map (note_line i) (first_notes o table n x)) ≤ n * 2 ^ 33
+unfolding first_notes
+notes_short i o table zero x index long bytes = omega arith
+notes_short i o table (suc n) x index long bytes =
+    by_rest (nat_lt x (length table)) (notes_short i o table n (note_end o table x) index long bytes)
+  where
+    by_rest : (left : Bool) → length (flat_map (note_line i) (first_notes o table n (note_end o table x))) ≤ n * 2 ^ 33
+        → length (flat_map (note_line i) (if left then note_at o table x ∷ first_notes o table n (note_end o table x) else [])) ≤ suc n * 2 ^ 33
+    by_rest true rest =
+        let here = note_short i o table x index long bytes in
+        let both = length-append (note_line i (note_at o table x)) (flat_map (note_line i) (first_notes o table n (note_end o table x))) in
+        omega arith
+    by_rest false rest = omega arith
+
+-- ---- dynamic arrays
+
+record IsShortDynamic (e : Dyn) : Type 0 where
+  tag : FitsSigned w64 e.d_tag
+  value : e.d_un < 2 ^ 64
+
+no_tag : FitsSigned w64 (pos 0)
+no_tag = search arith
+
+strings_short : (strings : List ℕ) (e : Dyn) → length strings ≤ 2 ^ 30 → words_length (string_words strings e) ≤ 2 ^ 32
+strings_short strings e short = by_tag (is_string_tag e.d_tag)
+  where
+    by_tag : (has : Bool) → words_length (if has then name_text (string strings e.d_un) ∷ [] else []) ≤ 2 ^ 32
+    by_tag true =
+        let within = string_within strings e.d_un in
+        let name = name_short (string strings e.d_un) in
+        omega arith
+    by_tag false = omega arith
+
+dynamic_line_short : (i : ℕ) (strings : List ℕ) (e : Dyn) → i < 2 ^ 64 → length strings ≤ 2 ^ 30 → IsShortDynamic e → length (dynamic_line i strings e) ≤ 2 ^ 33
+unfolding dynamic_line
+dynamic_line_short i strings e index short fits =
+    let whole = line_length (codes "dynamic") (decimal i ∷ signed_decimal e.d_tag ∷ hexadecimal e.d_un ∷ string_words strings e) in
+    let a = decimal_short i index in
+    let b = signed_short e.d_tag fits.tag in
+    let c = hexadecimal_short e.d_un fits.value in
+    let d = strings_short strings e short in
+    omega arith
+
+dynamic_short : (i : ℕ) (strings : List ℕ) (o : Order) (table : List ℕ) (n : ℕ) → i < 2 ^ 64 → length strings ≤ 2 ^ 30 → length table ≤ 2 ^ 30 → IsBytes table
+    → length (dynamic_lines i strings (take n (dynamic_entries o table (dynamic_entry_count table)))) ≤ length table * 2 ^ 33
+unfolding dynamic_lines dynamic_entries dynamic_entry
+dynamic_short i strings o table n index short long bytes =
+    let entries = dynamic_entries o table (dynamic_entry_count table) in
+    let count = length-map-range_with_len (dynamic_entry o table) 0 (dynamic_entry_count table) in
+    let some = length-take n entries in
+    let all = all_taken IsShortDynamic n entries
+    (all_mapped IsShortDynamic (dynamic_entry o table) (λ j. (let fits = dyn_laws.valid o table (16 * j) bytes in record { tag = fits.d_tag; value = fits.d_un }))
+    (range_with_len 0 (dynamic_entry_count table))) in
+    let each = indexed_short (dynamic_text i strings (take n entries)) (2 ^ 33) (length (take n entries)) (λ j below.
+    dynamic_line_short i strings (get_or (take n entries) j no_dynamic_entry) index short
+    (at_any IsShortDynamic (take n entries) no_dynamic_entry j all (record { tag = no_tag; value = omega arith }))) in
+    omega arith
+
+-- ---- hash tables
+
+hash_short : (i : ℕ) (words : List ℕ) → i < 2 ^ 64 → AllByRecursion (λ n. n < 2 ^ 64) words → length (hash_line i words) ≤ 2 ^ 33
+unfolding hash_line
+hash_short i words index all =
+    let whole = line_length (codes "hash") (decimal i ∷ decimal (nbucket words) ∷ decimal (nchain words) ∷ []) in
+    let a = decimal_short i index in
+    let b = decimal_short (nbucket words) (at_any (λ (n : ℕ). n < 2 ^ 64) words 0 0 all (omega arith)) in
+    let c = decimal_short (nchain words) (at_any (λ (n : ℕ). n < 2 ^ 64) words 0 1 all (omega arith)) in
+    omega arith
+
+hash_words : (o : Order) (table : List ℕ) → IsBytes table → AllByRecursion (λ n. n < 2 ^ 64) (words_in o table)
+unfolding words_in word
+hash_words o table bytes =
+    all_mapped (λ n. n < 2 ^ 64) (word o table) (λ j. (let fits = word_laws.valid o table (4 * j) bytes in omega arith)) (range_with_len 0 (length table / 4))
+
+-- ---- a list of texts, each with no more bytes than a weight of its index
+
+weighed_short : (f : ℕ → List ℕ) (w : ℕ → ℕ) (from n end : ℕ) → from + n ≡ end → ((i : ℕ) → i < end → length (f i) ≤ 2 ^ 33 + w i * 2 ^ 33)
+    → length (flat_map f (range_with_len from n)) ≤ n * 2 ^ 33 + sum_by w (range_with_len from n) * 2 ^ 33
+weighed_short f w from zero end same each = omega arith
+weighed_short f w from (suc n) end same each =
+    let here = each from (omega arith) in
+    let rest = weighed_short f w (from + 1) n end (omega arith) each in
+    let both = length-append (f from) (flat_map f (range_with_len (from + 1) n)) in
+    let sum = sum_by-cons w from (range_with_len (from + 1) n) in
+    omega arith
+
+sum_mapped : {A B : Type 0} (g : B → ℕ) (h : A → B) (xs : List A) → sum_by g (map h xs) ≡ sum_by (λ x. g (h x)) xs
+sum_mapped g h [] = refl
+sum_mapped g h (x ∷ xs) =
+    let rest = sum_mapped g h xs in
+    let one = sum_by-cons g (h x) (map h xs) in
+    let other = sum_by-cons (λ y. g (h y)) x xs in
+    omega arith
+
+-- ---- parts: each has a byte of its own
+
+abbrev no_part : Part
+no_part = record { owner = Gap; start = 0; len = 0 }
+
+-- ---- an image
+
+module _ (v : ImageValue) (b : List ℕ) (image : IsImage v b) where
+  stands : Stands v b
+  stands = image.stands
+
+  sound : IsSoundImage v
+  sound = image_is_sound v b image
+
+  file_short : length b ≤ 2 ^ 30
+  unfolding rules_in
+  file_short =
+      let h = header b in
+      kept_short b (clean_records (length b) h (sections b h) (segments b h) (names b h) image.clean)
+
+  few_sections : length v.sections ≤ 2 ^ 24
+  few_sections = by_count (length v.sections) (λ i. stands.within.section_headers i)
+    where
+      by_count : (n : ℕ) → ((i : ℕ) → i < n → v.header.e_shoff + 64 * i + 64 ≤ length b) → n ≤ 2 ^ 24
+      by_count zero within = omega arith
+      by_count (suc n) within = let last = within n (omega arith) in let short = file_short in omega arith
+
+  few_segments : length v.segments ≤ 2 ^ 30
+  few_segments = by_count (length v.segments) (λ i. stands.within.program_headers i)
+    where
+      by_count : (n : ℕ) → ((i : ℕ) → i < n → v.header.e_phoff + 56 * i + 56 ≤ length b) → n ≤ 2 ^ 30
+      by_count zero within = omega arith
+      by_count (suc n) within = let last = within n (omega arith) in let short = file_short in omega arith
+
+  content_short : (i : ℕ) → length (content (sections_of v) i) ≤ 2 ^ 30
+  content_short i =
+      let within = subst (λ (cs : List (List ℕ)). length (get_or cs i []) ≤ length b) (sym stands.contents) (contents_within b v.sections i) in
+      let short = file_short in
+      omega arith
+
+  content_bytes : (i : ℕ) → IsBytes (content (sections_of v) i)
+  content_bytes i = at_any IsBytes v.contents [] i sound.bytes IsBytes-nil
+
+  names_short : length (value_names v.header v.sections v.contents) ≤ 2 ^ 30
+  names_short = by_index (name_table v.header (section (sections_of v) 0)) ((name_table v.header (section (sections_of v) 0)) == 0)
+    where
+      by_index : (k : ℕ) (none : Bool) → length (if none then [] else get_or v.contents k []) ≤ 2 ^ 30
+      by_index k true = omega arith
+      by_index k false = content_short k
+
+  section_name_short : (i : ℕ) → length (section_name v i) ≤ 2 ^ 30
+  section_name_short i = by_type ((section_header_of v.sections i).sh_type == SHT_NULL)
+    where
+      by_type : (null : Bool) → length (if null then [] else string (value_names v.header v.sections v.contents) (section_header_of v.sections i).sh_name) ≤ 2 ^ 30
+      by_type true = omega arith
+      by_type false =
+          let within = string_within (value_names v.header v.sections v.contents) (section_header_of v.sections i).sh_name in
+          let short = names_short in
+          omega arith
+
+  no_section_fits : IsShdr no_section_header
+  no_section_fits = record {
+    sh_name = omega arith;
+    sh_type = omega arith;
+    sh_flags = omega arith;
+    sh_addr = omega arith;
+    sh_offset = omega arith;
+    sh_size = omega arith;
+    sh_link = omega arith;
+    sh_info = omega arith;
+    sh_addralign = omega arith;
+    sh_entsize = omega arith;
+  }
+
+  no_segment_fits : IsPhdr no_program_header
+  no_segment_fits = record {
+    p_type = omega arith;
+    p_flags = omega arith;
+    p_offset = omega arith;
+    p_vaddr = omega arith;
+    p_paddr = omega arith;
+    p_filesz = omega arith;
+    p_memsz = omega arith;
+    p_align = omega arith;
+  }
+
+  sections_short : length (section_lines v) ≤ length v.sections * 2 ^ 32
+  unfolding section_lines
+  sections_short = indexed_short (section_text v) (2 ^ 32) (length v.sections) (λ i below. (
+      let few = few_sections in
+      section_line_short i (section_header_of v.sections i) (section_name v i) (omega arith)
+      (at_any IsShdr v.sections no_section_header i sound.section_headers no_section_fits) (section_name_short i)))
+
+  segments_short : length (segment_lines v) ≤ length v.segments * 200
+  unfolding segment_lines
+  segments_short = indexed_short (segment_text v) 200 (length v.segments) (λ j below. (
+      let few = few_segments in
+      segment_line_short j (program_header_of v.segments j) (omega arith) (at_any IsPhdr v.segments no_program_header j sound.program_headers no_segment_fits)))
+
+  -- ---- tables
+
+  symbol_names_short : (t j : ℕ) → length (get_or (symbols_of (sections_of v) t) j no_symbol_entry).name ≤ 2 ^ 30
+  unfolding symbols_of symbols_in
+  symbol_names_short t j =
+      let f = sections_of v in
+      let p = symbol_parts f t in
+      (at_any IsShortEntry (symbols_in p.order p.table p.names p.words) no_symbol_entry j
+      (all_mapped IsShortEntry (symbol_entry_in p.order p.table p.names p.words) (entry_short p.order p.table p.names p.words (content_bytes t) (words_bytes p.index_table) (content_short (section f t).sh_link)) _)
+      no_entry_short).name
+    where
+      words_bytes : (table : Option ℕ) → IsBytes (index_words (sections_of v) table)
+      words_bytes None = IsBytes-nil
+      words_bytes (Some k) = content_bytes k
+
+  index_words_bytes : (table : Option ℕ) → IsBytes (index_words (sections_of v) table)
+  index_words_bytes None = IsBytes-nil
+  index_words_bytes (Some k) = content_bytes k
+
+  kind_short : (kind : Option TableKind) (i : ℕ) → i < 2 ^ 64 → length (kind_lines kind (sections_of v) i) ≤ 2 ^ 33 + length (content (sections_of v) i) * 2 ^ 33
+  unfolding symbols_of relocations_of notes_of notes_in note_lines dynamic_array_of group_of
+  kind_short None i index = omega arith
+  kind_short (Some SymbolTable) i index =
+      let f = sections_of v in
+      let p = symbol_parts f i in
+      let short = symbols_short i p.order p.table p.names p.words index (content_short i) (content_bytes i) (index_words_bytes p.index_table) (content_short (section f i).sh_link) in
+      omega arith
+  kind_short (Some RelocationTable) i index =
+      let f = sections_of v in
+      let short = relocations_short i (has_addends (section f i).sh_type) (order f) (content f i) index (content_short i) (content_bytes i) in
+      omega arith
+  kind_short (Some SectionGroup) i index =
+      let f = sections_of v in
+      let s = section f i in
+      group_short i (signature_name f i) (order f) (content f i) s.sh_info index (symbol_names_short s.sh_link s.sh_info) (content_bytes i)
+  kind_short (Some NoteSection) i index =
+      let f = sections_of v in
+      let short = notes_short i (order f) (content f i) (length (content f i)) 0 index (content_short i) (content_bytes i) in
+      omega arith
+  kind_short (Some DynamicArray) i index =
+      let f = sections_of v in
+      let entries = dynamic_entries (order f) (content f i) (dynamic_entry_count (content f i)) in
+      let first : (n : ℕ) → length (dynamic_lines i (dynamic_strings f i) (take n entries)) ≤ 2 ^ 33 + length (content f i) * 2 ^ 33 =
+      λ n. (let short = dynamic_short i (dynamic_strings f i) (order f) (content f i) n index (content_short (section f i).sh_link) (content_short i) (content_bytes i) in omega arith) in
+      first _
+  kind_short (Some HashTable) i index =
+      let f = sections_of v in
+      let short = hash_short i (words_in (order f) (content f i)) index (hash_words (order f) (content f i) (content_bytes i)) in
+      omega arith
+
+  table_short : (i : ℕ) (verdict : Option (ℕ × ℕ)) → i < 2 ^ 64 → IsVerdictShort verdict
+      → length (table_lines (sections_of v) i verdict) ≤ 2 ^ 33 + length (content (sections_of v) i) * 2 ^ 33
+  table_short i None index fits = kind_short (kind_of (section (sections_of v) i).sh_type) i index
+  table_short i (Some fault) index fits = let short = table_refused_short i fault.0 fault.1 index fits.0 fits.1 in omega arith
+
+  -- ---- parts
+
+  module _ (k : ℕ) (lt : k < length v.parts) where
+    abbrev p : Part
+    p = (get_or v.parts k (record { part = no_part; gap = [] })).part
+
+    part_there : slice_get (map (λ (q : PlacedPart). q.part) v.parts) k ≡ Some p
+    part_there = slice_get_map v.parts k lt
+      where
+        slice_get_map : (ps : List PlacedPart) (j : ℕ) → j < length ps → slice_get (map (λ (q : PlacedPart). q.part) ps) j ≡ Some (get_or ps j (record { part = no_part; gap = [] })).part
+        slice_get_map [] j within = absurd (omega arith)
+        slice_get_map (q ∷ ps) zero within = refl
+        slice_get_map (q ∷ ps) (suc j) within = slice_get_map ps j (omega arith)
+
+    part_within : p.start + p.len ≤ v.len
+    part_within = (are_parts v sound).within k p part_there
+
+    part_some : 0 < p.len
+    part_some = (are_parts v sound).nonempty k p part_there
+
+    part_indexed : IsIndexed p.owner
+    part_indexed = by_owner p.owner ((are_parts v sound).owners k p part_there)
+      where
+        by_owner : (owner : Owner) → IsExtentOf v owner p.start p.len → IsIndexed owner
+        by_owner Header is = tt
+        by_owner SectionTable is = tt
+        by_owner ProgramTable is = tt
+        by_owner (Content i) (below, start, len) = let few = few_sections in omega arith
+        by_owner Gap is = tt
+
+    part_short : length (part_line b p) ≤ 100
+    part_short =
+        let within = part_within in
+        let whole = stands.len in
+        let short = file_short in
+        part_line_short b p (omega arith) (omega arith) part_indexed
+
+  -- each part begins after as many bytes as there are parts before it
+  part_after : (k : ℕ) (lt : k < length v.parts) → k ≤ (p k lt).start
+  part_after zero lt = omega arith
+  part_after (suc k) lt =
+      let before : k < length v.parts = omega arith in
+      let rest = part_after k before in
+      let some = part_some k before in
+      let after = (are_parts v sound).ascending k (suc k) (p k before) (p (suc k) lt) (omega arith) (part_there k before) (part_there (suc k) lt) in
+      omega arith
+
+  few_parts : length v.parts ≤ 2 ^ 30
+  few_parts = by_count (length v.parts) refl
+    where
+      by_count : (n : ℕ) → length v.parts ≡ n → n ≤ 2 ^ 30
+      by_count zero same = omega arith
+      by_count (suc n) same =
+          let lt : n < length v.parts = omega arith in
+          let after = part_after n lt in
+          let some = part_some n lt in
+          let within = part_within n lt in
+          let whole = stands.len in
+          let short = file_short in
+          omega arith
+
+  parts_short : length (part_lines b v) ≤ length v.parts * 100
+  unfolding part_lines
+  parts_short = lines_short (λ q. part_line b q.part) 100 (record { part = no_part; gap = [] }) v.parts (λ k lt. part_short k lt)
+
+  -- ---- contents are together no longer than the file
+
+  abbrev size : ℕ → ℕ
+  size i = (content_extent (sections b v.header i)).len
+
+  sizes_short : sum_by size (range_with_len 0 (section_header_count v.header (sections b v.header 0))) ≤ length b
+  unfolding rules_in extents
+  sizes_short =
+      let h = header b in
+      let same = stands.records.header in
+      let n = section_header_count h (sections b h 0) in
+      let m = program_header_count h (sections b h 0) in
+      let clean = clean_records (length b) h (sections b h) (segments b h) (names b h) image.clean in
+      let within = extents_within (length b) h (sections b h) (sound_file b h refl clean) in
+      let disjoint = extents_disjoint (length b) h (sections b h) (segments b h) (names b h) image.clean in
+      let es = extents h n m (sections b h) in
+      let all = lengths_within (length b) es within disjoint in
+      let contents = map (λ i. content_extent (sections b h i)) (range_with_len 0 n) in
+      let first = sum_by-cons (λ (e : Extent). e.len) (record { start = 0; len = 64 }) (record { start = h.e_shoff; len = 64 * n } ∷ record { start = h.e_phoff; len = 56 * m } ∷ contents) in
+      let second = sum_by-cons (λ (e : Extent). e.len) (record { start = h.e_shoff; len = 64 * n }) (record { start = h.e_phoff; len = 56 * m } ∷ contents) in
+      let third = sum_by-cons (λ (e : Extent). e.len) (record { start = h.e_phoff; len = 56 * m }) contents in
+      let listed = sum_mapped (λ (e : Extent). e.len) (λ i. content_extent (sections b h i)) (range_with_len 0 n) in
+      subst (λ (k : Ehdr). sum_by (λ i. (content_extent (sections b k i)).len) (range_with_len 0 (section_header_count k (sections b k 0))) ≤ length b) (sym same)
+      (omega arith)
+
+  section_is : (i : ℕ) → i < length v.sections → section_header_of v.sections i ≡ sections b v.header i
+  section_is i below =
+      let n = section_header_count v.header (sections b v.header 0) in
+      let same = stands.records.section_headers in
+      let long = ap length same ∙ length-map-range_with_len (sections b v.header) 0 n in
+      ap (λ (ss : List Shdr). section_header_of ss i) same ∙ get_or-map-range_with_len (sections b v.header) 0 n i i no_section_header (omega arith) (zero-add i)
+
+  content_sized : (i : ℕ) → i < length v.sections → length (content (sections_of v) i) ≤ size i
+  content_sized i below =
+      let is = ap (λ (cs : List (List ℕ)). get_or cs i []) stands.contents ∙ get_or-map (λ s. bytes_in b (content_extent s)) v.sections i no_section_header [] below in
+      let e = content_extent (section_header_of v.sections i) in
+      let some = length-take e.len (drop e.start b) in
+      let long = ap length is in
+      let same = ap (λ (s : Shdr). (content_extent s).len) (section_is i below) in
+      omega arith
+
+  tables_short : (verdicts : List (Option (ℕ × ℕ))) → VerdictsFit (length v.sections) verdicts → length (all_table_lines (record { image = v; verdicts = verdicts })) < 2 ^ 63 + 2 ^ 62
+  unfolding all_table_lines
+  tables_short verdicts fit =
+      let few = few_sections in
+      let n = section_header_count v.header (sections b v.header 0) in
+      let long = ap length stands.records.section_headers ∙ length-map-range_with_len (sections b v.header) 0 n in
+      let all = weighed_short (table_text (record { image = v; verdicts = verdicts })) size 0 (length v.sections) (length v.sections) (omega arith) (λ i below. (
+      let one = table_short i (get_or verdicts i None) (omega arith) (fit i below) in
+      let sized = content_sized i below in
+      omega arith)) in
+      let sum = subst (λ (k : ℕ). sum_by size (range_with_len 0 k) ≤ length b) (sym long) sizes_short in
+      let short = file_short in
+      omega arith
+
+  pub show_short : (verdicts : List (Option (ℕ × ℕ))) → VerdictsFit (length v.sections) verdicts → length (show_text b (record { image = v; verdicts = verdicts })) < 2 ^ 64
+  unfolding show_text
+  show_short verdicts fit =
+      let t : TablesValue = record { image = v; verdicts = verdicts } in
+      let first = length-append (file_line v.header) (part_lines b v ++ (section_lines v ++ (segment_lines v ++ all_table_lines t))) in
+      let second = length-append (part_lines b v) (section_lines v ++ (segment_lines v ++ all_table_lines t)) in
+      let third = length-append (section_lines v) (segment_lines v ++ all_table_lines t) in
+      let fourth = length-append (segment_lines v) (all_table_lines t) in
+      let file = file_line_short v.header sound.header in
+      let part_count = few_parts in
+      let parts = parts_short in
+      let section_count = few_sections in
+      let sections = sections_short in
+      let segment_count = few_segments in
+      let segments = segments_short in
+      let tables = tables_short verdicts fit in
+      omega arith
