@@ -319,12 +319,16 @@ def _read_whole(path: str, stack: ExitStack) -> Source:
     return source
 
 
-def may_have_lines() -> bool:
-    """Whether standard input is a pipe, a socket or a file: where it is a device, as a terminal, or closed, nobody sends lines."""
+def input_mode() -> int:
+    """What standard input is; 0 where it is closed."""
     try:
-        mode = os.fstat(0).st_mode
+        return os.fstat(0).st_mode
     except OSError:
-        return False
+        return 0
+
+
+def is_sent(mode: int) -> bool:
+    """Whether somebody sends lines: a pipe, a socket or a file has some, and a terminal or another device only if it is asked for them."""
     return stat.S_ISFIFO(mode) or stat.S_ISSOCK(mode) or stat.S_ISREG(mode)
 
 
@@ -376,7 +380,11 @@ def main(words: Optional[Sequence[str]] = None) -> int:
     is_asked = not count and paths[:1] == ["-"]
     paths = paths[1:] if is_asked else paths
     # Where standard input is closed, the first FILE that is opened gets its number.
-    is_read = not count and (is_asked or not paths or may_have_lines())
+    mode = input_mode()
+    is_read = not count and (is_asked or not paths or is_sent(mode))
+    if is_read and not mode:
+        complain(PROGRAM, b"standard input is closed")
+        return UNREADABLE
     with ExitStack() as stack:
         try:
             named = [named_file(path, stack) for path in paths]

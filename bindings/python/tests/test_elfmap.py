@@ -272,7 +272,8 @@ class ArgumentsTest(unittest.TestCase):
         cls.executable = elfmap.parse((folder / "stdout").read_bytes())
 
     def raises(self, error, call, *words, **named):
-        with self.subTest(call=call, words=words, named=named), self.assertRaises(error):
+        shown = [f"{it!r:.40}" for it in words]
+        with self.subTest(call=call, words=shown, named=named), self.assertRaises(error):
             call(*words, **named)
 
     def test_each_call_is_here(self):
@@ -299,7 +300,7 @@ class ArgumentsTest(unittest.TestCase):
 
     def test_numbers_of_sections_and_addresses(self):
         self.assertEqual(([*map(len, map(self.file.symbols, (3, Index(3), True)))], self.file.find(Index(2), b"f")), ([4, 4, 0], 1))
-        self.assertEqual(self.executable.load(0x400000), 0x7F)
+        self.assertEqual(self.executable.load(0x400000), 0xE8)
         for file, own in (self.file, (self.HASH, self.SYMBOLS)), (self.executable, (0x400000,)):
             for it in -1, 2**64, -(2**64), 2**70, *(it + k * 2**64 for it in own for k in (-1, 1)):
                 for name, call in self.OF_SECTIONS.items():

@@ -332,7 +332,7 @@ class CheckedTest(Case):
         """There is nothing to check."""
         self.assertEqual(self.said(stdin=b"ok 680 3 0\n"), "no refusal")
         closed = subprocess.run(["sh", "-c", '"$@" <&-', "sh", *PROGRAM], capture_output=True, env=ENVIRONMENT)
-        self.assertEqual((closed.returncode, closed.stdout), (3, b""))
+        self.assertEqual((closed.returncode, closed.stdout, closed.stderr), (3, b"", b"elfmap-explain: standard input is closed\n"))
 
 
 class FindingTest(Case):
