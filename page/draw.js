@@ -444,7 +444,8 @@ $("rows-back").onclick = () => open_table(state.kind, state.table, Math.max(0, s
 $("rows-on").onclick = () => open_table(state.kind, state.table, state.row + ROWS_A_TIME);
 $("filter").oninput = filter_rows;
 $("go").onclick = go_to_offset;
-$("offset").onkeydown = (event) => event.key === "Enter" && go_to_offset();
+// A handler that answers false keeps the key from the field.
+$("offset").onkeydown = (event) => void (event.key === "Enter" && go_to_offset());
 $("bytes-back").onclick = () => show_bytes(state.at - line_length() * LINES_A_TIME, state.marked);
 $("bytes-on").onclick = () => show_bytes(state.at + line_length() * LINES_A_TIME, state.marked);
 

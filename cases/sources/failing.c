@@ -79,7 +79,7 @@ void *realloc(void *block, size_t size) {
 }
 
 int open(const char *name, int flags, ...) {
-    if (is_it("open", -1, 0)) return errno = EACCES, -1;
+    if (is_it("open", -1, 0)) return errno = strcmp(how, "memory") == 0 ? ENOMEM : EACCES, -1;
     opened++;
     int file = syscall(SYS_openat, AT_FDCWD, name, flags, 0600);
     if (file >= 0 && file < FILES) at[file] = ended[file] = 0;

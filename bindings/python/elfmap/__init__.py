@@ -16,7 +16,9 @@ from __future__ import annotations
 import ctypes
 import builtins
 import mmap
-from collections.abc import Callable, Iterator, Sequence
+import operator
+import os
+from collections.abc import Callable, Iterable, Iterator, Sequence
 from typing import Any, NamedTuple, Optional, TypeVar, Union
 
 from elfmap import _library
@@ -48,6 +50,7 @@ __all__ = [
 __version__ = "0.1.0"
 
 Bytes = Union[bytes, bytearray, memoryview, mmap.mmap]
+Text = Union[str, bytes]
 Record = TypeVar("Record")
 
 _SHT_NULL, _SHT_NOBITS, _PT_NULL = 0, 8, 0
@@ -56,6 +59,8 @@ _SMALL_ROOM = 64
 _SYMBOLS, _RELOCATIONS, _NOTES, _DYNAMIC, _HASH = (2, 11), (4, 9), (7,), (6,), (5,)
 _OWNERS = ("header", "section headers", "program headers")
 _GAP = 2**64 - 1
+# ctypes would take this number for 0, and each one modulo it.
+_END = 2**64
 _UNKNOWN = ("UNKNOWN_RULE", "it is refused by a rule without a sentence", "")
 
 
@@ -302,7 +307,7 @@ class File:
     """
 
     def __init__(self, data: Bytes) -> None:
-        self._view = memoryview(data).cast("B").toreadonly()
+        self._view = _view_of(data)
         self._address = _library.address_of(self._view)
         try:
             self._validate()
@@ -347,8 +352,8 @@ class File:
 
     def load(self, address: int) -> Optional[int]:
         """The byte that the loadable segments give an address; None where none does."""
-        byte, of = ctypes.c_uint8(), (self._numbers,)
-        is_there = self._call("elfmap_load", address, byte, of=of)
+        number, byte, of = operator.index(address), ctypes.c_uint8(), (self._numbers,)
+        is_there = 0 <= number < _END and self._call("elfmap_load", number, byte, of=of)
         return byte.value if is_there else None
 
     def symbols(self, section: int) -> Sequence[Symbol]:
@@ -379,10 +384,11 @@ class File:
             offset = note.next
         return found
 
-    def find(self, section: int, name: bytes) -> Optional[int]:
+    def find(self, section: int, name: Text) -> Optional[int]:
         """The index of the symbol of this name, by the hash table in a section."""
-        table, symbol = self._table(section, _HASH), ctypes.c_uint32()
-        if table and self._call("elfmap_find", name, len(name), symbol, of=(table,)):
+        words, symbol = _text(name, "a name"), ctypes.c_uint32()
+        table = self._table(section, _HASH)
+        if table and self._call("elfmap_find", *words, symbol, of=(table,)):
             return symbol.value
         return None
 
@@ -432,8 +438,8 @@ class File:
 
     def _table(self, section: int, types: tuple[int, ...]) -> Optional[_library.Table]:
         """The table in a section of one of these types."""
-        table = _library.Table()
-        is_there = 0 <= section and self._call("elfmap_table", section, table, of=(self._numbers,))
+        table, index = _library.Table(), operator.index(section)
+        is_there = 0 <= index < _END and self._call("elfmap_table", index, table, of=(self._numbers,))
         return table if is_there and table.sh_type in types else None
 
     def _entries(
@@ -478,7 +484,8 @@ def parse(data: Bytes) -> File:
     """Validates the bytes by all rules, in n log n steps, and copies none of them.
 
     Raises Refused with the first rule that they break, and the lowest offset at which
-    they do. Takes any bytes in one piece: bytes, bytearray, memoryview, mmap.
+    they do. Takes any bytes in one piece: bytes, bytearray, memoryview, mmap. A path is
+    a TypeError here and in all calls: nothing is opened.
     """
     return File(data)
 
@@ -518,33 +525,41 @@ def rewrite(data: Bytes) -> bytes:
 
 
 def link(
-    files: Sequence[Bytes],
-    rules: str,
+    files: Iterable[Bytes],
+    rules: Text,
     *,
     base: int = 0x400000,
     page: int = 0x1000,
-    entry: bytes = b"_start",
+    entry: Text = b"_start",
 ) -> bytes:
     """The executable of these objects, by the relocation rules of a text.
 
     docs/RULE_FILES.md has the lines of rules. Raises BadRules, Refused, NotLinked or
-    TooLong. The bytes of the files are copied, for the time of the call.
+    TooLong; and OverflowError where `base` or `page` is not from 0 to 2^64 - 1. The bytes
+    of the files are copied, for the time of the call.
     """
-    words = (*_linked(files, base, page), entry, len(entry), *_text(rules))
+    words = (*_linked(files, base, page), *_text(entry, "entry"), *_text(rules, "rules"))
     return _done(*_said("elfmap_link", *words))
 
 
-def map(files: Sequence[Bytes], rules: str, *, base: int = 0x400000, page: int = 0x1000) -> str:
+def map(files: Iterable[Bytes], rules: Text, *, base: int = 0x400000, page: int = 0x1000) -> str:
     """The lines of `elfmap map` on these objects, and their relocated bytes by the rules.
 
     Raises what `link` does.
     """
-    words = (*_linked(files, base, page), *_text(rules))
+    words = (*_linked(files, base, page), *_text(rules, "rules"))
     return _done(*_said("elfmap_map", *words)).decode("ascii")
 
 
+def _view_of(data: Bytes) -> memoryview:
+    """The bytes that are in one piece."""
+    if isinstance(data, (str, os.PathLike)):
+        raise TypeError("the bytes of a file are wanted, and no path: pass those of Path.read_bytes()")
+    return memoryview(data).cast("B").toreadonly()
+
+
 def _bytes_of(data: Bytes) -> tuple[Any, int]:
-    view = memoryview(data).cast("B").toreadonly()
+    view = _view_of(data)
     # The array holds the view as long as it is there itself.
     return _Borrowed(_library.address_of(view), view), len(view)
 
@@ -557,19 +572,45 @@ class _Borrowed(ctypes.c_void_p):
         self.view = view
 
 
-def _text(words: str) -> tuple[bytes, int]:
-    text = words.encode("utf-8")
+def _text(words: Text, what: str) -> tuple[bytes, int]:
+    """The bytes of a name or a text, also of one that Python got by surrogateescape."""
+    if not isinstance(words, (str, bytes)):
+        raise TypeError(f"str or bytes are wanted for {what}, and no {type(words).__name__}")
+    text = words.encode("utf-8", "surrogateescape") if isinstance(words, str) else words
     return text, len(text)
 
 
-def _linked(files: Sequence[Bytes], base: int, page: int) -> tuple[Any, ...]:
-    contents = [bytes(it) for it in files]
+def _number(value: int, what: str) -> int:
+    number = operator.index(value)
+    if not 0 <= number < _END:
+        raise OverflowError(f"a number from 0 to 2^64 - 1 is wanted for {what}")
+    return number
+
+
+def _linked(files: Iterable[Bytes], base: int, page: int) -> tuple[Any, ...]:
+    options = _library.LinkOptions(_number(base, "base"), _number(page, "page"), 1)
+    contents = _views_of(files)
     places, start = (_library.Extent * len(contents))(), 0
     for place, content in zip(places, contents):
         place.start, place.len = start, len(content)
         start += len(content)
     joined = b"".join(contents)
-    return joined, len(joined), places, len(contents), _library.LinkOptions(base, page, 1)
+    return joined, len(joined), places, len(contents), options
+
+
+def _views_of(files: Iterable[Bytes]) -> list[memoryview]:
+    """The bytes of each file. Those of one file are no files: each of them would be taken for one."""
+    if isinstance(files, (str, os.PathLike)) or _has_bytes(files):
+        raise TypeError("the bytes of several files are wanted: pass [data] for those of one")
+    return [_view_of(it) for it in files]
+
+
+def _has_bytes(it: object) -> bool:
+    try:
+        memoryview(it)  # type: ignore[arg-type]
+    except TypeError:
+        return False
+    return True
 
 
 def _said(name: str, *words: Any) -> tuple[int, _library.Outcome, bytes]:

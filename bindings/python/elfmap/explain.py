@@ -3,10 +3,14 @@
     elfmap-explain FILE... < LINES     what elfmap printed of these files
     elfmap-explain LINE FILE...        one such line, as words
     elfmap-explain < FINDINGS          what elfmap-lint printed, as text or as jsonl
-    elfmap-explain FILE...             on a terminal: what the rules of images and tables say
+    elfmap-explain FILE...             what the rules of images, tables and objects say of them
 
-Other lines are passed over. The status is 0, 2 for a usage error, and 3 if a file can't be
-read. The other lines are explained all the same.
+Lines are read from a pipe, a socket or a file; from a terminal or another device only if
+`-` is in place of LINE, or if there is no FILE. Other lines are passed over. If no line is
+a refusal or a finding, the FILEs are checked here, and the output begins with that.
+
+The status is 0, 2 for a usage error, and 3 if a file can't be read. The other lines are
+explained all the same.
 
 The lines of the program are
 
@@ -26,7 +30,6 @@ import json
 import os
 import re
 import stat
-import sys
 import textwrap
 from collections.abc import Iterable, Iterator, Sequence
 from contextlib import ExitStack, suppress
@@ -56,6 +59,8 @@ _FIRST_WORD, _WORD = re.compile(r"file|refused"), re.compile(r"refused|\d+")
 _MOST_OPEN = 16
 _LONGEST_RECORD = 1 << 20
 _TOO_LONG = "the file is refused because the canonical layout of its object is longer than 2^30 bytes"
+_CHECKED = "checked here by the rules of images and tables, and relocatable files by those of objects: "
+_RELOCATABLE = 1
 
 
 class Finding(NamedTuple):
@@ -156,6 +161,20 @@ class Explainer:
         self.count = 0
         self.lost = False
 
+    @property
+    def paths(self) -> list[str]:
+        return [printable(os.fsencode(it.path)) for it in self._named]
+
+    def tell(self, lines: Iterable[bytes], out: BinaryIO, head: str = "") -> None:
+        """Writes the words for each of the lines, and an empty line between them."""
+        if head:
+            out.write((self._filled.fill(head) + "\n").encode("utf-8", "backslashreplace"))
+        for line in lines:
+            before, found = self.count, self.explain(line)
+            if found:
+                out.write((f"\n{found}" if before or head else found).encode("utf-8", "backslashreplace"))
+                out.flush()
+
     def explain(self, line: bytes) -> str:
         """The words for a line; none where it is no refusal and no finding."""
         refusal = _REFUSAL.match(line.strip())
@@ -176,18 +195,19 @@ class Explainer:
         return "\n".join(self._filled.fill(it) for it in (lead, *found)) + "\n"
 
     def refusals(self) -> Iterator[bytes]:
-        """Why the given files are rejected, and their tables, in the lines of the program."""
-        checks = Checks(tables=True, objects=False)
+        """Why the given files are rejected, their tables, and what is no object, in the lines of the program."""
+        checks = {it: Checks(tables=True, objects=it) for it in (False, True)}
         for position, file in enumerate(self._named):
             source = file.words.data
             assert isinstance(source, Source)
             try:
-                faults = checks.faults(source)
+                faults = checks[file.words.number(16, 2) == _RELOCATABLE].faults(source)
             except Unreadable as fault:
                 self.lost = True
                 complain(PROGRAM, f"{file.path}: {fault.reason}".encode("utf-8", "surrogateescape"))
                 continue
-            for it in faults:
+            # A rule of the link is no reason against the file.
+            for it in (it for it in faults if not it.is_of_link):
                 table = f"{it.table} " if it.table is not None else ""
                 yield f"file {position} refused {table}{it.rule} {it.at}".encode()
 
@@ -299,11 +319,24 @@ def _read_whole(path: str, stack: ExitStack) -> Source:
     return source
 
 
-def records(file: BinaryIO, end: bytes) -> Iterator[bytes]:
-    """What comes from a file, cut where a record ends. No finding is longer than the most."""
+def input_mode() -> int:
+    """What standard input is; 0 where it is closed."""
+    try:
+        return os.fstat(0).st_mode
+    except OSError:
+        return 0
+
+
+def is_sent(mode: int) -> bool:
+    """Whether somebody sends lines: a pipe, a socket or a file has some, and a terminal or another device only if it is asked for them."""
+    return stat.S_ISFIFO(mode) or stat.S_ISSOCK(mode) or stat.S_ISREG(mode)
+
+
+def records(end: bytes) -> Iterator[bytes]:
+    """What comes from standard input, cut where a record ends. No finding is longer than the most."""
     rest = b""
     while True:
-        content = os.read(file.fileno(), 1 << 16)
+        content = os.read(0, 1 << 16)
         *found, rest = (rest + content).split(end)
         yield from found
         if not content:
@@ -316,13 +349,16 @@ def _parser() -> argparse.ArgumentParser:
     parser = argparse.ArgumentParser(
         prog=PROGRAM,
         description="Says in words why elfmap rejects a file. Lines come from standard input: what elfmap printed of FILE..., "
-        "or findings of elfmap-lint (text or jsonl), which name their files.",
+        "or findings of elfmap-lint (text or jsonl), which name their files. If no line is a refusal, each FILE is checked here.",
         epilog="Status: 0 explained, 2 usage, 3 a file can't be read.",
     )
     parser.add_argument("--version", action="version", version=f"%(prog)s {__version__}")
     parser.add_argument("-0", dest="zero", action="store_true", help="lines end with a zero byte, as elfmap-lint -0 prints them")
     parser.add_argument(
-        "words", metavar="[LINE] FILE", nargs="*", help="one line of elfmap, as words, in place of standard input; then the files"
+        "words",
+        metavar="[LINE] FILE",
+        nargs="*",
+        help="one line of elfmap, as words, or - for lines of standard input, also where that is a terminal; then the files",
     )
     return parser
 
@@ -337,10 +373,18 @@ def main(words: Optional[Sequence[str]] = None) -> int:
     """Runs the program, and returns its status."""
     options = _parser().parse_args(words)
     count = _line_of(options.words)
-    paths = options.words[count:]
-    if count and not paths:
-        complain(PROGRAM, b"FILE is missing; see --help")
+    paths, line = options.words[count:], " ".join(options.words[:count]).encode()
+    if count and not (paths and _REFUSAL.match(line)):
+        complain(PROGRAM, b"`%s` is no line of elfmap; see --help" % line if paths else b"FILE is missing; see --help")
         return USAGE
+    is_asked = not count and paths[:1] == ["-"]
+    paths = paths[1:] if is_asked else paths
+    # Where standard input is closed, the first FILE that is opened gets its number.
+    mode = input_mode()
+    is_read = not count and (is_asked or not paths or is_sent(mode))
+    if is_read and not mode:
+        complain(PROGRAM, b"standard input is closed")
+        return UNREADABLE
     with ExitStack() as stack:
         try:
             named = [named_file(path, stack) for path in paths]
@@ -348,25 +392,18 @@ def main(words: Optional[Sequence[str]] = None) -> int:
             complain(PROGRAM, fault.reason.encode("utf-8", "surrogateescape"))
             return UNREADABLE
         explainer = Explainer(named, stack.enter_context(Files()))
-        line = " ".join(options.words[:count]).encode()
-        if count:
-            lines = iter([line])
-        elif named and sys.stdin.isatty():
-            lines = explainer.refusals()
-        else:
-            lines = records(sys.stdin.buffer, b"\0" if options.zero else b"\n")
-        return _explain_all(explainer, lines)
+        lines = records(b"\0" if options.zero else b"\n") if is_read else iter([line])
+        return _explain_all(explainer, lines, "standard input refuses nothing; " if is_read else "")
     return UNREADABLE
 
 
-def _explain_all(explainer: Explainer, lines: Iterator[bytes]) -> int:
+def _explain_all(explainer: Explainer, lines: Iterator[bytes], lead: str) -> int:
+    """Explains the lines; where none of them is a refusal or a finding, the files are checked."""
     with open(1, "wb", closefd=False) as out:
-        for line in lines:
-            before, found = explainer.count, explainer.explain(line)
-            if found:
-                out.write((f"\n{found}" if before else found).encode("utf-8", "backslashreplace"))
-                out.flush()
-        if not explainer.count:
+        explainer.tell(lines, out)
+        if not explainer.count and explainer.paths:
+            explainer.tell(explainer.refusals(), out, lead + _CHECKED + " ".join(explainer.paths))
+        if not explainer.count and not explainer.lost:
             out.write(b"no refusal\n")
     return UNREADABLE if explainer.lost else 0
 

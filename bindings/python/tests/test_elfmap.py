@@ -6,6 +6,7 @@ import doctest
 import mmap
 import os
 import pickle
+import struct
 import subprocess
 import sys
 import tempfile
@@ -14,6 +15,8 @@ from pathlib import Path
 
 import elfmap
 from elfmap import build
+
+from tests.made import Made, symbols, text
 
 PACKAGE = Path(__file__).resolve().parents[1]
 sys.path.insert(0, str(build.REPOSITORY / "tools" / "lib"))
@@ -217,6 +220,131 @@ class LinkTest(unittest.TestCase):
         self.assertEqual(str(raised.exception), "line 2 of the rules is bad")
 
 
+class Index:
+    """What Python takes for an index, as the numbers of other packages."""
+
+    def __init__(self, number):
+        self.number = number
+
+    def __index__(self):
+        return self.number
+
+
+class ArgumentsTest(unittest.TestCase):
+    """What is no argument of a call is an error, or is not there. It is never taken for another one."""
+
+    NAMES = b"f", b"\xc3\xa9", b"\xff"
+    HASH, SYMBOLS = 2, 3
+    RULES = LinkTest.RULES
+    # What a call does with a content, a number, and a name.
+    OF_BYTES = {
+        "parse": elfmap.parse,
+        "check": elfmap.check,
+        "show": elfmap.show,
+        "rewrite": elfmap.rewrite,
+        "link": lambda it: elfmap.link([it], ArgumentsTest.RULES),
+        "map": lambda it: elfmap.map([it], ArgumentsTest.RULES),
+        "File": elfmap.File,
+        "refused_tables": elfmap.refused_tables,
+    }
+    OF_FILES = {"link": elfmap.link, "map": elfmap.map}
+    OF_SECTIONS = {
+        "symbols": elfmap.File.symbols,
+        "relocations": elfmap.File.relocations,
+        "dynamic": elfmap.File.dynamic,
+        "notes": elfmap.File.notes,
+        "find": lambda file, it: file.find(it, b"f"),
+        "load": elfmap.File.load,
+    }
+    NO_NUMBERS = "1", b"1", 1.0, None
+    NO_TEXTS = bytearray(b"f"), memoryview(b"f"), Path("f"), 5, [102], None
+
+    @classmethod
+    def setUpClass(cls):
+        strings = b"\0" + b"\0".join(cls.NAMES) + b"\0"
+        # Symbols 1 to 3 are a chain in the only bucket.
+        table = (b".hash", 5, struct.pack("<7I", 1, 4, 1, 0, 2, 3, 0), dict(link=cls.SYMBOLS, entsize=4))
+        rows = [(strings.index(b"\0" + it + b"\0") + 1, 0x10, 1) for it in cls.NAMES]
+        cls.content = bytes(Made(text(), table, symbols(4, *rows), (b".strtab", 3, strings, {})).data)
+        cls.file = elfmap.parse(cls.content)
+        folder = build.REPOSITORY / "crates/example_link"
+        cls.objects = [(folder / f"data/{it}.o").read_bytes() for it in ("start", "answer")]
+        cls.executable = elfmap.parse((folder / "stdout").read_bytes())
+
+    def raises(self, error, call, *words, **named):
+        shown = [f"{it!r:.40}" for it in words]
+        with self.subTest(call=call, words=shown, named=named), self.assertRaises(error):
+            call(*words, **named)
+
+    def test_each_call_is_here(self):
+        of_module = {it for it in elfmap.__all__ if not isinstance(getattr(elfmap, it), (type, str))}
+        of_file = {it for it in vars(elfmap.File) if it[0] != "_" and not isinstance(vars(elfmap.File)[it], property)}
+        self.assertEqual(of_module, self.OF_BYTES.keys() - {"File", "refused_tables"})
+        self.assertEqual(of_file, self.OF_SECTIONS.keys())
+
+    def test_contents(self):
+        for call in self.OF_BYTES.values():
+            for it in "/bin/true", Path("/bin/true"), 5, True, 1.5, None, [5], memoryview(self.content)[::2]:
+                self.raises(TypeError, call, it)
+        with self.assertRaisesRegex(TypeError, "pass those of Path.read_bytes"):
+            elfmap.parse(Path("/bin/true"))
+
+    def test_files(self):
+        """The bytes of one file are no files, nor is a path."""
+        data = self.objects[0]
+        with mmap.mmap(-1, 64) as mapped:
+            for call in self.OF_FILES.values():
+                for it in data, bytearray(data), memoryview(data), array.array("B", data), mapped, b"", "a.o", Path("a.o"), 5, None:
+                    self.raises(TypeError, call, it, self.RULES)
+        self.assertEqual(elfmap.link(iter(self.objects), self.RULES), elfmap.link(tuple(self.objects), self.RULES))
+
+    def test_numbers_of_sections_and_addresses(self):
+        self.assertEqual(([*map(len, map(self.file.symbols, (3, Index(3), True)))], self.file.find(Index(2), b"f")), ([4, 4, 0], 1))
+        self.assertEqual(self.executable.load(0x400000), 0xE8)
+        for file, own in (self.file, (self.HASH, self.SYMBOLS)), (self.executable, (0x400000,)):
+            for it in -1, 2**64, -(2**64), 2**70, *(it + k * 2**64 for it in own for k in (-1, 1)):
+                for name, call in self.OF_SECTIONS.items():
+                    with self.subTest(call=name, number=it):
+                        self.assertFalse(call(file, it))
+        for call in self.OF_SECTIONS.values():
+            for it in self.NO_NUMBERS:
+                self.raises(TypeError, call, self.file, it)
+
+    def test_indices(self):
+        for records in self.file.sections, self.file.symbols(self.SYMBOLS), self.executable.segments:
+            count = len(records)
+            self.assertEqual((records[-1], records[-count]), (records[count - 1], records[0]))
+            for it in count, -count - 1, 2**64, 2**64 + 1, -(2**64) + 1:
+                self.raises(IndexError, records.__getitem__, it)
+            for it in self.NO_NUMBERS:
+                self.raises(TypeError, records.__getitem__, it)
+
+    def test_names(self):
+        for k, name in enumerate(self.NAMES, 1):
+            self.assertEqual([self.file.find(self.HASH, it) for it in (name, name.decode("utf-8", "surrogateescape"))], [k, k])
+        self.assertIsNone(self.file.find(self.HASH, "g"))
+        for it in self.NO_TEXTS:
+            for section in self.HASH, 0:
+                self.raises(TypeError, self.file.find, section, it)
+            self.raises(TypeError, elfmap.link, self.objects, self.RULES, entry=it)
+            self.raises(TypeError, elfmap.link, self.objects, it)
+            self.raises(TypeError, elfmap.map, self.objects, it)
+        linked = elfmap.link(self.objects, self.RULES, entry=b"answer")
+        self.assertEqual(elfmap.link(self.objects, self.RULES.encode(), entry="answer"), linked)
+        self.assertEqual(elfmap.map(self.objects, self.RULES.encode()), elfmap.map(self.objects, self.RULES))
+
+    def test_options(self):
+        for call in self.OF_FILES.values():
+            for option in "base", "page":
+                for it in -1, 2**64, 2**64 + 0x400000, 2**64 + 0x1000, -(2**64) + 0x400000, 2**80:
+                    self.raises(OverflowError, call, self.objects, self.RULES, **{option: it})
+                for it in self.NO_NUMBERS:
+                    self.raises(TypeError, call, self.objects, self.RULES, **{option: it})
+                # A number of 64 bits is passed on, and the link does not take it.
+                self.raises(elfmap.NotLinked, call, self.objects, self.RULES, **{option: 2**64 - 1})
+        self.assertEqual(elfmap.link(self.objects, self.RULES, base=Index(0x400000)), elfmap.link(self.objects, self.RULES))
+
+
 class BytesTest(unittest.TestCase):
     def test_any_bytes_in_one_piece(self):
         data = bytes(small_file())
@@ -230,11 +358,6 @@ class BytesTest(unittest.TestCase):
             with self.assertRaises(elfmap.Refused) as raised:
                 elfmap.check(it)
             self.assertEqual((raised.exception.rule, raised.exception.offset), (2, 0))
-
-    def test_what_is_no_bytes(self):
-        for it in "text", 5, None, memoryview(small_file())[::2]:
-            with self.assertRaises(TypeError):
-                elfmap.parse(it)
 
     def test_mapped_files(self):
         with tempfile.TemporaryFile() as it:

@@ -221,11 +221,9 @@ class LineTest(Case):
             found = link_words([*before, last], 8, 2, 0, 0)
             self.assertEqual(found, f"two definitions of main, the second one at symbol 1 of last.o; {words}")
 
-    def test_no_refusal(self):
-        self.assertEqual(self.explain("good.o", stdin=b"ok 680 3 0\n"), (0, "no refusal\n", ""))
-
     def test_statuses(self):
-        self.assertEqual(self.explain("refused", "33", "114")[0], 2)
+        for words in ("refused 33 114", "refused 33 bad.o", "refused bad.o", "file 1 2 bad.o", "refused 1 2 3 4 5 bad.o"):
+            self.assertEqual(self.explain(*words.split())[0], 2, words)
         self.assertEqual(self.explain("--none")[0], 2)
         self.assertEqual(self.explain("refused", "33", "114", "none")[0], 3)
         self.assertEqual(self.explain(stdin=FINDING.replace(b"bad.o", b"none"))[0], 3)
@@ -253,6 +251,88 @@ class LineTest(Case):
             ran = subprocess.run([*PROGRAM, "bad.o"], stdin=lines, stdout=writing, stderr=subprocess.PIPE, env=ENVIRONMENT)
         os.close(writing)
         self.assertEqual(ran.stderr, b"")
+
+
+class CheckedTest(Case):
+    """Files that no line refuses are checked here, whatever standard input is; and the output begins with that."""
+
+    FILES = "bad.o", "tables.o", "object.o", "good.o"
+    FOUND = "file 0 refused 33 114 SHARED_BYTE: ", "file 1 refused 2 51 150 ", "file 2 refused 72 276 FOREIGN_SECTION: "
+    HEAD = "checked here by the rules of images and tables, and relocatable files by those of objects: "
+
+    def setUp(self):
+        super().setUp()
+        self.put(bad__o=SHARING, tables__o=BROKEN_SYMBOLS, object__o=bytes(Made(text(), (b".lib", 10, b"", {})).data), good__o=GOOD)
+
+    def ran(self, words, stdin=None, shell=""):
+        """What is said on standard output by a run that succeeds, where the shell says what standard input is."""
+        command = ["sh", "-c", f'"$@" {shell}', "sh", *PROGRAM, *words]
+        ran = subprocess.run(command, stdin=stdin, capture_output=True, env=ENVIRONMENT, timeout=60)
+        self.assertEqual((ran.returncode, ran.stderr), (0, b""))
+        return " ".join(ran.stdout.decode().split())
+
+    def on_terminal(self, words, typed=b""):
+        own, its = os.openpty()
+        try:
+            os.write(own, typed)
+            return self.ran(words, its)
+        finally:
+            os.close(own)
+            os.close(its)
+
+    def unread(self, words):
+        """What is said where nothing is sent, by what standard input is."""
+        yield "a terminal", self.on_terminal(words)
+        yield "a device", self.ran(words, subprocess.DEVNULL)
+        yield "closed", self.ran(words, shell="<&-")
+
+    def read(self, words):
+        yield "an empty pipe", self.said(*words)
+        yield "a file of other lines", self.ran(words, shell="< lines")
+        yield "other lines in a pipe", self.said(*words, stdin=b"ok 680 3 0\n")
+        yield "other lines, asked for", self.said("-", *words, stdin=b"ok 680 3 0\n")
+        yield "a device, asked for", self.ran(["-", *words], subprocess.DEVNULL)
+        yield "a terminal, asked for", self.on_terminal(["-", *words], b"ok 680 3 0\n\x04")
+
+    def test_broken_files(self):
+        self.put(lines=b"refused\nok 680 3 0\n")
+        for ways, lead in (self.unread(self.FILES), ""), (self.read(self.FILES), "standard input refuses nothing; "):
+            for way, found in ways:
+                with self.subTest(stdin=way):
+                    self.assertTrue(found.startswith(f"{lead}{self.HEAD}{' '.join(self.FILES)} file 0 "), found)
+                    self.assertEqual([it for it in self.FOUND if it not in found], [])
+                    self.assertNotIn("no refusal", found)
+
+    def test_sound_files(self):
+        self.put(lines=b"refused\nok 680 3 0\n")
+        for ways, lead in (self.unread(["good.o"]), ""), (self.read(["good.o"]), "standard input refuses nothing; "):
+            for way, found in ways:
+                self.assertEqual(found, f"{lead}{self.HEAD}good.o no refusal", way)
+
+    def test_lines_that_refuse(self):
+        """They are explained alone."""
+        line = b"refused 33 115\n"
+        self.put(lines=line)
+        for found in (
+            self.said("bad.o", stdin=line),
+            self.ran(["bad.o"], shell="< lines"),
+            self.said("-", "bad.o", stdin=line),
+            self.on_terminal(["-", "bad.o"], line + b"\x04"),
+        ):
+            self.assertTrue(found.startswith("refused 33 115 SHARED_BYTE: "), found)
+            self.assertNotIn("checked here", found)
+
+    def test_a_file_that_is_standard_input(self):
+        for stdin, shell in (None, "< bad.o"), (SHARING, ""):
+            with self.subTest(shell=shell):
+                found = self.ran(["/dev/stdin"], shell=shell) if shell else self.said("/dev/stdin", stdin=bytes(stdin))
+                self.assertIn("SHARED_BYTE: ", found)
+
+    def test_without_files(self):
+        """There is nothing to check."""
+        self.assertEqual(self.said(stdin=b"ok 680 3 0\n"), "no refusal")
+        closed = subprocess.run(["sh", "-c", '"$@" <&-', "sh", *PROGRAM], capture_output=True, env=ENVIRONMENT)
+        self.assertEqual((closed.returncode, closed.stdout, closed.stderr), (3, b"", b"elfmap-explain: standard input is closed\n"))
 
 
 class FindingTest(Case):

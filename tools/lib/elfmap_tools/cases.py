@@ -6,7 +6,7 @@ of it goes by a source of chance, so that the same seed makes the same files."""
 
 import filecmp, glob, os, random, re, shlex, tempfile
 from collections.abc import Callable, Iterable, Iterator
-from dataclasses import dataclass, field
+from dataclasses import dataclass, field, replace
 from typing import Any
 
 from .building import output_of
@@ -103,14 +103,25 @@ def case_files() -> dict[bytes, str]:
     return found
 
 
+def ways_of(case: Case) -> Iterator[tuple[str, Case]]:
+    """The program, and each other way to the answer of the case: `check` is a program of its own too; and a file that it accepts or
+    refuses is read whole, and sought in."""
+    yield PROGRAM, case
+    if case.words[:1] == ["check"]:
+        others = [it for it in case.words[1:] if it != "--seek"]
+        is_seeking = len(others) < len(case.words) - 1
+        if case.status < 2:
+            yield PROGRAM, replace(case, words=["check", *["--seek"] * (not is_seeking), *others])
+        if case.status < 2 or not is_seeking:
+            yield output_of("elfmap_check"), replace(case, words=["check", *others])
+
+
 @Test("cases", "the program answers the cases of cases/*.txt", crates="elfmap elfmap_check", options=(FROM, ONLY))
 def try_cases(tally: Tally, options: Options) -> None:
-    # Beside the program that has all commands, the one that has `check` alone.
-    for it in (it for it in every_case(options.folder) if options.only in str(it)):
-        for program in [PROGRAM] + [output_of("elfmap_check")] * (it.words[:1] == ["check"] and "--seek" not in it.words):
-            status, out, err = it.found(program)
-            # The text of an error is compared where the case has one.
-            tally.same(str(it), (status, out, err if it.err or it.status < 2 else b""), (it.status, it.out, it.err))
+    for program, it in (way for case in every_case(options.folder) if options.only in str(case) for way in ways_of(case)):
+        status, out, err = it.found(program)
+        # The text of an error is compared where the case has one.
+        tally.same(str(it), (status, out, err if it.err or it.status < 2 else b""), (it.status, it.out, it.err))
 
 
 # ---- sound files

@@ -142,7 +142,11 @@ class Browser:
 
     def press(self, key: str) -> None:
         """Presses a key, by its name in Selenium."""
-        self.selenium.ActionChains(self.driver).send_keys(getattr(self.selenium.Keys, key)).perform()
+        self.type(getattr(self.selenium.Keys, key))
+
+    def type(self, keys: str) -> None:
+        """Presses one key after another, wherever the focus is, as a person does."""
+        self.selenium.ActionChains(self.driver).send_keys(keys).perform()
 
     def screen(self, width: int, height: int, dark: bool = False) -> bytes:
         """A picture of the page, as PNG."""
@@ -274,6 +278,25 @@ class InChromium(Browser):
         self.click("#zoom-whole")
         self.waits(f"{scale} === '{before}'", "there is no way back")
 
+    def typed(self) -> None:
+        """What is typed into a field is in it, and does what it is for; and the tabulator leads out of it."""
+        front = "document.querySelector('#bytes tbody th').textContent"
+        rows: list[tuple[str, str, list[str], str]] = [
+            ("offset", "0x40", ["ENTER"], f"{front} === '0x40' && document.querySelector('#bytes mark')"),
+            ("offset", "129", ["BACK_SPACE", "ARROW_LEFT", "ENTER"], f"{front} === '0xc'"),
+            ("filter", "work", [], "document.querySelector('#table-words').textContent.includes('of 1 found among')"),
+        ]
+        for field, text, keys, done in rows:
+            self.value(f"const it = document.querySelector('#{field}'); it.value = ''; it.focus()")
+            self.type(text)
+            for key in keys:
+                self.press(key)
+            value = self.value(f"document.querySelector('#{field}').value")
+            self.check(value == text[: len(text) - keys.count("BACK_SPACE")], f"{text} was typed into {field}, which has {value!r}")
+            self.waits(done, f"{text} was typed into {field}, and nothing is done")
+            self.press("TAB")
+            self.check(self.value("document.activeElement.id") != field, f"the tabulator does not lead out of {field}")
+
     def for_readers(self) -> None:
         """What a reader of the screen is told."""
         nodes = [it for it in self.call("Accessibility.getFullAXTree")["nodes"] if not it["ignored"]]
@@ -364,7 +387,7 @@ def try_page(tally: Tally, options: Options) -> None:
     wanted("cc", "-c", "-O1", write(f"{room}/object.c", SOURCE), "-o", file := f"{room}/object.o")
     with contextlib.closing(InChromium(tally, room)) as it:
         it.sound_file(file)
-        for part in (it.links, it.filtered, it.by_keys, it.for_readers, it.on_screens):
+        for part in (it.links, it.filtered, it.by_keys, it.typed, it.for_readers, it.on_screens):
             part()
         it.sound_file("/bin/true")
         tally.check(not it.value("document.querySelector('#memory-section').hidden"), "an executable has no bar by address")

@@ -1,0 +1,346 @@
+"""The sizes that growths ask for, for `tools/test memory-faults`: each has to be a length in hand, a sum of such, or a constant of at most
+a MiB. So no more is asked for than what is there already, as often as a sum has parts.
+
+An expression is followed through the variables and the parameters of a function, the calls of the libraries, and their constants. A
+difference, a quotient, a remainder and a shift to the right are no more than their first part. The least of several is a length if one of
+them is, and the greatest if all are. A product and a shift to the left are findings. So is whatever is not understood, unless a contract
+bounds it: a clause of the function says that the name is, or is at most, a length or a `MAX_`.. of the definitions; or a clause names a
+definition of BOUNDING, of which these names are parts."""
+
+import functools, operator, re
+from collections.abc import Callable, Iterable, Iterator
+from dataclasses import dataclass, field
+from typing import NamedTuple
+
+from .functions import Function
+
+# So many at most; and where a refusal is no fault, as many bytes as the longest file has, and one more.
+MOST, MOST_UNWANTED = 1 << 20, (1 << 30) + 1
+SIZED = set("with_capacity with_capacity_and_hasher reserve reserve_exact try_reserve try_reserve_exact resize resize_with vec!".split())
+CALL = re.compile(rf"\b(?:{'|'.join(map(re.escape, SIZED))})(?=[(\[])")
+# Definitions, and the numbers of which each says that they are no more than a length in hand, or than those of the crate allow.
+BOUNDING = {"AreHashWords": {"nchain"}, "HasTables": {"sections", "segments"}, "IsBuilt": {"nbucket"}}
+BOUND = r"(?:≡|≤|<) (?:[^{}]*\b)?(?:length|vec_len|MAX_\w+)\b"
+TOKEN = re.compile(r"\s*(\d\w*|[A-Za-z_]\w*(?:::(?:<[^()]*?>)?\w*)*!?|<<|>>|&&|\|\||[<>=!]=|\.\.=?|[-+*/%&|^.,?(){}\[\]<>=!;:])")
+LEVELS = [{"|"}, {"^"}, {"&"}, {"<<", ">>"}, {"+", "-"}, {"*", "/", "%"}]
+VALUES: dict[str, Callable[[int, int], int]] = {
+    "+": operator.add, "-": operator.sub, "*": operator.mul, "/": operator.floordiv, "%": operator.mod, "<<": operator.lshift,
+    ">>": operator.rshift, "&": operator.and_, "|": operator.or_, "^": operator.xor,
+}  # fmt: skip
+# What the value of an operator or a method is bounded by: all of its parts, one of them, or the first.
+ALL = {"+", "|", "^", "max", "saturating_add", "checked_add", "wrapping_add", "unwrap_or"}
+ANY = {"%", "&", "min"}
+FIRST = {"-", "/", ">>", "saturating_sub", "checked_sub", "div_ceil", "isqrt", "next_power_of_two", "unwrap_or_default"}
+LENGTHS = {"len", "capacity"}
+OPENING, CLOSING = "([{", ")]}"
+
+
+@dataclass
+class Node:
+    """An expression: an operator, a method or a call, by its name, with its parts; a name; or a number."""
+
+    kind: str
+    name: str
+    parts: list["Node"] = field(default_factory=list)
+
+
+class Unread(ValueError):
+    """What is no expression of this kind."""
+
+
+class Parser:
+    """Reads an expression of numbers."""
+
+    def __init__(self, text: str) -> None:
+        self.tokens, at = list[str](), 0
+        text = text.strip()
+        while at < len(text):
+            found = TOKEN.match(text, at)
+            if not found:
+                raise Unread(text)
+            self.tokens.append(found[1])
+            at = found.end()
+        self.at = 0
+
+    def peek(self) -> str:
+        return self.tokens[self.at] if self.at < len(self.tokens) else ""
+
+    def take(self, wanted: str = "") -> str:
+        found = self.peek()
+        if not found or wanted and found != wanted:
+            raise Unread(f"{found} where {wanted or 'something'} is wanted")
+        self.at += 1
+        return found
+
+    def whole(self) -> Node:
+        found = self.binary(0)
+        if self.peek():
+            raise Unread(self.peek())
+        return found
+
+    def binary(self, level: int) -> Node:
+        if level == len(LEVELS):
+            return self.cast()
+        found = self.binary(level + 1)
+        while self.peek() in LEVELS[level]:
+            found = Node("of", self.take(), [found, self.binary(level + 1)])
+        return found
+
+    def cast(self) -> Node:
+        found = self.unary()
+        while self.peek() == "as":
+            self.take()
+            self.take()
+        return found
+
+    def unary(self) -> Node:
+        while self.peek() in ("*", "&", "mut"):
+            self.take()
+        return self.postfix(self.primary())
+
+    def primary(self) -> Node:
+        token = self.take()
+        if token == "(":
+            found = self.binary(0)
+            self.take(")")
+            return found
+        if token[0].isdigit():
+            return Node("number", token)
+        if not (token[0].isalpha() or token[0] == "_") or token in ("if", "match", "unsafe", "loop"):
+            raise Unread(token)
+        return Node("call", token, self.arguments()) if self.peek() == "(" else Node("name", token)
+
+    def postfix(self, found: Node) -> Node:
+        while self.peek() in (".", "?", "["):
+            token = self.take()
+            if token == "[":
+                self.skip("]")
+                found = Node("field", "[]", [found])
+            elif token == ".":
+                name = self.take()
+                found = Node("of", name, [found, *self.arguments()]) if self.peek() == "(" else Node("field", name, [found])
+        return found
+
+    def arguments(self) -> list[Node]:
+        """The arguments of a call; one that is no number is a name that says nothing."""
+        self.take("(")
+        found = list[Node]()
+        while self.peek() != ")":
+            start = self.at
+            try:
+                found.append(self.binary(0))
+                if self.peek() not in (",", ")"):
+                    raise Unread(self.peek())
+            except Unread:
+                self.at = start
+                self.skip(",", ")")
+                self.at -= 1
+                found.append(Node("unknown", "?"))
+            if self.peek() == ",":
+                self.take()
+        self.take(")")
+        return found
+
+    def skip(self, *ends: str) -> None:
+        """Goes behind the first of these that is in no brackets."""
+        level = 0
+        while level or self.peek() not in ends:
+            token = self.take()
+            level += (token in OPENING) - (token in CLOSING)
+        self.take()
+
+
+def parts_of(text: str, start: int, separators: str) -> list[str]:
+    """What is between the bracket at `start` and its end, cut at these signs where they are in no further brackets."""
+    level, found, last = 0, list[str](), start + 1
+    for at in range(start, len(text)):
+        level += (text[at] in OPENING) - (text[at] in CLOSING)
+        if level == 0 or level == 1 and text[at] in separators:
+            found.append(text[last:at].strip())
+            last = at + 1
+        if level == 0:
+            break
+    return [it for it in found if it]
+
+
+@functools.cache
+def body_of(function: Function) -> str:
+    return " ".join(function.lines[at].strip() for at in function.inner)
+
+
+class Growth(NamedTuple):
+    """A growth by a number: its line, its size, and whether its refusal is a fault."""
+
+    line: int
+    size: str
+    is_wanted: bool
+
+
+@functools.cache
+def growths_in(function: Function) -> list[Growth]:
+    """The growths of a function that are by a number."""
+    growths = list[Growth]()
+    starts, text = list[int](), ""
+    for at in function.inner:
+        starts.append(len(text))
+        text += function.lines[at].strip() + " "
+    for found in CALL.finditer(text):
+        line = function.begin + 1 + max(k for k, start in enumerate(starts) if start <= found.start())
+        name, start = found[0], found.end()
+        parts = parts_of(text, start, ";" if name == "vec!" else ",")
+        if name == "vec!":
+            # `vec![in ALLOC; VALUE; COUNT]`; one with fewer parts has its elements.
+            parts = parts[2:] if parts and parts[0].startswith("in ") else parts[1:]
+        elif name.startswith("with_capacity"):
+            # The allocator is before it.
+            parts = parts[1:]
+        if parts:
+            growths.append(Growth(line, parts[0], not re.search(r"\blet _ = [^;]*$", text[: found.start()])))
+    return growths
+
+
+class Sizes:
+    """What the sizes in these functions are bounded by."""
+
+    def __init__(self, functions: Iterable[Function], texts: Iterable[str]) -> None:
+        self.named: dict[str, list[Function]] = {}
+        for it in functions:
+            self.named.setdefault(it.name, []).append(it)
+        self.bodies = {it: body_of(it) for own in self.named.values() for it in own}
+        self.most = MOST
+        self.constants: dict[str, set[str]] = {}
+        for text in texts:
+            for name, value in re.findall(r"^ *(?:pub(?:\(crate\))? )?const (\w+): u(?:size|8|16|32|64) = ([^;]*);", text, re.M):
+                self.constants.setdefault(name, set()).add(value)
+
+    def findings(self, function: Function) -> Iterator[tuple[int, str]]:
+        """Of each growth in it that asks for too much the line, and why."""
+        for it in growths_in(function):
+            self.most = MOST if it.is_wanted else MOST_UNWANTED
+            why = self.judge_text(function, it.size, set())
+            if why:
+                yield it.line, f"a growth by {it.size}: {why}"
+
+    # ---- What an expression is bounded by: nothing where it is, or why it is not
+
+    def value(self, node: Node) -> int | None:
+        """The number that an expression of constants is."""
+        if node.kind == "number":
+            return int(re.sub(r"_?[iu](size|8|16|32|64)$", "", node.name).replace("_", ""), 0)
+        if node.kind == "name":
+            name = node.name.split("::")[-1]
+            if name in ("MAX", "BITS"):
+                return 1 << 64
+            values = {self.value(Parser(it).whole()) for it in self.constants.get(name, ())}
+            known = [it for it in values if it is not None]
+            return max(known) if known and len(known) == len(values) else None
+        if node.kind == "of" and node.name in VALUES:
+            one, other = map(self.value, node.parts)
+            return None if one is None or other is None else VALUES[node.name](one, other)
+        return None
+
+    def judge(self, function: Function, node: Node, seen: set[tuple[Function, str]]) -> str:
+        try:
+            value = self.value(node)
+        except (Unread, ZeroDivisionError):
+            value = None
+        if value is not None:
+            return "" if 0 <= value <= self.most else f"{value} is above {self.most}"
+        if node.kind == "of":
+            return self.judge_operator(function, node, seen)
+        if node.kind == "call":
+            return self.judge_call(function, node, seen)
+        if node.kind == "name" and re.fullmatch(r"\w+", node.name):
+            return self.judge_name(function, node.name, seen)
+        if node.kind == "field" and node.name != "[]":
+            return "" if self.is_bounded(function, node.name) else f"{node.name} is no length in hand"
+        return f"{node.name} is no length in hand"
+
+    def judge_operator(self, function: Function, node: Node, seen: set[tuple[Function, str]]) -> str:
+        name = node.name
+        if name in LENGTHS and len(node.parts) == 1:
+            return ""
+        if name in ALL | ANY:
+            found = [self.judge(function, it, seen) for it in node.parts]
+            return next(filter(None, found), "") if name in ALL or all(found) else ""
+        if name in FIRST:
+            return self.judge(function, node.parts[0], seen)
+        if name in self.named and name not in VALUES:
+            return self.judge_call(function, node, seen)
+        return f"{name} makes it longer than its parts" if name in VALUES else f"{name} is no method of lengths"
+
+    def judge_call(self, function: Function, node: Node, seen: set[tuple[Function, str]]) -> str:
+        """All functions of this name are bounded: by a contract, or what they answer is."""
+        *_, name = node.name.split("::")
+        if node.name in ("usize::from", "u64::from", "u32::from", "usize::try_from"):
+            return self.judge(function, node.parts[0], seen)
+        found = [it for it in self.named.get(name, ()) if "->" in it.head]
+        if not found:
+            return f"{name} is no function of the libraries"
+        if self.is_bounded(function, name):
+            return ""
+        for it in found:
+            is_said = re.search(rf"\bensures[^{{]*\{{[^{{}}]*\bresult {BOUND}", it.clauses) or re.search(
+                rf"\bresult\b[^{{}}]* {BOUND}", it.clauses
+            )
+            if not is_said and (it, "") not in seen:
+                why = self.judge_answer(it, seen | {(it, "")})
+                if why:
+                    return f"{name}: {why}"
+        return ""
+
+    def judge_answer(self, function: Function, seen: set[tuple[Function, str]]) -> str:
+        last = function.lines[function.end - 1].strip() if function.end - 1 > function.begin else ""
+        try:
+            return self.judge(function, Parser(last).whole(), seen)
+        except Unread:
+            return "what it answers is no length in hand"
+
+    def is_bounded(self, function: Function, name: str) -> bool:
+        """Whether a clause of the function says that what has this name is at most a length."""
+        words = set(re.findall(r"\w+", function.clauses))
+        if any(name in names for definition, names in BOUNDING.items() if definition in words):
+            return True
+        clauses = re.findall(r"\b(?:requires|ensures)\b[^{]*\{([^{}]*)\}", function.clauses)
+        return any(re.search(rf"(?<![\w]){name}\b[^≡≤<→]*{BOUND}", it) for it in clauses)
+
+    def judge_name(self, function: Function, name: str, seen: set[tuple[Function, str]]) -> str:
+        """A variable or a parameter: all that it is made of is bounded, or a clause says that it is."""
+        if (function, name) in seen or self.is_bounded(function, name):
+            return ""
+        seen, body = seen | {(function, name)}, self.bodies[function]
+        made = re.findall(rf"(?:\blet (?:mut )?|(?<![\w.]))\(?{name}\)?(?:: \w+)? [-+]?= ([^;]*?)(?: else \{{|;)", body)
+        made += re.findall(rf"\b(?:Some|Ok)\({name}\) = ([^;]*?)(?: else)? \{{", body)
+        made += re.findall(rf"\bfor {name} in [^.]*\.\.=?(.*?) \{{", body)
+        if re.search(rf"(?<![\w.]){name} (?:\*|<<|\||\^)= ", body):
+            return f"{name} is multiplied"
+        if not made:
+            return self.judge_parameter(function, name, seen)
+        return next(filter(None, (self.judge_text(function, it, seen) for it in made)), "")
+
+    def judge_text(self, function: Function, text: str, seen: set[tuple[Function, str]]) -> str:
+        try:
+            return self.judge(function, Parser(text).whole(), seen)
+        except Unread:
+            return f"`{text}` is no length in hand"
+
+    def judge_parameter(self, function: Function, name: str, seen: set[tuple[Function, str]]) -> str:
+        """All calls of the function give it a length there."""
+        words = parts_of(function.head, function.head.index("("), ",") if "(" in function.head else []
+        names = [re.sub(r"^mut ", "", it.partition(":")[0].strip()) for it in words]
+        if name not in names:
+            return f"{name} is no length in hand"
+        position = names.index(name)
+        is_method = names[0] in ("self", "&self", "&mut self")
+        owner = re.search(r"(\w+)(?:<[^<>]*>)? \{$", function.outer)
+        lead = r"\." if is_method else rf"\b{owner[1]}::" if owner else r"(?<![.\w])(?:\w+::)*"
+        call = re.compile(rf"{lead}{function.name}(?:::<[^()]*>)?(?=\()")
+        given = list[tuple[Function, str]]()
+        for own, body in self.bodies.items():
+            for found in call.finditer(body):
+                arguments = parts_of(body, found.end(), ",")
+                at = position - is_method
+                given.append((own, arguments[at] if at < len(arguments) else "?"))
+        if not given:
+            return f"nothing in the libraries gives {function.name} its {name}"
+        return next(filter(None, (self.judge_text(own, it, seen) for own, it in given)), "")
