@@ -103,23 +103,6 @@ pub dynamic_link : (f : Sections) (i : ℕ) → FirstIn (dynamic_section_rules f
 unfolding dynamic_section_rules
 dynamic_link f i sound = link_there DynamicArray f i (FirstIn-front (own_rules DynamicArray f i) _ sound)
 
--- What the rules of tables look at in an image is what they look at in its bytes.
-
--- the section headers of bytes with this header, and what follows from them
-abbrev headers_at : List ℕ → Ehdr → List Shdr
-headers_at b h = map (sections b h) (range_with_len 0 (section_header_count h (sections b h 0)))
-
-abbrev made : List ℕ → Ehdr → List Shdr → Sections
-made b h headers = record { header = h; headers = headers; contents = map (λ s. bytes_in b (content_extent s)) headers }
-
-pub sections_of_bytes : (v : ImageValue) (b : List ℕ) → IsImage v b → sections_of v ≡ sections_in b
-unfolding sections_in
-sections_of_bytes v b image =
-    (let stands = image.stands in
-    ap (λ (cs : List (List ℕ)). record { header = v.header; headers = v.sections; contents = cs }) stands.contents
-    ∙ ap (made b v.header) stands.records.section_headers
-    ∙ ap (λ (h : Ehdr). made b h (headers_at b h)) stands.records.header)
-
 -- An entry that lies inside a content is the record at its place in the file, for symbols, words, relocations and dynamic entries. The
 -- content is a part of the file's bytes, and a record of a part is that of the whole (`record_of_part`).
 
