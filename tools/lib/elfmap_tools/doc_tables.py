@@ -195,8 +195,8 @@ GUARANTEES = "docs/GUARANTEES.md"
 SPAN = re.compile(r"`([^`]+)`")
 # A row of a table of wrong bodies: what it does or the call that it is planted in, its crate, its file, and its name there.
 BODY = re.compile(r"^\| (.*) \| `(\w+)/(must-fail/\w+\.edit|mutations\.txt)(?:: (\w+))?` \|$", re.M)
-# What an opener of the machine's files gives is known to no contract.
-OF_THE_MACHINE = ("elf_tool::Opener::reader", "elf_tool::Opener::source")
+# Calls in which no wrong body can be planted: what the machine's files give is known to no contract, and there is no other map at hand.
+WITHOUT_WRONG_BODY = ("elf_tool::Opener::reader", "elf_tool::Opener::source", "elf_link::Linked::map")
 # Programs whose modules a test of `tools/test` calls. Modules of the other crates `tests_*` have tests, all of which `rt ci` runs.
 CALLED_BY = {"tests_calls": "failing-calls"}
 
@@ -344,7 +344,7 @@ def wrong_bodies(tally: Tally) -> None:
                 is_own = bug.function.rpartition("::")[2] == path.rpartition("::")[2]
                 tally.check(is_own and bug.is_for_gate, f"{crate}: {name} is not planted in {path}, or not in the gate")
     for path in calls_with_a_clause():
-        tally.check(path in called or path in OF_THE_MACHINE, f"{path} has no wrong body that the gate plants in it")
+        tally.check(path in called or path in WITHOUT_WRONG_BODY, f"{path} has no wrong body that the gate plants in it")
 
 
 @Test("guarantees", "each name of docs/GUARANTEES.md exists, and each public call is in a row")
