@@ -1,26 +1,22 @@
 -- If a group or a dynamic section breaks no rule, the section that it links to is there, by its own rules. A group's symbol table breaks no
 -- rule, which the group's rules include, and has the symbol of the signature. A table that breaks no rule has the verdict None, because it
 -- has one fault only (`one_fault`).
-use Rattle.std.proofs.Common.{◌≡◌, ◌≢◌, ℕ, ◌+◌, inl, inr, sym, ◌∙◌, None, Option, Some, length, subst, ◌<◌, List, get_or, refl, ap, map, ◌*◌, ◌≤◌}
+use Rattle.std.proofs.Common.{◌≡◌, ◌≢◌, ℕ, ◌+◌, inl, inr, sym, ◌∙◌, None, Option, Some, length, subst, ◌<◌, List, get_or, refl, ◌*◌, ◌≤◌}
 use Rattle.std.proofs.lemmas.Bool.{cases_eq, cases_lt}
-use Rattle.std.specs.List.{range_with_len}
 use Rattle.elf_extent.specs.declared.extent.Extent.{Extent}
 use Rattle.elf_field.proofs.RecordTableLaws.{record_of_part}
 use Rattle.elf_field.specs.Abi.{SHT_SYMTAB, DYN_SIZE, RELA_SIZE, REL_SIZE, SYM_SIZE, WORD_SIZE}
 use Rattle.elf_field.specs.Entries.{dyn_at, dyn_laws, rel_at, rel_laws, rela_at, rela_laws, sym_at, sym_laws, word_at, word_laws}
-use Rattle.elf_field.specs.declared.ehdr.Ehdr.{Ehdr}
 use Rattle.elf_field.specs.declared.number.Order.{Order}
-use Rattle.elf_field.specs.declared.shdr.Shdr.{Shdr}
-use Rattle.elf_image_outline.specs.Image.{ImageValue, IsImage}
 use Rattle.elf_image_rules.proofs.Public.{FirstIn-behind, FirstIn-front, one_fault}
 use Rattle.elf_image_rules.specs.Rows.{FirstIn}
-use Rattle.elf_image_rules.specs.Tables.{bytes_in, content_extent, section_header_count, sections}
+use Rattle.elf_image_rules.specs.Tables.{bytes_in}
 use Rattle.elf_table_all.specs.Tables.{AreAllIndexTables, index_tables_at, rules_of_kind, table_rules, AreVerdicts, HasSoundTable, TablesValue}
 use Rattle.elf_table_all.specs.declared.verdicts.AllIndexTables.{AllIndexTables}
 use Rattle.elf_table_lists.specs.Dynamic.{dynamic_section_rules, dynamic_entry}
 use Rattle.elf_table_lists.specs.Groups.{group_front_rules, group_rules, group_section_rules}
 use Rattle.elf_table_symbols.proofs.Public.{index_tables_noted, index_tables_passed, length_symbols, link_there, symbols_kind}
-use Rattle.elf_table_symbols.specs.Sections.{Sections, section, sections_of, kind_of, own_rules, content, count, order, sections_in}
+use Rattle.elf_table_symbols.specs.Sections.{Sections, section, sections_of, kind_of, own_rules, content, count, order}
 use Rattle.elf_table_symbols.specs.Symbols.{IsIndexTable, noted, entry_count, symbol_table_rules, symbols_of, entry, word}
 use Rattle.elf_table_symbols.specs.declared.table_section.TableKind.TheVariants.{DynamicArray, SectionGroup, SymbolTable}
 use Rattle.elf_table_symbols.specs.declared.table_section.TableKind.{TableKind}

@@ -10,5 +10,7 @@ returns-clause-fault c = search rules
 
 pub returns-clause-file : goal.returns-clause-file
 returns-clause-file c =
-    let f = sections_of c.args.self.now.image in
-    (f, its_file c.args.self.now.image c.prove_stands.ensures, (one_fault (table_rules f c.args.i), returns-clause-fault c))
+    let v = c.self.inside.image.now in
+    let f = sections_of v in
+    let told = rw (← c.self.view_is) at (returns-clause-fault c) in
+    rw (← c.self.view_is) (f, its_file v c.prove_stands.ensures, (one_fault (table_rules f c.args.i), told))
