@@ -17,7 +17,7 @@ use Rattle.elf_field.specs.Headers.{ehdr_bytes, phdr_bytes, shdr_bytes}
 use Rattle.elf_image_outline.proofs.Edited.{parts-placed, len_short}
 use Rattle.elf_image_outline.proofs.Standing.{HaveLengths, clean_of, counted_of, length-joined, lengths_of, are_parts, get_or_at, within_list, content_is}
 use Rattle.elf_image_outline.specs.Image.{ImageValue, IsSoundImage, PlacedPart, joined, part_bytes, piece_of, owned_bytes, IsExtentOf}
-use Rattle.elf_image_outline.specs.Outline.{Copies, CopiedOut, ReadsBehind, bytes_out, copy_failure, later, OutlineValue, image_of, placed_part, IsOutlineOf, IsSoundOutline, blank_image, bytes_of_outline, contents_in, image_in, IsOfSource, ReadsOfSource, ReadsPart}
+use Rattle.elf_image_outline.specs.Outline.{Copies, CopiedOut, ReadsBehind, bytes_out, copy_failure, later, OutlineValue, image_of, placed_part, IsOutlineOf, IsSoundOutline, blank_image, bytes_of_outline, contents_in, image_in, ReadsOfSource, ReadsPart}
 use Rattle.elf_image_outline.specs.declared.copying.CopyFault.TheVariants.{Read, Write}
 use Rattle.elf_image_outline.specs.declared.copying.CopyFault.{CopyFault}
 use Rattle.elf_image_outline.specs.declared.outline.Owner.TheVariants.{Header, ProgramTable, SectionTable, Content, Gap}

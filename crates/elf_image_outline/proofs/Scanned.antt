@@ -21,7 +21,7 @@ use Rattle.elf_field.specs.declared.shdr.Shdr.{Shdr}
 use Rattle.elf_image_outline.proofs.Edited.{IsBytes-zeros, map-set_same, sound-with_flags, content_len, names_there}
 use Rattle.elf_image_outline.proofs.Standing.{extents_are, element_made, first_of_none, at_mapped}
 use Rattle.elf_image_outline.proofs.Theorem.{made_is_image, pieces_placed}
-use Rattle.elf_image_outline.specs.Image.{AreRecordsIn, value_extents, IsImage, part_piece, flagged, ImageValue, IsSoundImage, gap_len, piece_of, value_names}
+use Rattle.elf_image_outline.specs.Image.{AreRecordsIn, value_extents, IsImage, part_piece, flagged, ImageValue, IsSoundImage, gap_len, value_names}
 use Rattle.elf_image_outline.specs.Outline.{image_in, outline_value, IsOutlineOf, IsSoundOutline, OutlineValue, blank_image, contents_in, image_of, placed_part}
 use Rattle.elf_image_outline.specs.Scanning.{KeepsHeadRules, KeepsTableRules, Scans, Stops, BreaksTables, HasTables, IsSharedFault, IsEndIn, KeepTables, names_extent, names_place}
 use Rattle.elf_image_outline.specs.declared.outline.Part.{Part}

@@ -7,10 +7,9 @@ use Rattle.std.specs.List.{AllByRecursion, flat_map, range_with_len}
 use Rattle.std.proofs.lemmas.Bool.{cases_eq, cases_lt, ne_eqb}
 use Rattle.std.proofs.lemmas.List.{length-take-le}
 use Rattle.std.proofs.lemmas.List.FromFn.{length-map-range_with_len}
-use Rattle.std.proofs.lemmas.Simd.{map-map}
 use Rattle.elf_extent.proofs.Public.{accounts_le}
 use Rattle.elf_extent.specs.Account.{Accounts, IsOwned}
-use Rattle.elf_extent.specs.Extent.{AreDisjoint, AreWithin, Doubly, IsLowest}
+use Rattle.elf_extent.specs.Extent.{AreDisjoint, AreWithin}
 use Rattle.elf_extent.specs.declared.extent.Extent.{Extent}
 use Rattle.elf_field.proofs.RecordTableLaws.{entries_bytes, entries_fit, record_bytes}
 use Rattle.elf_field.specs.Abi.{EHDR_SIZE, PHDR_SIZE, SHDR_SIZE}
@@ -20,18 +19,15 @@ use Rattle.elf_field.specs.declared.ehdr.Ehdr.{Ehdr}
 use Rattle.elf_field.specs.declared.phdr.Phdr.{Phdr}
 use Rattle.elf_field.specs.declared.shdr.Shdr.{Shdr}
 use Rattle.elf_image_outline.proofs.Standing.{flat_parts_are, IsCounted, clean_of, content_within, counted_of, table_there, content_is, element_made, first_of_none, joined_stands, disjoint_of, records_within, within_of}
-use Rattle.elf_image_outline.specs.Image.{AreRecordsIn, ImageValue, IsImage, IsSoundImage, PlacedPart, Stands, gap_in, gap_len, if_gap, joined, no_program_header, no_section_header, owned_bytes, owner_index, part_bytes, piece_of, program_header_of, section_header_of, value_extents, value_names, value_rules, part_piece}
-use Rattle.elf_image_outline.specs.Outline.{image_of, outline_value, placed_part, image_in}
-use Rattle.elf_image_outline.specs.Scanning.{IsParseFault, IsSharedFault}
+use Rattle.elf_image_outline.specs.Image.{AreRecordsIn, ImageValue, IsImage, IsSoundImage, OfItsBytes, PlacedPart, Stands, gap_in, gap_len, if_gap, joined, no_program_header, no_section_header, owned_bytes, owner_index, part_bytes, piece_of, program_header_of, section_header_of, value_extents, value_names, value_rules, part_piece}
+use Rattle.elf_image_outline.specs.Outline.{image_of, outline_value, placed_part}
 use Rattle.elf_image_outline.specs.declared.outline.Owner.TheVariants.{Header, ProgramTable, SectionTable, Content, Gap}
 use Rattle.elf_image_outline.specs.declared.outline.Owner.{Owner}
 use Rattle.elf_image_outline.specs.declared.outline.Part.{Part}
-use Rattle.elf_image_rules.proofs.Public.{clean_records, sections_none, sections_read_at, sound_tables, table_some, Agree, same_clean, extents_within, fault_of_extents, sound_file}
+use Rattle.elf_image_rules.proofs.Public.{clean_records, sections_none, sections_read_at, sound_tables, table_some, Agree, same_clean}
 use Rattle.elf_image_rules.specs.Rows.{FirstIn}
-use Rattle.elf_image_rules.specs.Rules.{image_rules, rules_in, contents, IsFault, KeepsRecordRules, extents_of_file, extents}
-use Rattle.elf_image_rules.specs.Tables.{bytes_in, content_extent, header, name_table, names, names_at, order_of, program_header_count, section_header_count, sections, segments, file_counts}
-use Rattle.elf_image_stream.specs.declared.fault.Fault.TheVariants.{Io, OutOfMemory, Rule}
-use Rattle.elf_image_stream.specs.declared.fault.Fault.{Fault}
+use Rattle.elf_image_rules.specs.Rules.{image_rules, rules_in, contents, IsFault}
+use Rattle.elf_image_rules.specs.Tables.{bytes_in, content_extent, header, name_table, names, names_at, order_of, program_header_count, section_header_count, sections, segments}
 use Rattle.elf_image_outline.proofs.Standing as holds
 
 -- ---- a value and its byte list break the same rules
@@ -358,6 +354,15 @@ image_is_sound v b image =
 pub one_list : (v : ImageValue) (b c : List ℕ) → IsImage v b → Stands v c → b ≡ c
 one_list v b c one two = only_joined v b one ∙ sym (only_joined v c (stands_is_image v c (image_is_sound v b one) two))
 
+-- what holds of each list of bytes that represents an image holds of the one there is
+pub of_its_bytes : (v : ImageValue) (Says : List ℕ → Type 0) → (b : List ℕ) × IsImage v b → ((b : List ℕ) → IsImage v b → Says b) → OfItsBytes v Says
+of_its_bytes v Says (b, image) says = record {
+  bytes = b;
+  image = image;
+  only = λ c stands. sym (one_list v b c image stands);
+  says = says b image;
+}
+
 -- a sound value is represented by a list of bytes that breaks no rule
 pub sound_stands : (v : ImageValue) → IsSoundImage v → (b : List ℕ) × IsImage v b
 sound_stands v sound = (joined v, joined_is_image v sound)
@@ -413,61 +418,3 @@ made_is_image b h ss gs cs ps are records contents accounts clean = record {
   };
   clean = clean;
 }
-
--- If a file keeps rules 1 to 32, the extents of the records that were read are the file's, and lie in it. So the lowest byte that two of
--- them hold is where the file breaks rule 33. If there is none, the records and the parts that account for the file make its image
--- (`outline_image`).
-
--- the records of a file, as code reads them
-pub record AreFileRecords (b : List ℕ) (h : Ehdr) (ss : List Shdr) (gs : List Phdr) : Type 0 where
-  pub own_header : h ≡ header b
-  pub section_headers : ss ≡ map (sections b (header b)) (range_with_len 0 (file_counts b).sections)
-  pub program_headers : gs ≡ map (segments b (header b)) (range_with_len 0 (file_counts b).segments)
-
-records_in : (b : List ℕ) (h : Ehdr) (ss : List Shdr) (gs : List Phdr) → AreFileRecords b h ss gs → AreRecordsIn b h ss gs
-records_in b h ss gs read =
-    subst (λ (k : Ehdr). AreRecordsIn b k ss gs) (sym read.own_header)
-    (record { header = refl; section_headers = read.section_headers; program_headers = read.program_headers })
-
--- by length of the tables and the extents of contents
-pub extents_read : (b : List ℕ) (h : Ehdr) (ss : List Shdr) (gs : List Phdr) → AreFileRecords b h ss gs → value_extents h ss gs ≡ extents_of_file b
-unfolding extents
-extents_read b h ss gs read =
-    let k = header b in
-    let n = section_header_count k (sections b k 0) in
-    let m = program_header_count k (sections b k 0) in
-    let many : length ss ≡ n = ap length read.section_headers ∙ length-map-range_with_len (sections b k) 0 n in
-    let few : length gs ≡ m = ap length read.program_headers ∙ length-map-range_with_len (segments b k) 0 m in
-    let contents : map content_extent ss ≡ map (λ i. content_extent (sections b k i)) (range_with_len 0 n) =
-    ap (map content_extent) read.section_headers ∙ map-map content_extent (sections b k) (range_with_len 0 n) in
-    let Tables : ℕ → ℕ → List Extent → List Extent = λ i j cs.
-    record { start = 0; len = EHDR_SIZE } ∷ record { start = k.e_shoff; len = SHDR_SIZE * i } ∷ record { start = k.e_phoff; len = PHDR_SIZE * j } ∷ cs in
-    ap (λ (x : Ehdr). value_extents x ss gs) read.own_header
-    ∙ ap (λ (i : ℕ). Tables i (length gs) (map content_extent ss)) many
-    ∙ ap (λ (j : ℕ). Tables n j (map content_extent ss)) few
-    ∙ ap (Tables n m) contents
-
--- they lie in the file
-pub extents_inside_file : (b : List ℕ) (es : List Extent) → es ≡ extents_of_file b → KeepsRecordRules b → AreWithin es (length b)
-extents_inside_file b es same kept =
-    subst (λ (xs : List Extent). AreWithin xs (length b)) (sym same)
-    (extents_within (length b) (header b) (sections b (header b)) (sound_file b (header b) refl kept))
-
--- a byte that two of them hold is broken rule 33
-pub sharing_stops : (b : List ℕ) (es : List Extent) (fault : Fault) → es ≡ extents_of_file b → KeepsRecordRules b → IsSharedFault es fault → IsParseFault b fault
-sharing_stops b es OutOfMemory same kept shared = kept
-sharing_stops b es (Io at) same kept shared = absurd shared
-sharing_stops b es (Rule number at) same kept (is, lowest) =
-    subst (λ (n : ℕ). IsFault b (Some (n, at))) (sym is)
-    (fault_of_extents b (Some at) kept (subst (λ (xs : List Extent). IsLowest (Doubly xs) (Some at)) same lowest))
-
--- and where there is none, these records and parts are the file's image
-pub outline_image : (b : List ℕ) (len : ℕ) (h : Ehdr) (ss : List Shdr) (gs : List Phdr) (es : List Extent) (ps : List Part) → IsBytes b → len ≡ length b →
-    AreFileRecords b h ss gs → es ≡ value_extents h ss gs → KeepsRecordRules b → IsLowest (Doubly es) None → Accounts es len 0 (map part_piece ps) →
-    IsImage (image_in (outline_value len h ss gs ps) b) b
-outline_image b len h ss gs es ps are long read same kept never accounts =
-    let clean = fault_of_extents b None kept (subst (λ (xs : List Extent). IsLowest (Doubly xs) None) (same ∙ extents_read b h ss gs read) never) in
-    subst (λ (n : ℕ). IsImage (image_in (outline_value n h ss gs ps) b) b) (sym long)
-    (made_is_image b h ss gs _ ps are (records_in b h ss gs read) refl
-    (subst (λ (xs : List Extent). Accounts xs (length b) 0 (map part_piece ps)) same (subst (λ (n : ℕ). Accounts es n 0 (map part_piece ps)) long accounts))
-    clean)

@@ -113,6 +113,13 @@ pub record IsImage (v : ImageValue) (b : List ℕ) : Type 0 where
   pub stands : Stands v b
   pub clean : FirstIn (rules_in b) None
 
+-- what is said of an image's bytes: of the one list that represents it
+pub record OfItsBytes (v : ImageValue) (Says : List ℕ → Type 0) : Type 0 where
+  pub bytes : List ℕ
+  pub image : IsImage v bytes
+  pub only : (b : List ℕ) → Stands v b → b ≡ bytes
+  pub says : Says bytes
+
 -- ---- an image value by itself, with no byte list in it
 
 -- how many bytes of its own a part has: a gap all of them, any other none

@@ -12,20 +12,11 @@ use Rattle.elf_field.specs.declared.shdr.Shdr.{Shdr}
 use Rattle.elf_image_outline.specs.Image.{part_piece, value_extents}
 use Rattle.elf_image_outline.specs.declared.outline.Part.{Part}
 use Rattle.elf_image_rules.specs.Rows.{FirstIn}
-use Rattle.elf_image_rules.specs.Rules.{IsFault, KeepsRecordRules, MAX_LEN, header_rules, ident_rules, length_rules, image_rules, record_rules, program_table_rules, section_table_rules}
+use Rattle.elf_image_rules.specs.Rules.{IsFault, MAX_LEN, header_rules, ident_rules, length_rules, image_rules, record_rules, program_table_rules, section_table_rules}
 use Rattle.elf_image_rules.specs.Tables.{bytes_in, content_extent, counts_in, file_counts, header, phdr_offset, program_header_of, section_header_of, sections, shdr_offset}
 use Rattle.elf_image_rules.specs.declared.tables.Counts.{Counts}
 use Rattle.elf_image_stream.specs.declared.fault.Fault.TheVariants.{OutOfMemory, Io, Rule}
 use Rattle.elf_image_stream.specs.declared.fault.Fault.{Fault}
-
--- What `parse` returns for bytes that are no image, or when out of memory.
-
--- a rule is the first one that the bytes break, at its lowest offset; out of memory comes only where they keep rules 1 to 32, so that they
--- break rule 33 or none
-abbrev pub IsParseFault : List ℕ → Fault → Type 0
-IsParseFault b (Rule rule at) = IsFault b (Some (rule, at))
-IsParseFault b OutOfMemory = KeepsRecordRules b
-IsParseFault b (Io at) = ⊥
 
 -- the offset of a failed read that is returned; None for any other result
 abbrev pub scan_failure : {T : Type 0} → Result T Fault → Option ℕ

@@ -27,4 +27,3 @@ pub use entries::{Entries, write_entries, write_records};
 pub use outline::{NoSection, Outline, Owner, Part, ReplaceFault};
 pub use records::{RecordsFault, read_ends, read_record, read_records};
 pub use scanning::scan;
-pub use validated::outline_of;

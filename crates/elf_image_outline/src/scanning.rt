@@ -6,10 +6,9 @@ ghost use Rattle.elf_field.specs.Headers.{IsEhdr, IsShdr, shdr_at};
 ghost use Rattle.elf_image_outline.specs.Scanning.{KeepsHeadRules, Scans, scan_failure, HasTables, KeepsTableRules, names_extent};
 ghost use Rattle.elf_image_rules.specs.Rules.{MAX_LEN, AreEnds};
 ghost use Rattle.elf_image_rules.specs.Tables.{header as header_in, file_counts, no_section_header, order_of, section_header_of, sections as sections_in, names as names_in};
-ghost use Rattle.elf_image_stream.specs.Source.{Remembers, Reaches};
+ghost use Rattle.elf_image_stream.specs.Source.{Remembers, Reaches, ReportsBytes};
 ghost use Rattle.elf_image_outline.specs.Records.{table_at};
 ghost use Rattle.elf_image_outline.specs.Image.{AreRecordsIn, IsImage};
-ghost use Rattle.elf_field.specs.Bytes.{IsBytes};
 ghost use Rattle.elf_image_outline.specs.Outline.{IsOutlineOf, image_in};
 
 use crate::outline::Outline;
@@ -45,6 +44,7 @@ pub(crate) fn scan_head<S: Source>(source: &mut S) -> Result<Head, Fault>
     ensures room { IfOk result (λ head. head.header.e_shoff + SHDR_SIZE ≤ head.len) }
     ensures short { IfOk result (λ head. head.len ≤ MAX_LEN) }
     ensures valid { IfOk result (λ head. IsEhdr head.header) }
+    ensures bytes { ReportsBytes (S.content source.old) }
     ensures told { (b : List ℕ) → S.content source.old ≡ Some b →
         Scans b (λ head. (head.len ≡ length b) × (head.header ≡ header_in b)) result }
 {
@@ -210,9 +210,9 @@ pub(crate) fn scan_names<S: Source>(
 pub fn scan<S: Source>(alloc: Global, source: &mut S) -> Result<Outline, Fault>
     ensures kept { S.content source.new ≡ S.content source.old }
     ensures failures { Remembers (scan_failure result) (S.failures source.old) (S.failures source.new) }
-    ensures told { (b : List ℕ) → S.content source.old ≡ Some b → IsBytes b →
+    ensures told { (b : List ℕ) → S.content source.old ≡ Some b →
         Scans b (λ outline. IsImage (image_in outline b) b) result }
-    ensures of { (b : List ℕ) → S.content source.old ≡ Some b → IsBytes b → IfOk result (λ outline. IsOutlineOf outline b) }
+    ensures of { (b : List ℕ) → S.content source.old ≡ Some b → IfOk result (λ outline. IsOutlineOf outline b) }
 {
     let head = scan_head(source)?;
     let tables = scan_tables(alloc, source, &head)?;

@@ -48,6 +48,10 @@ FirstBy IsFirst (r ∷ rules) (Some fault) =
 abbrev pub FirstIn : List {1} (Ruled ℕ) → Option (ℕ × ℕ) → Type 0
 FirstIn = FirstBy IsLeast
 
+-- no second rule and offset is found in these rules
+abbrev pub HaveOneFault : List {1} (Ruled ℕ) → Type 0
+HaveOneFault rules = (x y : Option (ℕ × ℕ)) → FirstIn rules x → FirstIn rules y → x ≡ y
+
 -- A broken rule as what is found in a list of rules.
 
 -- the rule that a test of rules returns, and where it is broken; None if all of them hold

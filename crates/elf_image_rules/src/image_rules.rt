@@ -1,5 +1,5 @@
 //! The first rule that a file breaks.
-ghost use Rattle.std.specs.Prelude.{◌≡◌, ◌+◌, ◌<◌, ◌≤◌, ◌^◌, ℕ, List, Some, IfErr, IfOk, OnErr, OnOk, length};
+ghost use Rattle.std.specs.Prelude.{◌≡◌, ◌+◌, ◌<◌, ◌≤◌, ◌^◌, ℕ, List, Some, IfErr, IfOk, OnErr, OnOk, Option, length};
 ghost use Rattle.elf_image_rules.specs.Rows.{fault_of, FirstIn};
 ghost use Rattle.elf_image_rules.specs.Rules.{IsFault, KeepsRecordRules, header_entry_rules, header_table_rules, AreEnds};
 ghost use Rattle.elf_image_rules.specs.ValidatedRecords.{file_of};
@@ -23,8 +23,10 @@ use std::alloc::Global;
 
 /// The first rule of 1 to 33 that the file breaks, and its lowest offset in bytes; None if it breaks none. It takes no memory. It is
 /// linear in the records if the contents are in the order of their section headers; otherwise it takes the square of their number.
+#[tactic(auto, using(crate::proofs::ImageRules::one_fault))]
 pub fn verdict(bytes: &[u8]) -> Option<(u16, u64)>
-    ensures { IsFault bytes.now result }
+    ensures fault { IsFault bytes.now result }
+    ensures one { (other : Option (ℕ × ℕ)) → IsFault bytes.now other → other ≡ result }
 {
     match validate(bytes) {
         Ok(()) => None,

@@ -1,6 +1,7 @@
 -- What a source of bytes says of them: a list that no call changes, where it reports it, and its failures: how many calls failed, and what
 -- the last of them was asked for.
 use Rattle.std.specs.Prelude.{◌≡◌, ◌<◌, ◌≤◌, ◌+◌, ◌%◌, ◌^◌, ℕ, List, length, take, drop, Option, None, Some, Result, Ok, Err, IfOk, IfSome, ◌⊎◌}
+use Rattle.elf_field.specs.Bytes.{IsBytes}
 use Rattle.elf_image_stream.specs.declared.source.Failures.{Failures}
 use Rattle.elf_image_stream.specs.declared.source.ReadFault.{ReadFault}
 
@@ -30,6 +31,10 @@ IsDry content room k = (content ≡ None) × (0 < room) × (k ≡ 0)
 abbrev pub RemembersRead : {E : Type 0} → Option (List ℕ) → ℕ → ℕ → Failures → Failures → Result ℕ E → Type 0
 RemembersRead content at room old new (Ok k) = (IsDry content room k → Fails old new at) × (¬ IsDry content room k → new ≡ old)
 RemembersRead content at room old new (Err e) = Fails old new at
+
+-- what a source reports are bytes: each number is below 256
+abbrev pub ReportsBytes : Option (List ℕ) → Type 0
+ReportsBytes content = (b : List ℕ) → content ≡ Some b → IsBytes b
 
 -- the length that is returned is that of the content
 abbrev pub SaysLength : {E : Type 0} → Option (List ℕ) → Result ℕ E → Type 0

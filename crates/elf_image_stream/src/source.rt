@@ -1,6 +1,7 @@
 //! Bytes that are read at any place, as those of a file on a disk.
 ghost use Rattle.std.specs.Prelude.{◌≡◌, ◌≤◌, length, IfOk, None, ◌-◌, ◌++◌, Ok, drop, min, take, ◌<◌, ◌+◌, ◌^◌};
-ghost use Rattle.elf_image_stream.specs.Source.{GivesFrom, RemembersCall, RemembersRead, SaysLength, Fails, no_failures, Reads};
+ghost use Rattle.elf_field.specs.Bytes.{IsBytes};
+ghost use Rattle.elf_image_stream.specs.Source.{GivesFrom, RemembersCall, RemembersRead, ReportsBytes, SaysLength, Fails, no_failures, Reads};
 
 use crate::fault::Fault;
 use std::io::{Read, Seek, SeekFrom};
@@ -30,6 +31,7 @@ pub trait Source {
     fn length(&mut self) -> Result<u64, Failed>
         ensures kept { content self.new ≡ content self.old }
         ensures failures { RemembersCall 0 (failures self.old) (failures self.new) result }
+        ensures bytes { ReportsBytes (content self.old) }
         ensures length { SaysLength (content self.old) result };
 
     /// Reads bytes from offset `at` on to the front of `buf`, and returns how many. They may be fewer than `buf` can hold, but 0 only if no
@@ -95,6 +97,7 @@ impl<'a> Source for Bytes<'a> {
     ghost failures = { λ _. no_failures };
 
     fn length(&mut self) -> Result<u64, Failed> {
+        prove_bytes(self.0);
         Ok(self.0.len() as u64)
     }
 
@@ -109,6 +112,11 @@ impl<'a> Source for Bytes<'a> {
         Ok(self.copy_at(at, buf))
     }
 }
+
+/// Proves that each byte of a slice is below 2^8: the type of a slice that is part of a value does not say it. It does nothing.
+fn prove_bytes(_bytes: &[u8])
+    ensures { IsBytes _bytes.now }
+{}
 
 impl Bytes<'_> {
     /// Copies the bytes from offset `at` on to the front of `buf`, as many as are there and as `buf` can hold, and returns how many.

@@ -5,4 +5,4 @@ pub use Rattle.elf_image_type.proofs.FileParts.{written_accepted, written_is_byt
 pub use Rattle.elf_image_outline.proofs.Standing.{are_parts, contents_read, element_made, header_read, sections_read, segments_read}
 pub use Rattle.elf_image_type.proofs.RelocatableFile.{IsBytes-all, IsBytes-identification, identification_kept, order_identified}
 pub use Rattle.elf_image_type.proofs.RelocatableFile.{length-relocatable_bytes, length-relocatable_file, relocatable_accepted, relocatable_is_bytes, relocatable_names, relocatable_read}
-pub use Rattle.elf_image_outline.proofs.Theorem.{HasTablesOf, Reads, clean_bytes, has_tables_of, image_is_sound, one_list, sound_stands, stands_is_image}
+pub use Rattle.elf_image_outline.proofs.Theorem.{HasTablesOf, Reads, clean_bytes, has_tables_of, image_is_sound, of_its_bytes, one_list, sound_stands, stands_is_image}

@@ -1,20 +1,22 @@
 //! Images from bytes, and bytes from images.
 ghost use Rattle.std.specs.Prelude.{◌≡◌, IfErr, IfOk, map, ◌<◌, ℕ, List, length};
+ghost use Rattle.elf_image_rules.specs.Rows.{HaveOneFault};
+ghost use Rattle.elf_image_rules.specs.Rules.{rules_in};
 ghost use Rattle.elf_image_rules.specs.Tables.{bytes_in, content_extent};
-ghost use Rattle.elf_image_outline.specs.Image.{IsImage, IsSoundImage, joined, part_bytes};
-ghost use Rattle.elf_image_outline.specs.Scanning.{IsParseFault};
+ghost use Rattle.elf_image_outline.specs.Image.{ImageValue, IsImage, IsSoundImage, OfItsBytes, joined, part_bytes};
 ghost use Rattle.elf_image_outline.specs.Outline.{image_of, placed_part};
 ghost use Rattle.elf_image_stream.specs.Output.{Writes};
+ghost use Rattle.elf_image_type.specs.Parsing.{IsParseFault};
 ghost use Rattle.elf_image_type.specs.WrittenFile.{encoding as encoding_of, identification as identification_of};
 
 use crate::image::Image;
 use elf_field::abi::*;
 use elf_field::{Order, Shdr};
-use elf_image_outline::{Outline, Owner, Part, outline_of, write_records};
+use elf_image_outline::{Outline, Owner, Part, scan, write_records};
 use elf_image_rules::tables::content_of;
 use elf_image_rules::validate_records;
 use elf_image_stream::output::write_zeros;
-use elf_image_stream::{Fault, WriteFault, write_whole};
+use elf_image_stream::{Bytes, Fault, WriteFault, write_whole};
 use std::alloc::{AllocError, Global};
 use std::io::Write;
 
@@ -27,13 +29,16 @@ use std::io::Write;
 /// they break it. [`Fault::OutOfMemory`] comes only if they keep rules 1 to 32: the tables are
 /// copied, and the extents sorted for rule 33. [`Fault::Io`] never comes. Sorting takes n log n
 /// comparisons; all else is linear in the records.
+#[tactic(auto, using(elf_image_rules::proofs::Public::one_fault))]
 pub fn parse<'a>(alloc: Global, bytes: &'a [u8]) -> Result<Image<'a>, Fault>
     ensures ok { IfOk result (λ image. IsImage image bytes.entry.now) }
     ensures err { IfErr result (λ fault. IsParseFault bytes.entry.now fault) }
+    ensures one_image { IfOk result (λ image. (other : ImageValue) → IsImage other bytes.entry.now → other ≡ image) }
+    ensures one_fault { HaveOneFault (rules_in bytes.entry.now) }
 {
     // These rules take no memory, so that running out of it never hides one that is broken.
-    let records = validate_records(bytes)?;
-    let outline = outline_of(alloc, &records)?;
+    validate_records(bytes)?;
+    let outline = scan(alloc, &mut Bytes(bytes))?;
     let contents = contents_of(alloc, bytes, outline.sections())?;
     Ok(Image::new(outline, bytes, contents))
 }
@@ -62,8 +67,7 @@ fn contents_of<'a>(
 /// a rest that is not empty. Contents and gaps are offered whole. Nothing is flushed, and no memory is
 /// taken. Linear in the length of the file.
 pub fn write<W: Write>(image: &Image<'_>, writer: &mut W) -> Result<(), WriteFault>
-    ensures { (b : List ℕ) × IsImage image.now b ×
-        Writes (W.contents writer.old) (W.contents writer.new) b result }
+    ensures { OfItsBytes image.now (λ b. Writes (W.contents writer.old) (W.contents writer.new) b result) }
 {
     write_parts(&image.outline, &image.contents, image.file, writer)
 }

@@ -495,6 +495,7 @@ module _ (o : ObjectValue) (object : IsObject o) (widths : ObjectFits o) where
       let denotes = written_denotes_object o b written in
       record {
         laid = laid;
+        only = λ c other. one_layout o c b other laid;
         names = shared_names o object;
         short = short;
         accepted = written_accepted o b written;

@@ -54,6 +54,7 @@ pub record IsWrittenAt (o : ObjectValue) (places : List ℕ) : Type 0 where
 -- objects are equal
 pub record IsWrittenFile (o : ObjectValue) (b : List ℕ) : Type 0 where
   pub laid : Laid o b
+  pub only : (c : List ℕ) → Laid o c → c ≡ b
   -- each name is at its lowest offset in the two string tables, and no table that holds these names is shorter
   pub names : HasSharedNames o
   pub short : length b ≤ MAX_LEN

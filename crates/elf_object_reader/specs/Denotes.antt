@@ -141,6 +141,10 @@ pub record Denotes (f : Sections) (o : ObjectValue) : Type 0 where
   pub sections : o.sections ≡ map (section_denoted (left_out f) f) (kept (left_out f) f)
   pub symbols : o.symbols ≡ symbols_denoted (left_out f) f (symbol_table f)
 
+-- and no other one
+abbrev pub DenotesOnly : Sections → ObjectValue → Type 0
+DenotesOnly f o = Denotes f o × ((other : ObjectValue) → Denotes f other → other ≡ o)
+
 -- ---- where the names of the symbols end in the string table
 
 -- the end of a name at an offset of a string table: the offset after it, plus 1; 0 where no file is that long

@@ -3,13 +3,13 @@ ghost use Rattle.std.specs.Prelude.{◌≡◌, None, ◌<◌, true, length, ◌+
 ghost use Rattle.elf_image_rules.specs.KeepsRules.{unbroken_prop};
 ghost use Rattle.elf_image_rules.specs.Rows.{FirstIn};
 ghost use Rattle.elf_object_layout.specs.SectionsLeftOut.{is_kept};
-ghost use Rattle.elf_object_reader.specs.Denotes.{section_reference, position_of, Denotes, useful_ends};
+ghost use Rattle.elf_object_reader.specs.Denotes.{section_reference, position_of, Denotes, DenotesOnly, useful_ends};
 ghost use Rattle.elf_object_reader.specs.FileRules.{file_rules, AreSectionPositions, sections_of_file, front_rules};
 ghost use Rattle.elf_table_symbols.specs.Sections.{sections_of, section};
 ghost use Rattle.elf_image_stream.specs.declared.fault.Fault.TheVariants.{OutOfMemory};
 ghost use Rattle.elf_object_strings.specs.StringTable.{AreTails};
 ghost use Rattle.elf_object_type.specs.ObjectView.{value_of};
-ghost use Rattle.elf_table_symbols.specs.Verdicts.{IsValidatedBehind};
+ghost use Rattle.elf_table_symbols.specs.Verdicts.{IsOnlyValidatedBehind, IsValidatedBehind, OfItsFile};
 
 use crate::file_rules::validate_front;
 use crate::object_file::ObjectFile;
@@ -104,8 +104,9 @@ impl<'i, 'a> ObjectFile<'i, 'a> {
 /// takes memory for each section header, symbol, relocation and member. Its tables take log n steps at most for each entry, and each name
 /// is read to its end.
 pub fn object_of<'a>(alloc: Global, image: &Image<'a>) -> Result<Object<'a>, Fault>
-    ensures { let f = sections_of image.now in
+    ensures validated { let f = sections_of image.now in
         IsValidatedBehind (front_rules f) (file_rules f) (λ o. Denotes f o) result }
+    ensures file { OfItsFile image.now (λ f. IsOnlyValidatedBehind (front_rules f) (file_rules f) (DenotesOnly f) result) }
 {
     image.prove_stands();
     let parts = parts_of(alloc, image)?;

@@ -1,26 +1,22 @@
 -- If a group or a dynamic section breaks no rule, the section that it links to is there, by its own rules. A group's symbol table breaks no
 -- rule, which the group's rules include, and has the symbol of the signature. A table that breaks no rule has the verdict None, because it
 -- has one fault only (`one_fault`).
-use Rattle.std.proofs.Common.{◌≡◌, ◌≢◌, ℕ, ◌+◌, inl, inr, sym, ◌∙◌, None, Option, Some, length, subst, ◌<◌, List, get_or, refl, ap, map, ◌*◌, ◌≤◌}
+use Rattle.std.proofs.Common.{◌≡◌, ◌≢◌, ℕ, ◌+◌, inl, inr, sym, ◌∙◌, None, Option, Some, length, subst, ◌<◌, List, get_or, refl, ◌*◌, ◌≤◌}
 use Rattle.std.proofs.lemmas.Bool.{cases_eq, cases_lt}
-use Rattle.std.specs.List.{range_with_len}
 use Rattle.elf_extent.specs.declared.extent.Extent.{Extent}
 use Rattle.elf_field.proofs.RecordTableLaws.{record_of_part}
 use Rattle.elf_field.specs.Abi.{SHT_SYMTAB, DYN_SIZE, RELA_SIZE, REL_SIZE, SYM_SIZE, WORD_SIZE}
 use Rattle.elf_field.specs.Entries.{dyn_at, dyn_laws, rel_at, rel_laws, rela_at, rela_laws, sym_at, sym_laws, word_at, word_laws}
-use Rattle.elf_field.specs.declared.ehdr.Ehdr.{Ehdr}
 use Rattle.elf_field.specs.declared.number.Order.{Order}
-use Rattle.elf_field.specs.declared.shdr.Shdr.{Shdr}
-use Rattle.elf_image_outline.specs.Image.{ImageValue, IsImage}
 use Rattle.elf_image_rules.proofs.Public.{FirstIn-behind, FirstIn-front, one_fault}
 use Rattle.elf_image_rules.specs.Rows.{FirstIn}
-use Rattle.elf_image_rules.specs.Tables.{bytes_in, content_extent, section_header_count, sections}
+use Rattle.elf_image_rules.specs.Tables.{bytes_in}
 use Rattle.elf_table_all.specs.Tables.{AreAllIndexTables, index_tables_at, rules_of_kind, table_rules, AreVerdicts, HasSoundTable, TablesValue}
 use Rattle.elf_table_all.specs.declared.verdicts.AllIndexTables.{AllIndexTables}
 use Rattle.elf_table_lists.specs.Dynamic.{dynamic_section_rules, dynamic_entry}
 use Rattle.elf_table_lists.specs.Groups.{group_front_rules, group_rules, group_section_rules}
 use Rattle.elf_table_symbols.proofs.Public.{index_tables_noted, index_tables_passed, length_symbols, link_there, symbols_kind}
-use Rattle.elf_table_symbols.specs.Sections.{Sections, section, sections_of, kind_of, own_rules, content, count, order, sections_in}
+use Rattle.elf_table_symbols.specs.Sections.{Sections, section, sections_of, kind_of, own_rules, content, count, order}
 use Rattle.elf_table_symbols.specs.Symbols.{IsIndexTable, noted, entry_count, symbol_table_rules, symbols_of, entry, word}
 use Rattle.elf_table_symbols.specs.declared.table_section.TableKind.TheVariants.{DynamicArray, SectionGroup, SymbolTable}
 use Rattle.elf_table_symbols.specs.declared.table_section.TableKind.{TableKind}
@@ -102,23 +98,6 @@ group_signature f i sound =
 pub dynamic_link : (f : Sections) (i : ℕ) → FirstIn (dynamic_section_rules f i) None → (section f i).sh_link < count f
 unfolding dynamic_section_rules
 dynamic_link f i sound = link_there DynamicArray f i (FirstIn-front (own_rules DynamicArray f i) _ sound)
-
--- What the rules of tables look at in an image is what they look at in its bytes.
-
--- the section headers of bytes with this header, and what follows from them
-abbrev headers_at : List ℕ → Ehdr → List Shdr
-headers_at b h = map (sections b h) (range_with_len 0 (section_header_count h (sections b h 0)))
-
-abbrev made : List ℕ → Ehdr → List Shdr → Sections
-made b h headers = record { header = h; headers = headers; contents = map (λ s. bytes_in b (content_extent s)) headers }
-
-pub sections_of_bytes : (v : ImageValue) (b : List ℕ) → IsImage v b → sections_of v ≡ sections_in b
-unfolding sections_in
-sections_of_bytes v b image =
-    (let stands = image.stands in
-    ap (λ (cs : List (List ℕ)). record { header = v.header; headers = v.sections; contents = cs }) stands.contents
-    ∙ ap (made b v.header) stands.records.section_headers
-    ∙ ap (λ (h : Ehdr). made b h (headers_at b h)) stands.records.header)
 
 -- An entry that lies inside a content is the record at its place in the file, for symbols, words, relocations and dynamic entries. The
 -- content is a part of the file's bytes, and a record of a part is that of the whole (`record_of_part`).

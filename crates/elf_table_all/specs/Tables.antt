@@ -3,7 +3,7 @@ use Rattle.std.specs.Prelude.{ℕ, Option, None, Some, List, [], ◌≡◌, Resu
 use Rattle.std.specs.BTreeMap.{get}
 use Rattle.std.specs.Ordering.{nat_cmp}
 use Rattle.elf_image_outline.specs.Image.{ImageValue}
-use Rattle.elf_image_rules.specs.Rows.{Ruled, fault_of, FirstIn}
+use Rattle.elf_image_rules.specs.Rows.{HaveOneFault, Ruled, fault_of, FirstIn}
 use Rattle.elf_image_rules.specs.Rows.{Broken}
 use Rattle.elf_image_stream.specs.declared.fault.Fault.TheVariants.{OutOfMemory, Io, Rule}
 use Rattle.elf_image_stream.specs.declared.fault.Fault.{Fault}
@@ -14,7 +14,7 @@ use Rattle.elf_table_lists.specs.Dynamic.{dynamic_section_rules}
 use Rattle.elf_table_lists.specs.Groups.{group_section_rules}
 use Rattle.elf_table_lists.specs.Notes.{note_section_rules}
 use Rattle.elf_table_lists.specs.Relocations.{relocation_section_rules}
-use Rattle.elf_table_symbols.specs.Sections.{Sections, section, kind_of, sections_of, content}
+use Rattle.elf_table_symbols.specs.Sections.{Sections, count, section, kind_of, sections_of, content}
 use Rattle.elf_table_symbols.specs.SymbolView.{no_symbol_entry}
 use Rattle.elf_table_symbols.specs.Symbols.{symbol_table_rules, AreIndexTables, symbols_of}
 use Rattle.elf_table_symbols.specs.declared.index_tables.IndexTables.{IndexTables}
@@ -60,6 +60,10 @@ IsVerdictOf (Err (Io at)) verdict = ⊥
 pub record AreVerdicts (f : Sections) (end : ℕ) (verdicts : List (Option (ℕ × ℕ))) : Type 0 where
   pub long : length verdicts ≡ end
   pub right : (i : ℕ) → i < end → FirstIn (table_rules f i) (get_or verdicts i None)
+
+-- and no other rule and offset is the first that one of them breaks
+abbrev pub AreOnlyVerdicts : Sections → List (Option (ℕ × ℕ)) → Type 0
+AreOnlyVerdicts f verdicts = AreVerdicts f (count f) verdicts × ((i : ℕ) → HaveOneFault (table_rules f i))
 
 -- an image, and the verdicts on its tables
 pub record TablesValue : Type 0 where

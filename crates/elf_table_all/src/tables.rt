@@ -1,14 +1,16 @@
 //! The tables of an image, each validated once (gABI chapter 4, Sections: sh_type).
 ghost use Rattle.std.specs.Prelude.{◌≡◌, ◌<◌, None, IfOk, get_or, length};
-ghost use Rattle.elf_image_rules.specs.Rows.{fault_of, FirstIn};
-ghost use Rattle.elf_table_symbols.specs.Sections.{sections_of};
+ghost use Rattle.elf_image_rules.specs.Rows.{fault_of, FirstIn, HaveOneFault};
+ghost use Rattle.elf_image_outline.specs.Image.{OfItsBytes};
+ghost use Rattle.elf_table_symbols.specs.Sections.{sections_in, sections_of};
+ghost use Rattle.elf_table_symbols.specs.Verdicts.{OfItsFile};
 ghost use Rattle.elf_table_symbols.specs.Symbols.{symbols_of};
 ghost use Rattle.elf_table_hash.specs.HashView.{hash_of_section};
 ghost use Rattle.elf_table_lists.specs.Dynamic.{dynamic_array_of};
 ghost use Rattle.elf_table_lists.specs.Groups.{group_of};
 ghost use Rattle.elf_table_lists.specs.Notes.{notes_of};
 ghost use Rattle.elf_table_lists.specs.Relocations.{relocations_of};
-ghost use Rattle.elf_table_all.specs.Tables.{dynamic_strings, signature_name, table_rules, AreVerdicts, HasSoundTable};
+ghost use Rattle.elf_table_all.specs.Tables.{AreOnlyVerdicts, dynamic_strings, signature_name, table_rules, AreVerdicts, HasSoundTable};
 ghost use Rattle.elf_table_symbols.specs.declared.table_section.TableKind.TheVariants as kind;
 
 use crate::verdicts::{AllIndexTables, all_verdicts};
@@ -51,7 +53,9 @@ impl<'i, 'a> Tables<'i, 'a> {
     pub fn new(alloc: Global, image: &'i Image<'a>) -> Result<Tables<'i, 'a>, AllocError>
         ensures image { IfOk result (λ tables. tables.image ≡ image.entry.now) }
         ensures verdicts { IfOk result (λ tables. AreVerdicts (sections_of image.entry.now) (length image.entry.now.sections) tables.verdicts) }
+        ensures file { IfOk result (λ tables. OfItsBytes image.entry.now (λ b. AreOnlyVerdicts (sections_in b) tables.verdicts)) }
     {
+        image.prove_stands();
         let index_tables = AllIndexTables::new(alloc, image)?;
         let verdicts = all_verdicts(alloc, image, &index_tables)?;
         Ok(Tables {
@@ -74,7 +78,9 @@ impl<'i, 'a> Tables<'i, 'a> {
         requires { i < length self.now.image.sections }
         ensures kept { fault_of result ≡ get_or self.now.verdicts i None }
         ensures fault { FirstIn (table_rules (sections_of self.now.image) i) (fault_of result) }
+        ensures file { OfItsFile self.now.image (λ f. HaveOneFault (table_rules f i) × FirstIn (table_rules f i) (fault_of result)) }
     {
+        self.image.prove_stands();
         self.verdicts.get(i)
     }
 

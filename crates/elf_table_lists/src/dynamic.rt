@@ -5,7 +5,7 @@ ghost use Rattle.elf_extent.specs.Extent.{IsLowest};
 ghost use Rattle.elf_image_rules.specs.Rows.{fault_of, AtEntry, FirstIn};
 ghost use Rattle.elf_image_rules.specs.Rules.{MAX_LEN};
 ghost use Rattle.elf_table_symbols.specs.Sections.{sections_of};
-ghost use Rattle.elf_table_symbols.specs.Verdicts.{IsValidated};
+ghost use Rattle.elf_table_symbols.specs.Verdicts.{IsValidated, IsOnlyValidated, OfItsFile};
 ghost use Rattle.elf_table_lists.specs.Left.{dynamic_left};
 
 use elf_field::abi::*;
@@ -144,8 +144,11 @@ impl<'a> Dynamic<'a> {
     /// the section links to, then 63 and 64. No other fault comes. Linear in the entries.
     pub fn new(image: &Image<'a>, i: usize) -> Result<Dynamic<'a>, Fault>
         requires { i < length image.now.sections }
-        ensures { IsValidated (dynamic_section_rules (sections_of image.now) i) (λ dynamic. dynamic ≡ dynamic_array_of (sections_of image.now) i) result }
+        ensures validated { IsValidated (dynamic_section_rules (sections_of image.now) i) (λ dynamic. dynamic ≡ dynamic_array_of (sections_of image.now) i) result }
+        ensures file { OfItsFile image.now
+            (λ f. IsOnlyValidated (dynamic_section_rules f i) (λ dynamic. dynamic ≡ dynamic_array_of f i) result) }
     {
+        image.prove_stands();
         validate_dynamic_section(TableSection { image, index: i })?;
         Ok(sound_dynamic(image, i))
     }

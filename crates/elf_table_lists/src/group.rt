@@ -2,7 +2,7 @@
 ghost use Rattle.std.specs.Prelude.{◌≡◌, ◌<◌, IfErr, None, length, slice_index, ◌↔◌, ◌+◌, ◌*◌, ◌%◌, IfOk, IsTrue, OnErr};
 ghost use Rattle.elf_image_stream.specs.declared.fault.Fault.TheVariants.{OutOfMemory};
 ghost use Rattle.elf_image_rules.specs.Rows.{FirstIn, fault_of};
-ghost use Rattle.elf_table_symbols.specs.Verdicts.{IsValidatedBehind};
+ghost use Rattle.elf_table_symbols.specs.Verdicts.{IsValidatedBehind, IsOnlyValidatedBehind, OfItsFile};
 ghost use Rattle.elf_table_symbols.specs.Sections.{content, order, sections_of, Below, section};
 ghost use Rattle.elf_table_lists.specs.Groups.{group_section_front, group_section_rules, MembersAscend, group_of, IsUnfit, IsWrongMember, group_front_rules, group_rules, member as member_of, member_count as member_count_of};
 ghost use Rattle.elf_table_lists.specs.Left.{members_left};
@@ -54,9 +54,12 @@ impl<'a> Group<'a> {
         requires { i < length image.now.sections }
         ensures validated { let f = sections_of image.now in
             IsValidatedBehind (group_section_front f i) (group_section_rules f i) (λ group. group ≡ group_of f i) result }
+        ensures file { OfItsFile image.now
+            (λ f. IsOnlyValidatedBehind (group_section_front f i) (group_section_rules f i) (λ group. group ≡ group_of f i) result) }
         ensures memory { let f = sections_of image.now in
             IfErr result (λ fault. fault ≡ OutOfMemory → ¬ MembersAscend (order f) (content f i)) }
     {
+        image.prove_stands();
         let section = TableSection { image, index: i };
         validate_group_section(alloc, section, SymbolVerdicts::Unknown)?;
         Ok(sound_group(image, i))

@@ -5,7 +5,7 @@ ghost use Rattle.elf_table_lists.specs.Notes.{note_at as note_of, note_end as no
 ghost use Rattle.elf_image_rules.specs.Rows.{fault_of, FirstIn};
 ghost use Rattle.elf_image_rules.specs.Rules.{MAX_LEN};
 ghost use Rattle.elf_table_symbols.specs.Sections.{sections_of};
-ghost use Rattle.elf_table_symbols.specs.Verdicts.{IsValidated};
+ghost use Rattle.elf_table_symbols.specs.Verdicts.{IsValidated, IsOnlyValidated, OfItsFile};
 
 use elf_field::abi::*;
 use elf_field::{Order, get_at};
@@ -207,8 +207,11 @@ impl<'a> Notes<'a> {
     /// Linear in the notes.
     pub fn new(image: &Image<'a>, i: usize) -> Result<Notes<'a>, Fault>
         requires { i < length image.now.sections }
-        ensures { IsValidated (note_section_rules (sections_of image.now) i) (λ notes. notes ≡ notes_of (sections_of image.now) i) result }
+        ensures validated { IsValidated (note_section_rules (sections_of image.now) i) (λ notes. notes ≡ notes_of (sections_of image.now) i) result }
+        ensures file { OfItsFile image.now
+            (λ f. IsOnlyValidated (note_section_rules f i) (λ notes. notes ≡ notes_of f i) result) }
     {
+        image.prove_stands();
         validate_note_section(TableSection { image, index: i })?;
         Ok(sound_notes(image, i))
     }

@@ -7,7 +7,7 @@ ghost use Rattle.elf_extent.specs.Extent.{IsLowest};
 ghost use Rattle.elf_image_rules.specs.Rows.{fault_of, AtEntry, FirstIn};
 ghost use Rattle.elf_table_symbols.specs.Symbols.{AreKnown};
 ghost use Rattle.elf_table_symbols.specs.Sections.{sections_of};
-ghost use Rattle.elf_table_symbols.specs.Verdicts.{IsValidated};
+ghost use Rattle.elf_table_symbols.specs.Verdicts.{IsValidated, IsOnlyValidated, OfItsFile};
 ghost use Rattle.elf_table_lists.specs.Left.{relocations_left};
 
 use elf_field::abi::*;
@@ -176,8 +176,11 @@ impl<'a> Relocs<'a> {
     /// relocations.
     pub fn new(image: &Image<'a>, i: usize) -> Result<Relocs<'a>, Fault>
         requires { i < length image.now.sections }
-        ensures { IsValidated (relocation_section_rules (sections_of image.now) i) (λ relocs. relocs ≡ relocations_of (sections_of image.now) i) result }
+        ensures validated { IsValidated (relocation_section_rules (sections_of image.now) i) (λ relocs. relocs ≡ relocations_of (sections_of image.now) i) result }
+        ensures file { OfItsFile image.now
+            (λ f. IsOnlyValidated (relocation_section_rules f i) (λ relocs. relocs ≡ relocations_of f i) result) }
     {
+        image.prove_stands();
         validate_relocation_section(TableSection { image, index: i }, SymbolVerdicts::Unknown)?;
         Ok(section_relocs(image, i))
     }

@@ -3,10 +3,12 @@ use Rattle.std.specs.Prelude.{ℕ, List, None, Some, Result, Ok, Err, ◌≡◌,
 use Rattle.std.specs.BTreeMap.{BTreeMap, get}
 use Rattle.std.specs.List.{range_with_len}
 use Rattle.std.specs.Ordering.{nat_cmp}
-use Rattle.elf_image_rules.specs.Rows.{FirstIn, Ruled}
+use Rattle.elf_image_outline.specs.Image.{ImageValue, OfItsBytes}
+use Rattle.elf_image_rules.specs.Rows.{FirstIn, HaveOneFault, Ruled}
 use Rattle.elf_image_rules.specs.Rows.{Broken}
 use Rattle.elf_image_stream.specs.declared.fault.Fault.TheVariants.{OutOfMemory, Io, Rule}
 use Rattle.elf_image_stream.specs.declared.fault.Fault.{Fault}
+use Rattle.elf_table_symbols.specs.Sections.{Sections, sections_in}
 use Rattle.elf_table_symbols.specs.declared.verdicts.Verdicts.TheInside.{Inside}
 
 -- What a call that makes a table of a section returns: the table if none of its rules is broken, otherwise the first one
@@ -25,6 +27,17 @@ IsValidatedBehind front rules Is (Ok table) = FirstIn rules None × Is table
 IsValidatedBehind front rules Is (Err (Rule rule at)) = FirstIn rules (Some (rule, at))
 IsValidatedBehind front rules Is (Err OutOfMemory) = FirstIn front None
 IsValidatedBehind front rules Is (Err (Io at)) = ⊥
+
+-- and no other rule and offset is the first that is broken
+abbrev pub IsOnlyValidated : {T : Type 0} → List {1} (Ruled ℕ) → (T → Type 0) → Result T Fault → Type 0
+IsOnlyValidated rules Is result = HaveOneFault rules × IsValidated rules Is result
+
+abbrev pub IsOnlyValidatedBehind : {T : Type 0} → List {1} (Ruled ℕ) → List {1} (Ruled ℕ) → (T → Type 0) → Result T Fault → Type 0
+IsOnlyValidatedBehind front rules Is result = HaveOneFault rules × IsValidatedBehind front rules Is result
+
+-- what is said of the sections that an image's bytes have, the one list that represents it
+abbrev pub OfItsFile : ImageValue → (Sections → Type 0) → Type 0
+OfItsFile v Says = (f : Sections) × OfItsBytes v (λ b. f ≡ sections_in b) × Says f
 
 -- What contracts see of the verdicts on the first sections of an image.
 

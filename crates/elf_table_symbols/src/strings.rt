@@ -3,7 +3,7 @@ ghost use Rattle.std.specs.Prelude.{◌≡◌, ◌≢◌, ◌<◌, ◌≤◌, �
 ghost use Rattle.elf_image_rules.specs.Rules.{MAX_LEN};
 ghost use Rattle.elf_image_rules.specs.Rows.{fault_of, FirstIn};
 ghost use Rattle.elf_image_type.specs.ImageView.{string};
-ghost use Rattle.elf_table_symbols.specs.Verdicts.{IsValidated};
+ghost use Rattle.elf_table_symbols.specs.Verdicts.{IsValidated, IsOnlyValidated, OfItsFile};
 ghost use Rattle.elf_table_symbols.specs.Sections.{content, sections_of};
 ghost use Rattle.elf_table_symbols.specs.Symbols.{linked_string_rules, string_table_rules};
 
@@ -38,8 +38,11 @@ impl<'a> Strings<'a> {
     /// It looks at the first and the last byte of the table alone.
     pub fn new(image: &Image<'a>, i: usize) -> Result<Strings<'a>, Fault>
         requires { i < length image.now.sections }
-        ensures { IsValidated (string_table_rules (sections_of image.now) i) (λ strings. strings ≡ content (sections_of image.now) i) result }
+        ensures validated { IsValidated (string_table_rules (sections_of image.now) i) (λ strings. strings ≡ content (sections_of image.now) i) result }
+        ensures file { OfItsFile image.now
+            (λ f. IsOnlyValidated (string_table_rules f i) (λ strings. strings ≡ content f i) result) }
     {
+        image.prove_stands();
         let table = TableSection { image, index: i };
         validate_string_table(table)?;
         Ok(Strings {

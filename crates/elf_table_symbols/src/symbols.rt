@@ -2,7 +2,7 @@
 ghost use Rattle.std.specs.Prelude.{◌≡◌, ◌*◌, ◌+◌, ◌≤◌, length, ◌<◌, None, OnOk, get_or};
 ghost use Rattle.elf_table_symbols.specs.Symbols.{word as word_of, place_of, AreIndexTables, symbol_table_rules, symbols_of};
 ghost use Rattle.elf_image_rules.specs.Rows.{fault_of, FirstIn};
-ghost use Rattle.elf_table_symbols.specs.Verdicts.{IsValidated};
+ghost use Rattle.elf_table_symbols.specs.Verdicts.{IsValidated, IsOnlyValidated, OfItsFile};
 ghost use Rattle.elf_table_symbols.specs.Sections.{sections_of};
 ghost use Rattle.elf_table_symbols.specs.SymbolView.{no_symbol_entry, symbol_entry_value, symbols_left};
 
@@ -97,8 +97,11 @@ impl<'a> Symbols<'a> {
     /// table that it links to, then 45 to 52. No other fault comes. Linear in the section headers and the symbols.
     pub fn new(image: &Image<'a>, i: usize) -> Result<Symbols<'a>, Fault>
         requires { i < length image.now.sections }
-        ensures { IsValidated (symbol_table_rules (sections_of image.now) i) (λ symbols. symbols ≡ symbols_of (sections_of image.now) i) result }
+        ensures validated { IsValidated (symbol_table_rules (sections_of image.now) i) (λ symbols. symbols ≡ symbols_of (sections_of image.now) i) result }
+        ensures file { OfItsFile image.now
+            (λ f. IsOnlyValidated (symbol_table_rules f i) (λ symbols. symbols ≡ symbols_of f i) result) }
     {
+        image.prove_stands();
         let table = TableSection { image, index: i };
         let tables = index_tables_of(image, i);
         validate_symbol_table(table, tables)?;

@@ -5,7 +5,6 @@ use Rattle.std.proofs.lemmas.Bool.{cases_lt}
 use Rattle.std.proofs.lemmas.List.{get_or_append_left}
 use Rattle.std.specs.Io.KnownBytes.{Appends}
 use Rattle.std.proofs.lemmas.List.FromFn.{length-map-range_with_len}
-use Rattle.elf_field.specs.Bytes.{IsBytes}
 use Rattle.elf_field.specs.declared.ehdr.Ehdr.{Ehdr}
 use Rattle.elf_image_outline.specs.Image.{IsImage}
 use Rattle.elf_image_outline.specs.Outline.{OutlineValue, image_in}
@@ -63,13 +62,13 @@ is_line (Ok o) = (o.len, length o.sections, length o.segments, refl)
 is_line (Err broken) = (refl, refl)
 
 -- the line of what was scanned, with its verdict
-source_says : (content : Option (List ℕ)) (validated : Result OutlineValue (Broken ℕ)) → ((b : List ℕ) → content ≡ Some b → IsBytes b → IsScanned b validated)
+source_says : (content : Option (List ℕ)) (validated : Result OutlineValue (Broken ℕ)) → ((b : List ℕ) → content ≡ Some b → IsScanned b validated)
     → SourceSays content (verdict_of (fault_of validated)) (line_of_scan validated)
-source_says content validated told = (is_line validated, λ b same are. check_says b validated (told b same are))
+source_says content validated told = (is_line validated, λ b same. check_says b validated (told b same))
 
 -- what is said when the line is out, and when only its first bytes are
 module _ (content old new : Option (List ℕ)) (validated : Result OutlineValue (Broken ℕ)) (bytes : List ℕ) (is : bytes ≡ line_of_scan validated)
-    (told : (b : List ℕ) → content ≡ Some b → IsBytes b → IsScanned b validated) where
+    (told : (b : List ℕ) → content ≡ Some b → IsScanned b validated) where
   pub said_whole : (verdict : Verdict) → verdict ≡ verdict_of (fault_of validated) → Appends old new bytes → Prints (SourceSays content) old new (Ok verdict)
   said_whole verdict same out = (bytes, rw (same, is) (source_says content validated told), out)
 

@@ -1,7 +1,6 @@
 -- What `check_source` says of a source.
 use Rattle.std.specs.Prelude.{◌≡◌, ℕ, List, length, Option, None, Some, Result, Ok, Err}
 use Rattle.std.specs.Io.KnownBytes.{Keeps}
-use Rattle.elf_field.specs.Bytes.{IsBytes}
 use Rattle.elf_image_outline.specs.Image.{IsImage}
 use Rattle.elf_image_outline.specs.Outline.{OutlineValue, image_in}
 use Rattle.elf_image_rules.specs.Rules.{IsFault}
@@ -25,7 +24,7 @@ IsCheckLine (Refused TooLong) text = ⊥
 
 -- of every source the line of the verdict; of one that reports its bytes, what `check` says of these
 abbrev pub SourceSays : Option (List ℕ) → Verdict → List ℕ → Type 0
-SourceSays content verdict text = IsCheckLine verdict text × ((b : List ℕ) → content ≡ Some b → IsBytes b → CheckSays b verdict text)
+SourceSays content verdict text = IsCheckLine verdict text × ((b : List ℕ) → content ≡ Some b → CheckSays b verdict text)
 
 -- what is said is written, or exactly the first bytes of it, of which `written` is the count, or when out of memory and where a read failed
 -- nothing

@@ -1,6 +1,5 @@
 //! `check` over a source: the same verdict, of what the check needs to read alone.
 ghost use Rattle.std.specs.Prelude.{◌≡◌, ℕ, List, Ok, Some, IfErr, IfOk, string_bytes};
-ghost use Rattle.elf_field.specs.Bytes.{IsBytes};
 ghost use Rattle.elf_image_rules.specs.Rows.{fault_of};
 ghost use Rattle.elf_image_stream.specs.Source.{Remembers};
 ghost use Rattle.elf_tool_check.specs.Check.{verdict_of};
@@ -43,7 +42,7 @@ fn validated_by_scan<S: Source>(
     ensures kept { S.content source.new ≡ S.content source.old }
     ensures failures { Remembers (check_failure result) (S.failures source.old) (S.failures source.new) }
     ensures stopped { IfErr result IsScanStopped }
-    ensures told { (b : List ℕ) → S.content source.old ≡ Some b → IsBytes b → IfOk result (IsScanned b) }
+    ensures told { (b : List ℕ) → S.content source.old ≡ Some b → IfOk result (IsScanned b) }
 {
     match scan(alloc, source) {
         Ok(outline) => Ok(Ok(outline)),

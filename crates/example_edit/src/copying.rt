@@ -2,7 +2,6 @@
 
 ghost use Rattle.std.specs.Prelude.{◌≡◌, ℕ, List, Some};
 ghost use Rattle.std.specs.Io.KnownBytes.{Appends};
-ghost use Rattle.elf_field.specs.Bytes.{IsBytes};
 ghost use Rattle.elf_image.specs.Image.{flagged};
 ghost use Rattle.elf_image.specs.Image.{IsImage};
 ghost use Rattle.elf_image.specs.Outline.{OutlineValue, image_in};
@@ -34,7 +33,6 @@ fn copy_with_flags<S: Source, W: Write>(
     flags: u64,
     out: &mut W,
 ) -> u8
-    requires { (b : List ℕ) → S.content source.old ≡ Some b → IsBytes b }
     // What was written is the image of the source's bytes, with these flags of the section.
     ensures { result ≡ 0 → (b : List ℕ) → S.content source.old ≡ Some b → (o : OutlineValue) × IsImage (image_in o b) b ×
         ((copy : List ℕ) × IsImage (image_in (record o { sections = flagged o.sections section flags }) b) copy ×

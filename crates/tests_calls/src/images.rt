@@ -1,6 +1,5 @@
 //! Images, their tables, and the objects that they denote.
 ghost use Rattle.std.specs.Prelude.{◌<◌, length, ◌≡◌, ℕ, List, Some};
-ghost use Rattle.elf_field.specs.Bytes.{IsBytes};
 
 use crate::said::{Said, of_fault, say};
 use elf_image_outline::{CopyFault, copy_image, scan};
@@ -256,9 +255,11 @@ pub fn object<W: Write>(alloc: Global, bytes: &[u8], out: &mut W) -> Result<(), 
 }
 
 /// Copies the image of a source.
-pub fn copy<S: Source, W: Write>(alloc: Global, source: &mut S, out: &mut W) -> Result<(), Stopped>
-    requires { (b : List ℕ) → S.content source.old ≡ Some b → IsBytes b }
-{
+pub fn copy<S: Source, W: Write>(
+    alloc: Global,
+    source: &mut S,
+    out: &mut W,
+) -> Result<(), Stopped> {
     let outline = scan(alloc, source)?;
     copy_image(&outline, source, out)?;
     Ok(())

@@ -7,7 +7,6 @@ use Rattle.std.specs.Prelude.{codes}
 use Rattle.std.specs.Io.KnownBytes.{Consumes}
 use Rattle.clap.specs.Simple.{subcommand_of}
 use Rattle.clap.specs.Walk.{Row, Text, walked}
-use Rattle.elf_field.specs.Bytes.{IsBytes}
 use Rattle.elf_image_rules.specs.Rules.{IsFault}
 use Rattle.elf_tool_check.specs.Check.{CheckSays}
 use Rattle.elf_tool_program.specs.CheckSource.{IsSourceChecked}
@@ -175,39 +174,39 @@ seeks_not name rows entered none = let both : true ≡ false = sym (seeks name r
 no_show : (name : Text) → name ≡ codes "check" → name ≡ codes "show" → ⊥
 no_show name one other = let both : codes "check" ≡ codes "show" = sym one ∙ other in cc
 
-source_says : (bytes : List ℕ) → IsBytes bytes → (content after old new : Option (List ℕ)) (answer : Result Verdict ToolFault) (status : Status)
+source_says : (bytes : List ℕ) (content after old new : Option (List ℕ)) (answer : Result Verdict ToolFault) (status : Status)
     → content ≡ Some bytes → IsSourceChecked content after old new answer → status ≡ ending_of answer → Tells status bytes
-source_says bytes are content after old new (Ok Done) status known (kept, said) is = record {
-  done = λ zero. check_says bytes Done said.0 (said.1.1 bytes known are);
+source_says bytes content after old new (Ok Done) status known (kept, said) is = record {
+  done = λ zero. check_says bytes Done said.0 (said.1.1 bytes known);
   refused = λ one. let e : 0 ≡ 1 = sym (ap code_of is) ∙ one in absurd (omega arith);
 }
-source_says bytes are content after old new (Ok (Refused refusal)) status known (kept, said) is = record {
+source_says bytes content after old new (Ok (Refused refusal)) status known (kept, said) is = record {
   done = λ zero. let e : 1 ≡ 0 = sym (ap code_of is) ∙ zero in absurd (omega arith);
-  refused = λ one. check_says bytes (Refused refusal) said.0 (said.1.1 bytes known are);
+  refused = λ one. check_says bytes (Refused refusal) said.0 (said.1.1 bytes known);
 }
-source_says bytes are content after old new (Err fault) status known call is = neither status bytes 3 (λ e. omega arith) (λ e. omega arith) (ap code_of is)
+source_says bytes content after old new (Err fault) status known call is = neither status bytes 3 (λ e. omega arith) (λ e. omega arith) (ap code_of is)
 
-sought_says : (bytes : List ℕ) (old new : Option (List ℕ)) (status : Status) → IsBytes bytes
+sought_says : (bytes : List ℕ) (old new : Option (List ℕ)) (status : Status)
     → EndsRun seek_words (λ name. Some bytes) (λ name. true) old new status → Tells status bytes
-sought_says bytes old new status are (inl (Check file, asked, ends)) = absurd (seeks_not asked.name asked.rows asked.entered asked.holds.2)
-sought_says bytes old new status are (inl (CheckSource file, asked, inl (content, after, answer, known, call, is))) =
-    source_says bytes are content after old new answer status known call is
-sought_says bytes old new status are (inl (CheckSource file, asked, inr (fault, why, is, kept))) =
+sought_says bytes old new status (inl (Check file, asked, ends)) = absurd (seeks_not asked.name asked.rows asked.entered asked.holds.2)
+sought_says bytes old new status (inl (CheckSource file, asked, inl (content, after, answer, known, call, is))) =
+    source_says bytes content after old new answer status known call is
+sought_says bytes old new status (inl (CheckSource file, asked, inr (fault, why, is, kept))) =
     neither status bytes 3 (λ e. omega arith) (λ e. omega arith) (ap code_of is)
-sought_says bytes old new status are (inl (Show file, asked, ends)) = absurd (no_show asked.name (seeks_by_check asked.name asked.rows asked.entered) asked.holds.0)
-sought_says bytes old new status are (inl (Rewrite file, asked, ends)) = absurd (no_rewrite asked.name (seeks_by_check asked.name asked.rows asked.entered) asked.holds.0)
-sought_says bytes old new status are (inl (Map base page rules files, asked, ends)) = absurd (no_map asked.name (seeks_by_check asked.name asked.rows asked.entered) asked.holds.0)
-sought_says bytes old new status are (inl (Link base page entry rules files, asked, ends)) = absurd (no_link asked.name (seeks_by_check asked.name asked.rows asked.entered) asked.holds.0)
-sought_says bytes old new status are (inr (words_fault.Words error, refused, ends)) =
+sought_says bytes old new status (inl (Show file, asked, ends)) = absurd (no_show asked.name (seeks_by_check asked.name asked.rows asked.entered) asked.holds.0)
+sought_says bytes old new status (inl (Rewrite file, asked, ends)) = absurd (no_rewrite asked.name (seeks_by_check asked.name asked.rows asked.entered) asked.holds.0)
+sought_says bytes old new status (inl (Map base page rules files, asked, ends)) = absurd (no_map asked.name (seeks_by_check asked.name asked.rows asked.entered) asked.holds.0)
+sought_says bytes old new status (inl (Link base page entry rules files, asked, ends)) = absurd (no_link asked.name (seeks_by_check asked.name asked.rows asked.entered) asked.holds.0)
+sought_says bytes old new status (inr (words_fault.Words error, refused, ends)) =
     neither status bytes 2 (λ e. omega arith) (λ e. omega arith) (ap code_of ends.0)
-sought_says bytes old new status are (inr (words_fault.TooManyFiles, refused, ends)) =
+sought_says bytes old new status (inr (words_fault.TooManyFiles, refused, ends)) =
     neither status bytes 2 (λ e. omega arith) (λ e. omega arith) (ap code_of ends.0)
-sought_says bytes old new status are (inr (words_fault.BadNumber, refused, ends)) =
+sought_says bytes old new status (inr (words_fault.BadNumber, refused, ends)) =
     neither status bytes 2 (λ e. omega arith) (λ e. omega arith) (ap code_of ends.0)
-sought_says bytes old new status are (inr (words_fault.OutOfMemory, refused, ends)) =
+sought_says bytes old new status (inr (words_fault.OutOfMemory, refused, ends)) =
     neither status bytes 3 (λ e. omega arith) (λ e. omega arith) (ap code_of ends.0)
 
-pub seek_run_says : (words : List Text) (bytes : List ℕ) (old new : Option (List ℕ)) (status : Status) → words ≡ seek_words → IsBytes bytes
+pub seek_run_says : (words : List Text) (bytes : List ℕ) (old new : Option (List ℕ)) (status : Status) → words ≡ seek_words
     → EndsRun words (λ name. Some bytes) (λ name. true) old new status → Tells status bytes
-seek_run_says words bytes old new status same are ends =
-    sought_says bytes old new status are (subst (λ (ws : List Text). EndsRun ws (λ name. Some bytes) (λ name. true) old new status) same ends)
+seek_run_says words bytes old new status same ends =
+    sought_says bytes old new status (subst (λ (ws : List Text). EndsRun ws (λ name. Some bytes) (λ name. true) old new status) same ends)

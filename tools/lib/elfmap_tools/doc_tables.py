@@ -14,6 +14,7 @@ import collections, functools, glob, os, pprint, re, textwrap
 from collections.abc import Iterable, Iterator
 from typing import NamedTuple
 
+from .mutations import bugs_of
 from .reference import RULE_NAMES
 from .sources import PUBLIC_CRATES, WORD
 from .sources import Definition, Item, definition, definitions, imports, items_of, reach, signature_and_clauses, sources_of
@@ -192,6 +193,10 @@ def try_tables(tally: Tally, options: Options) -> None:
 
 GUARANTEES = "docs/GUARANTEES.md"
 SPAN = re.compile(r"`([^`]+)`")
+# A row of a table of wrong bodies: what it does or the call that it is planted in, its crate, its file, and its name there.
+BODY = re.compile(r"^\| (.*) \| `(\w+)/(must-fail/\w+\.edit|mutations\.txt)(?:: (\w+))?` \|$", re.M)
+# Calls in which no wrong body can be planted: what the machine's files give is known to no contract, and there is no other map at hand.
+WITHOUT_WRONG_BODY = ("elf_tool::Opener::reader", "elf_tool::Opener::source", "elf_link::Linked::map")
 # Programs whose modules a test of `tools/test` calls. Modules of the other crates `tests_*` have tests, all of which `rt ci` runs.
 CALLED_BY = {"tests_calls": "failing-calls"}
 
@@ -309,6 +314,39 @@ def guarantees_by_call() -> dict[Key, list[str]]:
     return found
 
 
+def does_nothing(path: str, item: Item) -> bool:
+    """Whether a call is there for its contract alone: a law, or a proof of what a value has in hand."""
+    return item.source.endswith("/laws.rt") or path.rpartition("::")[2].startswith("prove_")
+
+
+def calls_with_a_clause() -> Iterator[str]:
+    """The calls of the public crates whose contract says something of a body."""
+    seen = set[Key]()
+    for crate in PUBLIC_CRATES:
+        for path, item in items_in(f"elf_{crate}").items():
+            says = item.kind == "fn" and any(it.startswith("ensures ") for it in item.clauses)
+            if says and not does_nothing(path, item) and key_of(item) not in seen:
+                seen.add(key_of(item))
+                yield f"elf_{crate}::{path}"
+
+
+def wrong_bodies(tally: Tally) -> None:
+    """Each wrong body that the page names is there. Each public call has one that the gate plants, in the body of the call itself."""
+    called = set[str]()
+    for said, crate, kind, name in BODY.findall(read_text(GUARANTEES)):
+        if not kind.startswith("mutations.txt"):
+            tally.check(os.path.isfile(f"{TOP}/crates/{crate}/{kind}"), f"there is no wrong body {crate}/{kind}")
+            continue
+        bug = next((it for it in bugs_of(crate) if it.name == name), None)
+        if tally.check(bug, f"there is no wrong body {name} in {crate}/{kind}") and bug:
+            for path in SPAN.findall(said) if said.startswith("`elf_") else []:
+                called.add(path)
+                is_own = bug.function.rpartition("::")[2] == path.rpartition("::")[2]
+                tally.check(is_own and bug.is_for_gate, f"{crate}: {name} is not planted in {path}, or not in the gate")
+    for path in calls_with_a_clause():
+        tally.check(path in called or path in WITHOUT_WRONG_BODY, f"{path} has no wrong body that the gate plants in it")
+
+
 @Test("guarantees", "each name of docs/GUARANTEES.md exists, and each public call is in a row")
 def try_guarantees(tally: Tally, options: Options) -> None:
     named = set[Key]()
@@ -321,7 +359,4 @@ def try_guarantees(tally: Tally, options: Options) -> None:
         for path, item in items_in(crate).items():
             if item.kind == "fn" and (path.startswith("elfmap_") or crate.removeprefix("elf_") in PUBLIC_CRATES):
                 tally.check(key_of(item) in named, f"{crate}::{path} is in no row")
-    for place in re.findall(r"^\| .* \| `([^`]*(?:\.edit|\.txt: \w+))` \|$", read_text(GUARANTEES), re.M):
-        path, _, name = place.partition(": ")
-        is_there = os.path.isfile(f"{TOP}/crates/{path}") and (not name or f"\n[{name}]\n" in "\n" + read_text(f"crates/{path}"))
-        tally.check(is_there, f"there is no wrong body {place}")
+    wrong_bodies(tally)

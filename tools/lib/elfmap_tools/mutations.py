@@ -4,8 +4,7 @@ Bugs are planted several at a time, each in a function of its own. If a check ca
 that it calls another one that is open too, or because proof files name what the bug took away, the next check decides, and at last one of
 this bug alone. A check reads only the functions that have a bug, and those that they call: that is why it takes less than `rt ci` does for
 an edit in must-fail/, which costs a check of its crate. In the gate only those with the line `gate: yes` are planted, over the libraries as
-`rt ci` has just left them. A public crate that has none of them, and no edit in must-fail/ either, behind it or in itself, has failed:
-nothing shows there that the contracts refuse a wrong body."""
+`rt ci` has just left them. A library that has none of them has failed: nothing shows there that the contracts refuse a wrong body."""
 
 import glob, os, re, shutil, tempfile
 from collections import Counter
@@ -14,7 +13,7 @@ from concurrent.futures import ThreadPoolExecutor, as_completed
 
 from .building import FolderOf, built_below, checked, gate_folder
 from .suite import Tally, Test, flag, word
-from .tree import LIBRARIES_OF, PROCESSORS, TOP, Options, deps, read_text, write
+from .tree import LIBRARIES_OF, PROCESSORS, TOP, Options, read_text, write
 
 ABOUT = "the check refuses each bug of mutations.txt with 'gate: yes'; of CRATE.., or with --all of every crate, each bug"
 # What the checker prints if it could read the text and came to its end.
@@ -32,23 +31,27 @@ class Edit:
         said, own = dict(words), dict[str, str]()
         self.crate, self.name, self.is_bug, self.is_for_gate = crate, name, is_bug, said.get("gate") == "yes"
         self.function = f"{crate}::{said['function']}" if "function" in said else ""
-        # Of each line `new:` the file and the old text that were named last.
-        self.pairs = list[tuple[str, str, str]]()
+        # Of each line `new:` the file and the old text that were named last, and the text that the old one comes after.
+        self.pairs = list[tuple[str, str, str, str]]()
         for key, text in words:
             own[key] = text
-            self.pairs += [(own["file"], own["old"], text)] if key == "new" else []
+            if key == "new":
+                self.pairs.append((own["file"], own.pop("after", ""), own["old"], text))
 
     def texts(self, folder: str) -> tuple[dict[str, str], str]:
         """What it makes of the crate's texts in this folder, by file; or why it can't be planted."""
         made: dict[str, str] = {}
-        for file, old, new in self.pairs:
+        for file, after, old, new in self.pairs:
             if file not in made:
                 if not os.path.isfile(f"{folder}/{file}"):
                     return {}, f"there is no file {file}"
                 made[file] = read_text(f"{folder}/{file}")
-            if made[file].count(old) != 1:
-                return {}, f"an 'old:' text stands {made[file].count(old)} times in {file}, and not once"
-            made[file] = made[file].replace(old, new)
+            if after and made[file].count(after) != 1:
+                return {}, f"an 'after:' text stands {made[file].count(after)} times in {file}, and not once"
+            front, found, rest = made[file].partition(after) if after else ("", "", made[file])
+            if not after and rest.count(old) != 1 or old not in rest:
+                return {}, f"an 'old:' text stands {rest.count(old)} times in {file}, and not once"
+            made[file] = front + found + rest.replace(old, new, 1)
         if not self.pairs or self.is_bug and not self.function:
             return {}, "it has no 'function:' line, or no pair"
         return made, ""
@@ -77,8 +80,9 @@ def verdict(bug: Edit, said: str, others: Iterable[Edit]) -> str:
     if line == "proved":
         return "NOT REFUSED: its function is still proved"
     # What the check has against the text: that proof files name what it no longer has, which says nothing of a contract; and the rest.
-    told: list[str] = re.findall(r"^(?:note: \S+:\d+:\d+: |\S+:\d+:\d+: error: ).*$", said, re.M)
-    lost = [it for it in told if re.match(r"(\./)?proofs/.*(has no field|is not in scope|has no `|was not admitted)", it)]
+    # A message goes on in lines that begin with two spaces.
+    told: list[str] = re.findall(r"^(?:note: \S+:\d+:\d+: |\S+:\d+:\d+: error: ).*(?:\n  .*)*$", said, re.M)
+    lost = [it for it in told if re.match(r"(?s)(\./)?proofs/.*(has no field|is not in scope|has no `|was not admitted)", it)]
     proofs = [f"proofs/{it.function.removeprefix(f'{it.crate}::').replace('::', '/')}/" for it in others]
     # A proof takes the functions that it calls by their contracts: what the check doesn't prove of this one is due to its own text.
     is_own = "it calls" not in line or "did not prove" in line
@@ -98,7 +102,7 @@ def pick(bugs: list[Edit]) -> list[Edit]:
     taken: set[object] = set()
     picked = []
     for bug in bugs:
-        places: set[object] = {bug.function, *((file, old) for file, old, _ in bug.pairs)}
+        places: set[object] = {bug.function, *((file, after, old) for file, after, old, _ in bug.pairs)}
         if not taken & places:
             taken |= places
             picked.append(bug)
@@ -169,7 +173,5 @@ def mutations(tally: Tally, options: Options) -> None:
                 tally.count(len(ends), (f"{bug.crate}: {bug.name}: {end}" for bug, end in ends if end != "refused"))
                 tally.note(f"{ends[0][0].crate}: {sum(end == 'refused' for _, end in ends)} of {len(ends)} refused")
     if not options.crates and not options.only:
-        planted_in = [it for it in LIBRARIES_OF if must_fail_of(it) or any(bug.is_for_gate for bug in bugs_of(it))]
-        for public in deps("elf"):
-            is_tried = any(f"{it}_".startswith(f"{public}_") for it in planted_in)
-            tally.check(is_tried, f"{public}: neither it nor a crate behind it has a bug with 'gate: yes', or one in must-fail/")
+        for crate in (it for it in LIBRARIES_OF if it.startswith("elf_") and bugs_of(it)):
+            tally.check(any(it.is_for_gate for it in bugs_of(crate)), f"{crate}: it has no bug with 'gate: yes'")

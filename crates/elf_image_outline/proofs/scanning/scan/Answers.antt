@@ -9,7 +9,7 @@ use Rattle.elf_image_outline.proofs.Theorem.{image_is_sound}
 use Rattle.elf_image_outline.proofs.scanning.scan.Goals as goal
 
 pub returns-in_err-parts-clause-told : goal.returns-in_err-parts-clause-told
-returns-in_err-parts-clause-told g c b told are =
+returns-in_err-parts-clause-told g c b told =
     let t = c.in_ok-tables.tables in
     let has = c.in_ok-tables.ensures.tables in
     let (says, is) = c.in_ok-head.ensures.told b told in
@@ -21,7 +21,8 @@ returns-in_err-parts-clause-told g c b told are =
     c.from_residual-in_err-parts.ensures.1
 
 pub returns-clause-told : goal.returns-clause-told
-returns-clause-told g c b told are =
+returns-clause-told g c b told =
+    let are = c.in_ok-head.ensures.bytes b told in
     let t = c.in_ok-tables.tables in
     let has = c.in_ok-tables.ensures.tables in
     let (says, is) = c.in_ok-head.ensures.told b told in
@@ -32,4 +33,4 @@ returns-clause-told g c b told are =
     (c.in_ok-parts.ensures.ok _ ends))
 
 pub returns-clause-of : goal.returns-clause-of
-returns-clause-of g c b told are = image_is_sound _ b (returns-clause-told g c b told are)
+returns-clause-of g c b told = image_is_sound _ b (returns-clause-told g c b told)
