@@ -172,7 +172,7 @@ symbol_told b s = record {
   size = s.st_size;
 }
 
--- and its entry of the symbol table
+-- the entry of a symbol in its symbol table
 abbrev pub symbol_record : Symbol → Sym
 symbol_record s = record {
   st_name = s.st_name;

@@ -138,7 +138,8 @@ FirstOfLink opt fs None = FirstAmong (input_rules opt fs) None × FirstOfAddress
 FirstOfLink opt fs (Some broken) =
     FirstAmong (input_rules opt fs) (Some broken) ⊎ (FirstAmong (input_rules opt fs) None × FirstOfAddresses opt fs (Some broken))
 
--- memory is taken only where rules 1 and 2 are not broken
+-- why objects have no link map: the first rule of 1 to 11 that is broken, with its first site; memory is taken only where rules 1 and 2 are
+-- not broken
 abbrev pub IsLinkFault : Options → List ObjectValue → LinkFault → Type 0
 IsLinkFault opt fs (Rule number file index entry) =
     FirstOfLink opt fs (Some (number, record { file = file; index = index; entry = entry }))

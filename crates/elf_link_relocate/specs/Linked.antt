@@ -39,8 +39,8 @@ pub record IsGrid {A : Type 0} (fs : List ObjectValue) (rows : List (List A)) : 
 abbrev pub IsMapOfSome : List ObjectValue → LinkMapValue → Type 0
 IsMapOfSome fs m = (opt : Options) × IsLinkMap opt fs m × FirstOfLink opt fs None
 
--- the same but for its base, page and entry: with some in their place it is such a map. Neither rule 10 nor the entry's value is asked: by
--- the law `without_entry`
+-- a link map of some objects but for its base, page and entry: with others in their place it is one. Neither rule 10 nor the entry's value
+-- is asked: by the law `without_entry`
 abbrev pub IsMapButOptions : List ObjectValue → LinkMapValue → Type 0
 IsMapButOptions fs m = (base page entry : ℕ) × IsMapOfSome fs (with_options m base page entry)
 

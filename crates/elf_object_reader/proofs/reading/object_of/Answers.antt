@@ -31,9 +31,14 @@ returns-in_err-parts-clause-validated c = search rules
 
 pub returns-in_err-parts-clause-file : goal.returns-in_err-parts-clause-file
 returns-in_err-parts-clause-file c =
-    let f = sections_of c.args.image.now in
-    (f, its_file c.args.image.now c.prove_stands.ensures, (one_fault (file_rules f),
-    denoted_only f c.from_residual-in_err-parts.result (returns-in_err-parts-clause-validated c)))
+    let f = sections_of c.args.image.now in (
+      f,
+      its_file c.args.image.now c.prove_stands.ensures,
+      (
+        one_fault (file_rules f),
+        denoted_only f c.from_residual-in_err-parts.result (returns-in_err-parts-clause-validated c),
+      ),
+    )
 
 pub returns-clause-validated : goal.returns-clause-validated
 returns-clause-validated c = search rules
@@ -41,6 +46,11 @@ returns-clause-validated c = search rules
 pub returns-clause-file : goal.returns-clause-file
 returns-clause-file c =
     let f = sections_of c.args.image.now in
-    let (kept, denotes) = returns-clause-validated c in
-    (f, its_file c.args.image.now c.prove_stands.ensures, (one_fault (file_rules f),
-    (kept, (denotes, λ other denoted. one_object f other _ denoted denotes))))
+    let (kept, denotes) = returns-clause-validated c in (
+      f,
+      its_file c.args.image.now c.prove_stands.ensures,
+      (
+        one_fault (file_rules f),
+        (kept, (denotes, λ other denoted. one_object f other _ denoted denotes)),
+      ),
+    )

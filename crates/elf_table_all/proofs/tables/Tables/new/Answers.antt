@@ -13,5 +13,7 @@ pub returns-clause-file : goal.returns-clause-file
 returns-clause-file c =
     let v = c.args.image.now in
     of_its_bytes v (λ b. AreOnlyVerdicts (sections_in b) c.in_ok-verdicts.verdicts) c.prove_stands.ensures
-    (λ b image. (subst (λ (f : Sections). AreVerdicts f (count f) c.in_ok-verdicts.verdicts) (sections_of_bytes v b image) (returns-clause-verdicts c),
-    λ i. one_fault (table_rules (sections_in b) i)))
+    (λ b image. (
+      subst (λ (f : Sections). AreVerdicts f (count f) c.in_ok-verdicts.verdicts) (sections_of_bytes v b image) (returns-clause-verdicts c),
+      λ i. one_fault (table_rules (sections_in b) i),
+    ))
