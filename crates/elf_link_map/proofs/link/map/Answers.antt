@@ -1,3 +1,4 @@
+-- The map is that of `map_indexed`: laws of link maps and of their faults say the rest of it, and that no other answer is one.
 use Rattle.std.proofs.Common.{rules}
 use Rattle.std.specs.Prelude.{IfErr, None}
 use Rattle.elf_link_map.specs.LinkMap.{FirstOfLink, IsLinkFault, IsOnlyFault}
