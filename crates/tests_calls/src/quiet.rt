@@ -6,6 +6,7 @@ use crate::links::{mapped, object_in};
 use elf_extent::{Counted, Extent, next_place, sweep};
 use elf_field::{Order, Record, Shdr};
 use elf_image_outline::{Outline, copy_image, scan};
+use elf_image_rules::rules::SHARED_BYTE;
 use elf_image_rules::verdict;
 use elf_image_stream::{Bytes, Seeking, Source};
 use elf_image_type::{Image, parse, write};
@@ -39,12 +40,22 @@ pub fn calls(alloc: Global, files: &[Vec<u8>], times: u32) {
 fn on_file(alloc: Global, bytes: &[u8], times: u32) {
     for _ in 0..times {
         on_bytes(bytes);
+        on_refused(alloc, bytes);
     }
     if let Ok(image) = parse(alloc, bytes) {
         on_parsed(alloc, image, times);
     }
     if let Ok(outline) = scan(alloc, &mut Bytes(bytes)) {
         on_scanned(outline, bytes, times);
+    }
+}
+
+/// Rules 1 to 32 are tested before memory is asked for, so that want of memory never hides a broken one.
+fn on_refused(alloc: Global, bytes: &[u8]) {
+    if let Some((rule, _)) = verdict(bytes) {
+        if rule < SHARED_BYTE {
+            let _ = parse(alloc, bytes);
+        }
     }
 }
 

@@ -24,6 +24,35 @@ impl Read for Pieces<'_> {
     }
 }
 
+/// Gives its bytes at most `piece` at a time. The call of number `failing`, counted from 1, fails and gives none, and no other.
+#[derive(Drop)]
+pub struct OnceFailingReader<'a> {
+    pub rest: Pieces<'a>,
+    pub failing: u64,
+    /// How many calls there were.
+    pub calls: u64,
+}
+
+impl<'a> OnceFailingReader<'a> {
+    pub fn new(bytes: &'a [u8], piece: usize, failing: u64) -> OnceFailingReader<'a> {
+        OnceFailingReader {
+            rest: Pieces { bytes, piece },
+            failing,
+            calls: 0,
+        }
+    }
+}
+
+impl Read for OnceFailingReader<'_> {
+    fn read(&mut self, buf: &mut [u8]) -> io::Result<usize> {
+        self.calls = self.calls.saturating_add(1);
+        if self.calls == self.failing {
+            return Err(ErrorKind::Interrupted.into());
+        }
+        self.rest.read(buf)
+    }
+}
+
 /// A source over bytes that gives at most `piece` of them a call. The call of `read_at` of number `failing`, counted from 1, fails, or
 /// gives no byte where `gives_none`. Every other call succeeds.
 #[derive(Drop)]
@@ -32,8 +61,9 @@ pub struct PartialSource<'a> {
     pub piece: usize,
     pub failing: u64,
     pub gives_none: bool,
-    /// How many calls of `read_at` there were.
+    /// How many calls of `read_at` there were, and of `length`.
     pub calls: u64,
+    pub lengths: u64,
     /// The most bytes that a call was asked for.
     pub longest: usize,
     pub failures: Failures,
@@ -49,6 +79,7 @@ impl<'a> PartialSource<'a> {
             failing: 0,
             gives_none: false,
             calls: 0,
+            lengths: 0,
             longest: 0,
             failures: Failures::NONE,
         }
@@ -79,6 +110,7 @@ impl Source for PartialSource<'_> {
     ghost failures = { λ s. s.failures };
 
     fn length(&mut self) -> Result<u64, Failed> {
+        self.lengths = self.lengths.saturating_add(1);
         Ok(self.bytes.len() as u64)
     }
 

@@ -8,7 +8,7 @@ use elf_image_stream::output::write_zeros;
 use elf_image_stream::{Bytes, Fault, WriteFault};
 use std::alloc::Global;
 use std::io;
-use std::io::Write;
+use std::io::{ErrorKind, Write};
 use std::process::Abort;
 use tests_files::{
     Field, OnceFailingWriter, PartialSource, caller, empty_object, filled_gap, long_parts,
@@ -17,11 +17,12 @@ use tests_files::{
 
 // A writer that knows which bytes are to come.
 
-/// Takes bytes, at most `piece` a call, and reports whether they are those that are to come. It takes none after these.
+/// Takes bytes, at most `piece` a call, and reports whether they are those that are to come. It takes none after these, or fails.
 #[derive(Drop)]
 pub struct ComparingWriter<'a> {
     rest: &'a [u8],
     pub piece: usize,
+    pub fails: bool,
     pub calls: u64,
     pub flushes: u64,
     /// The most bytes of a call.
@@ -35,6 +36,7 @@ impl<'a> ComparingWriter<'a> {
         ComparingWriter {
             rest: expected,
             piece: expected.len(),
+            fails: false,
             calls: 0,
             flushes: 0,
             longest: 0,
@@ -65,6 +67,9 @@ impl Write for ComparingWriter<'_> {
     fn write(&mut self, buf: &[u8]) -> io::Result<usize> {
         self.calls = self.calls.saturating_add(1);
         self.longest = self.longest.max(buf.len());
+        if self.fails && self.rest.is_empty() {
+            return Err(ErrorKind::Interrupted.into());
+        }
         Ok(self.take(buf))
     }
 
@@ -206,6 +211,78 @@ fn a_source_that_changed_is_copied(rt: HostRuntime) {
     let changed = caller_with(&CONTENTS_AND_RECORDS);
     let copied = copied_from(rt.alloc(), &changed, &caller_with(&CONTENTS));
     assert_same(&rt, copied, (Ok(Ok(())), true));
+}
+
+// Copies of the object of a call that end early.
+
+/// A copy: how many bytes a call of the source gives, the call that fails, and whether it gives none in place of that; how many bytes the
+/// writer takes, and whether it fails then; and what the copy answers once exactly these bytes are written.
+type CopyRow = ((usize, u64, bool), (usize, bool), CopyFault);
+
+/// The symbol table begins at 96, and is the fourth part that is read. It is not written before it is there whole.
+const COPIES: &[CopyRow] = &[
+    (
+        (4096, 0, false),
+        (100, true),
+        CopyFault::Write { written: 100 },
+    ),
+    (
+        (4096, 0, false),
+        (100, false),
+        CopyFault::Write { written: 100 },
+    ),
+    ((4096, 0, false), (0, true), CopyFault::Write { written: 0 }),
+    (
+        (4096, 4, false),
+        (96, true),
+        CopyFault::Read {
+            at: 96,
+            written: 96,
+        },
+    ),
+    (
+        (4096, 4, true),
+        (96, true),
+        CopyFault::Read {
+            at: 96,
+            written: 96,
+        },
+    ),
+    (
+        (10, 7, false),
+        (96, true),
+        CopyFault::Read {
+            at: 106,
+            written: 96,
+        },
+    ),
+    (
+        (4096, 1, false),
+        (64, true),
+        CopyFault::Read {
+            at: 64,
+            written: 64,
+        },
+    ),
+];
+
+fn copied_by(alloc: Global, row: &CopyRow) -> (Answer, bool) {
+    let ((piece, failing, gives_none), (count, fails), _) = *row;
+    let file = caller();
+    let mut source = PartialSource::new(&file, piece);
+    source.failing = failing;
+    source.gives_none = gives_none;
+    let mut writer = ComparingWriter::new(&file[..count.min(616)]);
+    writer.fails = fails;
+    let answer = copy_scanned(alloc, &file, &mut source, &mut writer);
+    (answer, writer.is_whole())
+}
+
+#[test]
+fn a_copy_ends_at_a_failed_call(rt: HostRuntime) {
+    for row in COPIES {
+        assert_same(&rt, copied_by(rt.alloc(), row), (Ok(Err(row.2)), true));
+    }
 }
 
 // Zeros and records of more than one block, onto a writer of which one call alone fails: exactly what is reported is out, and no

@@ -11,7 +11,7 @@ use std::io::Read;
 use std::process::Abort;
 use tests_files::{
     Field, PartialSource, Pieces, empty_contents, empty_object, executable_of_a_call, filled_gap,
-    one_section, one_segment, set, set_header, two_of_each,
+    header_alone, one_section, one_segment, set, set_header, two_of_each,
 };
 
 // Sources read as images, without their contents. Files that a scan rejects are in `cases/`, under `check --seek`.
@@ -40,21 +40,22 @@ fn are_parts(parts: &[Part]) -> bool {
 }
 
 /// What a scan of a file that gives so many bytes a call comes to: whether the parts are those of the file of one section, how many
-/// sections, segments and bytes the file has; and how many calls the scan made.
+/// sections, segments and bytes the file has; and how many calls the scan made for bytes, and for the length.
 fn scanned(
     alloc: Global,
     file: &[u8],
     piece: usize,
-) -> Result<(bool, [usize; 2], u64, u64), Fault> {
+) -> Result<(bool, [usize; 2], u64, [u64; 2]), Fault> {
     let mut source = PartialSource::new(file, piece);
     let outline = scan(alloc, &mut source)?;
     let counts = [outline.sections().len(), outline.segments().len()];
     let are_known = are_parts(outline.parts());
-    Ok((are_known, counts, outline.len(), source.calls))
+    let calls = [source.calls, source.lengths];
+    Ok((are_known, counts, outline.len(), calls))
 }
 
 // A byte a call, and all in a call: five of them, of which none is for a content. Without a section table; and with empty contents far
-// past the end.
+// past the end. The length is asked for once: the source could answer another one the second time.
 #[test]
 fn a_scan_reads_no_content(rt: HostRuntime) {
     let alloc = rt.alloc();
@@ -68,10 +69,10 @@ fn a_scan_reads_no_content(rt: HostRuntime) {
         &rt,
         scans,
         [
-            Ok((true, [5, 0], 456, 64 + 64 + 5 * 64 + 2)),
-            Ok((true, [5, 0], 456, 5)),
-            Ok((false, [0, 1], 120, 2)),
-            Ok((false, [3, 0], 256, 3)),
+            Ok((true, [5, 0], 456, [64 + 64 + 5 * 64 + 2, 1])),
+            Ok((true, [5, 0], 456, [5, 1])),
+            Ok((false, [0, 1], 120, [2, 1])),
+            Ok((false, [3, 0], 256, [3, 1])),
         ],
     );
 }
@@ -352,6 +353,32 @@ fn rule_broken(alloc: Global, file: &[u8]) -> Result<Option<(u16, u64)>, Fault> 
         Ok(_) => Ok(None),
         Err(Fault::Rule { rule, at }) => Ok(Some((rule, at))),
         Err(fault) => Err(fault),
+    }
+}
+
+/// Fields of a header alone, and the rule and the offset that it is refused with.
+const VERDICTS: &[(&[Field], Option<(u16, u64)>)] = &[
+    (&[], None),
+    (&[(3, 1, 0x47), (4, 1, 1)], Some((3, 3))),
+    (&[(20, 4, 2), (52, 2, 63)], Some((7, 20))),
+    (&[(60, 2, 1)], Some((9, 60))),
+    (&[(60, 2, 1), (62, 2, 1)], Some((9, 60))),
+    (&[(62, 2, 1)], Some((9, 62))),
+    (&[(40, 8, u64::MAX)], Some((10, 58))),
+    (&[(40, 8, u64::MAX), (58, 2, 64)], Some((12, 40))),
+];
+
+/// What is said of the header with these fields.
+fn header_verdict(alloc: Global, fields: &[Field]) -> [Result<Option<(u16, u64)>, Fault>; 2] {
+    let mut file = header_alone(LITTLE);
+    set(&mut file, LITTLE, fields);
+    [Ok(verdict(&file)), rule_broken(alloc, &file)]
+}
+
+#[test]
+fn the_first_rule_and_the_lowest_offset_are_told(rt: HostRuntime) {
+    for &(fields, broken) in VERDICTS {
+        assert_same(&rt, header_verdict(rt.alloc(), fields), [Ok(broken); 2]);
     }
 }
 

@@ -1,10 +1,12 @@
-//! In which parts an image is offered to a writer.
+//! In which parts an image is offered to a writer, and a writer that fails.
 use crate::asserts::assert_same;
-use elf_image_stream::Fault;
+use crate::copies::ComparingWriter;
+use elf_field::Order;
+use elf_image_stream::{Fault, WriteFault};
 use elf_image_type::{Image, parse, write};
 use std::alloc::Global;
 use std::process::Abort;
-use tests_files::{OnceFailingWriter, long_parts};
+use tests_files::{OnceFailingWriter, long_parts, one_section};
 
 /// A writer that takes all is offered parts of these lengths, and then has these bytes.
 fn assert_offers(
@@ -40,5 +42,26 @@ fn parts_are_offered(rt: HostRuntime) -> Result<(), Fault> {
     image.zero_gaps();
     let offers = [64, 128, 4096, 4096, 808, 9000];
     assert_offers(&rt, rt.alloc(), &image, &zeroed_parts(), &offers);
+    Ok(())
+}
+
+/// What an image answers that is written to a writer which fails after so many of these bytes, and whether exactly these are written.
+fn failed_after(image: &Image<'_>, front: &[u8]) -> (Result<(), WriteFault>, bool) {
+    let mut writer = ComparingWriter::new(front);
+    writer.fails = true;
+    let answer = write(image, &mut writer);
+    (answer, writer.is_whole())
+}
+
+// Within the header, at its end, and within the gap behind the content.
+#[test]
+fn a_failed_write_reports_what_is_written(rt: HostRuntime) -> Result<(), Fault> {
+    let file = one_section(Order::Little);
+    let image = parse(rt.alloc(), &file)?;
+    for count in [0, 7, 64, 70, 455] {
+        let written = count as u64;
+        let failed = failed_after(&image, &file[..count]);
+        assert_same(&rt, failed, (Err(WriteFault { written }), true));
+    }
     Ok(())
 }

@@ -5,11 +5,65 @@ use crate::asserts::assert_same;
 use elf_field::{Order, Rel};
 use elf_image_outline::{RecordsFault, read_ends, read_record, read_records};
 use elf_image_rules::TableEnds;
-use elf_image_stream::{Bytes, Failed, Failures, ReadFault, Seeking, Source, read_exactly};
+use elf_image_stream::{
+    Bytes, Failed, Failures, Fault, ReadFault, Seeking, Source, read_exactly, read_to_end, resume,
+};
 use std::alloc::Global;
-use std::io::Cursor;
+use std::io;
+use std::io::{Cursor, ErrorKind, Read, Seek, SeekFrom};
 use std::process::Abort;
-use tests_files::PartialSource;
+use tests_files::{OnceFailingReader, PartialSource, one_section};
+
+// Readers.
+
+/// What a reading comes to: its answer, how many bytes the buffer holds, whether they are the front of the file, and the calls so far.
+type Reading = (Result<(), Fault>, usize, bool, u64);
+
+fn reading(answer: Result<(), Fault>, buf: &[u8], file: &[u8], calls: u64) -> Reading {
+    let is_front = buf == &file[..buf.len().min(file.len())];
+    (answer, buf.len(), is_front, calls)
+}
+
+/// The reading of a file that gives so many bytes a call, of which one alone fails; and the reading of the rest after that.
+fn read_and_resumed(alloc: Global, file: &[u8], piece: usize, failing: u64) -> [Reading; 2] {
+    let mut reader = OnceFailingReader::new(file, piece, failing);
+    let mut buf = Vec::new(alloc);
+    let answer = read_to_end(&mut reader, &mut buf);
+    let first = reading(answer, &buf, file, reader.calls);
+    let answer = resume(&mut reader, &mut buf);
+    [first, reading(answer, &buf, file, reader.calls)]
+}
+
+/// How many bytes a call gives, and which call fails; the bytes before that call, where there is one; and the calls of the first reading,
+/// and of both. The last call of a reading gives no byte.
+const READINGS: &[(usize, u64, Option<usize>, [u64; 2])] = &[
+    (1, 0, None, [457, 458]),
+    (100, 2, Some(100), [2, 7]),
+    (10, 2, Some(10), [2, 48]),
+    (456, 1, Some(0), [1, 3]),
+    (100, 6, Some(456), [6, 7]),
+];
+
+/// The reading that fails after so many bytes, or reads the file to its end.
+fn expected(failed: Option<usize>, calls: u64) -> Reading {
+    match failed {
+        Some(count) => (Err(Fault::Io { at: count as u64 }), count, true, calls),
+        None => (Ok(()), 456, true, calls),
+    }
+}
+
+#[test]
+fn a_reading_goes_on_after_a_failed_call(rt: HostRuntime) {
+    let file = one_section(Order::Little);
+    for &(piece, failing, failed, [first, second]) in READINGS {
+        let found = read_and_resumed(rt.alloc(), &file, piece, failing);
+        assert_same(
+            &rt,
+            found,
+            [expected(failed, first), expected(None, second)],
+        );
+    }
+}
 
 // Records of a source.
 
@@ -103,6 +157,52 @@ fn bytes_are_read_at_any_offset(rt: HostRuntime) {
         ),
         ([Ok(5); 2], GIVEN, ([Ok(2); 2], [b'd', b'e'], [b'a', b'b'])),
     );
+}
+
+/// A file of 2^32 + 64 bytes, each of which is how many times its offset holds 2^32.
+#[derive(Drop)]
+struct LongFile {
+    at: u64,
+}
+
+const LONG: u64 = (1 << 32) + 64;
+
+impl Read for LongFile {
+    fn read(&mut self, buf: &mut [u8]) -> io::Result<usize> {
+        if self.at < LONG && !buf.is_empty() {
+            buf[0] = (self.at >> 32) as u8;
+            Ok(1)
+        } else {
+            Ok(0)
+        }
+    }
+}
+
+impl Seek for LongFile {
+    fn seek(&mut self, to: SeekFrom) -> io::Result<u64> {
+        self.at = match to {
+            SeekFrom::Start(at) => at,
+            SeekFrom::End(0) => LONG,
+            _ => return Err(ErrorKind::Unsupported.into()),
+        };
+        Ok(self.at)
+    }
+}
+
+/// The byte at an offset of it.
+fn long_byte(at: u64) -> (Result<usize, Failed>, u8) {
+    let mut byte = [9];
+    let answer = Seeking::new(LongFile { at: 0 }).read_at(at, &mut byte);
+    (answer, byte[0])
+}
+
+// No number of a file is cut to 32 bits.
+#[test]
+fn a_file_of_more_than_four_gigabytes_is_sought(rt: HostRuntime) {
+    let length = Seeking::new(LongFile { at: 0 }).length();
+    let bytes = [long_byte(63), long_byte(LONG - 1), long_byte(LONG)];
+    let expected = [(Ok(1), 0), (Ok(1), 1), (Ok(0), 9)];
+    assert_same(&rt, (length, bytes), (Ok(LONG), expected));
 }
 
 // A byte a call, and nothing is asked for an empty buffer.
