@@ -176,15 +176,24 @@ fn first_three(indexes: &[Vec<usize>]) -> Option<[usize; 3]> {
 }
 
 /// Those that come with a map, and those that are looked up in it.
+fn indexes_by(
+    alloc: Global,
+    objects: &[Object<'_>],
+    options: &Options<'_>,
+) -> Result<[Option<[usize; 3]>; 2], LinkFault> {
+    let made = map_indexed(alloc, objects, options, Flat { state: 0 })?;
+    let found = name_indexes(alloc, objects, &made.map)?;
+    Ok([first_three(&made.indexes), first_three(&found)])
+}
+
+/// The same of a link from 0x1000 on.
 fn indexes_of(alloc: Global, objects: &[Object<'_>]) -> Result<[Option<[usize; 3]>; 2], LinkFault> {
     let options = Options {
         base: 0x1000,
         page: 1,
         entry: None,
     };
-    let made = map_indexed(alloc, objects, &options, Flat { state: 0 })?;
-    let found = name_indexes(alloc, objects, &made.map)?;
-    Ok([first_three(&made.indexes), first_three(&found)])
+    indexes_by(alloc, objects, &options)
 }
 
 #[test]
