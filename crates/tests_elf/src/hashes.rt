@@ -5,8 +5,9 @@ use crate::asserts::assert_same;
 use elf::field::Order;
 use elf::image::{Fault, Image, parse};
 use elf::table::{Hash, HashFault, build_hash, elf_hash};
-use std::alloc::Global;
-use tests_files::{Field, set_header};
+use std::alloc::{AllocError, Global};
+use std::test::Fail;
+use tests_files::{DIGITS, Field, numbered, set_header};
 
 /// A hash table of two buckets at 64, four symbols at 96, their names at 192, and the section headers at 208.
 const HASH: [Field; 34] = [
@@ -138,4 +139,55 @@ fn builds_a_hash_table(rt: HostRuntime) {
             Err(HashFault::TooMany),
         ],
     );
+}
+
+// A table of a thousand names: the empty one, and the digits of 1 to 999. The sum of its words is one of the table that a program built
+// by the definition, symbol by symbol, with the hash of the standard.
+
+/// How many names there are, and how many buckets.
+const MANY: usize = 1000;
+
+const MANY_BUCKETS: u32 = 131;
+
+/// How many words the table has, and their sum, in which each word has another weight.
+const MANY_WORDS: (usize, u64) = (1133, 0x5508_6202_3329_c177);
+
+fn many_names<'a>(alloc: Global, digits: &'a [u8]) -> Result<Vec<&'a [u8]>, AllocError> {
+    let mut names = Vec::new(alloc);
+    names.push(b"".as_slice())?;
+    for name in digits.chunks_exact(DIGITS).skip(1) {
+        names.push(name)?;
+    }
+    Ok(names)
+}
+
+fn sum_of(words: &[u32]) -> (usize, u64) {
+    let mut sum: u64 = 0;
+    for word in words {
+        sum = sum
+            .wrapping_mul(0x100_0000_01b3)
+            .wrapping_add(u64::from(*word));
+    }
+    (words.len(), sum)
+}
+
+/// The sum of the table of the names in these digits.
+fn sum_of_many(alloc: Global, digits: &[u8]) -> Result<(usize, u64), HashFault> {
+    let names = many_names(alloc, digits)?;
+    if names.is_empty() {
+        return Err(HashFault::TooMany);
+    }
+    let words = build_hash(alloc, &names, MANY_BUCKETS)?;
+    Ok(sum_of(&words))
+}
+
+#[test]
+fn builds_a_table_of_a_thousand_names(rt: HostRuntime) -> Result<(), Fail> {
+    let digits = numbered(rt.alloc(), MANY)?;
+    assert_same(
+        &rt,
+        sum_of_many(rt.alloc(), digits.as_bytes()),
+        Ok(MANY_WORDS),
+    );
+    Ok(())
 }

@@ -1,15 +1,17 @@
-//! The whole program over fakes: the names that it opens, an opener that wants memory, and a standard error that takes nothing; and what
-//! the machine gives it.
+//! The whole program over fakes: the names that it opens, an opener that wants memory, reads that fail, and a standard error that takes
+//! nothing; and what the machine gives it.
 use crate::asserts::assert_same;
 use elf_image_stream::Bytes;
-use elf_tool_program::{MachineFiles, OpenFault, Opener, refuse_words, run};
+use elf_tool_program::{
+    MachineFiles, OpenFault, Opener, ToolFault, Verdict, check, refuse_words, run,
+};
 use elf_tool_text::line::{begin_line, end_line, push_decimal, push_hexadecimal};
 use std::alloc::Global;
 use std::io;
 use std::io::{ErrorKind, Write};
 use std::process::Abort;
 use std::test::Fail;
-use tests_files::Pieces;
+use tests_files::{OnceFailingReader, PartialSource, Pieces, Sink};
 
 /// A header alone, of 64 bytes, in little order.
 const HEADER: &[u8; 64] = b"\x7fELF\x02\x01\x01\0\0\0\0\0\0\0\0\0\x01\0\x3e\0\x01\0\0\0\
@@ -114,6 +116,114 @@ fn run_unheard(alloc: Global, name: &str) -> Outcome {
 fn a_failed_write_to_standard_error_changes_nothing(rt: HostRuntime) {
     assert_ran(&rt, &run_unheard(rt.alloc(), "a.o"), 0, "ok 64 0 0\n", "");
     assert_ran(&rt, &run_unheard(rt.alloc(), "b.o"), 3, "", "");
+}
+
+// Reads that fail.
+
+/// Gives these bytes under every name, so many a call, and fails at one call.
+#[derive(Drop)]
+struct FailingFiles<'a> {
+    bytes: &'a [u8],
+    piece: usize,
+    failing: u64,
+}
+
+impl<'a> Opener for FailingFiles<'a> {
+    type Input = OnceFailingReader<'a>;
+
+    type Seek = PartialSource<'a>;
+
+    fn reader(&mut self, _: &str) -> Result<OnceFailingReader<'a>, OpenFault> {
+        Ok(OnceFailingReader::new(self.bytes, self.piece, self.failing))
+    }
+
+    fn source(&mut self, _: &str) -> Result<PartialSource<'a>, OpenFault> {
+        let mut source = PartialSource::new(self.bytes, self.piece);
+        source.failing = self.failing;
+        Ok(source)
+    }
+}
+
+/// What the program comes to with these words and files.
+fn run_failing(alloc: Global, words: &[&str], files: &mut FailingFiles<'_>) -> Outcome {
+    let mut out = LimitedWriter::new(ROOM);
+    let mut err = LimitedWriter::new(ROOM);
+    let status = run(alloc, words, files, &mut out, &mut err);
+    Outcome { status, out, err }
+}
+
+/// Words of each command that reads a file.
+const READING_COMMANDS: &[&[&str]] = &[
+    &["elfmap", "check", "a.o"],
+    &["elfmap", "check", "--seek", "a.o"],
+    &["elfmap", "show", "a.o"],
+    &["elfmap", "rewrite", "a.o"],
+    &["elfmap", "map", "--base", "0", "--page", "1", "a.o"],
+];
+
+/// Digits that are read in nine calls, and more than a reader is asked for at once.
+const DIGITS: &[u8; 73_728] = &[b'0'; 73_728];
+
+#[test]
+fn a_failed_read_ends_each_command(rt: HostRuntime) {
+    let mut header = FailingFiles {
+        bytes: HEADER,
+        piece: 10,
+        failing: 2,
+    };
+    for &words in READING_COMMANDS {
+        let ran = run_failing(rt.alloc(), words, &mut header);
+        assert_ran(&rt, &ran, 3, "", "read failed at 10\n");
+    }
+    let mut rules = FailingFiles {
+        bytes: DIGITS,
+        piece: 8192,
+        failing: 10,
+    };
+    let words = [
+        "elfmap", "map", "--base", "0", "--page", "1", "--rules", "r", "a.o",
+    ];
+    let ran = run_failing(rt.alloc(), &words, &mut rules);
+    assert_ran(&rt, &ran, 3, "", "read failed at 73728\n");
+}
+
+/// The check of a header by a reader of which one call for ten bytes fails; and how many bytes are written.
+fn checked(alloc: Global, failing: u64) -> (Result<Verdict, ToolFault>, usize) {
+    let mut reader = OnceFailingReader::new(HEADER, 10, failing);
+    let mut out = Sink::new();
+    let answer = check(alloc, &mut reader, &mut out);
+    (answer, out.text().len())
+}
+
+#[test]
+fn nothing_is_written_after_a_failed_read(rt: HostRuntime) {
+    let found = [checked(rt.alloc(), 2), checked(rt.alloc(), 0)];
+    let failed = Err(ToolFault::Read { at: 10 });
+    assert_same(&rt, found, [(failed, 0), (Ok(Verdict::Done), 10)]);
+}
+
+/// What the program comes to with these words.
+fn run_words(alloc: Global, words: &[&str]) -> Outcome {
+    let mut out = LimitedWriter::new(ROOM);
+    let mut err = LimitedWriter::new(ROOM);
+    let status = run(alloc, words, &mut OneFile, &mut out, &mut err);
+    Outcome { status, out, err }
+}
+
+// Not even the program's name: it is missing as a command is.
+#[test]
+fn an_empty_command_line(rt: HostRuntime) {
+    let (none, name) = (
+        run_words(rt.alloc(), &[]),
+        run_words(rt.alloc(), &["elfmap"]),
+    );
+    assert_same(&rt, [none.status, name.status], [2; 2]);
+    assert_same(
+        &rt,
+        [none.out.text(), none.err.text()],
+        [b"", name.err.text()],
+    );
+    assert!(rt; !none.err.text().is_empty());
 }
 
 /// The status and the text that the program ends with where the machine gives no words.

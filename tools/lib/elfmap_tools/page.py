@@ -387,7 +387,7 @@ def try_page(tally: Tally, options: Options) -> None:
     wanted("cc", "-c", "-O1", write(f"{room}/object.c", SOURCE), "-o", file := f"{room}/object.o")
     with contextlib.closing(InChromium(tally, room)) as it:
         it.sound_file(file)
-        for part in (it.links, it.filtered, it.by_keys, it.typed, it.for_readers, it.on_screens):
+        for part in (it.links, it.filtered, it.by_keys, it.for_readers, it.on_screens, it.typed):
             part()
         it.sound_file("/bin/true")
         tally.check(not it.value("document.querySelector('#memory-section').hidden"), "an executable has no bar by address")
