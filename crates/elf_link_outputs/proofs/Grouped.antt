@@ -17,7 +17,7 @@ use Rattle.elf_link_files.proofs.Public.{lists_more, lists_same, not_true, one_b
 use Rattle.elf_link_files.specs.Rows.{Lists, site_at, Before, site, AreEach}
 use Rattle.elf_link_files.specs.declared.site.Site.{Site}
 use Rattle.elf_link_outputs.proofs.OutputLists.{key_join, key_swap}
-use Rattle.elf_link_outputs.specs.Outputs.{Picks, AreGrouped, AreGroups, AreHeaded, AreHeadNumbers, AreInOrder, AreLiveGroups, AreNumbered, AreOfKind, AreOutputs, AreSplit, IsHead, IsJoined, IsMemberAdded, IsOpened, IsOpener, HaveOneKey, is_no_bits, live, members, openers, section_at_site, AreOutputMembers}
+use Rattle.elf_link_outputs.specs.Outputs.{Picks, AreGrouped, AreGroups, AreHeaded, AreHeadNumbers, AreInOrder, AreLiveGroups, AreKeyNumbers, AreOfKind, AreOutputs, AreSplit, IsHead, IsJoined, IsMemberAdded, IsOpened, IsOpener, HaveOneKey, is_no_bits, live, members, openers, section_at_site, AreOutputMembers}
 use Rattle.elf_object_type.specs.Object.{ObjectValue}
 
 -- What is picked from a list of sites, in order: a site that passes is one more, and any other adds nothing. After the whole list all that
@@ -199,7 +199,7 @@ grouped_none fs ps numbers keys groups no_keys none = rw (no_keys, none) (
 -- ---- the next section
 
 module _ (fs : List ObjectValue) (ps : List Site) (numbers : List ℕ) (k number : ℕ) (keys : List ℕ) (groups : List (List Site)) (keys_now : List ℕ) (now : List (List Site))
-    (order : AreInOrder ps) (lt : k < length ps) (numbered : AreNumbered fs ps numbers) (its : slice_index numbers k ≡ number) where
+    (order : AreInOrder ps) (lt : k < length ps) (numbered : AreKeyNumbers fs ps numbers) (its : slice_index numbers k ≡ number) where
   grouped_again : IsJoined keys groups number (site_at ps k) keys_now now → AreGrouped fs ps numbers k keys groups → AreGrouped fs ps numbers (k + 1) keys_now now
   grouped_again (r, r_in, at, keys_are, groups_are) (heads, named, are) =
       let count = named.count in

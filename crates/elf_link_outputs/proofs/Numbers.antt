@@ -21,7 +21,7 @@ use Rattle.std.proofs.lemmas.List.Sorted.{All-permutation, Contains-permutation,
 use Rattle.elf_link_files.specs.Rows.{site_at}
 use Rattle.elf_link_files.specs.declared.site.Site.{Site}
 use Rattle.elf_link_outputs.proofs.OutputLists.{key_join, key_swap}
-use Rattle.elf_link_outputs.specs.Outputs.{AreAscending, AreCounted, AreKeyed, AreNumbered, HaveOneKey, IsKeyOf, key_cmp}
+use Rattle.elf_link_outputs.specs.Outputs.{AreKeysAscending, AreCounted, AreKeyed, AreKeyNumbers, HaveOneKey, IsKeyOf, key_cmp}
 use Rattle.elf_link_outputs.specs.declared.outputs.Keyed.{Keyed}
 use Rattle.elf_link_outputs.specs.declared.outputs.OutputKey.{OutputKey}
 use Rattle.elf_object_type.specs.Object.{ObjectValue}
@@ -138,7 +138,7 @@ neither Less first second = absurd (cc)
 neither Equal first second = refl
 neither Greater first second = absurd (cc)
 
-module _ (fs : List ObjectValue) (ps : List Site) (keyed : List Keyed) (are : AreKeyed fs ps (length ps) keyed) (up : AreAscending keyed) where
+module _ (fs : List ObjectValue) (ps : List Site) (keyed : List Keyed) (are : AreKeyed fs ps (length ps) keyed) (up : AreKeysAscending keyed) where
   abbrev spot : Keyed → ℕ → ℕ
   spot d a = (get_or keyed a d).position
 
@@ -291,7 +291,7 @@ module _ (fs : List ObjectValue) (ps : List Site) (keyed : List Keyed) (are : Ar
       ]) (subst (λ n. AreCounted fs ps keyed n number numbers) (sym back) so_far))
 
   -- all are numbered
-  pub counted_all : (i number : ℕ) (numbers : List ℕ) → length keyed ≤ i → AreCounted fs ps keyed i number numbers → AreNumbered fs ps numbers
+  pub counted_all : (i number : ℕ) (numbers : List ℕ) → length keyed ≤ i → AreCounted fs ps keyed i number numbers → AreKeyNumbers fs ps numbers
   counted_all i number numbers le all = record {
     count = all.count;
     same = λ j k j_in k_in. (

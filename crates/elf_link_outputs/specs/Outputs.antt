@@ -91,11 +91,11 @@ key_cmp a b =
     ordering_then (nat_cmp a.length b.length)
     (ordering_then (nat_cmp a.flags b.flags) (ordering_then (bool_cmp a.no_bits b.no_bits) (slice_cmp nat_cmp a.name.now b.name.now)))
 
-abbrev pub AreAscending : List Keyed → Type 0
-AreAscending = IsSortedByKey (λ x. x.key) key_cmp
+abbrev pub AreKeysAscending : List Keyed → Type 0
+AreKeysAscending = IsSortedByKey (λ x. x.key) key_cmp
 
 -- a number for each site: two have one number exactly if they go to one output section
-pub record AreNumbered (fs : List ObjectValue) (ps : List Site) (numbers : List ℕ) : Type 0 where
+pub record AreKeyNumbers (fs : List ObjectValue) (ps : List Site) (numbers : List ℕ) : Type 0 where
   pub count : length numbers ≡ length ps
   pub same : (i j : ℕ) → i < length ps → j < length ps → (slice_index numbers i ≡ slice_index numbers j) ↔ HaveOneKey fs (site_at ps i) (site_at ps j)
 

@@ -2,7 +2,7 @@
 ghost use Rattle.std.specs.Prelude.{◌≡◌, [], IfOk, ◌↔◌, ◌+◌, ◌<◌, IsTrue, OnOk, length, map};
 ghost use Rattle.std.specs.List.{flat_map};
 ghost use Rattle.indexmap.specs.IndexMap.{keys, values};
-ghost use Rattle.elf_link_outputs.specs.Outputs.{AreAscending, AreGrouped, AreGroups, AreKeyed, AreLiveGroups, AreNumbered, IsKeyOf, IsMemberAdded, is_no_bits as is_no_bits_of, live as live_row, output_flags as output_flags_of, AreOutputs, flat, output_parts};
+ghost use Rattle.elf_link_outputs.specs.Outputs.{AreKeysAscending, AreGrouped, AreGroups, AreKeyed, AreLiveGroups, AreKeyNumbers, IsKeyOf, IsMemberAdded, is_no_bits as is_no_bits_of, live as live_row, output_flags as output_flags_of, AreOutputs, flat, output_parts};
 ghost use Rattle.elf_link_files.specs.Files.{object_at};
 ghost use Rattle.elf_link_files.specs.Rows.{Lists};
 ghost use Rattle.elf_object_type.specs.ObjectView.{body_value};
@@ -124,7 +124,7 @@ impl<'l, 'a> Sections<'l, 'a> {
     /// The key of each, in ascending order of the keys.
     fn sorted_keys(&self, alloc: Global) -> Result<Vec<Keyed<'a>>, AllocError>
         ensures keyed { IfOk result (λ keyed. AreKeyed self.now.objects self.now.sites (length self.now.sites) keyed.items) }
-        ensures ascending { IfOk result (λ keyed. AreAscending keyed.items) }
+        ensures ascending { IfOk result (λ keyed. AreKeysAscending keyed.items) }
     {
         let mut keyed = self.keys(alloc)?;
         keyed.sort_unstable_by_key(|keyed| keyed.key);
@@ -135,7 +135,7 @@ impl<'l, 'a> Sections<'l, 'a> {
     ///
     /// The numbers count the keys in ascending order, so whatever the names are, they are those from 0 on.
     fn numbers(&self, alloc: Global) -> Result<Vec<usize>, AllocError>
-        ensures { IfOk result (λ numbers. AreNumbered self.now.objects self.now.sites numbers.items) }
+        ensures { IfOk result (λ numbers. AreKeyNumbers self.now.objects self.now.sites numbers.items) }
     {
         let keyed = self.sorted_keys(alloc)?;
         let mut numbers = vec![in alloc; 0; self.sites.len()]?;

@@ -38,7 +38,7 @@ returns-in_err-parts-clause-file c =
       its_file c.args.image.now c.prove_stands.ensures,
       (
         one_fault (file_rules f),
-        denoted_only f c.from_residual-in_err-parts.result (returns-in_err-parts-clause-validated c),
+        denoted_only f c.from_residual.result (returns-in_err-parts-clause-validated c),
       ),
     )
 

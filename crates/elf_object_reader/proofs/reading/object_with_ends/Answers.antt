@@ -13,18 +13,18 @@ abbrev IsRead : Sections → ObjectValue × Vec ℕ Global → Type 0
 IsRead f (o, ends) = Denotes f o × (ends.items ≡ useful_ends o.symbols f) × AreTails (map (λ (s : SymbolValue). s.name) o.symbols) ends.items
 
 pub useful_ends-requires : goal.useful_ends-requires
-useful_ends-requires c = c.symbols.ensures ∙ c.in_ok-object.ensures.1.symbols
+useful_ends-requires c = c.symbols.ensures ∙ c.in_ok-object.ensures.validated.1.symbols
 
 pub returns-in_err-ends : goal.returns-in_err-ends
 returns-in_err-ends c =
     let f = sections_of c.args.image.now in
-    memory_wanted f (IsRead f) c.from_residual-in_err-ends.result c.in_ok-object.ensures.0 c.from_residual-in_err-ends.ensures.1
+    memory_wanted f (IsRead f) c.from_residual-in_err-ends.result c.in_ok-object.ensures.validated.0 c.from_residual-in_err-ends.ensures.1
 
 pub returns : goal.returns
 returns c =
     let f = sections_of c.args.image.now in
     let o = c.in_ok-object.object in
-    let denotes = c.in_ok-object.ensures.1 in
+    let denotes = c.in_ok-object.ensures.validated.1 in
     let is : c.in_ok-ends.ends.items ≡ useful_ends o.symbols f = c.in_ok-ends.ensures ∙ ap (λ (symbols : List SymbolValue). useful_ends symbols f) c.symbols.ensures in
     let tails = subst (λ (ends : List ℕ). AreTails (names_of o.symbols) ends) (sym is) (useful_tails f o denotes) in
-    (c.in_ok-object.ensures.0, (denotes, is, tails))
+    (c.in_ok-object.ensures.validated.0, (denotes, is, tails))
