@@ -6,4 +6,4 @@ pub returns-in-Ok : goal.returns-in-Ok
 returns-in-Ok g c =
     let out = c.in-Ok.ensures in
     subst (Appends (g.W.Write.contents c.args.out.now) (g.W.Write.contents c.write.new.writer))
-    (sym (out.only c.args.bytes.now c.in_ok-image.ensures.ok.stands)) out.says
+    (sym (out.only c.args.bytes.now c.in_ok-image.ensures.stands)) out.says
