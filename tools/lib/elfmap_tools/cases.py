@@ -112,7 +112,8 @@ def ways_of(case: Case) -> Iterator[tuple[str, Case]]:
         is_seeking = len(others) < len(case.words) - 1
         if case.status < 2:
             yield PROGRAM, replace(case, words=["check", *["--seek"] * (not is_seeking), *others])
-        if case.status < 2 or not is_seeking:
+        # The program of its own has another help.
+        if case.status < 2 or not is_seeking and "--help" not in others:
             yield output_of("elfmap_check"), replace(case, words=["check", *others])
 
 
