@@ -133,10 +133,10 @@ pub fn relocate_indexed<'m, 'a>(
 /// write the relocated bytes.
 ///
 /// [`LinkFault::Rule`] is the first of rules 12 to 16 ([`rules`](crate::rules)) that is broken, at its first entry by file, section and
-/// position. [`LinkFault::OutOfMemory`] comes only if an allocation fails: an index for each symbol, a copy of each live section
-/// with bits; and if the fields don't ascend, two lists of them, and the extents of those of one section. Takes log n comparisons at most
-/// for each symbol, and for each field if they don't ascend, and a look through the rules for each entry, or then two; all else is linear in
-/// the bytes, entries and symbols. If then two fields share a byte, finding the first such entry takes log n looks at each field.
+/// position. [`LinkFault::OutOfMemory`] comes only if an allocation fails: an index for each symbol, a copy of each live section with bits;
+/// and if the fields don't ascend, two lists of them, and the extents of those of one section. Takes log n comparisons at most for each
+/// symbol, and for each field if they don't ascend, and a look through the rules for each entry, or then two; all else is linear in the
+/// bytes, entries and symbols. If then two fields share a byte, finding the first such entry takes log n looks at each field.
 pub fn relocate<'m, 'a>(
     alloc: Global,
     map: &'m LinkMap<'a>,

@@ -1,5 +1,5 @@
--- What the rules of tables look at in an image is what they look at in its bytes: records and contents are those that the bytes have. So what
--- is said of the sections of an image holds of those of its bytes.
+-- What the rules of tables look at in an image is what they look at in its bytes: records and contents are those that the bytes have. So
+-- what is said of the sections of an image holds of those of its bytes.
 use Rattle.std.proofs.Common.{◌≡◌, ◌∙◌, ℕ, List, ap, map}
 use Rattle.std.specs.List.{range_with_len}
 use Rattle.elf_field.specs.declared.ehdr.Ehdr.{Ehdr}

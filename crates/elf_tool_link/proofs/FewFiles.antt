@@ -1,6 +1,6 @@
 -- The text of `map` on at most 64 files is shorter than 2^64 bytes. The files have less than 2^30 sections and 2^31.5 symbols, and each of
--- their names and contents has at most 2^30 bytes. No section and no symbol has two lines of a kind. So the lines with names of symbols have
--- less than 2^63.5 bytes together, and all others less than 2^62.5.
+-- their names and contents has at most 2^30 bytes. No section and no symbol has two lines of a kind. So the lines with names of symbols
+-- have less than 2^63.5 bytes together, and all others less than 2^62.5.
 use Rattle.std.proofs.Common.{◌≡◌, ◌∙◌, ◌<◌, ◌≤◌, ◌+◌, ◌*◌, ◌^◌, ◌++◌, ◌-◌, ℕ, zero, suc, Bool, true, false, List, [], ◌∷◌, None, Option, Some, ap, arith, bytes_eq, codes, cond, get_or, if◌then◌else◌, inl, inr, length, length-append, map, MatchOption, option_map, refl, subst, sym, unwrap_or}
 use Rattle.std.specs.List.{AllByRecursion, IsDistinct, flat_map, list_any}
 use Rattle.std.specs.Fmt.{decimal, digits}

@@ -150,10 +150,10 @@ impl<'l, 'm, 'a> Chunks for MemberBytes<'l, 'm, 'a> {
 /// with the first of the link's rules that is broken.
 ///
 /// The verdict is what the text says. Nothing was written after [`ToolFault::Read`], which carries how many bytes the reader that failed
-/// had given, and after [`ToolFault::OutOfMemory`]. After [`ToolFault::Write`] exactly the first `written` bytes of the text are written, if
-/// it is shorter than 2^64 bytes, as that of at most 64 files is; of a longer one a beginning. Memory holds all files, their objects, the link map and its lines, and with relocation rules a copy of each live section with bits. The
-/// lines of the relocated bytes are made as they are written. The time is at most that of `object_of` for each file, of `map` and
-/// `relocate` of the library, and of the text.
+/// had given, and after [`ToolFault::OutOfMemory`]. After [`ToolFault::Write`] exactly the first `written` bytes of the text are written,
+/// if it is shorter than 2^64 bytes, as that of at most 64 files is; of a longer one a beginning. Memory holds all files, their objects,
+/// the link map and its lines, and with relocation rules a copy of each live section with bits. The lines of the relocated bytes are made
+/// as they are written. The time is at most that of `object_of` for each file, of `map` and `relocate` of the library, and of the text.
 pub fn map<R: Read, W: Write>(
     alloc: Global,
     readers: &mut [R],
@@ -173,8 +173,8 @@ pub fn map<R: Read, W: Write>(
 
 /// Writes the same of files of these bytes, in order.
 ///
-/// Nothing was written after [`ToolFault::OutOfMemory`]. After [`ToolFault::Write`] exactly the first `written` bytes of the text are, if it
-/// is shorter than 2^64 bytes, as that of at most 64 files is; of a longer one a beginning. There is no other fault.
+/// Nothing was written after [`ToolFault::OutOfMemory`]. After [`ToolFault::Write`] exactly the first `written` bytes of the text are, if
+/// it is shorter than 2^64 bytes, as that of at most 64 files is; of a longer one a beginning. There is no other fault.
 pub fn map_files<W: Write>(
     alloc: Global,
     files: &[&[u8]],

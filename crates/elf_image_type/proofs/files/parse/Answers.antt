@@ -1,5 +1,5 @@
--- The rules that take no memory are kept, so a scan of the bytes that stops says why they are no image (`stops_parse`). Otherwise its outline
--- is that of the bytes, and with their contents it is their image.
+-- The rules that take no memory are kept, so a scan of the bytes that stops says why they are no image (`stops_parse`). Otherwise its
+-- outline is that of the bytes, and with their contents it is their image.
 use Rattle.std.proofs.Common.{◌≡◌, ◌∙◌, List, ℕ, ap, map, refl, subst, sym}
 use Rattle.elf_field.specs.declared.shdr.Shdr.{Shdr}
 use Rattle.elf_image_rules.specs.Tables.{bytes_in, content_extent}

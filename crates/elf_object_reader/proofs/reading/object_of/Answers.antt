@@ -1,5 +1,5 @@
--- A file that breaks no rule denotes an object that breaks none (`object_kept`), and no other one (`one_object`). The sections of the image are
--- those of its bytes (`its_file`), so all of this holds of the one list of bytes that represents the image.
+-- A file that breaks no rule denotes an object that breaks none (`object_kept`), and no other one (`one_object`). The sections of the image
+-- are those of its bytes (`its_file`), so all of this holds of the one list of bytes that represents the image.
 use Rattle.std.proofs.Common.{◌≡◌, Err, Ok, Result, rules}
 use Rattle.elf_image_stream.specs.declared.fault.Fault.{Fault}
 use Rattle.elf_image_stream.specs.declared.fault.Fault.TheVariants.{Io, OutOfMemory, Rule}
