@@ -1,4 +1,3 @@
 -- The lemmas of this crate.
-mod SaysOne
 mod FileLinks
-mod FileReports
+mod SaysSome

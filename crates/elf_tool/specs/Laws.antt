@@ -1,5 +1,5 @@
 -- What the laws of commands say: a command prints at most one thing of a file, and files have one link.
-use Rattle.std.specs.Prelude.{◌<◌, ◌^◌, ℕ, List, None, ◌≡◌, [], ◌∷◌}
+use Rattle.std.specs.Prelude.{◌<◌, ◌^◌, ℕ, List, None, [], ◌∷◌}
 use Rattle.elf_field.specs.Bytes.{IsBytes}
 use Rattle.elf_link_field.specs.declared.rule.RelocRule.{RelocRule}
 use Rattle.elf_link_files.specs.Rows.{FirstAmong}
@@ -21,11 +21,7 @@ pub record IsSoundFileLink (opt : Options) (rules : List RelocRule) (files : Lis
   pub page : opt.page < 2 ^ 64
   pub relocated : FirstAmong (applied_entry_rules fs m rules) None
 
--- What says one thing alone, and what says something.
-
--- two verdicts with their texts, both said of the same, are one
-abbrev pub SaysOne : (Verdict → List ℕ → Type 0) → Type 0
-SaysOne Says = (v w : Verdict) (s t : List ℕ) → Says v s → Says w t → (v ≡ w) × (s ≡ t)
+-- What says something.
 
 -- it can't be that no verdict with its text is said
 abbrev pub SaysSome : (Verdict → List ℕ → Type 0) → Type 0

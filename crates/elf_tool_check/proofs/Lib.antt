@@ -1,3 +1,4 @@
 -- The lemmas of this crate.
 pub mod EngineCalls
 pub mod LineInARow
+pub mod SaysOne

@@ -37,6 +37,14 @@ WritesText text old new result = MatchResult result (λ _. Appends old new text)
 abbrev pub Report : Type 1
 Report = List ℕ → Verdict → List ℕ → Type 0
 
+-- two verdicts with their texts, both said of the same, are one
+abbrev pub SaysOne : (Verdict → List ℕ → Type 0) → Type 0
+SaysOne Says = (v w : Verdict) (s t : List ℕ) → Says v s → Says w t → (v ≡ w) × (s ≡ t)
+
+-- of the bytes of any file it has at most one verdict and one text
+abbrev pub IsOneReport : Report → Type 0
+IsOneReport report = (b : List ℕ) → SaysOne (report b)
+
 -- the text of a report is written, and if all of it is, its verdict is returned
 pub record WritesReport (report : Verdict → List ℕ → Type 0) (old new : Option (List ℕ)) (result : Result Verdict ToolFault) : Type 0 where
   pub verdict : Verdict

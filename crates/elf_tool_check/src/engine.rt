@@ -4,6 +4,7 @@ ghost use Rattle.elf_image_rules.specs.Rows.{fault_of};
 ghost use Rattle.elf_image_rules.specs.Rules.{IsFault};
 ghost use Rattle.elf_image_rules.specs.ValidatedRecords.{file_of};
 ghost use Rattle.elf_tool_check.specs.Check.{CheckSays, IsChecked, file_sections, file_segments, verdict_of};
+ghost use Rattle.elf_tool_check.specs.Engine.{IsOneReport};
 ghost use Rattle.elf_tool_check.specs.FileLines.{ok_line as ok_line_of, refused_line as refused_line_of};
 
 use crate::calls::{Refusal, ToolFault, Verdict, read_input};
@@ -22,13 +23,15 @@ use std::io::{Read, Write};
 ///
 /// Linear in the bytes. Contents that are not in the order of their section headers are sorted. If the allocation for that fails, every
 /// two are compared.
+#[tactic(auto, using(crate::proofs::SaysOne::one_check))]
 pub fn check<R: Read, W: Write>(
     alloc: Global,
     reader: &mut R,
     writer: &mut W,
 ) -> Result<Verdict, ToolFault>
-    ensures { IsChecked (R.remaining reader.old) (R.remaining reader.new)
+    ensures said { IsChecked (R.remaining reader.old) (R.remaining reader.new)
         (W.contents writer.old) (W.contents writer.new) result }
+    ensures only { IsOneReport CheckSays }
 {
     let mut buf = Vec::new(alloc);
     read_input(reader, &mut buf)?;

@@ -6,3 +6,6 @@ mod InputFiles
 mod LinkRefusals
 mod MapPrints
 mod MapRefusals
+pub mod OneInput
+pub mod OneLink
+pub mod OneMap

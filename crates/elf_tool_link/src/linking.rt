@@ -1,6 +1,6 @@
 //! `link`: the executable of files.
-ghost use Rattle.std.specs.Prelude.{◌≡◌, map as map_list};
-ghost use Rattle.elf_tool_check.specs.Engine.{Prints};
+ghost use Rattle.std.specs.Prelude.{◌≡◌, ℕ, List, map as map_list};
+ghost use Rattle.elf_tool_check.specs.Engine.{Prints, SaysOne};
 ghost use Rattle.elf_link_relocate.specs.Linked.{IsReadyLink};
 ghost use Rattle.elf_tool_link.specs.Link.{ExecSays, FilesLink, IsLinkCall, MapLinks, unlinked_verdict};
 
@@ -32,8 +32,9 @@ pub fn link<R: Read, W: Write>(
     rules: &[RelocRule],
     writer: &mut W,
 ) -> Result<Verdict, ToolFault>
-    ensures { IsLinkCall options.now rules.now (map_list R.remaining readers.old) (map_list R.remaining readers.new)
+    ensures said { IsLinkCall options.now rules.now (map_list R.remaining readers.old) (map_list R.remaining readers.new)
         (W.contents writer.old) (W.contents writer.new) result }
+    ensures only { (files : List (List ℕ)) → SaysOne (FilesLink options.now rules.now files) }
 {
     let files = read_inputs(alloc, readers)?;
     let contents = slices_of(alloc, &files)?;

@@ -1,11 +1,11 @@
 //! `map`: where the sections and names of files are in their link.
-ghost use Rattle.std.specs.Prelude.{◌≡◌, ◌≤◌, ◌++◌, ◌∷◌, length, Some, option_copied, map as map_list};
+ghost use Rattle.std.specs.Prelude.{◌≡◌, ◌≤◌, ◌++◌, ◌∷◌, ℕ, List, length, Some, option_copied, map as map_list};
 ghost use Rattle.std.specs.List.{flat_map};
 ghost use Rattle.elf_tool_check.specs.FileLines.{blank};
 ghost use Rattle.elf_tool_text.specs.Line.{bytes_text};
 ghost use Rattle.elf_tool_link.specs.Map.{bytes_line, bytes_lines, member_bytes, IsMapped, IsMappedExactly, IsThis, MapSays, PrintsMap, RelocationSays, TellsUnlinked, refusal_line};
 ghost use Rattle.elf_image_stream.specs.Output.{Sends};
-ghost use Rattle.elf_tool_check.specs.Engine.{Prints};
+ghost use Rattle.elf_tool_check.specs.Engine.{Prints, SaysOne};
 
 use crate::inputs::read_inputs;
 use crate::map_lines::{map_text, push_refusal_line};
@@ -165,6 +165,7 @@ pub fn map<R: Read, W: Write>(
         (W.contents writer.old) (W.contents writer.new) result }
     ensures few { length readers.old ≤ 64 → IsMappedExactly options.now (option_copied rules.entry) (map_list R.remaining readers.old)
         (map_list R.remaining readers.new) (W.contents writer.old) (W.contents writer.new) result }
+    ensures only { (files : List (List ℕ)) → SaysOne (MapSays options.now (option_copied rules.entry) files) }
 {
     let files = read_inputs(alloc, readers)?;
     let contents = slices_of(alloc, &files)?;

@@ -13,7 +13,8 @@ use Rattle.elf_image_rules.specs.Tables.{program_header_count, section_header_co
 use Rattle.elf_image_rules.specs.Rows.{Broken}
 use Rattle.elf_tool_check.specs.Check.{CheckSays, file_sections, file_segments, verdict_of}
 use Rattle.elf_tool_program.specs.CheckSource.{IsCheckLine, IsScanned, SourceSays, line_of_scan}
-use Rattle.elf_tool_check.specs.Engine.{IsCutAt, Prints}
+use Rattle.elf_tool_check.proofs.SaysOne.{one_check}
+use Rattle.elf_tool_check.specs.Engine.{IsCutAt, IsOneReport, Prints}
 use Rattle.elf_tool_check.specs.FileLines.{ok_line}
 use Rattle.elf_tool_check.specs.declared.calls.ToolFault.TheVariants.{Write}
 use Rattle.elf_tool_check.specs.declared.calls.Verdict.TheVariants.{Done}
@@ -74,3 +75,7 @@ module _ (content old new : Option (List ℕ)) (validated : Result OutlineValue 
 
   pub said_in_part : (written : ℕ) → IsCutAt old new bytes written → Prints (SourceSays content) old new (Err (Write written))
   said_in_part written cut = (verdict_of (fault_of validated), bytes, rw is (source_says content validated told), cut)
+
+-- of a source that reports its bytes, one thing is said: what `check` says of these
+pub one_source : IsOneReport (λ b. SourceSays (Some b))
+one_source b v w s t here there = one_check b v w s t (here.1 b refl) (there.1 b refl)

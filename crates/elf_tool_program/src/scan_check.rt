@@ -3,7 +3,8 @@ ghost use Rattle.std.specs.Prelude.{◌≡◌, ℕ, List, Ok, Some, IfErr, IfOk,
 ghost use Rattle.elf_image_rules.specs.Rows.{fault_of};
 ghost use Rattle.elf_image_stream.specs.Source.{Remembers};
 ghost use Rattle.elf_tool_check.specs.Check.{verdict_of};
-ghost use Rattle.elf_tool_program.specs.CheckSource.{IsScanStopped, IsScanned, IsSourceSaid, check_failure, line_of_scan};
+ghost use Rattle.elf_tool_check.specs.Engine.{IsOneReport};
+ghost use Rattle.elf_tool_program.specs.CheckSource.{IsScanStopped, IsScanned, IsSourceSaid, SourceSays, check_failure, line_of_scan};
 
 use elf_image_outline::{Outline, scan};
 use elf_image_rules::Broken;
@@ -27,6 +28,7 @@ pub fn check_source<S: Source, W: Write>(
     ensures kept { S.content source.new ≡ S.content source.old }
     ensures failures { Remembers (check_failure result) (S.failures source.old) (S.failures source.new) }
     ensures said { IsSourceSaid (S.content source.old) (W.contents writer.old) (W.contents writer.new) result }
+    ensures only { IsOneReport (λ b. SourceSays (Some b)) }
 {
     let validated = validated_by_scan(alloc, source)?;
     let line = line_on_scan(alloc, &validated)?;

@@ -1,2 +1,3 @@
 -- For the proofs of this crate.
 pub mod Again
+pub mod OneRewrite

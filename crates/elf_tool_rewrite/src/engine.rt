@@ -1,6 +1,6 @@
 //! `rewrite`: the object of a file, in canonical layout.
 ghost use Rattle.std.specs.Prelude.{◌≡◌, ℕ, List};
-ghost use Rattle.elf_tool_check.specs.Engine.{Prints};
+ghost use Rattle.elf_tool_check.specs.Engine.{IsOneReport, Prints};
 ghost use Rattle.elf_tool_rewrite.specs.Rewrite.{IsRewritten, ObjectSays, RewriteSays, SectionsSay};
 ghost use Rattle.elf_table_symbols.specs.Sections.{sections_of};
 ghost use Rattle.elf_tool_check.specs.declared.calls.Verdict.TheVariants.{Done};
@@ -29,6 +29,7 @@ pub fn rewrite<R: Read, W: Write>(
 ) -> Result<Verdict, ToolFault>
     ensures written { IsRewritten (R.remaining reader.old) (R.remaining reader.new)
         (W.contents writer.old) (W.contents writer.new) result }
+    ensures only { IsOneReport RewriteSays }
     ensures again { (b text : List ℕ) → RewriteSays b Done text → RewriteSays text Done text }
 {
     let mut buf = Vec::new(alloc);

@@ -1,11 +1,11 @@
 //! `show`: the header, the parts, the sections, the segments and the tables of a file.
 ghost use Rattle.std.specs.Prelude.{◌≡◌, List, length, map};
 ghost use Rattle.std.specs.List.{flat_map};
-ghost use Rattle.elf_tool_check.specs.Engine.{WritesText};
+ghost use Rattle.elf_tool_check.specs.Engine.{IsOneReport, WritesText};
 ghost use Rattle.elf_tool_text.specs.Buffered.{IsBuffered, WritesPieces};
 ghost use Rattle.elf_tool_check.specs.FileLines.{refused_line as refused_line_of};
 ghost use Rattle.elf_image_rules.specs.Rows.{fault_of};
-ghost use Rattle.elf_tool_show.specs.Show.{IsShown, IsShownOf, IsVerdictShort, VerdictsFit, section_lines, segment_lines, show_text, part_line};
+ghost use Rattle.elf_tool_show.specs.Show.{IsShown, IsShownOf, IsVerdictShort, ShowSays, VerdictsFit, section_lines, segment_lines, show_text, part_line};
 
 use crate::show_lines::{push_file_line, push_part_line, push_section_line, push_segment_line};
 use crate::show_tables::show_tables;
@@ -29,13 +29,15 @@ use std::io::{Read, Write};
 /// After [`ToolFault::Write`] exactly the first `written` bytes of the text are written; after [`ToolFault::OutOfMemory`] a beginning of it
 /// may be. Memory holds the file, its records and parts, the verdicts on its tables, and a piece of the text. The time is at most that of
 /// `parse`, of the `new` of each table, and of the text.
+#[tactic(auto, using(crate::proofs::OneShow::one_show))]
 pub fn show<R: Read, W: Write>(
     alloc: Global,
     reader: &mut R,
     writer: &mut W,
 ) -> Result<Verdict, ToolFault>
-    ensures { IsShown (R.remaining reader.old) (R.remaining reader.new)
+    ensures said { IsShown (R.remaining reader.old) (R.remaining reader.new)
         (W.contents writer.old) (W.contents writer.new) result }
+    ensures only { IsOneReport ShowSays }
 {
     let mut buf = Vec::new(alloc);
     read_input(reader, &mut buf)?;

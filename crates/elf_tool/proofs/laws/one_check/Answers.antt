@@ -1,4 +1,5 @@
-use Rattle.elf_tool.proofs.SaysOne.{one_check, some_check}
+use Rattle.elf_tool.proofs.SaysSome.{some_check}
+use Rattle.elf_tool_check.proofs.SaysOne.{one_check}
 use Rattle.elf_tool.proofs.laws.one_check.Goals as goal
 
 pub returns : goal.returns

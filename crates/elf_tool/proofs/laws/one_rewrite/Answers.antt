@@ -1,5 +1,5 @@
-use Rattle.elf_tool.proofs.FileReports.{one_rewrite}
-use Rattle.elf_tool.proofs.SaysOne.{some_rewrite}
+use Rattle.elf_tool.proofs.SaysSome.{some_rewrite}
+use Rattle.elf_tool_rewrite.proofs.OneRewrite.{one_rewrite}
 use Rattle.elf_tool.proofs.laws.one_rewrite.Goals as goal
 
 pub returns : goal.returns

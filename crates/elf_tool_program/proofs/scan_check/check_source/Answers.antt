@@ -1,6 +1,6 @@
 use Rattle.std.proofs.Common.{◌∙◌}
 use Rattle.std.proofs.lemmas.Result.{err_from_is_err_and}
-use Rattle.elf_tool_program.proofs.Sources.{said_in_part, said_whole}
+use Rattle.elf_tool_program.proofs.Sources.{one_source, said_in_part, said_whole}
 use Rattle.elf_tool_program.proofs.scan_check.check_source.Goals as goal
 
 pub returns-in_err-write_whole-clause-said : goal.returns-in_err-write_whole-clause-said
@@ -13,3 +13,15 @@ pub returns-clause-said : goal.returns-clause-said
 returns-clause-said g c =
     said_whole _ _ _ c.in_ok-validated.validated c.as_bytes.result.now (c.as_bytes.ensures.value ∙ c.in_ok-line.ensures) c.in_ok-validated.ensures.told
     _ c.verdict_on_scan.ensures c.in_ok-write_whole.ensures
+
+pub returns-in_err-validated-clause-only : goal.returns-in_err-validated-clause-only
+returns-in_err-validated-clause-only g c = one_source
+
+pub returns-in_err-line-clause-only : goal.returns-in_err-line-clause-only
+returns-in_err-line-clause-only g c = one_source
+
+pub returns-in_err-write_whole-clause-only : goal.returns-in_err-write_whole-clause-only
+returns-in_err-write_whole-clause-only g c = one_source
+
+pub returns-clause-only : goal.returns-clause-only
+returns-clause-only g c = one_source

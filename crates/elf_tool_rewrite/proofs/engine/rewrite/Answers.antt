@@ -2,6 +2,7 @@ use Rattle.std.proofs.Common.{arith, vec_len}
 use Rattle.elf_tool_rewrite.specs.Rewrite.{RewriteSays}
 use Rattle.elf_tool_check.proofs.EngineCalls.{said}
 use Rattle.elf_tool_rewrite.proofs.Again.{rewrite_again}
+use Rattle.elf_tool_rewrite.proofs.OneRewrite.{one_rewrite}
 use Rattle.elf_tool_rewrite.proofs.engine.rewrite.Goals as goal
 
 pub returns-clause-written : goal.returns-clause-written
@@ -13,3 +14,9 @@ returns-clause-written g c =
 
 pub returns-in_err-read_input-clause-again : goal.returns-in_err-read_input-clause-again
 returns-in_err-read_input-clause-again g c = rewrite_again
+
+pub returns-in_err-read_input-clause-only : goal.returns-in_err-read_input-clause-only
+returns-in_err-read_input-clause-only g c = one_rewrite
+
+pub returns-clause-only : goal.returns-clause-only
+returns-clause-only g c = one_rewrite

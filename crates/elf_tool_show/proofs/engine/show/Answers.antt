@@ -13,8 +13,8 @@ shown input rest old new bytes items count result same long taken limit whole (i
 shown input rest old new bytes items count result same long taken limit whole (inr told) =
     record { bytes = bytes; taken = rw same taken; limit = rw long limit; answered = inr (rw long whole, told) }
 
-pub returns : goal.returns
-returns g c =
+pub returns-clause-said : goal.returns-clause-said
+returns-clause-said g c =
     shown (g.R.Read.remaining c.args.reader.now) (g.R.Read.remaining c.read_input.new.reader) (g.W.Write.contents c.args.writer.now)
     (g.W.Write.contents c.show_bytes.new.writer) c.as_slice.result.now c.read_input.new.buf.items (vec_len c.read_input.new.buf) c.show_bytes.result
     c.as_slice.ensures.value (omega (arith, c.as_slice.ensures.len)) c.in_ok-read_input.ensures.taken c.in_ok-read_input.ensures.limit

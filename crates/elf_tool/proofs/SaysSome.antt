@@ -1,5 +1,6 @@
--- How a report of one thing is put together: if each case has one answer and no two cases come together, there is one answer in all.
-use Rattle.std.proofs.Common.{◌≡◌, ◌∙◌, ◌⊎◌, ℕ, List, ap, inl, inr, subst, sym, length, refl, ◌<◌, ◌^◌, zero, suc, [], ◌∷◌, ◌++◌}
+-- It can't be that a command prints nothing of its input, if that is a list of bytes. For `link` the page must be below 2^64. The fault of
+-- each list of rules, and each value that is printed, is there or it is absurd that it is not. So nothing need be decided.
+use Rattle.std.proofs.Common.{ℕ, List, inl, inr, subst, length, refl, ◌<◌, ◌^◌, zero, suc, [], ◌∷◌, ◌++◌}
 use Rattle.std.specs.Prelude.{Option, None, Some}
 use Rattle.std.proofs.lemmas.Bool.{cases_lt}
 use Rattle.elf_exec.proofs.Public.{some_exec}
@@ -8,9 +9,9 @@ use Rattle.elf_exec.specs.Executable.{ExecLaid, IsExecFile}
 use Rattle.elf_field.specs.Abi.{PN_XNUM}
 use Rattle.elf_field.specs.Bytes.{IsBytes}
 use Rattle.elf_image_outline.specs.Image.{ImageValue, IsImage}
-use Rattle.elf_image_rules.proofs.Public.{one_fault, some_fault}
+use Rattle.elf_image_rules.proofs.Public.{some_fault}
 use Rattle.elf_image_rules.specs.Rows.{FirstIn}
-use Rattle.elf_image_rules.specs.Rules.{IsFault, rules_in, MAX_LEN}
+use Rattle.elf_image_rules.specs.Rules.{rules_in, MAX_LEN}
 use Rattle.elf_image_type.proofs.Public.{some_image}
 use Rattle.elf_link_field.specs.declared.rule.RelocRule.{RelocRule}
 use Rattle.elf_link_files.proofs.Public.{some_site}
@@ -31,8 +32,8 @@ use Rattle.elf_object_layout.proofs.Public.{one_layout, some_layout}
 use Rattle.elf_table_all.specs.Tables.{table_rules}
 use Rattle.elf_table_symbols.specs.Sections.{sections_of}
 use Rattle.elf_tool.proofs.FileLinks.{executable}
-use Rattle.elf_tool.specs.Laws.{SaysOne, IsSoundFileLink, AreFilesOfBytes, SaysSome}
-use Rattle.elf_tool_check.specs.Check.{CheckSays, file_sections, file_segments, verdict_of}
+use Rattle.elf_tool.specs.Laws.{IsSoundFileLink, AreFilesOfBytes, SaysSome}
+use Rattle.elf_tool_check.specs.Check.{CheckSays, file_sections, file_segments}
 use Rattle.elf_tool_link.specs.Link.{ExecSays, FilesLink}
 use Rattle.elf_tool_link.specs.Map.{MapSays, RelocationSays, bytes_lines, file_refused_line, link_refused_line, map_text}
 use Rattle.elf_tool_link.specs.ObjectFiles.{AreObjectFiles, IsFirstRefused, IsObjectFile, IsRefusedFile}
@@ -41,56 +42,6 @@ use Rattle.elf_tool_show.specs.Show.{ShowSays, show_text}
 use Rattle.elf_tool_check.specs.FileLines.{ok_line, refused_line}
 use Rattle.elf_tool_check.specs.declared.calls.Refusal.TheVariants.{File, Link, TooLong}
 use Rattle.elf_tool_check.specs.declared.calls.Verdict.TheVariants.{Done, Refused}
-use Rattle.elf_tool_check.specs.declared.calls.Verdict.{Verdict}
-
--- of one answer, which gives both
-pub of_answer : {A : Type 0} (Is : A → Type 0) (verdict : A → Verdict) (text : A → List ℕ) (Says : Verdict → List ℕ → Type 0) →
-    ((a b : A) → Is a → Is b → a ≡ b) → ((v : Verdict) (s : List ℕ) → Says v s → (a : A) × Is a × (v ≡ verdict a) × (s ≡ text a)) → SaysOne Says
-of_answer Is verdict text Says one told v w s t here there =
-    let (a, is, verdict_is, text_is) = told v s here in
-    let (b, are, verdict_also, text_also) = told w t there in
-    let same = one a b is are in
-    (verdict_is ∙ ap verdict same ∙ sym verdict_also, text_is ∙ ap text same ∙ sym text_also)
-
--- of the one value that is there
-pub of_one : {A : Type 0} (Is : A → Type 0) (Says : A → Verdict → List ℕ → Type 0) → ((a b : A) → Is a → Is b → a ≡ b) → ((a : A) → Is a → SaysOne (Says a)) →
-    SaysOne (λ v s. (a : A) × Is a × Says a v s)
-of_one Is Says same one v w s t (a, is, here) (b, are, there) = one a is v w s t here (subst (λ c. Says c w t) (same b a are is) there)
-
--- where something holds
-pub of_holding : (P : Type 0) (Says : Verdict → List ℕ → Type 0) → (P → SaysOne Says) → SaysOne (λ v s. P × Says v s)
-of_holding P Says one v w s t (holds, here) (again, there) = one holds v w s t here there
-
--- of what says something, and of a refusal, which has one answer and comes only where nothing else is said
-pub or_refused : {A : Type 0} (IsFirst : A → Type 0) (verdict : A → Verdict) (text : A → List ℕ) (Says Refuses : Verdict → List ℕ → Type 0) → SaysOne Says →
-    ((a b : A) → IsFirst a → IsFirst b → a ≡ b) → ((v : Verdict) (s : List ℕ) → Refuses v s → (a : A) × IsFirst a × (v ≡ verdict a) × (s ≡ text a)) →
-    ((v : Verdict) (s : List ℕ) (a : A) → Says v s → IsFirst a → ⊥) → SaysOne (λ v s. Says v s ⊎ Refuses v s)
-or_refused IsFirst verdict text Says Refuses says one told apart v w s t (inl here) (inl there) = says v w s t here there
-or_refused IsFirst verdict text Says Refuses says one told apart v w s t (inl here) (inr there) =
-    (let (a, first, verdict_is, text_is) = told w t there in absurd (apart v s a here first))
-or_refused IsFirst verdict text Says Refuses says one told apart v w s t (inr here) (inl there) =
-    (let (a, first, verdict_is, text_is) = told v s here in absurd (apart w t a there first))
-or_refused IsFirst verdict text Says Refuses says one told apart v w s t (inr here) (inr there) =
-    of_answer IsFirst verdict text Refuses one told v w s t here there
-
--- `check` says one thing of bytes.
-
--- the line on the rule that the file breaks first, if any
-abbrev line_of : List ℕ → Option (ℕ × ℕ) → List ℕ
-line_of b None = ok_line (length b) (file_sections b) (file_segments b)
-line_of b (Some fault) = refused_line fault.0 fault.1
-
-told : (b : List ℕ) (v : Verdict) (s : List ℕ) → CheckSays b v s → (found : Option (ℕ × ℕ)) × IsFault b found × (v ≡ verdict_of found) × (s ≡ line_of b found)
-told b Done s (clean, line) = (None, clean, refl, line)
-told b (Refused (File file rule at)) s (fault, zero_is, line) = (Some (rule, at), fault, ap (λ (n : ℕ). Refused (File n rule at)) zero_is, line)
-told b (Refused (Link rule file index entry)) s never = absurd never
-told b (Refused TooLong) s never = absurd never
-
-pub one_check : (b : List ℕ) → SaysOne (CheckSays b)
-one_check b = of_answer (IsFault b) verdict_of (line_of b) (CheckSays b) (one_fault (rules_in b)) (told b)
-
--- It can't be that a command prints nothing of its input, if that is a list of bytes. For `link` the page must be below 2^64. The fault of
--- each list of rules, and each value that is printed, is there or it is absurd that it is not. So nothing need be decided.
 
 -- ---- of one file
 
