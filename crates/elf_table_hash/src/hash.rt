@@ -11,6 +11,7 @@ use crate::hash_building::elf_hash;
 use crate::hash_parts::HashParts;
 use crate::hash_rules::validate_hash_table;
 use crate::hash_words::{HashWords, SymbolNames};
+use crate::name_hashes::NameHashes;
 use elf_field::Order;
 use elf_image_stream::Fault;
 use elf_image_type::Image;
@@ -54,7 +55,8 @@ impl<'a> Hash<'a> {
     {
         image.prove_stands();
         let table = TableSection { image, index: i };
-        validate_hash_table(alloc, table, SymbolVerdicts::Unknown)?;
+        let mut hashes = NameHashes::new(alloc, image);
+        validate_hash_table(alloc, table, SymbolVerdicts::Unknown, &mut hashes)?;
         Ok(sound_hash(image, i))
     }
 
