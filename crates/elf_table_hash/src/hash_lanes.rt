@@ -1,7 +1,7 @@
 //! Hashing strings side by side that end at one place: tails of one name (gABI chapter 5, Hash Table).
 //!
-//! The hash of a name tells nothing of those of its tails, so each tail is hashed by itself. But from the begin of the last one on they have
-//! the same bytes, and one instruction of the processor can put a byte into several hashes.
+//! The hash of a name tells nothing of those of its tails, so each tail is hashed by itself. But from the beginning of the last one on they
+//! have the same bytes, and one instruction of the processor can put a byte into several hashes.
 ghost use Rattle.std.specs.Prelude.{◌≡◌, ◌<◌, ◌≤◌, ℕ, IfSome, fold, get_or, length};
 ghost use Rattle.elf_image_type.specs.ImageView.{string};
 ghost use Rattle.elf_table_hash.specs.HashTable.{hash_of, hash_step};

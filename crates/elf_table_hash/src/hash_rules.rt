@@ -3,18 +3,20 @@ ghost use Rattle.std.specs.Prelude.{◌≡◌, ◌≢◌, ◌≤◌, ◌<◌, �
 ghost use Rattle.elf_extent.specs.Extent.{IsLowest};
 ghost use Rattle.elf_image_rules.specs.Rows.{fault_of, FirstIn};
 ghost use Rattle.elf_table_hash.specs.HashRules.{hash_parts_value, hash_word_past_end, word_rules, hash_parts, chain_rules, hash_rules, hash_table_front, hash_table_rules, symbol_off_chain};
-ghost use Rattle.elf_table_hash.specs.HashTable.{AreHashWords, bucket, bucket_of, name_of, nbucket, nchain};
+ghost use Rattle.elf_table_hash.specs.HashTable.{AreHashWords, bucket, bucket_of, hash_of, name_of, nbucket, nchain};
 ghost use Rattle.elf_table_symbols.specs.Verdicts.{IsValidatedBehind};
 ghost use Rattle.elf_table_symbols.specs.Symbols.{AreKnown, symbol_table_rules};
 ghost use Rattle.elf_table_symbols.specs.Sections.{content, own_rules, section, sections_of};
 ghost use Rattle.elf_table_hash.specs.ChainDepths.{IsDepthKnown};
 
+use crate::hash_building::elf_hash;
 use crate::hash_chains::KnownChains;
 use crate::hash_parts::HashParts;
 use crate::name_hashes::NameHashes;
 use elf_field::abi::*;
 use elf_image_rules::Broken;
 use elf_image_stream::Fault;
+use elf_image_type::strings::string_at;
 use elf_table_symbols::rules::*;
 use elf_table_symbols::{LinkedTable, SymbolVerdicts, TableKind, TableSection, validate_own_rules};
 use std::alloc::{AllocError, Global};
@@ -153,8 +155,7 @@ fn lowest_symbol_off_chain(
 {
     let words = &parts.words;
     for s in 1..words.nchain() {
-        keep_window(alloc, parts, s, hashes)?;
-        let start = start_of(parts, s, hashes);
+        let start = start_of(alloc, parts, s, hashes)?;
         if !chains.is_on(start, s) {
             let before = 2 + words.nbucket() as u64 + s as u64;
             return Ok(Some(parts.start + WORD_SIZE * before));
@@ -163,32 +164,59 @@ fn lowest_symbol_off_chain(
     Ok(None)
 }
 
-/// Of how many symbols the long names are hashed at once: the search may end at any of them.
-const WINDOW: u32 = 1024;
-
-// If a window begins at symbol `s`, keeps the hashes of its long names. Each place where a name begins is hashed once.
-fn keep_window(
+// The word of the bucket for symbol `s`.
+fn start_of(
     alloc: Global,
     parts: &HashParts<'_>,
     s: u32,
     hashes: &mut NameHashes<'_, '_>,
-) -> Result<(), AllocError>
+) -> Result<u32, AllocError>
+    requires some_bucket { nbucket parts.now.words ≢ 0 }
     requires one_each { nchain parts.now.words ≡ length parts.now.names }
     requires linked { AreHashWords parts.now.words }
+    requires inside { s < length parts.now.names }
     requires own_strings { parts.now.strings.now ≡ content hashes.old parts.now.strings_index }
-    ensures { hashes.new ≡ hashes.old }
+    ensures start { IfOk result (λ start. start ≡ bucket_of parts.now.words (name_of parts.now.names s)) }
+    ensures image { hashes.new ≡ hashes.old }
 {
     // Every hash leads to an only bucket.
-    if s % WINDOW != 1 || parts.words.nbucket() == 1 {
-        return Ok(());
+    if parts.words.nbucket() == 1 {
+        return Ok(parts.words.bucket_of(0));
+    }
+    let hash = symbol_hash(alloc, parts, s, hashes)?;
+    Ok(parts.words.bucket_of(hash))
+}
+
+// The hash of the name of symbol `s`. A long name that is not known is hashed with those of the symbols up to twice of `s`: the search may
+// end at any symbol, and then at most as many were hashed too early as were needed.
+fn symbol_hash(
+    alloc: Global,
+    parts: &HashParts<'_>,
+    s: u32,
+    hashes: &mut NameHashes<'_, '_>,
+) -> Result<u32, AllocError>
+    requires one_each { nchain parts.now.words ≡ length parts.now.names }
+    requires linked { AreHashWords parts.now.words }
+    requires inside { s < length parts.now.names }
+    requires own_strings { parts.now.strings.now ≡ content hashes.old parts.now.strings_index }
+    ensures hash { IfOk result (λ hash. hash ≡ hash_of (name_of parts.now.names s)) }
+    ensures image { hashes.new ≡ hashes.old }
+{
+    let (section, strings, offset) = (parts.strings_index, parts.strings, parts.name_offset(s));
+    if let Some(hash) = hashes.known(section, strings, offset) {
+        return Ok(hash);
     }
     let mut wanted = wanted_offsets(alloc, parts, s, hashes)?;
     wanted.sort_unstable();
     wanted.dedup();
-    hashes.keep_all(parts.strings_index, parts.strings, &wanted)
+    hashes.keep_all(section, strings, &wanted)?;
+    match hashes.known(section, strings, offset) {
+        Some(hash) => Ok(hash),
+        None => Ok(elf_hash(string_at(strings, offset as usize))),
+    }
 }
 
-// Where the long names of the window begin whose hashes are not kept.
+// Where the long names begin, of the symbols from `s` up to twice of it, whose hashes are not kept.
 fn wanted_offsets(
     alloc: Global,
     parts: &HashParts<'_>,
@@ -199,27 +227,11 @@ fn wanted_offsets(
     requires linked { AreHashWords parts.now.words }
 {
     let mut wanted = Vec::new(alloc);
-    for k in s..parts.words.nchain().min(s.saturating_add(WINDOW)) {
+    for k in s..parts.words.nchain().min(s.saturating_mul(2)) {
         let offset = parts.name_offset(k);
         if hashes.is_wanted(parts.strings_index, parts.strings, offset) {
             wanted.push(offset)?;
         }
     }
     Ok(wanted)
-}
-
-// The word of the bucket for symbol `s`.
-fn start_of(parts: &HashParts<'_>, s: u32, hashes: &NameHashes<'_, '_>) -> u32
-    requires some_bucket { nbucket parts.now.words ≢ 0 }
-    requires linked { AreHashWords parts.now.words }
-    requires inside { s < length parts.now.names }
-    requires own_strings { parts.now.strings.now ≡ content hashes.now parts.now.strings_index }
-    ensures { result ≡ bucket_of parts.now.words (name_of parts.now.names s) }
-{
-    // Every hash leads to an only bucket.
-    if parts.words.nbucket() == 1 {
-        return parts.words.bucket_of(0);
-    }
-    let hash = hashes.hash_at(parts.strings_index, parts.strings, parts.name_offset(s));
-    parts.words.bucket_of(hash)
 }

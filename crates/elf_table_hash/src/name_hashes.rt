@@ -2,7 +2,7 @@
 //!
 //! Hash tables may share a symbol table, and symbols may share a name. To hash the name of each symbol for each table could read one long
 //! name as often as the file has words. So each long name is hashed once for each place where one begins.
-ghost use Rattle.std.specs.Prelude.{◌≡◌, ◌≤◌, length};
+ghost use Rattle.std.specs.Prelude.{◌≡◌, ◌≤◌, IfSome, length};
 ghost use Rattle.elf_image_type.specs.ImageView.{string};
 ghost use Rattle.elf_table_hash.specs.HashTable.{hash_of};
 ghost use Rattle.elf_table_hash.specs.NameHashes.{AreLanesRun, LANES, place_key};
@@ -50,19 +50,16 @@ impl<'i, 'a> NameHashes<'i, 'a> {
         }
     }
 
-    /// The hash of the string at an offset of the content of a section.
-    pub(crate) fn hash_at(&self, section: u32, strings: &[u8], offset: u32) -> u32
+    /// The hash of the string at an offset of the content of a section, if the string is short or its hash is kept.
+    pub(crate) fn known(&self, section: u32, strings: &[u8], offset: u32) -> Option<u32>
         requires { strings.now ≡ content self.now section }
-        ensures { result ≡ hash_of (string strings.now offset) }
+        ensures { IfSome result (λ hash. hash ≡ hash_of (string strings.now offset)) }
     {
         let near = near_string(strings, offset);
         if near.len() <= SHORT_NAME {
-            return elf_hash(near);
+            return Some(elf_hash(near));
         }
-        match self.kept.get(&key_of(section, offset)) {
-            Some(hash) => *hash,
-            None => elf_hash(string_at(strings, offset as usize)),
-        }
+        self.kept.get(&key_of(section, offset)).copied()
     }
 
     /// Whether the hash of the string at an offset has to be kept, and is not.

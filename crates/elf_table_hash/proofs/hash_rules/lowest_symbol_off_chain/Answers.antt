@@ -5,9 +5,9 @@ use Rattle.elf_table_hash.proofs.hash_rules.lowest_symbol_off_chain.Goals as goa
 
 pub loop-s-preserved : goal.loop-s-preserved
 loop-s-preserved c = record {
-  image = c.in_ok-keep_window.ensures ∙ c.loop-s.invariant.image;
+  image = c.in_ok-start.ensures.image ∙ c.loop-s.invariant.image;
   on = λ k some lt.
-      (let here = rw (c.start_of-start.ensures, c.requires.own) at (c.is_on.ensures.0 c.if-not-is_on.false) in
+      (let here = rw (c.in_ok-start.ensures.start, c.requires.own) at (c.is_on.ensures.0 c.if-not-is_on.false) in
       elim (cases_lt k c.loop-s.s) [
         | inl below ↦ c.loop-s.invariant.on k some below
         | inr above ↦ (
