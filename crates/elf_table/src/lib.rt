@@ -11,10 +11,26 @@
 //!     names.push(symbol.name)?;
 //! }
 //! ```
+//!
+//! A table is validated with the tables that it links to. For many tables of one image there is [`Tables`], which validates each of them
+//! once:
+//!
+//! ```
+//! let image = parse(alloc, &bytes)?;
+//! let tables = Tables::new(alloc, &image)?;
+//! for i in 0..tables.section_count() {
+//!     if TableKind::of(image.section(i).sh_type) == Some(TableKind::RelocationTable) {
+//!         if tables.verdict(i).is_ok() {
+//!             count += tables.relocs(i).len();
+//!         }
+//!     }
+//! }
+//! ```
 #![tactic(auto)]
 
+pub use elf_table_all::Tables;
 pub use elf_table_hash::{Hash, HashFault, HashIter, build_hash, elf_hash};
 pub use elf_table_lists::{
     Dynamic, DynamicIter, Group, GroupIter, Note, NoteIter, Notes, RelocIter, Relocation, Relocs,
 };
-pub use elf_table_symbols::{Place, Strings, Symbol, SymbolIter, Symbols, rules};
+pub use elf_table_symbols::{Place, Strings, Symbol, SymbolIter, Symbols, TableKind, rules};

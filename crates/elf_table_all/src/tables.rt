@@ -25,8 +25,9 @@ use std::alloc::{AllocError, Global};
 use std::marker::Model;
 
 /// The tables of an image, with the verdict on each. Every symbol table is validated once, however many other tables link to it, and
-/// the index tables are found in one pass over the section headers. A string table is validated with the table that links to it, or
-/// by [`Strings::new`](crate::Strings::new).
+/// the index tables are found in one pass over the section headers. A name of more than 64 bytes is hashed once for each place where one
+/// begins, however many hash tables are for its symbols. A string table is validated with the table that links to it, or by
+/// [`Strings::new`](crate::Strings::new).
 #[derive(Drop)]
 pub struct Tables<'i, 'a> {
     image: &'i Image<'a>,
@@ -49,7 +50,10 @@ impl<'i, 'a> Model for Tables<'i, 'a> {
 impl<'i, 'a> Tables<'i, 'a> {
     /// Those of this image, all of them validated. The error comes only if an allocation fails. They keep an entry for each table that
     /// breaks a rule, and one for each symbol table that has an index table. A section group or a hash table can take memory while it is
-    /// tested.
+    /// tested, and until all are tested each place where a long name begins that was hashed.
+    ///
+    /// The time is n log n in the section headers and the entries of all tables, and linear in the file. One case takes more: hash tables
+    /// whose symbols have many tails of one long name. Each tail is hashed once, so that this takes the sum of their lengths.
     pub fn new(alloc: Global, image: &'i Image<'a>) -> Result<Tables<'i, 'a>, AllocError>
         ensures image { IfOk result (λ tables. tables.image ≡ image.entry.now) }
         ensures verdicts { IfOk result (λ tables. AreVerdicts (sections_of image.entry.now) (length image.entry.now.sections) tables.verdicts) }

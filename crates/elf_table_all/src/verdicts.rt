@@ -10,7 +10,7 @@ use elf_field::abi::*;
 use elf_image_rules::Broken;
 use elf_image_stream::Fault;
 use elf_image_type::Image;
-use elf_table_hash::validate_hash_table;
+use elf_table_hash::{NameHashes, validate_hash_table};
 use elf_table_lists::{
     validate_dynamic_section, validate_group_section, validate_note_section,
     validate_relocation_section,
@@ -78,9 +78,12 @@ pub(crate) fn all_verdicts(
         AreVerdicts (sections_of image.now) (length image.now.sections) verdicts) }
 {
     let symbols = symbol_verdicts(alloc, image, index_tables)?;
+    // Hash tables share names.
+    let mut hashes = NameHashes::new(alloc, image);
     let mut verdicts = Verdicts::new(alloc);
     for i in 0..image.section_count() {
-        verdicts.push(table_verdict(alloc, TableSection { image, index: i }, &symbols)?)?;
+        let table = TableSection { image, index: i };
+        verdicts.push(table_verdict(alloc, table, &symbols, &mut hashes)?)?;
     }
     Ok(verdicts)
 }
@@ -117,15 +120,18 @@ fn symbol_verdict(
     }
 }
 
-// The verdict on the table in this section, by those on the symbol tables; `Ok` where it holds none.
+// The verdict on the table in this section, by those on the symbol tables and the hashes of names; `Ok` where it holds none.
 #[tactic(auto, unfolding(crate::specs::Tables::table_rules))]
 fn table_verdict(
     alloc: Global,
     table: TableSection<'_, '_>,
     symbols: &Verdicts,
+    hashes: &mut NameHashes<'_, '_>,
 ) -> Result<Result<(), Broken<u64>>, AllocError>
-    requires { AreSymbolVerdicts (sections_of table.image.now) (length table.image.now.sections) symbols.now }
-    ensures { IfOk result (λ verdict. FirstIn (table_rules (sections_of table.entry.image.now) table.entry.index) (fault_of verdict)) }
+    requires symbols { AreSymbolVerdicts (sections_of table.image.now) (length table.image.now.sections) symbols.now }
+    requires hashes { hashes.old ≡ sections_of table.image.now }
+    ensures verdict { IfOk result (λ verdict. FirstIn (table_rules (sections_of table.entry.image.now) table.entry.index) (fault_of verdict)) }
+    ensures hashes { hashes.new ≡ hashes.old }
 {
     let known = SymbolVerdicts::All(symbols);
     match TableKind::of(table.header().sh_type) {
@@ -134,7 +140,9 @@ fn table_verdict(
         Some(TableKind::SectionGroup) => verdict_of(validate_group_section(alloc, table, known)),
         Some(TableKind::NoteSection) => Ok(validate_note_section(table)),
         Some(TableKind::DynamicArray) => Ok(validate_dynamic_section(table)),
-        Some(TableKind::HashTable) => verdict_of(validate_hash_table(alloc, table, known)),
+        Some(TableKind::HashTable) => {
+            verdict_of(validate_hash_table(alloc, table, known, hashes))
+        }
         None => Ok(Ok(())),
     }
 }

@@ -1,15 +1,16 @@
 -- If a hash table breaks none of rules 65 to 69, and its content has all its bytes, it is `Valid` for its names. The rules give its size,
 -- its counts, and that each word is a symbol. Whether chains end, and what is on them, is decided (`ChainsDecided`), so rules 68 and 69
 -- give the rest.
-use Rattle.std.proofs.Common.{◌≡◌, ℕ, ◌/◌, ◌<◌, List, [], ◌∷◌, length, map, get_or, refl, ap, zero-add, ◌≢◌, ◌+◌, ◌*◌, ◌%◌, None, inl, inr, sym, subst, ◌∙◌, arith, Option, Some, ◌++◌, length-append, ◌-◌, Bool, true, false, cond, drop, min, not, take, zero, suc}
+use Rattle.std.proofs.Common.{◌≡◌, ℕ, ◌/◌, ◌<◌, List, [], ◌∷◌, length, map, get_or, refl, ap, zero-add, ◌≢◌, ◌≤◌, ◌+◌, ◌*◌, ◌%◌, None, inl, inr, sym, subst, ◌∙◌, arith, Option, Some, ◌++◌, fold, length-append, ◌-◌, Bool, true, false, cond, drop, min, not, take, zero, suc}
 use Rattle.std.specs.List.{range_with_len, before_first, position_or_len}
+use Rattle.std.proofs.lemmas.List.Sums.{fold-append}
 use Rattle.std.proofs.lemmas.List.FromFn.{get_or-map-range_with_len, length-map-range_with_len}
 use Rattle.std.proofs.Math.Nat.{mod-lt}
 use Rattle.std.proofs.lemmas.Bool.{cases_eq, cases_lt}
 use Rattle.std.specs.Option.{IsSome}
 use Rattle.std.specs.Prelude.{◌==◌}
 use Rattle.std.proofs.Math.ListN.{drop_of_length-le}
-use Rattle.std.proofs.lemmas.List.{length-take, take-take, take_all, take_rest}
+use Rattle.std.proofs.lemmas.List.{drop-drop, length-take, take-take, take_all, take_rest}
 use Rattle.elf_extent.specs.Extent.{Never}
 use Rattle.elf_field.specs.Abi.{WORD_SIZE, SHT_HASH}
 use Rattle.elf_field.specs.declared.number.Order.{Order}
@@ -17,9 +18,10 @@ use Rattle.elf_field.specs.declared.shdr.Shdr.{Shdr}
 use Rattle.elf_image_rules.proofs.Public.{FirstIn-behind, FirstIn-front}
 use Rattle.elf_image_rules.specs.Rows.{FirstIn}
 use Rattle.elf_image_rules.specs.Tables.{content_extent}
+use Rattle.elf_image_type.specs.ImageView.{string}
 use Rattle.elf_table_hash.proofs.Chains.{ends_or_not, on_or_not, chain_short, end_below, one_chain, path_append, path_at, path_push}
 use Rattle.elf_table_hash.specs.HashRules.{HashPartsValue, hash_parts, chain_rules, hash_rules, hash_table_rules, hash_word_past_end, word_rules}
-use Rattle.elf_table_hash.specs.HashTable.{names_in, symbol_name, words_in, AreHashWords, Valid, bucket, bucket_of, chain, name_of, nbucket, nchain, Ends, IsOn, hash_of, symbol_names_of, IsChain, IsPath, HasSymbolNamed, HashValue, IsEndingChain, IsFirstNamed, IsProbed, NoneNamed}
+use Rattle.elf_table_hash.specs.HashTable.{names_in, symbol_name, words_in, AreHashWords, Valid, bucket, bucket_of, chain, name_of, nbucket, nchain, Ends, IsOn, hash_of, hash_step, symbol_names_of, IsChain, IsPath, HasSymbolNamed, HashValue, IsEndingChain, IsFirstNamed, IsProbed, NoneNamed}
 use Rattle.elf_table_hash.specs.HashView.{hash_of_section}
 use Rattle.elf_table_symbols.proofs.Public.{type_of_hash}
 use Rattle.elf_table_symbols.specs.Sections.{own_rules, Sections, content, order, section}
@@ -336,3 +338,42 @@ rest_from xs x =
       | inl below ↦ ap (λ (n : ℕ). drop n xs) (omega arith)
       | inr past ↦ drop_of_length-le xs (omega arith) ∙ sym (drop_of_length-le xs (omega arith))
     ]
+
+-- the string of n bytes of xs is that of xs, if it has fewer bytes, or xs has no more
+pub near_whole : (xs : List ℕ) (n most : ℕ) → n ≡ min (length xs) (most + 1) → length (string_of (take n xs)) ≤ most → string_of (take n xs) ≡ string_of xs
+near_whole xs n most near short = elim (cases_lt (length xs) (most + 1)) [
+  | inl below ↦ ap string_of (take_all n xs (omega arith))
+  | inr past ↦
+      let long : min (min n (end_of xs)) (length xs) ≤ most = rw (cut_string xs n, length-take (min n (end_of xs)) xs) at short in
+      cut_string xs n ∙ ap (λ (k : ℕ). take k xs) (omega arith)
+]
+
+-- the string of xs is as many bytes as come before its zero, and from any of them on the rest of it
+split_string : (n : ℕ) (xs : List ℕ) → n ≤ end_of xs → string_of xs ≡ take n xs ++ string_of (drop n xs)
+split_string zero xs le = refl
+split_string (suc n) [] le = absurd (let none : suc n ≤ 0 = le in (omega arith))
+split_string (suc n) (x ∷ xs) le = by (x == 0) le (λ rest. split_string n xs rest)
+  where
+    by : (b : Bool) → suc n ≤ cond (not b) (1 + end_of xs) 0 → (n ≤ end_of xs → string_of xs ≡ take n xs ++ string_of (drop n xs)) →
+        take (cond (not b) (1 + end_of xs) 0) (x ∷ xs) ≡ x ∷ (take n xs ++ string_of (drop n xs))
+    by true le rest = absurd (let none : suc n ≤ 0 = le in (omega arith))
+    by false le rest =
+        ap (λ (k : ℕ). take k (x ∷ xs)) (let e : 1 + end_of xs ≡ suc (end_of xs) = omega arith in e) ∙
+        ap (λ (ys : List ℕ). x ∷ ys) (rest (let more : suc n ≤ 1 + end_of xs = le in omega arith))
+
+-- the bytes between two offsets, and the string at the second, are the string at the first, if no zero is between
+pub string_from : (table : List ℕ) (from to : ℕ) → from ≤ to → to ≤ length table → to - from ≤ length (string_of (take (to - from) (drop from table))) →
+    string table from ≡ string_of (take (to - from) (drop from table)) ++ string table to
+string_from table from to le within whole =
+    let n = to - from in
+    let xs = drop from table in
+    let far : n ≤ end_of xs = (let long : n ≤ min (min n (end_of xs)) (length xs) = rw (cut_string xs n, length-take (min n (end_of xs)) xs) at whole in omega arith) in
+    let own : string_of (take n xs) ≡ take n xs = cut_string xs n ∙ ap (λ (k : ℕ). take k xs) (omega arith) in
+    let rest : drop n xs ≡ drop to table = drop-drop n from table ∙ ap (λ (k : ℕ). drop k table) (omega arith) in
+    rw (split_string n xs far, own, rest) refl
+
+-- and so the hash of these bytes becomes that of the string at the first
+pub hash_from : (table : List ℕ) (from to : ℕ) → from ≤ to → to ≤ length table → to - from ≤ length (string_of (take (to - from) (drop from table))) →
+    fold hash_step (hash_of (string_of (take (to - from) (drop from table)))) (string table to) ≡ hash_of (string table from)
+hash_from table from to le within whole =
+    sym (ap hash_of (string_from table from to le within whole) ∙ fold-append hash_step 0 (string_of (take (to - from) (drop from table))) (string table to))

@@ -3,3 +3,4 @@ pub mod HashTable
 pub mod ChainDepths
 pub mod HashRules
 pub mod HashView
+pub mod NameHashes

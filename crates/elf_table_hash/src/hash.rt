@@ -11,6 +11,7 @@ use crate::hash_building::elf_hash;
 use crate::hash_parts::HashParts;
 use crate::hash_rules::validate_hash_table;
 use crate::hash_words::{HashWords, SymbolNames};
+use crate::name_hashes::NameHashes;
 use elf_field::Order;
 use elf_image_stream::Fault;
 use elf_image_type::Image;
@@ -39,12 +40,17 @@ impl<'a> Model for Hash<'a> {
 
 impl<'a> Hash<'a> {
     /// The hash table that section `i` holds, where `i` is below the image's count of section headers. It takes memory for
-    /// each symbol while it tests the chains.
+    /// each symbol while it tests the chains, and for each place where a name of more than 64 bytes begins.
     ///
     /// [`Fault::Rule`] is the first rule that is broken, at its lowest offset: 40, 42, 43, 44, then all rules of the symbol table that the
     /// section links to, then 65 to 69. [`Fault::OutOfMemory`] comes only if an allocation fails, and no rule from 40 to 67 is broken.
-    /// No other fault comes. It takes a pass over the section headers, the symbols and the words, log n steps at most to find a symbol on a
-    /// chain, and the hash of each name.
+    /// No other fault comes.
+    ///
+    /// It takes a pass over the section headers, the symbols and the words, and log n steps at most to find a symbol on a chain. Each name
+    /// is hashed, but one of more than 64 bytes once for each place where it begins, and none if there is one bucket. So the time is n
+    /// log n, unless many symbols have tails of one long name: then it is the sum of their lengths, at some 4 GB a second. The whole
+    /// symbol table is validated too. `Tables` of `elf_table` validates each symbol table of an image once, and hashes long names once for
+    /// all of its hash tables.
     pub fn new(alloc: Global, image: &Image<'a>, i: usize) -> Result<Hash<'a>, Fault>
         requires { i < length image.now.sections }
         ensures validated { let f = sections_of image.now in
@@ -54,7 +60,8 @@ impl<'a> Hash<'a> {
     {
         image.prove_stands();
         let table = TableSection { image, index: i };
-        validate_hash_table(alloc, table, SymbolVerdicts::Unknown)?;
+        let mut hashes = NameHashes::new(alloc, image);
+        validate_hash_table(alloc, table, SymbolVerdicts::Unknown, &mut hashes)?;
         Ok(sound_hash(image, i))
     }
 

@@ -19,8 +19,8 @@ pub fn elf_hash(name: &[u8]) -> u32
     hash
 }
 
-// The hash after one more byte.
-fn hash_more(hash: u32, byte: u8) -> u32
+/// The hash after one more byte.
+pub(crate) fn hash_more(hash: u32, byte: u8) -> u32
     ensures { result ≡ hash_step hash byte }
 {
     let sum = hash.wrapping_mul(16).wrapping_add(byte as u32);

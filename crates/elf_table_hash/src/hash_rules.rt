@@ -3,17 +3,20 @@ ghost use Rattle.std.specs.Prelude.{◌≡◌, ◌≢◌, ◌≤◌, ◌<◌, �
 ghost use Rattle.elf_extent.specs.Extent.{IsLowest};
 ghost use Rattle.elf_image_rules.specs.Rows.{fault_of, FirstIn};
 ghost use Rattle.elf_table_hash.specs.HashRules.{hash_parts_value, hash_word_past_end, word_rules, hash_parts, chain_rules, hash_rules, hash_table_front, hash_table_rules, symbol_off_chain};
-ghost use Rattle.elf_table_hash.specs.HashTable.{AreHashWords, nbucket, nchain, bucket};
+ghost use Rattle.elf_table_hash.specs.HashTable.{AreHashWords, bucket, bucket_of, hash_of, name_of, nbucket, nchain};
 ghost use Rattle.elf_table_symbols.specs.Verdicts.{IsValidatedBehind};
 ghost use Rattle.elf_table_symbols.specs.Symbols.{AreKnown, symbol_table_rules};
-ghost use Rattle.elf_table_symbols.specs.Sections.{own_rules, section, sections_of};
+ghost use Rattle.elf_table_symbols.specs.Sections.{content, own_rules, section, sections_of};
 ghost use Rattle.elf_table_hash.specs.ChainDepths.{IsDepthKnown};
 
+use crate::hash_building::elf_hash;
 use crate::hash_chains::KnownChains;
 use crate::hash_parts::HashParts;
+use crate::name_hashes::NameHashes;
 use elf_field::abi::*;
 use elf_image_rules::Broken;
 use elf_image_stream::Fault;
+use elf_image_type::strings::string_at;
 use elf_table_symbols::rules::*;
 use elf_table_symbols::{LinkedTable, SymbolVerdicts, TableKind, TableSection, validate_own_rules};
 use std::alloc::{AllocError, Global};
@@ -62,37 +65,46 @@ fn lowest_hash_word_past_end(parts: &HashParts<'_>) -> Option<u64>
     None
 }
 
-/// All rules of a hash table, by these verdicts on the symbol tables. [`Fault::OutOfMemory`] comes only if no rule
-/// from 40 to 67 is broken.
+/// All rules of a hash table, by these verdicts on the symbol tables, and by the hashes of the image's names. [`Fault::OutOfMemory`] comes
+/// only if no rule from 40 to 67 is broken.
 #[tactic(auto, unfolding(crate::specs::HashRules::hash_table_rules, crate::specs::HashRules::hash_table_front))]
 pub fn validate_hash_table(
     alloc: Global,
     table: TableSection<'_, '_>,
     symbols: SymbolVerdicts<'_>,
+    hashes: &mut NameHashes<'_, '_>,
 ) -> Result<(), Fault>
-    requires { AreKnown (sections_of table.image.now) symbols }
-    ensures { let f = sections_of table.entry.image.now in
+    requires known { AreKnown (sections_of table.image.now) symbols }
+    requires own_hashes { hashes.old ≡ sections_of table.image.now }
+    ensures validated { let f = sections_of table.entry.image.now in
         IsValidatedBehind (hash_table_front f table.entry.index) (hash_table_rules f table.entry.index) (λ _. ⊤) result }
+    ensures image { hashes.new ≡ hashes.old }
 {
     validate_own_rules(table, TableKind::HashTable)?;
     let linked = LinkedTable { table };
     symbols.of(linked)?;
-    validate_hash(alloc, linked)
+    validate_hash(alloc, linked, hashes)
 }
 
 /// Rules 65 to 69 of a hash table whose section header breaks no rule, as the symbol table that it links to.
 /// [`Fault::OutOfMemory`] comes only if none of 65 to 67 is broken.
 #[tactic(auto, unfolding(crate::specs::HashRules::hash_rules))]
-fn validate_hash(alloc: Global, linked: LinkedTable<'_, '_>) -> Result<(), Fault>
+fn validate_hash(
+    alloc: Global,
+    linked: LinkedTable<'_, '_>,
+    hashes: &mut NameHashes<'_, '_>,
+) -> Result<(), Fault>
     requires own { FirstIn (own_rules TableKind.HashTable (sections_of linked.table.image.now) linked.table.index) None }
     requires symbols { let f = sections_of linked.table.image.now in
         FirstIn (symbol_table_rules f (section f linked.table.index).sh_link) None }
-    ensures { let f = sections_of linked.entry.table.image.now in let i = linked.entry.table.index in
+    requires own_hashes { hashes.old ≡ sections_of linked.table.image.now }
+    ensures validated { let f = sections_of linked.entry.table.image.now in let i = linked.entry.table.index in
         IsValidatedBehind (word_rules (hash_parts f i)) (hash_rules f i) (λ _. ⊤) result }
+    ensures image { hashes.new ≡ hashes.old }
 {
     let parts = HashParts::new(linked);
     validate_words(&parts)?;
-    let verdict = validate_chains(alloc, &parts)?;
+    let verdict = validate_chains(alloc, &parts, hashes)?;
     Ok(verdict?)
 }
 
@@ -101,11 +113,14 @@ fn validate_hash(alloc: Global, linked: LinkedTable<'_, '_>) -> Result<(), Fault
 fn validate_chains(
     alloc: Global,
     parts: &HashParts<'_>,
+    hashes: &mut NameHashes<'_, '_>,
 ) -> Result<Result<(), Broken<u64>>, AllocError>
     requires some_bucket { nbucket parts.now.words ≢ 0 }
     requires one_each { nchain parts.now.words ≡ length parts.now.names }
     requires linked { AreHashWords parts.now.words }
-    ensures { IfOk result (λ verdict. FirstIn (chain_rules (hash_parts_value parts.now)) (fault_of verdict)) }
+    requires own_strings { parts.now.strings.now ≡ content hashes.old parts.now.strings_index }
+    ensures verdict { IfOk result (λ verdict. FirstIn (chain_rules (hash_parts_value parts.now)) (fault_of verdict)) }
+    ensures image { hashes.new ≡ hashes.old }
 {
     let symbols = parts.words.nchain();
     let mut chains = KnownChains::new(alloc, &parts.words)?;
@@ -116,28 +131,107 @@ fn validate_chains(
         let at = parts.start + WORD_SIZE * (2 + b as u64);
         return Ok(Err(Broken::new(ENDLESS_CHAIN, at)));
     }
-    match lowest_symbol_off_chain(parts, &chains) {
+    match lowest_symbol_off_chain(alloc, parts, &chains, hashes)? {
         Some(at) => Ok(Err(Broken::new(SYMBOL_OFF_CHAIN, at))),
         None => Ok(Ok(())),
     }
 }
 
 // The lowest offset in the file of the chain word of a symbol from 1 on that is not on the chain of its name's bucket.
-fn lowest_symbol_off_chain(parts: &HashParts<'_>, chains: &KnownChains<'_, '_>) -> Option<u64>
+fn lowest_symbol_off_chain(
+    alloc: Global,
+    parts: &HashParts<'_>,
+    chains: &KnownChains<'_, '_>,
+    hashes: &mut NameHashes<'_, '_>,
+) -> Result<Option<u64>, AllocError>
     requires some_bucket { nbucket parts.now.words ≢ 0 }
     requires one_each { nchain parts.now.words ≡ length parts.now.names }
     requires linked { AreHashWords parts.now.words }
     requires own { chains.now.words ≡ parts.now.words }
     requires known { (b : ℕ) → b < nbucket parts.now.words → IsDepthKnown chains.now.depth (bucket parts.now.words b) }
-    ensures { IsLowest (symbol_off_chain (hash_parts_value parts.now)) result }
+    requires own_strings { parts.now.strings.now ≡ content hashes.old parts.now.strings_index }
+    ensures lowest { IfOk result (IsLowest (symbol_off_chain (hash_parts_value parts.now))) }
+    ensures image { hashes.new ≡ hashes.old }
 {
     let words = &parts.words;
     for s in 1..words.nchain() {
-        let start = words.bucket_of(parts.names.get(s));
+        let start = start_of(alloc, parts, s, hashes)?;
         if !chains.is_on(start, s) {
             let before = 2 + words.nbucket() as u64 + s as u64;
-            return Some(parts.start + WORD_SIZE * before);
+            return Ok(Some(parts.start + WORD_SIZE * before));
         }
     }
-    None
+    Ok(None)
+}
+
+// The word of the bucket for symbol `s`.
+fn start_of(
+    alloc: Global,
+    parts: &HashParts<'_>,
+    s: u32,
+    hashes: &mut NameHashes<'_, '_>,
+) -> Result<u32, AllocError>
+    requires some_bucket { nbucket parts.now.words ≢ 0 }
+    requires one_each { nchain parts.now.words ≡ length parts.now.names }
+    requires linked { AreHashWords parts.now.words }
+    requires inside { s < length parts.now.names }
+    requires own_strings { parts.now.strings.now ≡ content hashes.old parts.now.strings_index }
+    ensures start { IfOk result (λ start. start ≡ bucket_of parts.now.words (name_of parts.now.names s)) }
+    ensures image { hashes.new ≡ hashes.old }
+{
+    // Every hash leads to an only bucket.
+    if parts.words.nbucket() == 1 {
+        return Ok(parts.words.bucket_of(0));
+    }
+    let hash = symbol_hash(alloc, parts, s, hashes)?;
+    Ok(parts.words.bucket_of(hash))
+}
+
+// The hash of the name of symbol `s`. A long name that is not known is hashed with those of the symbols up to twice of `s`: the search may
+// end at any symbol, and then at most as many were hashed too early as were needed.
+fn symbol_hash(
+    alloc: Global,
+    parts: &HashParts<'_>,
+    s: u32,
+    hashes: &mut NameHashes<'_, '_>,
+) -> Result<u32, AllocError>
+    requires one_each { nchain parts.now.words ≡ length parts.now.names }
+    requires linked { AreHashWords parts.now.words }
+    requires inside { s < length parts.now.names }
+    requires own_strings { parts.now.strings.now ≡ content hashes.old parts.now.strings_index }
+    ensures hash { IfOk result (λ hash. hash ≡ hash_of (name_of parts.now.names s)) }
+    ensures image { hashes.new ≡ hashes.old }
+{
+    let (section, strings, offset) = (parts.strings_index, parts.strings, parts.name_offset(s));
+    if let Some(hash) = hashes.known(section, strings, offset) {
+        return Ok(hash);
+    }
+    let mut wanted = wanted_offsets(alloc, parts, s, hashes)?;
+    wanted.sort_unstable();
+    wanted.dedup();
+    hashes.keep_all(section, strings, &wanted)?;
+    match hashes.known(section, strings, offset) {
+        Some(hash) => Ok(hash),
+        None => Ok(elf_hash(string_at(strings, offset as usize))),
+    }
+}
+
+// Where the long names begin, of the symbols from `s` up to twice of it, whose hashes are not kept.
+fn wanted_offsets(
+    alloc: Global,
+    parts: &HashParts<'_>,
+    s: u32,
+    hashes: &NameHashes<'_, '_>,
+) -> Result<Vec<u32>, AllocError>
+    requires one_each { nchain parts.now.words ≡ length parts.now.names }
+    requires linked { AreHashWords parts.now.words }
+{
+    let mut wanted = Vec::new(alloc);
+    for k in s..parts.words.nchain().min(s.saturating_mul(2)) {
+        let offset = parts.name_offset(k);
+        if hashes.is_wanted(parts.strings_index, parts.strings, offset) {
+            wanted.push(offset)?;
+        }
+    }
+    Ok(wanted)
 }

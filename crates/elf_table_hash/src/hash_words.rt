@@ -1,9 +1,8 @@
 //! The words of a hash table, and the names that it is for (gABI chapter 5, Hash Table).
-ghost use Rattle.std.specs.Prelude.{◌≡◌, ◌≢◌, ◌↔◌, ◌<◌, ◌≤◌, ◌+◌, [], IsTrue, length, get_or};
-ghost use Rattle.elf_table_hash.specs.HashTable.{bucket as bucket_word, bucket_of as bucket_of_name, chain as chain_word, nbucket as nbucket_of, nchain as nchain_of, names_in, words_in};
+ghost use Rattle.std.specs.Prelude.{◌≡◌, ◌≢◌, ◌↔◌, ◌<◌, ◌≤◌, ◌+◌, ◌%◌, [], IsTrue, length, get_or};
+ghost use Rattle.elf_table_hash.specs.HashTable.{bucket as bucket_word, chain as chain_word, nbucket as nbucket_of, nchain as nchain_of, names_in, words_in};
 ghost use Rattle.elf_image_type.specs.ImageView.{string};
 
-use crate::hash_building::elf_hash;
 use elf_field::Order;
 use elf_field::abi::*;
 use elf_image_type::strings::string_at;
@@ -81,13 +80,13 @@ impl<'a> HashWords<'a> {
         self.get(2 + b as usize)
     }
 
-    /// The word of the bucket for symbols of this name, in a table of some buckets.
-    pub(crate) fn bucket_of(&self, name: &[u8]) -> u32
+    /// The word of the bucket for symbols of a name with this hash, in a table of some buckets.
+    pub(crate) fn bucket_of(&self, hash: u32) -> u32
         requires some { nbucket_of self.now ≢ 0 }
         requires long { 2 + nbucket_of self.now ≤ length self.now }
-        ensures { result ≡ bucket_of_name self.now name.now }
+        ensures { result ≡ bucket_word self.now (hash % nbucket_of self.now) }
     {
-        self.bucket(elf_hash(name) % self.nbucket())
+        self.bucket(hash % self.nbucket())
     }
 
     /// The chain word of symbol `s`.

@@ -141,7 +141,8 @@ impl<'a> Dynamic<'a> {
     /// The dynamic array that section `i` holds, where `i` is below the image's count of section headers. It takes no memory.
     ///
     /// [`Fault::Rule`] is the first rule that is broken, at its lowest offset: 40, 42, 43, 44, then 41 of the string table that
-    /// the section links to, then 63 and 64. No other fault comes. Linear in the entries.
+    /// the section links to, then 63 and 64. No other fault comes. Linear in the entries; of the strings only the first and the last byte
+    /// are looked at.
     pub fn new(image: &Image<'a>, i: usize) -> Result<Dynamic<'a>, Fault>
         requires { i < length image.now.sections }
         ensures validated { IsValidated (dynamic_section_rules (sections_of image.now) i) (λ dynamic. dynamic ≡ dynamic_array_of (sections_of image.now) i) result }

@@ -48,8 +48,11 @@ impl<'a> Group<'a> {
     ///
     /// [`Fault::Rule`] is the first rule that is broken, at its lowest offset: 40, 42, 43, 44, then all rules of the symbol table that the
     /// section links to, then 55 to 58. [`Fault::OutOfMemory`] comes only if an allocation failed, and none of them but 58 is broken. No
-    /// other fault comes. Linear in the section headers, the symbols and the members; members that don't ascend take log n comparisons
-    /// each.
+    /// other fault comes.
+    ///
+    /// Linear in the section headers, the symbols and the members; members that don't ascend take log n comparisons each. The whole symbol
+    /// table is validated too, again for each group that links to it. `Tables` of `elf_table` validates each symbol table of an image
+    /// once.
     pub fn new(alloc: Global, image: &Image<'a>, i: usize) -> Result<Group<'a>, Fault>
         requires { i < length image.now.sections }
         ensures validated { let f = sections_of image.now in

@@ -204,7 +204,7 @@ impl<'a> Notes<'a> {
     /// The notes that section `i` holds, where `i` is below the image's count of section headers. It takes no memory.
     ///
     /// [`Fault::Rule`] is the first of rules 40 and 59 to 62 that the section breaks, at its lowest offset; no other fault comes.
-    /// Linear in the notes.
+    /// Linear in the number of notes: of a name and a descriptor only the ends are looked at.
     pub fn new(image: &Image<'a>, i: usize) -> Result<Notes<'a>, Fault>
         requires { i < length image.now.sections }
         ensures validated { IsValidated (note_section_rules (sections_of image.now) i) (λ notes. notes ≡ notes_of (sections_of image.now) i) result }

@@ -172,8 +172,10 @@ impl<'a> Relocs<'a> {
     /// takes no memory.
     ///
     /// [`Fault::Rule`] is the first rule that is broken, at its lowest offset: 40, 42, 43, 44, then all rules of the symbol table
-    /// that the section links to, then 53 and 54. No other fault comes. Linear in the section headers, the symbols and the
-    /// relocations.
+    /// that the section links to, then 53 and 54. No other fault comes.
+    ///
+    /// Linear in the section headers, the symbols and the relocations: the whole symbol table is validated too, again for each relocation
+    /// section that links to it. `Tables` of `elf_table` validates each symbol table of an image once.
     pub fn new(image: &Image<'a>, i: usize) -> Result<Relocs<'a>, Fault>
         requires { i < length image.now.sections }
         ensures validated { IsValidated (relocation_section_rules (sections_of image.now) i) (λ relocs. relocs ≡ relocations_of (sections_of image.now) i) result }

@@ -94,7 +94,10 @@ impl<'a> Symbols<'a> {
     /// The symbol table that section `i` holds, where `i` is below the image's count of section headers. It takes no memory.
     ///
     /// [`Fault::Rule`] is the first of its rules that is broken, at its lowest offset: 40, 42, 43, 44, then 41 of the string
-    /// table that it links to, then 45 to 52. No other fault comes. Linear in the section headers and the symbols.
+    /// table that it links to, then 45 to 52. No other fault comes.
+    ///
+    /// Linear in the section headers, all of which are searched for an index table, and in the symbols; no name is read. `Tables` of
+    /// `elf_table` looks through the section headers once for all symbol tables of an image.
     pub fn new(image: &Image<'a>, i: usize) -> Result<Symbols<'a>, Fault>
         requires { i < length image.now.sections }
         ensures validated { IsValidated (symbol_table_rules (sections_of image.now) i) (λ symbols. symbols ≡ symbols_of (sections_of image.now) i) result }

@@ -441,8 +441,8 @@ impl<'s, 'a> Lines for DynamicLines<'s, 'a> {
 ///
 /// The verdict is [`Verdict::Done`] for bytes that break none of the 33 rules. Otherwise it has the first rule broken, with its lowest
 /// offset, and nothing is appended. [`ToolFault::OutOfMemory`] is the only error; some of the lines may be appended then. Memory holds the
-/// records and parts of the file, the verdicts on its tables, and what the test of one table takes. The time is that of `parse` and of the
-/// `new` of each table.
+/// records and parts of the file, the verdicts on its tables, what the test of one table takes, and a hash for each place where a long name
+/// of a symbol begins that a hash table is for. The time is that of `parse` and of `Tables::new`.
 pub fn push_refused_tables(
     alloc: Global,
     bytes: &[u8],

@@ -34,7 +34,7 @@ invariant_of-result c =
     let rest = FirstIn-behind (symbol_table_rules f (section f c.args.i).sh_link) _ (FirstIn-behind (own_rules HashTable f c.args.i) _ c.requires.sound) in
     let words = FirstIn-front (word_rules (hash_parts f c.args.i)) _ rest in
     let chains = FirstIn-behind (word_rules (hash_parts f c.args.i)) _ rest in
-    let same = sym c.new-parts.ensures in
+    let same = sym c.new-parts.ensures.value in
     valid_when (hash_parts_value c.new-parts.result) c.new-parts.result.sized
     (subst (λ (p : HashPartsValue). FirstIn (word_rules p) None) same words)
     (subst (λ (p : HashPartsValue). FirstIn (chain_rules p) None) same chains)

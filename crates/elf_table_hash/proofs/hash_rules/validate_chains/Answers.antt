@@ -18,20 +18,22 @@ endless_at p b least = record {
 no_endless_chain : (p : HashPartsValue) → Never (Below (nbucket p.words) (λ b. ¬ Ends (chain p.words) (bucket p.words b))) → Never (endless_chain p)
 no_endless_chain p never x here = never here.0 (here.1, here.2)
 
-pub returns-in-Some : goal.returns-in-Some
+pub returns-in-Some-clause-verdict : goal.returns-in-Some-clause-verdict
 unfolding chain_rules
-returns-in-Some c =
+returns-in-Some-clause-verdict c =
     let least = rw (c.in-Some.is, c.in_ok-chains.ensures) at c.in_ok-b.ensures.lowest in
     rw c.new-in-Some.ensures (inl (refl, endless_at (hash_parts_value c.args.parts.now) c.in-Some.b least))
 
-pub returns-in-Some-lowest_symbol_off_chain : goal.returns-in-Some-lowest_symbol_off_chain
+pub returns-in-Some-2-clause-verdict : goal.returns-in-Some-2-clause-verdict
 unfolding chain_rules
-returns-in-Some-lowest_symbol_off_chain c =
+returns-in-Some-2-clause-verdict c =
     let never = rw (c.in_default.is, c.in_ok-chains.ensures) at c.in_ok-b.ensures.lowest in
-    rw c.new-in-Some-lowest_symbol_off_chain.ensures (inr (no_endless_chain (hash_parts_value c.args.parts.now) never, inl (refl, c.in-Some-lowest_symbol_off_chain.ensures)))
+    let lowest = rw c.in-Some-2.is at c.in_ok-at.ensures.lowest in
+    rw c.new-in-Some-2.ensures (inr (no_endless_chain (hash_parts_value c.args.parts.now) never, inl (refl, lowest)))
 
-pub returns : goal.returns
+pub returns-clause-verdict : goal.returns-clause-verdict
 unfolding chain_rules
-returns c =
+returns-clause-verdict c =
     let never = rw (c.in_default.is, c.in_ok-chains.ensures) at c.in_ok-b.ensures.lowest in
-    (no_endless_chain (hash_parts_value c.args.parts.now) never, (c.in-None.ensures, tt))
+    let lowest = rw c.in-None.is at c.in_ok-at.ensures.lowest in
+    (no_endless_chain (hash_parts_value c.args.parts.now) never, (lowest, tt))

@@ -12,10 +12,10 @@ use Rattle.elf_table_hash.proofs.HashSound.{hash_content, hash_type, names_of_se
 use Rattle.elf_table_hash.proofs.hash_parts.HashParts.new.Goals as goal
 
 pub content-strings-requires : goal.content-strings-requires
-content-strings-requires c = rw c.linked_header.ensures (sound_link (sections_of c.args.linked.table.image.now) _ c.requires.symbols)
+content-strings-requires c = rw c.linked_header-strings_index.ensures (sound_link (sections_of c.args.linked.table.image.now) _ c.requires.symbols)
 
-pub returns : goal.returns
-returns c =
+pub returns-clause-value : goal.returns-clause-value
+returns-clause-value c =
     let f = sections_of c.args.linked.table.image.now in
     let names = names_of_section f (section f c.args.linked.table.index).sh_link in
     rw (
@@ -26,7 +26,7 @@ returns c =
       c.content.ensures.bytes,
       c.linked_content-symbols.ensures.bytes,
       c.content-strings.ensures.bytes,
-      c.linked_header.ensures,
+      c.linked_header-strings_index.ensures,
       names,
       c.header-section.ensures,
     ) refl
@@ -52,4 +52,5 @@ invariant_of-result c =
       header_inside = omega arith;
       table_inside = rw c.header-section.ensures (λ some. (let fits = inside (omega arith) in omega arith));
       names_inside = rw c.new-2.ensures (let fits = no_longer _ _ _ linked in few _ _ _ _ (omega arith));
+      named = c.new-2.ensures;
     }
