@@ -1,8 +1,7 @@
 -- A text that is passed on piece by piece, without memory. Bytes that have no room are written after all that was pending, so what is
 -- written is a beginning of both. Pieces one after the other are their joined text, and if one of them stops, a beginning of it is written.
-use Rattle.std.proofs.Common.{◌≡◌, ◌∙◌, ℕ, List, [], ◌∷◌, ◌++◌, Option, Result, Ok, Err, Bool, true, false, ap, append_assoc, arith, codes, drop, get_or, if◌then◌else◌, length, length-append, refl, subst, sym, take, ◌+◌, ◌-◌, ◌≤◌, ◌<◌}
+use Rattle.std.proofs.Common.{◌≡◌, ◌∙◌, ℕ, List, [], ◌∷◌, ◌++◌, Option, Result, Ok, Err, ap, append_assoc, arith, codes, drop, get_or, length, length-append, refl, subst, sym, take, ◌+◌, ◌-◌, ◌≤◌, ◌<◌}
 use Rattle.std.specs.List.{flat_map, range_with_len}
-use Rattle.std.specs.Io.KnownBytes.{Appends}
 use Rattle.std.proofs.KnownBytes.{Appends-trans}
 use Rattle.std.proofs.Math.Seq.{take-add}
 use Rattle.std.proofs.lemmas.List.{append-nil, take-append-drop}
@@ -14,7 +13,6 @@ use Rattle.elf_tool_check.specs.FileLines.{blank, further_words, line}
 use Rattle.elf_tool_check.proofs.LineInARow.{line_in_a_row, to_the_end}
 use Rattle.elf_tool_check.specs.declared.calls.ToolFault.TheVariants.{Write}
 use Rattle.elf_tool_text.specs.Buffered.{Buffers, IsCutShort, IsPassed}
-use Rattle.elf_tool_text.specs.Line.{is_plain, name_text}
 use Rattle.elf_tool_text.specs.declared.output.Output.{Output}
 use Rattle.elf_tool_text.proofs.TextLines.{buffers_both, cut_later, cut_longer, lines_buffered, lines_cut, more_out}
 

@@ -3,16 +3,13 @@ use Rattle.std.proofs.Common.{◌≡◌, ◌∙◌, ℕ, List, [], ◌∷◌, �
 use Rattle.std.specs.List.{flat_map, range_with_len}
 use Rattle.std.proofs.lemmas.List.{append-nil, take-append-drop, drop-set, length-append, length-drop, take_more, take-append-le}
 use Rattle.std.proofs.lemmas.List.Concat.{flat_map-append}
-use Rattle.std.proofs.Math.Seq.{take-add, take-append-add}
+use Rattle.std.proofs.Math.Seq.{take-append-add}
 use Rattle.std.proofs.Math.Bool.{cond}
 use Rattle.std.proofs.Math.Dec.{eqb}
 use Rattle.std.proofs.lemmas.Bool.{eq-eqb, eqb-false, ne_eqb}
 use Rattle.std.proofs.Math.Nat.{div-lt_iff_lt-mul, mul-le-mul_left, pow-suc, pow-zero}
 use Rattle.std.specs.Fmt.{digit_glyph, digits, digits_onto}
-use Rattle.hex.specs.Hex.{encode_lower, encode_with, lower_digits}
-use Rattle.elf_image_stream.proofs.Public.{both_out, stopped_later, stopped_longer, is_index, line_at, no_index}
-use Rattle.elf_image_stream.specs.Output.{Sends, StoppedIn, WentOut}
-use Rattle.elf_image_stream.specs.declared.fault.WriteFault.{WriteFault}
+use Rattle.elf_image_stream.proofs.Public.{is_index, line_at, no_index}
 use Rattle.elf_tool_check.proofs.LineInARow.{joined_words, line_in_a_row, to_the_end}
 use Rattle.elf_tool_check.specs.FileLines.{blank, line, further_words}
 use Rattle.std.specs.Io.KnownBytes.{Appends}

@@ -1,4 +1,4 @@
-use Rattle.std.proofs.Common.{◌≡◌, ◌∙◌, ◌==◌, ℕ, List, [], ◌∷◌, ◌++◌, Bool, true, false, ap, codes, if◌then◌else◌, length, refl, sym}
+use Rattle.std.proofs.Common.{◌≡◌, ◌∙◌, ◌==◌, ℕ, List, [], ◌∷◌, ◌++◌, Bool, false, ap, codes, if◌then◌else◌, length, sym}
 use Rattle.hex.specs.Hex.{encode_lower}
 use Rattle.elf_tool_text.specs.Line.{is_plain, name_text}
 use Rattle.elf_tool_text.proofs.PassedText.{passed_behind}
