@@ -1,6 +1,6 @@
 -- Files that are read one after the other. The readers so far gave their whole files, and those after them are as they were; a reader that
 -- stops gives some bytes, and the fault has their count.
-use Rattle.std.proofs.Common.{◌≡◌, ℕ, ◌+◌, ◌≤◌, List, Option, inl, inr, length, sym, ◌<◌, [], ◌∷◌, ◌++◌, ap, arith, get_or, map, set, subst}
+use Rattle.std.proofs.Common.{◌≡◌, ℕ, ◌≤◌, List, Option, inl, inr, length, sym, ◌<◌, [], ◌∷◌, ◌++◌, ap, arith, get_or, map, set, subst}
 use Rattle.std.proofs.lemmas.List.{get_or-map, length-map, map-set}
 use Rattle.elf_tool_check.specs.Engine.{IsReadFaultAfter}
 use Rattle.elf_tool_link.specs.Inputs.{AreRead, AreReadSoFar, GivesBytes, GivesFile, IsReadingFault, StopsAfter}

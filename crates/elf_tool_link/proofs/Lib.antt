@@ -1,9 +1,10 @@
--- Lemmas on objects read one after the other, on texts of the items of a list, on bytes as digits, on what is refused, and on how much is
--- written of few files.
+-- Lemmas on objects read one after the other, on lines and texts of the items of a list, on what is refused, and on how much is written of
+-- few files.
 mod FewFiles
 mod FileSizes
 mod InputFiles
 mod LinkRefusals
+mod MapLines
 mod MapPrints
 mod MapRefusals
 pub mod OneInput

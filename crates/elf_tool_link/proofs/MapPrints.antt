@@ -1,17 +1,16 @@
 -- How `map` prints: a text at once, or line by line as it is made. Of a text that is shorter than 2^64 bytes both count exactly.
-use Rattle.std.proofs.Common.{◌<◌, ◌^◌, ℕ, List, Option, Result, Ok, Err, arith, length, refl, subst, sym}
-use Rattle.elf_image_stream.specs.Output.{StoppedIn}
+use Rattle.std.proofs.Common.{◌≡◌, ◌<◌, ◌^◌, ℕ, List, [], Option, Result, Ok, Err, length, refl, subst, sym}
+use Rattle.std.proofs.lemmas.List.{append-nil}
+use Rattle.std.specs.Prelude.{⊤}
 use Rattle.elf_tool_check.specs.Engine.{IsCutAt, Prints}
 use Rattle.elf_tool_check.specs.declared.calls.ToolFault.TheVariants.{Read, Write, OutOfMemory}
 use Rattle.elf_tool_check.specs.declared.calls.ToolFault.{ToolFault}
 use Rattle.elf_tool_check.specs.declared.calls.Verdict.TheVariants.{Done, Refused}
 use Rattle.elf_tool_check.specs.declared.calls.Verdict.{Verdict}
 use Rattle.elf_tool_link.specs.Map.{PrintsMap}
-use Rattle.elf_tool_text.specs.Buffered.{IsCutBy, IsCutIn}
-
--- a text that is sent piece by piece
-pub cut_as_made : (old new : Option (List ℕ)) (text : List ℕ) (written : ℕ) → StoppedIn old new 0 text written → IsCutIn old new text written
-cut_as_made old new text written (count, is, below, out) = (count, below, out, λ short. omega arith)
+use Rattle.elf_tool_text.specs.Buffered.{Buffers, IsCutBy, IsCutShort}
+use Rattle.elf_tool_text.specs.declared.output.Output.{Output}
+use Rattle.elf_tool_text.proofs.Public.{all_cut, all_out, cut_later}
 
 cut_at_once : (verdict : Verdict) (old new : Option (List ℕ)) (text : List ℕ) (written : ℕ) → IsCutAt old new text written → IsCutBy verdict old new text written
 cut_at_once Done old new text written (below, out) = (written, below, out, λ short. refl)
@@ -41,3 +40,23 @@ exactly Says old new (Err (Write written)) short (Done, text, says, (count, belo
     (Done, text, says, subst (λ (n : ℕ). IsCutAt old new text n) (sym (same (short text says))) (below, out))
 exactly Says old new (Err (Write written)) short (Refused refusal, text, says, cut) = (Refused refusal, text, says, cut)
 exactly Says old new (Err OutOfMemory) short says = says
+
+-- ---- lines that are passed on as they are made, from the first one on
+
+module _ (Says : Verdict → List ℕ → Type 0) (a : Option (List ℕ)) (o : Output) (text : List ℕ) (is : Says Done text) (empty : o.pending.items ≡ [])
+    (none : o.written ≡ 0) where
+  -- they stop
+  pub lines_stopped : (c : Option (List ℕ)) (written : ℕ) → IsCutShort a c o text (Write written) → PrintsMap Says a c (Err (Write written))
+  lines_stopped c written stop = (Done, text, is, all_cut a c o text (Write written) empty none stop)
+
+  -- or do so when the last of them are written
+  pub last_stopped : (b c : Option (List ℕ)) (p : Output) (written : ℕ) → Buffers a b o p text → IsCutShort b c p [] (Write written)
+      → PrintsMap Says a c (Err (Write written))
+  last_stopped b c p written sent stop =
+      lines_stopped c written (subst (λ (s : List ℕ). IsCutShort a c o s (Write written)) (append-nil text) (cut_later a b c o p text [] (Write written) sent stop))
+
+  -- or all are written
+  pub lines_written : (b c : Option (List ℕ)) (p q : Output) → Buffers a b o p text → Buffers b c p q [] → q.pending.items ≡ [] → PrintsMap Says a c (Ok Done)
+  lines_written b c p q sent flushed gone =
+      let done : Result ⊤ ToolFault = Ok tt in
+      (text, is, all_out a b c o p q text done empty none sent flushed gone)

@@ -4,7 +4,6 @@ use Rattle.std.specs.List.{flat_map, range_with_len}
 use Rattle.std.proofs.Math.Seq.{get_or-append_seam}
 use Rattle.std.proofs.lemmas.List.{append_assoc}
 use Rattle.std.specs.Prelude.{Some}
-use Rattle.hex.specs.Hex.{encode_lower}
 use Rattle.elf_link_field.specs.declared.rule.RelocRule.{RelocRule}
 use Rattle.elf_link_files.specs.declared.fault.LinkFault.{LinkFault}
 use Rattle.elf_link_files.specs.declared.fault.Options.{Options}
@@ -15,17 +14,9 @@ use Rattle.elf_tool_link.specs.Map.{MapSays, RelocationSays, TellsUnlinked}
 use Rattle.elf_tool_link.specs.ObjectFiles.{IsUnlinked, link_unlinked}
 use Rattle.elf_tool_link.specs.declared.mapped.Unlinked.TheVariants.{Refused, OutOfMemory}
 use Rattle.elf_tool_link.specs.declared.mapped.Unlinked.{Unlinked}
-use Rattle.elf_tool_text.specs.Line.{bytes_text}
 use Rattle.elf_tool_check.specs.declared.calls.Refusal.TheVariants.{File, Link, TooLong}
 use Rattle.elf_tool_check.specs.declared.calls.Verdict.{Verdict}
 use Rattle.elf_link_files.specs.declared.fault.LinkFault.TheVariants as link
-
--- Of the text that bytes are shown as.
-
--- bytes that are some are shown by their digits
-pub digits_text : (bytes : List ℕ) → (length bytes ≡ 0 → ⊥) → bytes_text bytes ≡ encode_lower bytes
-digits_text [] some = absurd (some refl)
-digits_text (b ∷ bs) some = refl
 
 -- Texts of the items of a list, by position and without.
 

@@ -18,6 +18,7 @@ mod inputs;
 pub mod laws;
 mod linking;
 mod map_lines;
+mod map_text;
 mod mapped;
 mod mapping;
 

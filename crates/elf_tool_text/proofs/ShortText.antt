@@ -1,6 +1,6 @@
 -- How long a text is at most: word by word, and line by line. A number below 2^64 has at most 20 digits, and at most 16 in hexadecimal.
-use Rattle.std.proofs.Common.{◌≡◌, ◌∙◌, ℕ, zero, suc, ◌+◌, ◌*◌, ◌^◌, ◌<◌, ◌≤◌, Bool, true, false, List, [], ◌∷◌, ◌++◌, ap, arith, codes, get_or, if◌then◌else◌, length, length-append, refl, subst, sym, zero-add}
-use Rattle.std.specs.List.{All, flat_map, range_with_len, sum_by}
+use Rattle.std.proofs.Common.{◌≡◌, ◌∙◌, ℕ, ◌+◌, ◌*◌, ◌^◌, ◌<◌, ◌≤◌, Bool, true, false, List, [], ◌∷◌, ◌++◌, ap, arith, codes, get_or, if◌then◌else◌, length, length-append, refl, subst, sym, zero-add}
+use Rattle.std.specs.List.{flat_map, range_with_len}
 use Rattle.std.specs.Fmt.{decimal, digits}
 use Rattle.std.proofs.lemmas.Fmt.{length-decimal-le}
 use Rattle.std.proofs.lemmas.List.Concat.{length-flat_map}

@@ -3,16 +3,13 @@ use Rattle.std.proofs.Common.{◌≡◌, ◌∙◌, ℕ, List, [], ◌∷◌, �
 use Rattle.std.specs.List.{flat_map, range_with_len}
 use Rattle.std.proofs.lemmas.List.{append-nil, take-append-drop, drop-set, length-append, length-drop, take_more, take-append-le}
 use Rattle.std.proofs.lemmas.List.Concat.{flat_map-append}
-use Rattle.std.proofs.Math.Seq.{take-add, take-append-add}
+use Rattle.std.proofs.Math.Seq.{take-append-add}
 use Rattle.std.proofs.Math.Bool.{cond}
 use Rattle.std.proofs.Math.Dec.{eqb}
 use Rattle.std.proofs.lemmas.Bool.{eq-eqb, eqb-false, ne_eqb}
 use Rattle.std.proofs.Math.Nat.{div-lt_iff_lt-mul, mul-le-mul_left, pow-suc, pow-zero}
 use Rattle.std.specs.Fmt.{digit_glyph, digits, digits_onto}
-use Rattle.hex.specs.Hex.{encode_lower, encode_with, lower_digits}
-use Rattle.elf_image_stream.proofs.Public.{both_out, stopped_later, stopped_longer, is_index, line_at, no_index}
-use Rattle.elf_image_stream.specs.Output.{Sends, StoppedIn, WentOut}
-use Rattle.elf_image_stream.specs.declared.fault.WriteFault.{WriteFault}
+use Rattle.elf_image_stream.proofs.Public.{is_index, line_at, no_index}
 use Rattle.elf_tool_check.proofs.LineInARow.{joined_words, line_in_a_row, to_the_end}
 use Rattle.elf_tool_check.specs.FileLines.{blank, line, further_words}
 use Rattle.std.specs.Io.KnownBytes.{Appends}
@@ -88,47 +85,6 @@ line_ended_behind result text put last new w ws v ended same is =
     )
     ∙ sym (word_more (text ++ w) ws v)
     )
-
--- A line that is sent word by word is the line, with a blank between two words and the line feed at its end. Digits that are encoded block
--- by block are the digits of all bytes; if that stops, a beginning of them was sent.
-
--- ---- a line word by word
-
-pub stopped_in_line : (a c : Option (List ℕ)) (out written : ℕ) (w : List ℕ) (ws : List (List ℕ)) → StoppedIn a c out (w ++ to_the_end ws) written →
-    StoppedIn a c out (line (w ∷ ws)) written
-stopped_in_line a c out written w ws stop = subst (λ (s : List ℕ). StoppedIn a c out s written) (line_in_a_row w ws) stop
-
-pub sends_line : (a c : Option (List ℕ)) (out : ℕ) (w : List ℕ) (ws : List (List ℕ)) (result : Result ℕ WriteFault) → Sends a c out (w ++ to_the_end ws) result →
-    Sends a c out (line (w ∷ ws)) result
-sends_line a c out w ws result sends = subst (λ (s : List ℕ). Sends a c out s result) (line_in_a_row w ws) sends
-
--- ---- digits block by block
-
-encode-append : (xs ys : List ℕ) → encode_lower (xs ++ ys) ≡ encode_lower xs ++ encode_lower ys
-unfolding encode_with
-encode-append [] ys = refl
-encode-append (x ∷ xs) ys = ap (λ (s : List ℕ). encode_with lower_digits (x ∷ []) ++ s) (encode-append xs ys)
-
-module _ (bytes : List ℕ) (next end : ℕ) (a b c : Option (List ℕ)) (out mid : ℕ) (order : next ≤ end) (before : WentOut a b out (encode_lower (take next bytes)) mid) where
-  block_more : encode_lower (take end bytes) ≡ encode_lower (take next bytes) ++ encode_lower (take (end - next) (drop next bytes))
-  block_more =
-      let same : next + (end - next) ≡ end = omega arith in
-      ap (λ (k : ℕ). encode_lower (take k bytes)) (sym same) ∙ ap (λ (s : List ℕ). encode_lower s) (take-add next (end - next) bytes)
-      ∙ encode-append (take next bytes) (take (end - next) (drop next bytes))
-
-  pub block_out : (all : ℕ) → WentOut b c mid (encode_lower (take (end - next) (drop next bytes))) all → WentOut a c out (encode_lower (take end bytes)) all
-  block_out all went =
-      subst (λ (s : List ℕ). WentOut a c out s all) (sym block_more)
-      (both_out a b c out mid all (encode_lower (take next bytes)) (encode_lower (take (end - next) (drop next bytes))) before went)
-
-  pub block_stopped : (written : ℕ) → StoppedIn b c mid (encode_lower (take (end - next) (drop next bytes))) written → StoppedIn a c out (encode_lower bytes) written
-  block_stopped written stop =
-      let all : encode_lower bytes ≡ encode_lower (take end bytes) ++ encode_lower (drop end bytes) =
-      ap (λ (s : List ℕ). encode_lower s) (sym (take-append-drop end bytes)) ∙ encode-append (take end bytes) (drop end bytes) in
-      subst (λ (s : List ℕ). StoppedIn a c out s written) (sym all)
-      (stopped_longer a c out written (encode_lower (take end bytes)) (encode_lower (drop end bytes))
-      (subst (λ (s : List ℕ). StoppedIn a c out s written) (sym block_more)
-      (stopped_later a b c out mid written (encode_lower (take next bytes)) (encode_lower (take (end - next) (drop next bytes))) before stop)))
 
 -- The digits of a number, put from the last one to the first: each step puts the last digit in front and divides by the base. A number has
 -- at least one digit, so a place is left for it. By induction, a number below the base to the power k has at most k digits.
@@ -311,7 +267,7 @@ pub buffers_flushed : (a b c : Option (List ℕ)) (o p q : Output) (s : List ℕ
 buffers_flushed a b c o p q s first second = subst (Buffers a c o q) (append-nil s) (buffers_both a b c o p q s [] first second)
 
 -- the first bytes of what is after are the first bytes of all
-more_out : (a b c : Option (List ℕ)) (out rest all : List ℕ) (n : ℕ) → all ≡ out ++ rest → n ≤ length rest → Appends a b out → Appends b c (take n rest)
+pub more_out : (a b c : Option (List ℕ)) (out rest all : List ℕ) (n : ℕ) → all ≡ out ++ rest → n ≤ length rest → Appends a b out → Appends b c (take n rest)
     → (length out + n ≤ length all) × Appends a c (take (length out + n) all)
 more_out a b c out rest all n split within first second =
     let long = length-append out rest in (

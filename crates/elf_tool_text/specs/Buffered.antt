@@ -6,6 +6,7 @@ use Rattle.elf_tool_text.specs.declared.output.Output.{Output}
 use Rattle.elf_tool_check.specs.Engine.{IsCutAt}
 use Rattle.elf_tool_check.specs.declared.calls.ToolFault.TheVariants.{Read, Write, OutOfMemory}
 use Rattle.elf_tool_check.specs.declared.calls.ToolFault.{ToolFault}
+use Rattle.elf_image_stream.specs.declared.fault.WriteFault.{WriteFault}
 use Rattle.elf_tool_check.specs.declared.calls.Verdict.TheVariants.{Done, Refused}
 use Rattle.elf_tool_check.specs.declared.calls.Verdict.{Verdict}
 
@@ -49,3 +50,8 @@ IsCutShort old new before text (Read at) = ⊥
 abbrev pub IsBuffered : {T : Type 0} → Option (List ℕ) → Option (List ℕ) → Output → Output → List ℕ → Result T ToolFault → Type 0
 IsBuffered old new before after text result =
     MatchResult result (λ _. Buffers old new before after text) (IsCutShort old new before text)
+
+-- the same of a text that takes no memory: only the writer fails
+abbrev pub IsPassed : {T : Type 0} → Option (List ℕ) → Option (List ℕ) → Output → Output → List ℕ → Result T WriteFault → Type 0
+IsPassed old new before after text result =
+    MatchResult result (λ _. Buffers old new before after text) (λ fault. IsCutShort old new before text (Write fault.written))

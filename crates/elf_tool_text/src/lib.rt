@@ -19,5 +19,6 @@ pub mod line;
 pub mod line_end;
 pub mod lines;
 mod output;
+pub mod passed;
 
 pub use output::Output;

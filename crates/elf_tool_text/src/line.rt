@@ -8,8 +8,7 @@ ghost use Rattle.elf_tool_check.specs.FileLines.{blank};
 ghost use Rattle.elf_tool_text.specs.Line.{hexadecimal, is_graphic as is_graphic_byte, is_plain as is_plain_name, name_text};
 
 use crate::digits::{
-    MOST_DECIMAL, MOST_HEXADECIMAL, WIDE_ROOM, glyph, put_before, put_decimal, put_hexadecimal,
-    put_wide_digits,
+    MOST_DECIMAL, MOST_HEXADECIMAL, glyph, put_before, put_decimal, put_hexadecimal,
 };
 use std::alloc::{AllocError, Global};
 
@@ -68,16 +67,6 @@ pub fn push_hexadecimal(text: &mut Vec<u8>, number: u64) -> Result<(), AllocErro
     text.extend_from_slice(&word[start..])
 }
 
-/// Appends a number that may be above 64 bits in hexadecimal, in lower case after `0x`. Fails only when out of memory.
-pub fn push_wide_hexadecimal(text: &mut Vec<u8>, number: u128) -> Result<(), AllocError>
-    ensures { OnOk result (text.new.items ≡ text.old.items ++ blank ∷ hexadecimal number) }
-{
-    let mut word = [0; WIDE_ROOM];
-    let first = put_wide_digits(number, &mut word);
-    let start = put_before(b" 0x", first, &mut word);
-    text.extend_from_slice(&word[start..])
-}
-
 /// Appends bytes, each as two hexadecimal digits in lower case. Fails only when out of memory.
 pub fn push_bytes(alloc: Global, text: &mut Vec<u8>, bytes: &[u8]) -> Result<(), AllocError>
     ensures { OnOk result (text.new.items ≡ text.old.items ++ blank ∷ encode_lower bytes.now) }
@@ -102,8 +91,8 @@ pub fn push_name(alloc: Global, text: &mut Vec<u8>, name: &[u8]) -> Result<(), A
     text.extend_from_slice(digits.as_bytes())
 }
 
-// A name that no other is printed as: it does not begin as the hexadecimal ones do, nor is it `-`.
-fn is_plain(name: &[u8]) -> bool
+/// A name that no other is printed as: it does not begin as the hexadecimal ones do, nor is it `-`.
+pub(crate) fn is_plain(name: &[u8]) -> bool
     ensures { result ≡ is_plain_name name.now }
 {
     match name {

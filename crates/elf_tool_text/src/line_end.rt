@@ -17,7 +17,7 @@ ghost use Rattle.hex.specs.Hex.{encode_lower};
 ghost use Rattle.elf_tool_check.specs.FileLines.{blank};
 ghost use Rattle.elf_tool_text.specs.Line.{hexadecimal};
 
-use crate::digits::{glyph, put_before, put_decimal, put_hexadecimal};
+use crate::digits::{WIDE_ROOM, glyph, put_before, put_decimal, put_hexadecimal, put_wide_digits};
 use std::marker::Model;
 
 /// How many bytes it may have. The most that a line of `show` has before a name are the 205 of a section's line, and each line pays for
@@ -32,6 +32,9 @@ pub const SIGNED_ROOM: usize = 22;
 
 /// The most bytes of a number in hexadecimal with `0x` and the blank before it.
 pub const HEXADECIMAL_ROOM: usize = 19;
+
+/// Room for a number of 128 bits in hexadecimal with `0x` and the blank before it.
+pub const WIDE_HEXADECIMAL_ROOM: usize = WIDE_ROOM;
 
 /// The last bytes of a line.
 #[derive(Drop)]
@@ -104,6 +107,21 @@ impl LineEnd {
         }
         let first = put_hexadecimal(number, self.start, &mut self.bytes);
         self.start = put_before(b" 0x", first, &mut self.bytes);
+    }
+
+    /// Puts a number that may be above 64 bits in hexadecimal, in lower case after `0x`, and a blank before it, before all that is there.
+    pub fn put_wide_hexadecimal(&mut self, number: u128)
+        requires room { length self.old + WIDE_HEXADECIMAL_ROOM ≤ LINE_ROOM }
+        ensures bytes { self.new ≡ blank ∷ hexadecimal number ++ self.old }
+        ensures room { length self.new ≤ length self.old + WIDE_HEXADECIMAL_ROOM }
+    {
+        if number <= u64::MAX as u128 {
+            return self.put_hexadecimal(number as u64);
+        }
+        let mut digits = [0; WIDE_ROOM];
+        let start = put_wide_digits(number, &mut digits);
+        self.put(&digits[start..]);
+        self.put(b" 0x");
     }
 
     /// Puts bytes, each as two hexadecimal digits in lower case, before all that is there.

@@ -1,4 +1,4 @@
-use Rattle.elf_tool_link.proofs.MapPrints.{at_once}
+use Rattle.elf_tool_link.proofs.MapPrints.{at_once, mapped_as}
 use Rattle.elf_tool_link.proofs.MapRefusals.{relocation_refused}
 use Rattle.elf_tool_link.proofs.mapping.answer_relocations.Goals as goal
 
@@ -8,3 +8,8 @@ returns-in-Err g c =
     let told = rw c.into.ensures at c.tell_unlinked.ensures in
     at_once _ _ _ _ c.tell_unlinked.result
     (λ v text said. relocation_refused c.args.rules.now mapped.objects mapped.map c.in-Err.fault v text c.in-Err.ensures.err said) told
+
+pub returns-in-Ok : goal.returns-in-Ok
+returns-in-Ok g c =
+    let m = c.args.mapped.now in
+    mapped_as _ _ _ _ c.tell_relocated.result (λ v text said. rw said.0 (c.in-Ok.linked, c.in-Ok.ensures.linked, said.1)) c.tell_relocated.ensures
