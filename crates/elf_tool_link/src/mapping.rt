@@ -27,7 +27,8 @@ use std::io::{Read, Write};
 /// had given, and after [`ToolFault::OutOfMemory`]. After [`ToolFault::Write`] exactly the first `written` bytes of the text are written,
 /// if it is shorter than 2^64 bytes, as that of at most 64 files is; of a longer one a beginning. Memory holds all files, their objects,
 /// the link map, a piece of the text, and with relocation rules a copy of each live section with bits. The lines are made as they are
-/// written, with the names as they are in the files. The time is at most that of `object_of` for each file, of `map` and `relocate` of the library, and of the text.
+/// written, with the names as they are in the files. The time is at most that of `object_of` for each file, of `map` and `relocate` of the
+/// library, and of the text.
 pub fn map<R: Read, W: Write>(
     alloc: Global,
     readers: &mut [R],
