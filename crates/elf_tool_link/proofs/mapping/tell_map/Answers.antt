@@ -1,3 +1,5 @@
+-- The text that was passed on and the piece that is still held back are the lines of the map. What waits is written last: so where a write
+-- fails, the first `written` bytes of the whole text are out.
 use Rattle.std.proofs.Common.{None, ap₂}
 use Rattle.std.proofs.lemmas.Result.{err_from_is_err_and}
 use Rattle.elf_tool_link.specs.Map.{RelocationSays, map_text}

@@ -1,3 +1,4 @@
+-- As for the lines of the map alone, with those of the relocated bytes after them: what was cut in the first part is cut in the whole.
 use Rattle.std.proofs.Common.{◌++◌, List, ℕ, ap, ap₂, refl}
 use Rattle.std.proofs.lemmas.Result.{err_from_is_err_and}
 use Rattle.elf_tool_check.specs.declared.calls.ToolFault.TheVariants.{Write}
