@@ -18,11 +18,11 @@
 //! ```
 //! let image = parse(alloc, &bytes)?;
 //! let tables = Tables::new(alloc, &image)?;
+//! let mut relocations = 0;
 //! for i in 0..tables.section_count() {
-//!     if TableKind::of(image.section(i).sh_type) == Some(TableKind::RelocationTable) {
-//!         if tables.verdict(i).is_ok() {
-//!             count += tables.relocs(i).len();
-//!         }
+//!     let kind = TableKind::of(image.section(i).sh_type);
+//!     if kind == Some(TableKind::RelocationTable) && tables.verdict(i).is_ok() {
+//!         relocations += tables.relocs(i).len();
 //!     }
 //! }
 //! ```
