@@ -104,7 +104,12 @@ pub(crate) fn is_plain(name: &[u8]) -> bool
 fn is_graphic(name: &[u8]) -> bool
     ensures { result ≡ list_all is_graphic_byte name.now }
 {
-    name.iter().all(|b| (b'!'..=b'~').contains(b))
+    // Without an early end, so that many bytes are compared at once.
+    let mut all = true;
+    for b in name {
+        all = (b'!'..=b'~').contains(b) & all;
+    }
+    all
 }
 
 /// Ends a line. Fails only when out of memory.

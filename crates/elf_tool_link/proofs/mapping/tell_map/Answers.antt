@@ -1,5 +1,5 @@
--- The text that was passed on and the piece that is still held back are the lines of the map. What waits is written last: so where a write
--- fails, the first `written` bytes of the whole text are out.
+-- The room for a piece is empty at first, so what the lines pass on is written from the first byte on. If the writer fails, among the lines
+-- or at the last piece, a beginning of them is written.
 use Rattle.std.proofs.Common.{None, ap₂}
 use Rattle.std.proofs.lemmas.Result.{err_from_is_err_and}
 use Rattle.elf_tool_link.specs.Map.{RelocationSays, map_text}

@@ -1,4 +1,5 @@
--- As for the lines of the map alone, with those of the relocated bytes after them: what was cut in the first part is cut in the whole.
+-- The lines of the map and those of the relocated bytes are one text. If the writer fails among the first or the second, or at the last
+-- piece, a beginning of both is written.
 use Rattle.std.proofs.Common.{◌++◌, List, ℕ, ap, ap₂, refl}
 use Rattle.std.proofs.lemmas.Result.{err_from_is_err_and}
 use Rattle.elf_tool_check.specs.declared.calls.ToolFault.TheVariants.{Write}
