@@ -3,6 +3,11 @@
 
 const ROWS_A_TIME = 100;
 const LINES_A_TIME = 32;
+// So many findings are drawn, and more if somebody asks for them.
+const FINDINGS_A_TIME = 100;
+// In a list of tables to choose from so many have their names, of so many characters; all others have their numbers alone.
+const MOST_NAMED = 1000;
+const MOST_TO_CHOOSE = 60;
 // A part too short to be seen is drawn this wide, in points; shorter ones side by side are drawn as one.
 const LEAST_WIDTH = 4;
 const COLOURS = {
@@ -50,6 +55,33 @@ function element(name, words, attributes = {}, ...children) {
 
 function say(words) {
     $("said").textContent = words;
+}
+
+// A button that shows all of a name, of which only the first characters are on the page; nothing for a name that is not cut. A very long
+// name comes in parts: the page is not held up.
+function buttons_of(...wholes) {
+    const own = wholes.filter((it, k) => it && wholes.findIndex((other) => other?.start === it.start) === k);
+    return own.flatMap((it) => [" ", whole_button(it)]);
+}
+
+function whole_button({ start, len }) {
+    const button = element("button", `Show all ${counted(len, "byte")} of this name`, { type: "button", class: "more" });
+    const box = element("div", "", { class: "whole", tabindex: "0", role: "group", "aria-label": "The whole name" });
+    const turn = state.turn;
+    let at = start;
+    button.onclick = async () => {
+        button.disabled = true;
+        const { text, next } = await ask("name", at, start + len);
+        if (turn !== state.turn) return;
+        at = next;
+        if (!box.isConnected) button.after(box);
+        box.append(text);
+        Object.assign(button, { disabled: false, textContent: `Show more: ${counted(start + len - at, "byte")} of this name are left` });
+        if (at < start + len) return;
+        button.remove();
+        box.focus();
+    };
+    return button;
 }
 
 // ---- Opening
@@ -102,11 +134,13 @@ function show_verdict() {
     verdict.className = fault ? "broken" : "sound";
     $("findings-words").textContent = "";
     $("findings").replaceChildren();
+    $("findings-on").hidden = true;
     if (fault) {
         const [name, sentence, advice] = RULES[fault.rule];
         verdict.textContent = `Refused by rule ${fault.rule}, ${name}, at ${hex(fault.at)}: ${sentence}.`;
         const words = ` ${shared_words() ?? field_at(fault.at).words} What to do: ${advice}.`;
-        $("advice").replaceChildren(link_to({ bytes: fault.at, length: field_at(fault.at).length }, `Go to ${hex(fault.at)}.`), words);
+        const buttons = buttons_of(...state.open.owners.first.map((it) => it.whole));
+        $("advice").replaceChildren(link_to({ bytes: fault.at, length: field_at(fault.at).length }, `Go to ${hex(fault.at)}.`), words, ...buttons);
     } else {
         verdict.textContent = "Sound: this file keeps all 33 rules of an ELF-64 file.";
         $("advice").textContent = "";
@@ -116,19 +150,36 @@ function show_verdict() {
 
 // The owners of a byte that several parts have.
 function shared_words() {
-    const owners = state.open.owners.map(({ words, start, end }) => `${words} [${hex(start)}, ${hex(end)})`);
+    const { first, more } = state.open.owners;
+    const owners = first.map(({ words, start, end }) => `${words} [${hex(start)}, ${hex(end)})`);
+    if (more) owners.push(counted(more, "more section"));
     return owners.length > 1 ? `${owners.slice(0, -1).join(", ")} and ${owners.at(-1)} share this byte.` : null;
 }
 
-// Of each table that breaks a rule: which one, by which rule, where, and what to do.
-function show_findings(findings) {
-    $("findings-words").textContent = findings.length
-        ? `${counted(findings.length, "table breaks", "tables break")} a rule of tables.` : "No table breaks a rule of tables.";
-    $("findings").replaceChildren(...findings.map(({ section, table, rule, at, words, length }) => {
-        const [name, sentence, advice] = RULES[rule];
-        const [own, place] = [link_to({ kind: "sections", row: section }, table), link_to({ bytes: at, length }, hex(at))];
-        return element("li", null, {}, own, `: rule ${rule}, ${name}, at `, place, `, ${words}: ${sentence}. What to do: ${advice}.`);
-    }));
+// How many tables break a rule, and the first of them.
+async function show_findings(count) {
+    $("findings-words").textContent = count
+        ? `${counted(count, "table breaks", "tables break")} a rule of tables.` : "No table breaks a rule of tables.";
+    state.findings = count;
+    await more_findings();
+}
+
+async function more_findings() {
+    const drawn = $("findings").children.length;
+    const turn = state.turn;
+    const rows = await ask("finding_rows", drawn, FINDINGS_A_TIME);
+    if (turn !== state.turn || drawn !== $("findings").children.length) return;
+    $("findings").append(...rows.map(finding));
+    $("findings-on").hidden = drawn + rows.length >= state.findings;
+    $("findings-on").textContent = `Show more of the ${counted(state.findings, "table")}`;
+}
+
+// Of a table that breaks a rule: which one, by which rule, where, and what to do.
+function finding({ section, table, rule, at, words, length, wholes }) {
+    const [name, sentence, advice] = RULES[rule];
+    const [own, place] = [link_to({ kind: "sections", row: section }, table), link_to({ bytes: at, length }, hex(at))];
+    const told = `, ${words}: ${sentence}. What to do: ${advice}.`;
+    return element("li", null, {}, own, `: rule ${rule}, ${name}, at `, place, told, ...buttons_of(...wholes));
 }
 
 function facts(header, file) {
@@ -215,7 +266,8 @@ function map_button(run, sections) {
     const words = run.count > 1 ? `${run.count.toLocaleString("en")} parts` : owner_words(run.part.owner, section);
     const colour = COLOURS[run.count > 1 ? "several parts" : kind_of_part(run.part.owner, section)];
     const told = `${words}: ${counted(run.end - run.start, "byte")} from ${hex(run.start)}`;
-    const go = run.count > 1 ? () => zoom(run.start, run.end) : () => choose_part(run.part, told);
+    const whole = run.count > 1 ? null : section?.whole;
+    const go = run.count > 1 ? () => zoom(run.start, run.end) : () => choose_part(run.part, told, whole);
     return bar_button(run, colour, told, go, "map-words", run.count === 1 && state.part?.start === run.part.start);
 }
 
@@ -244,8 +296,8 @@ function draw_bar(id, buttons) {
     };
 }
 
-async function choose_part(part, told) {
-    state.part = { ...part, told };
+async function choose_part(part, told, whole) {
+    state.part = { ...part, told, whole };
     for (const it of $("map").children) it.setAttribute("aria-current", String(it.getAttribute("aria-label") === told));
     $("zoom-in").disabled = false;
     show_part_words();
@@ -253,7 +305,8 @@ async function choose_part(part, told) {
 }
 
 function show_part_words() {
-    $("map-words").textContent = state.part?.told ?? `${counted(state.parts.length, "part")}. Choose one to see its bytes.`;
+    const told = state.part?.told ?? `${counted(state.parts.length, "part")}. Choose one to see its bytes.`;
+    $("map-words").replaceChildren(told, ...buttons_of(state.part?.whole));
 }
 
 function zoom_out() {
@@ -328,7 +381,13 @@ async function open_table(kind, section, row, shown = -1) {
 function show_choice(kind, section) {
     const tables = tables_of(kind);
     $("which-label").hidden = tables.length < 2;
-    $("which").replaceChildren(...tables.map((it) => element("option", `${it.section} ${it.name}`, { value: it.section })));
+    // There may be many: they are drawn once.
+    if (state.choice !== `${state.turn} ${kind}`) {
+        const cut = (name) => (name.length > MOST_TO_CHOOSE ? `${name.slice(0, MOST_TO_CHOOSE)}…` : name);
+        const words = ({ section: own, name }, k) => (k < MOST_NAMED ? `${own} ${cut(name)}` : String(own));
+        $("which").replaceChildren(...tables.map((it, k) => element("option", words(it, k), { value: it.section })));
+        state.choice = `${state.turn} ${kind}`;
+    }
     $("which").value = section;
 }
 
@@ -351,9 +410,9 @@ async function show_rows(table) {
 }
 
 function table_row(kind, row) {
-    const cells = COLUMNS[kind].map(([, words, link]) => {
+    const cells = COLUMNS[kind].map(([, words, link, whole]) => {
         const to = link?.(row);
-        return element("td", to ? null : words(row), {}, ...(to ? [link_to(to, words(row))] : []));
+        return element("td", to ? null : words(row), {}, ...(to ? [link_to(to, words(row))] : []), ...buttons_of(whole?.(row)));
     });
     const own = kind === "sections" && has_content(row) && row.sh_size
         ? link_to({ bytes: row.sh_offset, length: row.sh_size }, String(row.index)) : String(row.index);
@@ -440,6 +499,7 @@ $("zoom-in").onclick = () => state.part && zoom(state.part.start, state.part.sta
 $("zoom-out").onclick = zoom_out;
 $("zoom-whole").onclick = () => zoom(0, state.open.length);
 $("which").onchange = () => open_table(state.kind, Number($("which").value), 0);
+$("findings-on").onclick = more_findings;
 $("rows-back").onclick = () => open_table(state.kind, state.table, Math.max(0, state.row - ROWS_A_TIME));
 $("rows-on").onclick = () => open_table(state.kind, state.table, state.row + ROWS_A_TIME);
 $("filter").oninput = filter_rows;

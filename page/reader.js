@@ -7,6 +7,11 @@ const PAGE = 65536;
 // No file of more bytes is accepted: of a longer one so many are read, and one more.
 const MOST_BYTES = 2 ** 30;
 const SHORT_ROOM = 0;
+// So many characters of a name are shown, and the rest if somebody asks for it. A character has at most so many bytes.
+const MOST_CHARACTERS = 200;
+const LONGEST_CHARACTER = 4;
+// So many bytes of a long name are put into words at once.
+const MOST_OF_NAME = 1 << 20;
 const NO_OWNER = 0xffffffffffffffffn;
 
 // What reads each struct of a layout.
@@ -218,6 +223,22 @@ class Reader {
     words(extent) {
         return words_of(this.bytes(extent.start, extent.len));
     }
+
+    // A name as it is shown: its first characters, and if it has more than these, "…" and the extent of all of it.
+    name_words(extent, most = MOST_CHARACTERS) {
+        if (extent.len <= most) return { name: this.words(extent), whole: null };
+        const front = this.bytes(extent.start, Math.min(extent.len, LONGEST_CHARACTER * (most + 1)));
+        const characters = characters_of(front.length < extent.len ? front.subarray(0, character_end(front)) : front);
+        if (characters.length <= most && front.length === extent.len) return { name: this.words(extent), whole: null };
+        return { name: `${visible([].concat(characters.slice(0, most)).join(""))}…`, whole: { start: extent.start, len: extent.len } };
+    }
+
+    // A part of a name from an offset of the file on, as text, and where it ends.
+    part_of_name(from, end) {
+        const bytes = this.bytes(from, Math.min(end - from, MOST_OF_NAME));
+        const length = from + bytes.length < end ? character_end(bytes) : bytes.length;
+        return { text: words_of(bytes.subarray(0, length)), next: from + length };
+    }
 }
 
 const UTF8 = new TextDecoder("utf-8", { fatal: true });
@@ -225,13 +246,36 @@ const UTF8 = new TextDecoder("utf-8", { fatal: true });
 // Bytes as text: UTF-8 where they are that, and each byte that can't be seen as \xHH.
 function words_of(bytes) {
     if (bytes.length < 256 && bytes.every((it) => it >= 32 && it < 127)) return String.fromCharCode(...bytes);
-    let text;
+    return visible(decoded(bytes));
+}
+
+function decoded(bytes) {
     try {
-        text = UTF8.decode(bytes);
+        return UTF8.decode(bytes);
     } catch {
-        text = Array.from(bytes, (it) => String.fromCharCode(it)).join("").replace(/[\x80-\xff]/g, escaped);
+        return Array.from(bytes, (it) => String.fromCharCode(it)).join("").replace(/[\x80-\xff]/g, escaped);
     }
+}
+
+// Bytes as characters, of which none is a part of an escape: a list, or of ASCII a text.
+function characters_of(bytes) {
+    try {
+        const text = UTF8.decode(bytes);
+        return text.length === bytes.length ? text : Array.from(text);
+    } catch {
+        return Array.from(bytes, (it) => (it < 128 ? String.fromCharCode(it) : escaped(String.fromCharCode(it))));
+    }
+}
+
+function visible(text) {
     return text.replace(/[\x00-\x1f\x7f\u2028\u2029\u202a-\u202e\u2066-\u2069]/g, escaped);
+}
+
+// Where the last character of bytes that were cut begins, so that none is cut in two; their end where that is of ASCII, or no UTF-8.
+function character_end(bytes) {
+    let end = bytes.length;
+    while (end > bytes.length - LONGEST_CHARACTER && end > 1 && (bytes[end - 1] & 0xc0) === 0x80) end--;
+    return bytes[end - 1] >= 0xc0 ? end - 1 : bytes.length;
 }
 
 function escaped(character) {

@@ -11,8 +11,9 @@ const FIELD_PLACES = { sh_type: 4, sh_size: 32, sh_link: 40, sh_info: 44, sh_ent
 const RESERVED_FROM = 0xff00;
 const IN_INDEX_TABLE = 0xffff;
 const IN_GROUP = 0x200n;
-// Names of so many bytes are hashed, so that no file holds the page up.
+// Names of so many bytes are hashed, so that no file holds the page up. The hash of one that is not short is kept.
 const MOST_HASHED = 2 ** 30;
+const MOST_SHORT = 64;
 
 class Tables {
     // Of the bytes of a sound file, its section headers as the reader has them, and where their table is.
@@ -24,6 +25,8 @@ class Tables {
         this.section_table = section_table;
         this.known = new Map();
         this.spent = 0;
+        // The hashes of names, by their string table and their offset: tables may share them, and names may be long.
+        this.hashes = new Map();
         this.index_tables = new Map();
         sections.forEach((it, index) => {
             if (it.sh_type === SHT.SYMTAB_SHNDX) this.index_tables.set(it.sh_link, [...(this.index_tables.get(it.sh_link) ?? []), index]);
@@ -329,11 +332,20 @@ function symbol_off_chain(tables, index) {
     const { enter, leave } = walked(tables, chains, chain);
     const symbols = tables.sections[index].sh_link;
     for (let k = 1; k < chains; k++) {
-        const hash = hash_of(tables, tables.sections[symbols].sh_link, tables.word(tables.start(symbols) + 24 * k));
+        const hash = known_hash(tables, tables.sections[symbols].sh_link, tables.word(tables.start(symbols) + 24 * k));
         const head = enter[tables.word(first + 4 * (hash % buckets))];
         if (!enter[k] || head < enter[k] || head >= leave[k]) return chain + 4 * k;
     }
     return -1;
+}
+
+function known_hash(tables, names, offset) {
+    if (!tables.hashes.has(names)) tables.hashes.set(names, new Map());
+    const own = tables.hashes.get(names);
+    const [known, before] = [own.get(offset), tables.spent];
+    const hash = known ?? hash_of(tables, names, offset);
+    if (tables.spent > before + MOST_SHORT) own.set(offset, hash);
+    return hash;
 }
 
 // The hash of a name (System V ABI, chapter 5).

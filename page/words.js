@@ -48,10 +48,10 @@ function segment_flags(flags) {
     return (flags & 4 ? "R" : "-") + (flags & 2 ? "W" : "-") + (flags & 1 ? "X" : "-");
 }
 
-// The columns of each table: a title, the words of a row, and where a link leads to, if it is one.
+// The columns of each table: a title, the words of a row, where a link leads to, if it is one, and where the whole name is, if it is cut.
 const COLUMNS = {
     sections: [
-        ["name", (it) => it.name || "(no name)"],
+        ["name", (it) => it.name || "(no name)", null, (it) => it.whole],
         ["type", (it) => named("sh_type", it.sh_type)],
         ["flags", (it) => section_flags(it.sh_flags)],
         ["offset", (it) => hex(it.sh_offset), (it) => has_content(it) && it.sh_size && { bytes: it.sh_offset, length: it.sh_size }],
@@ -72,27 +72,27 @@ const COLUMNS = {
         ["alignment", (it) => hex(it.p_align)],
     ],
     symbols: [
-        ["name", (it) => it.name || "(no name)"],
+        ["name", (it) => it.name || "(no name)", null, (it) => it.whole],
         ["value", (it) => hex(it.st_value)],
         ["size", (it) => String(it.st_size)],
         ["type", (it) => named("st_type", it.st_info & 15)],
         ["binding", (it) => named("st_bind", it.st_info >> 4)],
-        ["section", symbol_place, (it) => it.is_in_section && { kind: "sections", row: it.section }],
+        ["section", symbol_place, (it) => it.is_in_section && { kind: "sections", row: it.section }, (it) => it.whole_where],
     ],
     relocations: [
         ["offset", (it) => hex(it.r_offset)],
         ["type", (it) => it.type_name ?? String(it.relocation_type)],
-        ["symbol", (it) => `${it.symbol} ${it.name}`.trim(), (it) => ({ kind: "symbols", table: it.linked, row: it.symbol })],
+        ["symbol", (it) => `${it.symbol} ${it.name}`.trim(), (it) => ({ kind: "symbols", table: it.linked, row: it.symbol }), (it) => it.whole],
         ["addend", (it) => signed(it.r_addend)],
         ["applies to", (it) => `section ${it.target}`, (it) => it.target && { kind: "sections", row: it.target }],
     ],
     dynamic: [
         ["tag", (it) => named("d_tag", it.d_tag)],
         ["value", (it) => hex(it.d_un)],
-        ["string", (it) => it.name],
+        ["string", (it) => it.name, null, (it) => it.whole],
     ],
     notes: [
-        ["owner", (it) => it.name || "(no name)"],
+        ["owner", (it) => it.name || "(no name)", null, (it) => it.whole],
         ["type", (it) => hex(it.n_type)],
         ["descriptor", (it) => counted(it.desc.len, "byte"), (it) => ({ bytes: it.desc.start, length: it.desc.len })],
     ],

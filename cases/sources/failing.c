@@ -26,11 +26,22 @@ static void say(const char *word, long number) {
     syscall(SYS_close, file);
 }
 
+/* How much memory was there at once, in bytes, as the system has it of this program alone. */
+static long peak(void) {
+    char text[4096] = "";
+    int file = syscall(SYS_openat, AT_FDCWD, "/proc/self/status", O_RDONLY);
+    if (file >= 0) syscall(SYS_read, file, text, sizeof text - 1);
+    const char *line = strstr(text, "VmHWM:");
+    return line ? 1024 * atol(line + strlen("VmHWM:")) : 0;
+}
+
 /* How many files were opened; how many calls were in vain: empty ones, reads after the one that found the end, and those that wait for a
-   disk; how many growths there were after the first byte of standard output, how many in all, and how many bytes they asked for. */
+   disk; how many growths there were after the first byte of standard output, how many in all, and how many bytes they asked for; and the
+   peak of memory. */
 __attribute__((destructor)) static void end(void) {
     if (strcmp(kind, "count") != 0) return;
     say("opened", opened); say("vain", vain); say("late", late); say("grown", grown); say("asked", asked);
+    say("peak", peak());
 }
 
 int fsync(int file) { return vain++, syscall(SYS_fsync, file); }

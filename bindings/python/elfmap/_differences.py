@@ -10,11 +10,11 @@ import struct
 from collections import Counter
 from collections.abc import Callable, Hashable, Iterable, Iterator, Sequence
 from itertools import zip_longest
-from typing import NamedTuple, Optional, TypeVar
+from typing import NamedTuple, Optional, TypeVar, Union
 
 from elfmap import Bytes, File, Relocation, Section, Symbol
 from elfmap._names import machine_words, relocation_types, section_type
-from elfmap._words import printable
+from elfmap._words import LONGEST_LETTER, MOST_LETTERS, printable, shortened
 
 _NULL, _SYMTAB, _RELA, _NOBITS, _REL, _GROUP, _SYMTAB_SHNDX = 0, 2, 4, 8, 9, 17, 18
 _INFO_LINK, _IN_INDEX_TABLE = 0x40, 0xFFFF
@@ -23,6 +23,8 @@ _PLACES = {0: "undefined", 0xFFF1: "absolute", 0xFFF2: "common"}
 _BINDINGS = {0: "LOCAL", 1: "GLOBAL", 2: "WEAK"}
 _TYPES = {0: "NOTYPE", 1: "OBJECT", 2: "FUNC", 3: "SECTION", 4: "FILE", 5: "COMMON", 6: "TLS", 10: "GNU_IFUNC"}
 _STEP = 1 << 16
+# A longer name is not copied.
+_MOST_COPIED = 256
 Key = TypeVar("Key", bound=Hashable)
 
 
@@ -36,22 +38,110 @@ class Sides(NamedTuple):
         return f"{what} is {one} in {self.first}, and {other} in {self.second}"
 
 
+class LongName:
+    """A name in its string table: a file of 1 MB may have thousands that share bytes, of half a MB each."""
+
+    __slots__ = ("_table", "_start", "_end")
+
+    def __init__(self, table: bytes, start: int, end: int) -> None:
+        self._table, self._start, self._end = table, start, end
+
+    def front(self, size: int) -> bytes:
+        return self._table[self._start : min(self._start + size, self._end)]
+
+    def __hash__(self) -> int:
+        return hash((self._end - self._start, self.front(_MOST_COPIED)))
+
+    def __eq__(self, other: object) -> bool:
+        if not isinstance(other, LongName) or self._end - self._start != other._end - other._start:
+            return False
+        if self._table is other._table and self._start == other._start:
+            return True
+        return self._table[self._start : self._end] == other._table[other._start : other._end]
+
+
+Text = Union[bytes, LongName]
+
+
+class OfSection(NamedTuple):
+    """What a symbol of a section is called."""
+
+    section: Text
+
+
+class Signed(NamedTuple):
+    """What a group is called: by its name, and by that of its signature."""
+
+    name: Text
+    signature: Union[Text, OfSection]
+
+
+Name = Union[Text, OfSection, Signed]
 # Of a section or a symbol its name, and how many of this name are before it.
-Label = tuple[bytes, int]
+Label = tuple[Name, int]
+
+
+class Names:
+    """The names of string tables. Equal ones are one object, so that most are compared at once."""
+
+    def __init__(self) -> None:
+        self._known: dict[Hashable, Hashable] = {}
+
+    def of(self, table: bytes) -> Callable[[int], Text]:
+        """The name at an offset of a table."""
+        table = self._once(table)
+        by_offset: dict[int, Text] = {}
+
+        def at(offset: int) -> Text:
+            if offset not in by_offset:
+                found = table.find(b"\0", offset)
+                end = found if found >= 0 else len(table)
+                is_short = end - offset <= _MOST_COPIED
+                by_offset[offset] = self._once(table[offset:end]) if is_short else self._once(LongName(table, offset, end))
+            return by_offset[offset]
+
+        return at
+
+    def _once(self, it: Key) -> Key:
+        return self._known.setdefault(it, it)  # type: ignore[return-value]
+
+
+def name_words(name: Name) -> str:
+    if isinstance(name, OfSection):
+        return f"of section {name_words(name.section)}"
+    if isinstance(name, Signed):
+        return f"{name_words(name.name)} [{name_words(name.signature)}]"
+    front = name.front(LONGEST_LETTER * (MOST_LETTERS + 1)) if isinstance(name, LongName) else name
+    return shortened(printable(front))
 
 
 def label_words(label: Label) -> str:
     name, position = label
-    return (printable(name) or "(no name)") + (f" (number {position + 1} of this name)" if position else "")
+    return (name_words(name) or "(no name)") + (f" (number {position + 1} of this name)" if position else "")
 
 
-def labelled(names: Iterable[bytes]) -> list[Label]:
-    seen: Counter[bytes] = Counter()
+def labelled(names: Iterable[Name]) -> list[Label]:
+    seen: Counter[Name] = Counter()
     labels = []
     for name in names:
         labels.append((name, seen[name]))
         seen[name] += 1
     return labels
+
+
+def sections_of(file: File, data: Bytes, names: Names) -> tuple[list[Section], list[Text]]:
+    """All sections at once, without their names, and the names: the file is sound."""
+    header, view = file.header, memoryview(data)
+    order = ">" if header.e_ident[5] == 2 else "<"
+    table = view[header.e_shoff : header.e_shoff + 64 * len(file.sections)]
+    rows = struct.iter_unpack(f"{order}2I4Q2I2Q", table) if header.e_shoff else iter(())
+    found = []
+    for row in rows:
+        kind, start, size = row[1], row[4], row[5]
+        found.append(Section._make([*row, b"", None if kind in (_NULL, _NOBITS) else view[start : start + size]]))
+    own = found[0].sh_link if header.e_shstrndx == _IN_INDEX_TABLE else header.e_shstrndx
+    at = names.of(bytes(found[own].content or b"") if own else b"")
+    return found, [at(it.sh_name) for it in found]
 
 
 def first_difference(one: memoryview, other: memoryview) -> Optional[int]:
@@ -67,28 +157,29 @@ def first_difference(one: memoryview, other: memoryview) -> Optional[int]:
 class Canonical:
     """An object by its canonical file."""
 
-    def __init__(self, file: File) -> None:
+    def __init__(self, file: File, data: Bytes, names: Names) -> None:
         self.file = file
         self.machine = file.header.e_machine
-        self.sections: Sequence[Section] = list(file.sections)
+        self.sections, self._names = sections_of(file, data, names)
         self._table = next((k for k, it in enumerate(self.sections) if it.sh_type == _SYMTAB), 0)
         self.order = ">" if file.header.e_ident[5] == 2 else "<"
         self.symbols: Sequence[Symbol] = list(self._read_symbols()) if self._table else []
-        self.section_labels = labelled(map(self._section_name, range(len(self.sections))))
-        self.symbol_labels = labelled(map(self._symbol_name, self.symbols))
+        strings = names.of(self._content(self.sections[self._table].sh_link)) if self._table else None
+        own = [self._symbol_name(it, strings(it.st_name)) for it in self.symbols] if strings else []
+        self.section_labels = labelled(self._section_name(k, own) for k in range(len(self.sections)))
+        self.symbol_labels = labelled(own)
 
     def _content(self, index: int) -> bytes:
         return bytes(self.sections[index].content or b"")
 
     def _read_symbols(self) -> Iterator[Symbol]:
-        """All symbols at once: `elfmap rewrite` wrote the table, so that each of its fields is sound."""
-        strings = self._content(self.sections[self._table].sh_link)
+        """All symbols at once, without their names: `elfmap rewrite` wrote the table, so that each of its fields is sound."""
         index_table = next((k for k, it in enumerate(self.sections) if it.sh_type == _SYMTAB_SHNDX), 0)
         words = [it for (it,) in struct.iter_unpack(f"{self.order}I", self._content(index_table))] if index_table else []
         rows = struct.iter_unpack(f"{self.order}IBBHQQ", self._content(self._table))
         for k, (name, info, other, shndx, value, size) in enumerate(rows):
             section = words[k] if shndx == _IN_INDEX_TABLE else shndx
-            yield Symbol(strings[name : strings.index(b"\0", name)], value, size, name, section, shndx, info, other)
+            yield Symbol(b"", value, size, name, section, shndx, info, other)
 
     def relocations(self, index: int) -> Iterator[Relocation]:
         """Those of a section, in the same way."""
@@ -101,17 +192,15 @@ class Canonical:
         is_reserved = it.st_shndx == 0 or 0xFF00 <= it.st_shndx < _IN_INDEX_TABLE
         return it.st_shndx if is_reserved else self.section_labels[it.section]
 
-    def _section_name(self, index: int) -> bytes:
+    def _section_name(self, index: int, symbols: Sequence[Union[Text, OfSection]]) -> Name:
         """The name, and of a group also that of its signature."""
         it = self.sections[index]
-        if it.sh_type != _GROUP:
-            return it.name
-        return b"%s [%s]" % (it.name, self._symbol_name(self.symbols[it.sh_info]))
+        return Signed(self._names[index], symbols[it.sh_info]) if it.sh_type == _GROUP else self._names[index]
 
-    def _symbol_name(self, it: Symbol) -> bytes:
+    def _symbol_name(self, it: Symbol, name: Text) -> Union[Text, OfSection]:
         """The name, or of a symbol of a section that section's."""
-        is_of_section = not it.name and it.symbol_type == _STT_SECTION and it.section < len(self.sections)
-        return b"of section " + self.sections[it.section].name if is_of_section else it.name
+        is_of_section = not name and it.symbol_type == _STT_SECTION and it.section < len(self.sections)
+        return OfSection(self._names[it.section]) if is_of_section else name
 
     def own_sections(self) -> dict[Label, int]:
         """The sections of the object. Its symbol table and its names are compared by names."""
@@ -139,9 +228,9 @@ class Canonical:
 class Comparison:
     """Two objects beside each other."""
 
-    def __init__(self, sides: Sides, one: File, other: File) -> None:
-        self._sides = sides
-        self._one, self._other = Canonical(one), Canonical(other)
+    def __init__(self, sides: Sides, one: Bytes, other: Bytes) -> None:
+        self._sides, names = sides, Names()
+        self._one, self._other = (Canonical(File(it), it, names) for it in (one, other))
 
     def differences(self) -> Iterator[str]:
         yield from header_differences(self._sides, self._one.file, self._other.file)
@@ -291,7 +380,7 @@ def content_difference(sides: Sides, one: memoryview, other: memoryview) -> Iter
 
 def object_differences(sides: Sides, one: Bytes, other: Bytes) -> Iterator[str]:
     """What differs between two objects in canonical layout: at least something."""
-    comparison = Comparison(sides, File(one), File(other))
+    comparison = Comparison(sides, one, other)
     count = 0
     for it in comparison.differences():
         count += 1
@@ -307,22 +396,26 @@ def object_differences(sides: Sides, one: Bytes, other: Bytes) -> Iterator[str]:
 def image_differences(sides: Sides, one: Bytes, other: Bytes) -> Iterator[str]:
     """What differs between two programs or libraries: at least something."""
     ours, theirs = File(one), File(other)
-    found = [*header_differences(sides, ours, theirs), *_section_differences(sides, ours, theirs)]
+    names = Names()
+    sections = _section_differences(sides, ours.header.e_machine, sections_of(ours, one, names), sections_of(theirs, other, names))
+    found = [*header_differences(sides, ours, theirs), *sections]
     found += _segment_differences(sides, ours, theirs)
     at = first_difference(memoryview(one), memoryview(other))
     yield from found or [f"the files differ at offset {at:#x}, in no content of a section"]
 
 
-def _section_differences(sides: Sides, one: File, other: File) -> Iterator[str]:
-    ours, theirs = list(one.sections), list(other.sections)
-    first = {label: k for k, label in enumerate(labelled(it.name for it in ours)) if k}
-    second = {label: k for k, label in enumerate(labelled(it.name for it in theirs)) if k}
+def _section_differences(
+    sides: Sides, machine: int, one: tuple[list[Section], list[Text]], other: tuple[list[Section], list[Text]]
+) -> Iterator[str]:
+    (ours, own), (theirs, others) = one, other
+    first = {label: k for k, label in enumerate(labelled(own)) if k}
+    second = {label: k for k, label in enumerate(labelled(others)) if k}
     yield from only_in(sides, "section", first, second, label_words)
     for label, index in first.items():
         if label not in second:
             continue
         section, same = ours[index], theirs[second[label]]
-        found = list(section_fields(sides, section, same, one.header.e_machine))
+        found = list(section_fields(sides, section, same, machine))
         if section.content is not None and same.content is not None:
             found += content_difference(sides, section.content, same.content)
         yield from (f"section {label_words(label)}: {it}" for it in found)

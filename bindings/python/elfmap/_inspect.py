@@ -11,7 +11,7 @@ from elfmap._checks import TOO_LONG_AS_OBJECT, Checks, Fault
 from elfmap._findings import Finding, Report, Rule, Unread
 from elfmap._link_words import Linked, explain_alone
 from elfmap._sources import Source, Unreadable, opened
-from elfmap._words import Words, explain
+from elfmap._words import MOST_LETTERS, Words, explain
 
 _MAGIC = b"\x7fELF"
 _CLASS_32 = 1
@@ -22,13 +22,17 @@ _TOO_LONG = (
 
 
 class Depth(NamedTuple):
-    """How much of a file is checked, and what is reported."""
+    """How much of a file is checked, and what is reported: of each name in a sentence at most so many letters,
+    and of sections also their names by themselves.
+    """
 
     tables: bool = False
     objects: bool = False
     fails_class_32: bool = False
     keeps_names: bool = False
     follows_thin: bool = False
+    most_letters: int = MOST_LETTERS
+    names_sections: bool = True
 
 
 class Inspector:
@@ -86,12 +90,12 @@ class Inspector:
         faults = self._checks.faults(it.source)
         if self._depth.keeps_names:
             self._report.names.append(it.path)
-        words = Words(it.source) if faults else None
+        words = Words(it.source, self._depth.most_letters) if faults else None
         if words:
-            self._report.findings += [_finding(it, words, fault) for fault in faults]
+            self._report.findings += [_finding(it, words, fault, self._depth.names_sections) for fault in faults]
 
 
-def _finding(content: Content, words: Words, fault: Fault) -> Finding:
+def _finding(content: Content, words: Words, fault: Fault, names_sections: bool) -> Finding:
     path, file, source = content
     rule = Rule(fault.is_of_link, fault.rule)
     if fault.rule == TOO_LONG_AS_OBJECT:
@@ -100,4 +104,5 @@ def _finding(content: Content, words: Words, fault: Fault) -> Finding:
         told = explain_alone(Linked("", words), fault.rule, fault.at)
     else:
         told = explain(words, fault.rule, fault.at, fault.table)
-    return Finding(path, fault.at, rule, rule.table[rule.number][0], told.message, tuple(told.sections), file, source.start)
+    sections = tuple(map(words.section_name, told.sections)) if names_sections else ()
+    return Finding(path, fault.at, rule, rule.table[rule.number][0], told.message, sections, file, source.start)

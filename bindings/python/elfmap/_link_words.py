@@ -161,7 +161,7 @@ def explain_alone(file: Linked, rule: int, at: int) -> Told:
     words, index = file.words, file.index_at(rule, at)
     section = index if rule in _OF_SECTIONS else file.symbols
     message = f"{file.own_words(rule, index)}; {reason(rule, LINK_RULES)}; {LINK_RULES[rule][2]}"
-    return Told(message, [words.section_name(section) or f"section {section}"])
+    return Told(message, [section])
 
 
 def link_words(files: Sequence[Linked], rule: int, file: int, index: int, entry: int) -> str:

@@ -73,6 +73,9 @@ SHARED_BYTE = 33
 # So many parts that share a byte are named.
 MOST_OWNERS = 16
 _HEADERS_AT_ONCE = 1024
+# So many letters of a name are in a sentence of a text, and so many bytes of it in JSON: names may share bytes, so that a short file has
+# many long ones. A letter has at most so many bytes.
+MOST_LETTERS, LONGEST_NAME, LONGEST_LETTER = 200, 4096, 4
 # Notes have no index: more than these are not counted.
 _MOST_NOTES = 100_000
 
@@ -86,10 +89,11 @@ class Place(NamedTuple):
 
 
 class Words:
-    """A file's bytes, and what they are in words."""
+    """A file's bytes, and what they are in words, with so many letters of each name."""
 
-    def __init__(self, data: Bytes) -> None:
+    def __init__(self, data: Bytes, most: int = MOST_LETTERS) -> None:
         self.data = data
+        self._most = most
         self.order = ">" if data[5:6] == b"\2" else "<"
         self.table, names, segments = self.number(40, 8), self.number(62, 2), self.number(56, 2)
         self.machine = self.number(18, 2)
@@ -159,18 +163,23 @@ class Words:
         links.append(self.section(links[1], "sh_link"))
         return [it for it in (*links, *map(self.index_table, symbols)) if it]
 
-    def name(self, table: int, at: int) -> bytes:
-        """The name at an offset of a string table, or its first 4096 bytes."""
+    def name(self, table: int, at: int, most: int = LONGEST_NAME) -> bytes:
+        """The name at an offset of a string table, or so many bytes of it."""
         start, end = self.content(table)
         is_there = 0 < table < self.count and start + at < end
-        return self.data[start + at : min(end, start + at + 4096)].split(b"\0")[0] if is_there else b""
+        return self.data[start + at : min(end, start + at + most)].partition(b"\0")[0] if is_there else b""
 
     def string(self, table: int, at: int) -> str:
-        """That name, in letters that can be printed."""
-        return printable(self.name(table, at))
+        """That name in a sentence, in letters that can be printed."""
+        return shortened(printable(self.name(table, at, min(LONGEST_NAME, LONGEST_LETTER * (self._most + 1)))), self._most)
+
+    def section_string(self, index: int) -> str:
+        """The name of a section in a sentence."""
+        return self.string(self.names, self.section(index, "sh_name"))
 
     def section_name(self, index: int) -> str:
-        return self.string(self.names, self.section(index, "sh_name"))
+        """The name of a section in JSON, or what it is called without one."""
+        return printable(self.name(self.names, self.section(index, "sh_name"))) or f"section {index}"
 
     def symbol(self, table: int, index: int, field: str) -> int:
         """A field of a symbol, 0 where there is none."""
@@ -183,7 +192,7 @@ class Words:
     def section_words(self, index: int) -> str:
         if index >= self.count:
             return f"section {index}, which isn't there"
-        return f"section {index} {self.section_name(index) or '(no name)'}"
+        return f"section {index} {self.section_string(index) or '(no name)'}"
 
     def typed_words(self, index: int) -> str:
         if index >= self.count:
@@ -193,7 +202,7 @@ class Words:
     def symbol_name(self, table: int, index: int) -> str:
         name = self.string(self.section(table, "sh_link"), self.symbol(table, index, "st_name"))
         if not name and self.symbol(table, index, "st_info") & 15 == 3:
-            return f"of section {self.section_name(self.symbol(table, index, 'st_shndx'))}"
+            return f"of section {self.section_string(self.symbol(table, index, 'st_shndx'))}"
         return name or "(no name)"
 
     def symbol_words(self, table: int, index: int) -> str:
@@ -242,7 +251,7 @@ class Words:
             yield Place("content", index, self.content_words(index, at))
 
     def owners(self, at: int) -> Iterator[tuple[Optional[int], str, int, int]]:
-        """The parts that a byte belongs to: of which section, in words, and from where to where."""
+        """The parts that a byte belongs to: of which section, or else in words, and from where to where."""
         table = self.number(32, 8)
         parts = [
             ("the ELF header", 0, 64),
@@ -253,12 +262,29 @@ class Words:
             if start <= at < end:
                 yield None, words, start, end
         for index in self.holding(at):
-            yield index, self.section_name(index) or f"section {index}", *self.content(index)
+            yield index, "", *self.content(index)
+
+
+class _Escapes(dict[int, str]):
+    """Each letter by its number, or how it is escaped."""
+
+    def __missing__(self, number: int) -> str:
+        letter = chr(number)
+        self[number] = letter if letter.isprintable() else ascii(letter)[1:-1]
+        return self[number]
+
+
+_ESCAPES = _Escapes()
 
 
 def printable(name: bytes) -> str:
     letters = name.decode("utf-8", "backslashreplace")
-    return "".join(it if it.isprintable() else ascii(it)[1:-1] for it in letters)
+    return letters if letters.isprintable() else letters.translate(_ESCAPES)
+
+
+def shortened(name: str, most: int = MOST_LETTERS) -> str:
+    """The first letters of a name, and … for the rest of it."""
+    return name if len(name) <= most else f"{name[:most]}…"
 
 
 def entry_words(file: Words, index: int, at: int) -> str:
@@ -327,10 +353,10 @@ def reason(rule: int, rules: dict[int, tuple[str, str, str]] = RULES) -> str:
 
 
 class Told(NamedTuple):
-    """Why a rule is broken, and the names of the sections that this is about."""
+    """Why a rule is broken, and the sections that this is about."""
 
     message: str
-    sections: list[str]
+    sections: list[int]
 
 
 def explain(file: Words, rule: int, at: int, table: Optional[int] = None) -> Told:
@@ -343,8 +369,7 @@ def explain(file: Words, rule: int, at: int, table: Optional[int] = None) -> Tol
     if table is not None and table not in indexes:
         indexes.insert(0, table)
         words.insert(0, f"the table in {file.typed_words(table)}")
-    names = [file.section_name(it) or f"section {it}" for it in indexes]
-    return Told(f"{'; '.join(words)}; {reason(rule)}; {RULES[rule][2]}", names)
+    return Told(f"{'; '.join(words)}; {reason(rule)}; {RULES[rule][2]}", indexes)
 
 
 def found_at(file: Words, rule: int, at: int, table: Optional[int] = None) -> list[Place]:
@@ -358,13 +383,14 @@ def found_at(file: Words, rule: int, at: int, table: Optional[int] = None) -> li
 
 def _shared_byte(file: Words, at: int) -> Told:
     """Both owners of a byte, or all of them."""
-    names: list[str] = []
+    owners = list(file.owners(at))
+    sections = [index for index, *_ in owners if index is not None]
     parts: list[str] = []
-    for section, words, start, end in file.owners(at):
-        lead = "" if not section else "of " if names else "the content of "
-        parts.append(f"{lead}{words} [{start:#x}, {end:#x})")
-        names += [words] if section else []
-    more = parts[MOST_OWNERS:]
-    *before, last = [*parts[:MOST_OWNERS], f"of {len(more)} more"] if more else parts or ["no part"]
-    owners = f"{', '.join(before)} and {last}" if before else last
-    return Told(f"{owners} share byte {at:#x}; {RULES[SHARED_BYTE][2]}", names[:MOST_OWNERS])
+    for index, words, start, end in owners[:MOST_OWNERS]:
+        name = words if index is None else file.section_string(index) or f"section {index}"
+        lead = "" if index is None else "the content of " if index == sections[0] else "of "
+        parts.append(f"{lead}{name} [{start:#x}, {end:#x})")
+    more = len(owners) - len(parts)
+    *before, last = [*parts, f"of {more} more"] if more else parts or ["no part"]
+    told = f"{', '.join(before)} and {last}" if before else last
+    return Told(f"{told} share byte {at:#x}; {RULES[SHARED_BYTE][2]}", sections[:MOST_OWNERS])

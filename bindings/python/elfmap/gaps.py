@@ -80,7 +80,7 @@ def _gap(it: Content, words: Words, parts: Sequence[_library.Part], position: in
 
 def _owner(words: Words, part: _library.Part) -> str:
     index = part.owner - len(_OWNERS)
-    return _OWNERS[part.owner] if index < 0 else words.section_name(index) or f"section {index}"
+    return _OWNERS[part.owner] if index < 0 else words.section_string(index) or f"section {index}"
 
 
 def _blocks(source: Source, start: int, length: int) -> Iterator[bytes]:

@@ -26,11 +26,12 @@ from elfmap._findings import BadWord, Baseline, Globs, Ignored, Report, Unread, 
 from elfmap._inspect import Depth, Inspector
 from elfmap._sources import reason_of, standard_input
 from elfmap._walk import Walk, chunks
+from elfmap._words import LONGEST_NAME, MOST_LETTERS
 from elfmap._workers import Pool, Work
 
 PROGRAM = "elfmap-lint"
 FORMATS = ("text", "jsonl", "sarif", "junit", "github")
-_OF_ONE_DOCUMENT = ("sarif", "junit")
+_OF_ONE_DOCUMENT, _OF_JSON = ("sarif", "junit"), ("jsonl", "sarif")
 # What a process is given at once: enough to do for a millisecond or more.
 _MOST_FILES, _MOST_BYTES = 64, 16 << 20
 _STANDARD_INPUT = b"-"
@@ -159,8 +160,12 @@ class Run:
             Pool(self._work, self._jobs, self._add).run(every)
 
     def _tools(self) -> Inspector:
-        options = self._options
-        return Inspector(Depth(options.tables, options.object, options.class32 == "fail", options.format == "junit", options.follow_thin))
+        it, format = self._options, self._options.format
+        letters = LONGEST_NAME if format in _OF_JSON else MOST_LETTERS
+        # A baseline has them too.
+        names_sections = format in _OF_JSON or bool(it.baseline or it.write_baseline)
+        depth = Depth(it.tables, it.object, it.class32 == "fail", format == "junit", it.follow_thin, letters, names_sections)
+        return Inspector(depth)
 
     def _work(self) -> Work:
         return self._tools().files

@@ -7,11 +7,15 @@ proved crates as the library for C: the kit's compiler makes it for a memory of 
 
 - In node: what the page's reader and its check of tables say of files of this machine, of cases/ and of changed copies of them is what
   `elfmap show` prints, line by line, but for the lines of groups.
-- In chromium, by Selenium: what a person sees of sound and refused files, with a mouse, by keys alone, and by a reader of the screen."""
+- In chromium, by Selenium: what a person sees of sound and refused files, with a mouse, by keys alone, and by a reader of the screen. Files
+  of 1 MB whose names have half a MB each, and files of which very much is to be said, do not hold it up."""
 
 import base64, contextlib, ctypes, json, os, random, shutil, tempfile, time
-from collections.abc import Iterator
+from collections.abc import Callable, Iterator
+from itertools import accumulate
 from typing import Any, cast
+
+import generated
 
 from elfmap import _library, _names as names
 
@@ -19,7 +23,8 @@ from .building import built_below, is_current, kit, words
 from .cases import case_files, cases_of, fuzzed
 from .doc_tables import file_rules
 from .library import FOLDER, STRUCTS, VERDICTS as CRATE
-from .reference import verdict
+from .reference import RELA, File, edited, verdict
+from .slow_files import Shape
 from .suite import SELENIUM, Tally, Test, number
 from .tree import PROGRAM, TOP, Options, filled, read_bytes, read_text, said, wanted, write
 
@@ -185,6 +190,31 @@ def in_node(tally: Tally, room: str, count: int) -> None:
 # ---- in chromium
 
 SYMBOLS, MOST_MILLISECONDS = 1_000_000, 200
+# So many characters of a name are shown, and so many of a file. Nothing holds the page up for so long: a worker does the work. And what is
+# pressed is done after so many seconds.
+MOST_CHARACTERS, MOST_SHOWN, LONGEST_TASK, MOST_SECONDS = 200, 300_000, 500, 3
+WATCH = """window.longest = 0; new PerformanceObserver((it) => it.getEntries().forEach(({ duration }) => {
+    window.longest = Math.max(window.longest, duration);
+})).observe({ type: "longtask" })"""
+NAME = 500_000
+# Files of long names, each with the tab that shows them, and what is said of its first rows.
+LONG_FILES = {
+    "symbols": (Shape(name=NAME, symbols=20_000), "Symbols 1 to 100 of 20,002"), "sections": (Shape(name=NAME, sections=7_600, long="both"), ""),
+    "relocations": (Shape(name=NAME, symbols=16, relocations=5_000, long="both"), "Relocations 1 to 1 of 1"),
+}  # fmt: skip
+# Names of about as many characters as are shown, of one byte, of two, of which the last is cut in two, and of no text.
+NAMES = [
+    b"n" * 199,
+    b"n" * 200,
+    b"n" * 201,
+    "é".encode() * 200,
+    "é".encode() * 201,
+    b"n" + "é".encode() * 600,
+    b"\xff" * 200,
+    b"\xff" * 201,
+]
+# Longer than what is shown at once of a name that somebody wants to see, with a character in two parts.
+LONGEST_NAME = "n" + "é" * 600_000
 SOUND = "Sound: this file keeps all 33 rules of an ELF-64 file."
 ROWS = "[...document.querySelectorAll('#table tbody tr')]"
 # What the tree for readers of the screen has: names by their roles.
@@ -369,6 +399,100 @@ class InChromium(Browser):
         self.drop(f"{self.room}/folder")
         self.waits("/folder/.test(document.querySelector('#said').textContent)", f"of a folder is said: {self.text('#said')}")
 
+    def named(self) -> None:
+        """A name of 200 characters is shown, and of a longer one the first 200, with a button that shows all."""
+        names, made = [*NAMES, LONGEST_NAME.encode()], generated.File()
+        places = accumulate((len(it) + 1 for it in names), initial=1)
+        strings = made.strings(b"".join(it + b"\0" for it in [b"", *names]))
+        made.symbols(b"".join(generated.symbol(at) for at, _ in zip(places, names)), strings)
+        self.show(write(f"{self.room}/named.o", made.bytes()))
+        self.opens("symbols", "Symbols")
+        cell = "document.querySelector('#table tbody tr:nth-child({}) td:nth-child(2)')"
+        for k, name in enumerate(names):
+            own, right = cell.format(k + 2), name.decode() if name[0] != 0xFF else name.decode("latin1")
+            shown = (right if len(right) <= MOST_CHARACTERS else f"{right[:MOST_CHARACTERS]}…").replace("ÿ", "\\xff")
+            found = self.value(f"{own}.firstChild.textContent")
+            self.check(found == shown, f"the name {k} is shown as {found[:300]}")
+            has_button = self.value(f"!!{own}.querySelector('button')")
+            self.check(has_button == (len(right) > MOST_CHARACTERS), f"the name {k} has a button: {has_button}")
+            whole = f"{own}.querySelector('.whole')?.textContent"
+            for _ in range(1 + (len(name) > 1 << 20)) if has_button else ():
+                self.waits(f"{own}.querySelector('button:enabled')", f"the name {k} has no button")
+                self.value(f"{own}.querySelector('button').click()")
+            if has_button:
+                self.waits(f"!{own}.querySelector('button')", f"all of the name {k} is not shown")
+                self.check(self.value(whole) == right.replace("ÿ", "\\xff"), f"the whole name {k} is {self.value(whole)[:300]}")
+                self.check(self.value(f"document.activeElement === {own}.querySelector('.whole')"), f"the focus leaves the name {k}")
+
+    def long_names(self) -> None:
+        self.value(WATCH)
+        for tab, (shape, words) in LONG_FILES.items():
+            steps = [lambda: self.show(write(f"{self.room}/long-{tab}.o", shape.file())), lambda: self.opens(tab, words)]
+            # The sections are shown first. A part of the map is wide enough in one of the files.
+            steps = [steps[0], *steps[1:][: tab != "sections"], self.show_whole_name, *[self.show_part_of_map][: tab == "relocations"]]
+            took = [self.seconds(it) for it in steps]
+            length = self.value("document.querySelector('main').textContent.length") - NAME
+            took.append(self.seconds(self.search_and_look))
+            longest = self.value("window.longest")
+            self.note(
+                f"{tab} of one long name: {', '.join(f'{it:.1f}' for it in took)} s, tasks of {longest:.0f} ms, {length:,} characters"
+            )
+            self.check(length < MOST_SHOWN, f"{length:,} characters are shown of {tab} of one long name")
+            self.check(longest < LONGEST_TASK, f"the page waits for {longest:.0f} ms")
+            self.check(max(took) < MOST_SECONDS, f"what is pressed takes {max(took):.1f} s")
+            self.waits("/^None of/.test(document.querySelector('#table-words').textContent)", "the search does not end")
+
+    def seconds(self, step: Callable[[], None]) -> float:
+        begun = time.monotonic()
+        step()
+        return time.monotonic() - begun
+
+    def show_whole_name(self) -> None:
+        self.click("#table tbody button.more")
+        self.waits(f"document.querySelector('#table .whole')?.textContent.length === {NAME}", "all of a long name is not shown")
+
+    def show_part_of_map(self) -> None:
+        """The words of a part of the map, among several short ones, have a name that is cut, and a button that shows all of it."""
+        found = "[...document.querySelectorAll('#map button')].find((it) => it.ariaLabel.includes('{}'))"
+        own, several = found.format("n" * MOST_CHARACTERS + "…: "), found.format(" parts: ")
+        # On a narrow screen the part is in a bar with others.
+        if not self.value(f"!!{own}"):
+            self.value(f"{several}.click()")
+        self.waits(own, "the map does not show the part by itself")
+        self.value(f"{own}.click()")
+        self.waits("document.querySelector('#map [aria-current=true]')", "the part is not chosen")
+        words = self.text("#map-words")
+        self.check(len(words) < 2 * MOST_CHARACTERS and f"Show all {NAME:,} bytes" in words, f"the words of the part are {words[:1000]}")
+
+    def search_and_look(self) -> None:
+        """While it searches in all names, the next bytes are shown."""
+        self.value("const it = document.querySelector('#filter'); it.value = 'no such name'; it.dispatchEvent(new Event('input'))")
+        before = self.text("#bytes tbody th")
+        self.value("document.querySelector('#bytes-on').click()")
+        self.waits(
+            f"document.querySelector('#bytes tbody th').textContent !== '{before}'", "the next bytes are not shown while it searches"
+        )
+
+    def much_to_say(self) -> None:
+        """Of many broken tables, and of many parts that share a byte, the first are named."""
+        file = Shape(name=NAME, symbols=16, sections=250, relocations=250, long="both").file()
+        own = [k for k in range(File(file).section_count) if File(file).section(k).sh_type == RELA]
+        self.show(write(f"{self.room}/broken.o", edited(file, *(("sh_link", k, 0) for k in own))))
+        for count in (100, 200, 250):
+            found = self.value("document.querySelectorAll('#findings li').length")
+            self.check(found == count, f"{found} findings are drawn, and not {count}")
+            has_more = not self.value("document.querySelector('#findings-on').hidden")
+            self.check(has_more == (count < 250), f"after {count} findings there is a button for more: {has_more}")
+            self.click("#findings-on")
+            self.waits(f"document.querySelectorAll('#findings li').length > {count} || {count} === 250", "no more findings are drawn")
+        sections = [k for k in range(File(file).section_count) if File(file).section(k).sh_size == 1]
+        at = File(file).section(sections[0]).sh_offset
+        self.show(write(f"{self.room}/owners.o", edited(file, *(("sh_offset", k, at) for k in sections))))
+        advice, rest = self.text("#advice"), f"and {len(sections) - 16} more sections share this byte"
+        self.check(
+            rest in advice and advice.count(f"{'n' * MOST_CHARACTERS}… [0x") == 16, f"of the owners of a byte is said {advice[:500]}"
+        )
+
     def million(self) -> None:
         path = f"{self.room}/million.o"
         write(f"{self.room}/million.s", "".join(f".globl name_{k}\nname_{k}={k}\n" for k in range(SYMBOLS)))
@@ -392,7 +516,7 @@ def try_page(tally: Tally, options: Options) -> None:
         it.sound_file("/bin/true")
         tally.check(not it.value("document.querySelector('#memory-section').hidden"), "an executable has no bar by address")
         it.refused_files(file)
-        for part in (it.shared_byte, it.broken_tables, it.folder, it.million):
+        for part in (it.shared_byte, it.broken_tables, it.folder, it.million, it.named, it.long_names, it.much_to_say):
             part()
         # What the console said, and what scripts threw.
         messages = [entry["message"] for entry in it.driver.get_log("browser")]

@@ -5,7 +5,7 @@ from collections.abc import Callable, Iterable
 from functools import partial
 
 from . import building, cases, doc, doc_tables, dump, fuzz, hostile, library, linked, man, measuring, memory_faults, mutations
-from . import page, peers, release, shown_commands, suite
+from . import page, peers, release, shown_commands, slow_files, suite
 from .building import Build
 from .suite import TESTS, Option, Test, commands_of, families, run_one, run_several, setup, word
 from .tree import LIBRARIES_OF, PACKAGE, PROCESSORS, TOP, Options, progress
@@ -50,7 +50,7 @@ RELEASE: list[Command] = [
 ]
 # The modules that have tests, in the order in which these are begun.
 MODULES = [hostile, library, measuring, memory_faults, linked, suite, doc_tables, doc, cases, release, shown_commands, mutations]
-MODULES += [fuzz, page, peers]
+MODULES += [fuzz, page, peers, slow_files]
 ABOUTS = {
     "dev": "What you need while you change code. What is tested is in tools/test, and what a release has in tools/release.",
     "release": "What a release has, and what is generated.",

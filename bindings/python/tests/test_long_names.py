@@ -1,0 +1,198 @@
+"""The commands on files of long names: a text has the first 200 letters of each name, and JSON has more. And files of 1/4 MB whose names
+share bytes, as many as there may be: a command takes little time and memory beside what the library takes.
+"""
+
+import contextlib
+import json
+import os
+import subprocess
+import sys
+import tempfile
+import time
+import unittest
+from pathlib import Path
+from unittest import mock
+
+from elfmap import _library, build, explain, gaps, lint, same
+
+from tests.made import ENVIRONMENT, FolderCase, Made, relocations, setUpModule, symbols, text  # noqa: F401
+from tests.test_hostile import run
+
+sys.path.insert(0, str(build.REPOSITORY / "tools" / "lib"))
+from elfmap_tools.slow_files import MB, Shape  # noqa: E402
+
+MOST = 200
+RELA, HASH, GROUP = 4, 5, 17
+HALF = MB // 8
+SHAPES = {
+    "symbols of one name": Shape(name=HALF, symbols=HALF // 24),
+    "symbols of tails": Shape(name=HALF, symbols=HALF // 24, sharing="tails"),
+    "symbols of two equal names": Shape(name=HALF // 2, symbols=HALF // 24, sharing="turns"),
+    "sections of one name": Shape(name=HALF, sections=HALF // 65, long="sections"),
+    "sections of tails": Shape(name=HALF, sections=HALF // 65, long="sections", sharing="tails"),
+    "groups": Shape(name=HALF, groups=HALF // 136, long="both"),
+    "relocations": Shape(name=HALF, symbols=16, relocations=HALF // 89, long="both"),
+}
+# Hash tables are in no object. The library takes long for those that break no rule.
+TABLES = {"hash tables": Shape(name=HALF, symbols=16, hashes=HALF // 144, long="both")}
+
+
+def shown(name):
+    return name if len(name) <= MOST else name[:MOST] + "…"
+
+
+def broken(data):
+    """The file with a wrong size of entries in each table that is no symbol table."""
+    data, table = bytearray(data), int.from_bytes(data[40:48], "little")
+    for at in range(table, len(data), 64):
+        if int.from_bytes(data[at + 4 : at + 8], "little") in (RELA, HASH, GROUP):
+            data[at + 56 : at + 64] = (9).to_bytes(8, "little")
+    return bytes(data)
+
+
+def with_size(data, size):
+    """The file with another size of its last symbol."""
+    made, table = bytearray(data), int.from_bytes(data[40:48], "little")
+    rows = (data[at : at + 64] for at in range(table, len(data), 64))
+    end = next(sum(int.from_bytes(it[k : k + 8], "little") for k in (24, 32)) for it in rows if it[4] == 2)
+    made[end - 8 : end] = size.to_bytes(8, "little")
+    return bytes(made)
+
+
+class Case(FolderCase):
+    def said(self, module, *words, stdin=b""):
+        """What a command prints, in this process."""
+        with contextlib.ExitStack() as stack:
+            files = [stack.enter_context(tempfile.TemporaryFile()) for _ in range(2)]
+            files[0].write(stdin)
+            files[0].seek(0)
+            for number, file in enumerate(files):
+                saved = os.dup(number)
+                stack.callback(os.close, saved)
+                stack.callback(os.dup2, saved, number)
+                os.dup2(file.fileno(), number)
+            module.main(words)
+            return os.pread(files[1].fileno(), 1 << 28, 0).decode()
+
+
+class CutTest(Case):
+    def test_names_of_sections(self):
+        """Of a table that breaks a rule, in each format."""
+        for length in (1, 199, 200, 201, 4000):
+            name = "é" + "s" * (length - 1)
+            made = Made(text(), (name.encode(), RELA, b"", dict(link=0, info=1, entsize=24)))
+            self.put(a__o=bytes(made.data))
+            for format in ("text", "github", "junit"):
+                said = self.said(lint, "--tables", "--format", format, "a.o")
+                self.assertIn(f"the section header of section 2 {shown(name)} of type RELA", said)
+            for format in ("jsonl", "sarif"):
+                said = self.said(lint, "--tables", "--format", format, "a.o")
+                records = said.splitlines()[:1] if format == "jsonl" else [said]
+                self.assertIn(json.dumps(f"the section header of section 2 {name} of type RELA")[1:-1], records[0])
+            self.assertEqual(json.loads(self.said(lint, "--tables", "--format", "jsonl", "a.o").splitlines()[0])["sections"], [name])
+            self.assertIn(f"the section header of section 2 {shown(name)} of type RELA", " ".join(self.said(explain, "a.o").split()))
+
+    def test_a_baseline_for_each_format(self):
+        """The names of sections in it do not depend on the format."""
+        self.put(a__o=bytes(Made(text(), (b"s" * 300, RELA, b"", dict(link=0, info=1, entsize=24))).data))
+        for format in ("text", "jsonl"):
+            self.said(lint, "--tables", "--format", format, "--write-baseline", f"known.{format}", "a.o")
+        self.assertEqual(Path("known.text").read_bytes(), Path("known.jsonl").read_bytes())
+        self.assertIn(b"s" * 300, Path("known.text").read_bytes())
+
+    def test_names_of_a_shared_byte_and_of_a_gap(self):
+        for length in (200, 201):
+            name = "n" * length
+            made = Made(text(), (name.encode(), 1, bytes(8), {}))
+            self.put(a__o=made.with_field(2, "offset", 0x72), b__o=made.with_field(1, "size", 0x13))
+            self.assertIn(f"and of {shown(name)} [0x72, 0x7a) share byte 0x72", self.said(lint, "a.o"))
+            self.assertIn(f"between .text and {shown(name)}, ", self.said(gaps, "b.o"))
+
+    def test_names_of_symbols(self):
+        """Of two long names that begin alike one differs, and it has the number of no other."""
+        for length in (200, 201, 300, 70000):
+            first, second = (b"n" * (length - 1) + it for it in (b"a", b"b"))
+            strings = b".strtab", 3, b"\0" + first + b"\0" + second + b"\0", {}
+            for k, size in (("a", 3), ("b", 4)):
+                made = Made(text(), symbols(3, (1, 0x10, 1), (2 + length, 0x10, 1, size)), strings, relocations(2, 2))
+                self.put(**{f"{k}__o": bytes(made.data)})
+            said = self.said(same, "a.o", "b.o")
+            self.assertEqual(said, f"symbol {shown(second.decode())}: its value is 0x3 in a.o, and 0x4 in b.o\ndifferent\n")
+
+    def test_names_of_groups_and_of_symbols_of_sections(self):
+        """Both have two names."""
+        name = "n" * 300
+        group = (name.encode(), GROUP, (1).to_bytes(4, "little") + (5).to_bytes(4, "little"), dict(link=2, info=2, entsize=4))
+        strings = b".strtab", 3, b"\0" + name.encode() + b"\0", {}
+        member = b".text.f", 1, b"", dict(flags=0x200)
+        made = Made(text(), symbols(3, (0, 3, 1), (1, 0x10, 1), info=2), strings, group, member)
+        self.put(a__o=bytes(made.data), b__o=bytes(Made(text(), symbols(3, (1, 0x10, 1)), strings).data))
+        said = self.said(same, "a.o", "b.o").splitlines()
+        self.assertIn(f"section {shown(name)} [{shown(name)}] is only in a.o", said)
+        self.assertIn("symbol of section .text is only in a.o", said)
+
+
+class CostTest(Case):
+    """What the commands take: of the processor at most a second for a MB in and out."""
+
+    def own_seconds(self, module, *words, stdin=b""):
+        """The seconds of the processor that a command takes by itself, without those of the library, and the bytes in and out."""
+        library, spent = _library.library(), [0.0]
+
+        def timed(call):
+            def made(*given):
+                begun = time.process_time()
+                try:
+                    return call(*given)
+                finally:
+                    spent[0] += time.process_time() - begun
+
+            return made
+
+        with contextlib.ExitStack() as stack:
+            for name in _library.CALLS:
+                stack.enter_context(mock.patch.object(library, name, timed(getattr(library, name))))
+            begun = time.process_time()
+            said = self.said(module, *words, stdin=stdin)
+            took = time.process_time() - begun - spent[0]
+        return took, len(said) + len(stdin) + sum(os.path.getsize(it) for it in words if os.path.isfile(it)), said
+
+    def assertQuick(self, what, module, *words, stdin=b""):
+        took, moved, said = self.own_seconds(module, *words, stdin=stdin)
+        if took > moved / MB:
+            # Other work on the machine may lengthen one run.
+            took = min(took, self.own_seconds(module, *words, stdin=stdin)[0])
+        self.assertLess(took, moved / MB, f"{what}: {module.__name__} {' '.join(words)}")
+        longest = max(map(len, said.splitlines()), default=0)
+        self.assertLess(longest, 40 * MOST, f"{what}: {module.__name__}")
+        return said
+
+    def test_seconds(self):
+        for what, shape in {**SHAPES, **TABLES}.items():
+            data = shape.file()
+            self.put(a__o=data, b__o=with_size(data, 7), bad__o=broken(data))
+            for file in ("a.o", "bad.o") if what in SHAPES else ("bad.o",):
+                found = self.assertQuick(what, lint, "-j1", "--tables", file)
+                self.assertQuick(what, explain, "-", file, stdin=found.encode())
+                self.assertQuick(what, gaps, file)
+            if what in SHAPES:
+                self.assertQuick(what, explain, "a.o")
+                self.assertIn(": its size is ", self.assertQuick(what, same, "a.o", "b.o"))
+
+    def test_memory(self):
+        """Of a process of each command, with 32 MiB and 12 times the file beside what it takes of nothing."""
+        self.put(empty__o=Shape().file())
+        for what, shape in {**SHAPES, **TABLES}.items():
+            data = shape.file()
+            self.put(a__o=data, b__o=with_size(data, 7), bad__o=broken(data))
+            names = ("a.o", "bad.o") if what in SHAPES else ("bad.o",)
+            calls = [(*call, file) for call in (["lint", "-j1", "--tables"], ["gaps"], ["explain"]) for file in names]
+            for call in calls + ([("same", "a.o", "b.o")] if what in SHAPES else []):
+                files = sum(it.endswith(".o") for it in call)
+                least = run(*call[: len(call) - files], *["empty.o"] * files)[3]
+                peak = run(*call)[3]
+                self.assertLess(peak, least + 32 + 12 * files * len(data) / 2**20, f"{what}: {' '.join(call)}")
+
+
+if __name__ == "__main__":
+    unittest.main()
