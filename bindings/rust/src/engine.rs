@@ -86,7 +86,8 @@ pub fn show(bytes: &[u8]) -> Result<Vec<u8>, Failure> {
 }
 
 /// The lines `refused I RULE AT` of `elfmap show`: of each table that breaks a rule its section, the
-/// first rule broken, and the lowest offset. It takes no memory for the entries of the tables.
+/// first rule broken, and the lowest offset. It takes no memory for the entries of tables, but for
+/// those of groups and hash tables, and for each place where a long name begins that is hashed.
 ///
 /// # Errors
 ///
