@@ -1,5 +1,6 @@
 //! The lines of `map`: those of a link map are passed on as they are made, and the line on what is refused is made whole. The numbers of a
-//! line are put together from the last one on, and passed on in one piece. A name is passed on as it is in its file.
+//! line are put together from the last one on, and passed on in one piece, with the name where it is short. A longer name is passed on as it
+//! is in its file.
 ghost use Rattle.std.specs.Prelude.{◌≡◌, ◌≤◌, ◌+◌, ◌++◌, ◌∷◌, OnOk, length};
 ghost use Rattle.elf_tool_check.specs.FileLines.{blank};
 ghost use Rattle.elf_tool_text.specs.Buffered.{IsPassed};
@@ -12,7 +13,7 @@ use elf_tool_check::Refusal;
 use elf_tool_text::Output as Text;
 use elf_tool_text::line::{begin_line, end_line, push_decimal, push_word};
 use elf_tool_text::line_end::{LINE_ROOM, LineEnd, WIDE_HEXADECIMAL_ROOM};
-use elf_tool_text::passed::{pass_line_of_bytes, pass_line_of_name};
+use elf_tool_text::passed::{pass_line_of_bytes, pass_with_name};
 use std::alloc::AllocError;
 use std::io::Write;
 
@@ -25,13 +26,14 @@ pub(crate) fn pass_output_line<W: Write>(
     ensures { IsPassed (W.contents writer.old) (W.contents writer.new) text.old text.new (output_line (output_value output.now)) result }
 {
     let mut line = LineEnd::new();
+    let is_whole = line.put_name(output.name);
     line.put(b" ");
     line.put_hexadecimal(output.flags);
     put_bits(&mut line, output.no_bits);
     line.put_hexadecimal(output.length);
     line.put_hexadecimal(output.address);
     line.put(b"output");
-    pass_line_of_name(line.as_bytes(), output.name, text, writer)
+    pass_with_name(&line, is_whole, output.name, text, writer)
 }
 
 /// The most bytes that say whether an output has bits.
@@ -78,11 +80,12 @@ pub(crate) fn pass_common_line<W: Write>(
     ensures { IsPassed (W.contents writer.old) (W.contents writer.new) text.old text.new (common_line (common_value common.now)) result }
 {
     let mut line = LineEnd::new();
+    let is_whole = line.put_name(common.name);
     line.put(b" ");
     line.put_hexadecimal(common.size);
     line.put_hexadecimal(common.address);
     line.put(b"common");
-    pass_line_of_name(line.as_bytes(), common.name, text, writer)
+    pass_with_name(&line, is_whole, common.name, text, writer)
 }
 
 /// `discarded FILE SECTION`.
@@ -113,11 +116,12 @@ pub(crate) fn pass_name_line<W: Write>(
         (name_line value named.entry.binding named.entry.name.now) result }
 {
     let mut line = LineEnd::new();
+    let is_whole = line.put_name(named.name);
     line.put(b" ");
     put_binding(&mut line, named.binding);
     put_value(&mut line, value);
     line.put(b"name");
-    pass_line_of_name(line.as_bytes(), named.name, text, writer)
+    pass_with_name(&line, is_whole, named.name, text, writer)
 }
 
 /// The most bytes that say what a name is bound to.

@@ -1,5 +1,5 @@
 -- Lines: their words.
-use Rattle.std.specs.Prelude.{ℕ, Bool, false, not, nat_le, ◌==◌, ◌&&◌, List, [], ◌∷◌, ◌++◌, codes, if◌then◌else◌}
+use Rattle.std.specs.Prelude.{ℕ, Bool, false, true, not, nat_le, ◌==◌, ◌&&◌, List, [], ◌∷◌, ◌++◌, codes, if◌then◌else◌}
 use Rattle.std.specs.List.{list_all}
 use Rattle.std.specs.Str.{bytes_eq}
 use Rattle.std.specs.Fmt.{digits}
@@ -22,6 +22,16 @@ is_plain (b ∷ bs) = not (b == 35) && (not (bytes_eq (b ∷ bs) (codes "-")) &&
 unfoldable pub name_text : List ℕ → List ℕ
 name_text [] = codes "-"
 name_text (b ∷ bs) = if is_plain (b ∷ bs) then b ∷ bs else codes "#" ++ encode_lower (b ∷ bs)
+
+-- a name that ends a line, as far as it is put together with the words before it: with a line feed, or not at all
+abbrev pub name_tail : Bool → List ℕ → List ℕ
+name_tail true name = name_text name ++ codes "\n"
+name_tail false name = []
+
+-- the line then: what is put together, and the name after it where it is no part of that
+abbrev pub with_name : List ℕ → Bool → List ℕ → List ℕ
+with_name put true name = put
+with_name put false name = put ++ (name_text name ++ codes "\n")
 
 -- bytes, each as two digits; - where there are none
 abbrev pub bytes_text : List ℕ → List ℕ

@@ -15,9 +15,10 @@ ghost use Rattle.std.specs.Prelude.{◌≡◌, ◌∷◌, ◌≤◌, ◌+◌, �
 ghost use Rattle.std.specs.Fmt.{decimal, signed_decimal};
 ghost use Rattle.hex.specs.Hex.{encode_lower};
 ghost use Rattle.elf_tool_check.specs.FileLines.{blank};
-ghost use Rattle.elf_tool_text.specs.Line.{hexadecimal};
+ghost use Rattle.elf_tool_text.specs.Line.{hexadecimal, name_tail};
 
 use crate::digits::{WIDE_ROOM, glyph, put_before, put_decimal, put_hexadecimal, put_wide_digits};
+use crate::line::is_plain;
 use std::marker::Model;
 
 /// How many bytes it may have. The most that a line of `show` has before a name are the 205 of a section's line, and each line pays for
@@ -35,6 +36,9 @@ pub const HEXADECIMAL_ROOM: usize = 19;
 
 /// Room for a number of 128 bits in hexadecimal with `0x` and the blank before it.
 pub const WIDE_HEXADECIMAL_ROOM: usize = WIDE_ROOM;
+
+/// Room for a name and a line feed.
+pub const NAME_ROOM: usize = 96;
 
 /// The last bytes of a line.
 #[derive(Drop)]
@@ -122,6 +126,21 @@ impl LineEnd {
         let start = put_wide_digits(number, &mut digits);
         self.put(&digits[start..]);
         self.put(b" 0x");
+    }
+
+    /// Puts a name and a line feed where nothing is, if the name is plain and both are at most [`NAME_ROOM`] bytes. Returns whether it is so;
+    /// else nothing is put.
+    pub fn put_name(&mut self, name: &[u8]) -> bool
+        requires empty { self.old ≡ [] }
+        ensures bytes { self.new ≡ name_tail result name.now }
+        ensures room { length self.new ≤ NAME_ROOM }
+    {
+        if name.len() >= NAME_ROOM || !is_plain(name) {
+            return false;
+        }
+        self.put(b"\n");
+        self.put(name);
+        true
     }
 
     /// Puts bytes, each as two hexadecimal digits in lower case, before all that is there.

@@ -7,7 +7,7 @@ use elf_tool_check::ToolFault;
 use std::alloc::{AllocError, Global};
 use std::io::Write;
 
-/// How many bytes at least are written at once, but for the last piece.
+/// A text that is made in memory is written when this many bytes are pending. With room for so many, what has no room is written.
 const PIECE: usize = 65536;
 
 /// The end of a text that is not yet written, and how many bytes of the text were written before.
@@ -94,7 +94,8 @@ impl Output {
         Ok(())
     }
 
-    /// The same, of which the only fault is that of the writer.
+    /// Writes all that is pending. Fails only if the writer does, with the count of all bytes that are written: [`u64::MAX`] if they are
+    /// more.
     pub fn write_pending<W: Write>(&mut self, writer: &mut W) -> Result<(), WriteFault>
         ensures passed { IsPassed (W.contents writer.old) (W.contents writer.new) self.old self.new [] result }
         ensures empty { OnOk result (self.new.pending.items ≡ []) }

@@ -4,9 +4,10 @@ ghost use Rattle.std.specs.Prelude.{◌≡◌, ◌++◌, ◌<◌, ◌≤◌, cod
 ghost use Rattle.std.specs.List.{flat_map, range_with_len};
 ghost use Rattle.hex.specs.Hex.{encode_lower};
 ghost use Rattle.elf_tool_text.specs.Buffered.{IsPassed};
-ghost use Rattle.elf_tool_text.specs.Line.{bytes_text, name_text};
+ghost use Rattle.elf_tool_text.specs.Line.{bytes_text, name_text, with_name};
 
 use crate::line::is_plain;
+use crate::line_end::LineEnd;
 use crate::output::Output;
 use elf_image_stream::WriteFault;
 use std::io::Write;
@@ -65,6 +66,22 @@ pub fn pass_line_of_name<W: Write>(
     output.pass(writer, front)?;
     pass_name(name, output, writer)?;
     output.pass(writer, b"\n")
+}
+
+/// Passes on a line that ends with a name: what is put together of it, and then the name, if it is no part of that.
+pub fn pass_with_name<W: Write>(
+    line: &LineEnd,
+    is_whole: bool,
+    name: &[u8],
+    output: &mut Output,
+    writer: &mut W,
+) -> Result<(), WriteFault>
+    ensures { IsPassed (W.contents writer.old) (W.contents writer.new) output.old output.new (with_name line.now is_whole name.now) result }
+{
+    if is_whole {
+        return output.pass(writer, line.as_bytes());
+    }
+    pass_line_of_name(line.as_bytes(), name, output, writer)
 }
 
 /// Passes on a line with the digits of bytes as its last word, or `-` if there are none, after the blank that `front` ends with.
