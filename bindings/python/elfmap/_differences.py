@@ -14,7 +14,7 @@ from typing import NamedTuple, Optional, TypeVar, Union
 
 from elfmap import Bytes, File, Relocation, Section, Symbol
 from elfmap._names import machine_words, relocation_types, section_type
-from elfmap._words import LONGEST_LETTER, MOST_LETTERS, printable, shortened
+from elfmap._words import LONGEST_LETTER, MOST_LETTERS, printable
 
 _NULL, _SYMTAB, _RELA, _NOBITS, _REL, _GROUP, _SYMTAB_SHNDX = 0, 2, 4, 8, 9, 17, 18
 _INFO_LINK, _IN_INDEX_TABLE = 0x40, 0xFFFF
@@ -112,7 +112,7 @@ def name_words(name: Name) -> str:
     if isinstance(name, Signed):
         return f"{name_words(name.name)} [{name_words(name.signature)}]"
     front = name.front(LONGEST_LETTER * (MOST_LETTERS + 1)) if isinstance(name, LongName) else name
-    return shortened(printable(front))
+    return printable(front, MOST_LETTERS)
 
 
 def label_words(label: Label) -> str:

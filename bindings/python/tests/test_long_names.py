@@ -9,11 +9,13 @@ import subprocess
 import sys
 import tempfile
 import time
+import tracemalloc
 import unittest
 from pathlib import Path
 from unittest import mock
 
 from elfmap import _library, build, explain, gaps, lint, same
+from elfmap._words import printable
 
 from tests.made import ENVIRONMENT, FolderCase, Made, relocations, setUpModule, symbols, text  # noqa: F401
 from tests.test_hostile import run
@@ -130,6 +132,32 @@ class CutTest(Case):
         said = self.said(same, "a.o", "b.o").splitlines()
         self.assertIn(f"section {shown(name)} [{shown(name)}] is only in a.o", said)
         self.assertIn("symbol of section .text is only in a.o", said)
+
+
+class EscapeTest(Case):
+    # Letters that can't be printed, and one that is no escape.
+    ESCAPES = {b"\x80": "\\x80", b"\n": "\\n", "\u200b".encode(): "\\u200b", "\U000e0001".encode(): "\\U000e0001", b"\\": "\\"}
+
+    def test_letters_that_are_escaped(self):
+        """Each is one of the 200, and none is cut in two."""
+        self.put(b__o=bytes(Made(text()).data))
+        for letter, escape in self.ESCAPES.items():
+            for before, letters in ((0, 200), (0, 201), (198, 201), (199, 201), (200, 201)):
+                after = letters - before
+                name = b"n" * before + letter * after
+                self.put(a__o=bytes(Made(text(), (name, RELA, b"", dict(link=0, info=1, entsize=24))).data))
+                words = "n" * before + escape * min(after, MOST - before) + "…" * (letters > MOST)
+                self.assertIn(f"the section header of section 2 {words} of type RELA", self.said(lint, "--tables", "a.o"))
+                self.put(a__o=bytes(Made(text(), (name, 1, b"", {})).data))
+                self.assertEqual(self.said(same, "a.o", "b.o"), f"section {words} is only in a.o\ndifferent\n")
+
+    def test_nothing_is_kept_of_letters(self):
+        """A process prints those of many files, and each may have other ones."""
+        tracemalloc.start()
+        self.addCleanup(tracemalloc.stop)
+        for first in range(0xE000, 0xF000, 0x100):
+            printable("".join(map(chr, range(first, first + 0x100))).encode())
+        self.assertLess(tracemalloc.get_traced_memory()[0], 1 << 16)
 
 
 class CostTest(Case):
