@@ -140,7 +140,8 @@ def sections_of(file: File, data: Bytes, names: Names) -> tuple[list[Section], l
         found.append(Section._make([*row, b"", None if kind in (_NULL, _NOBITS) else view[start : start + size]]))
     own = found[0].sh_link if header.e_shstrndx == _IN_INDEX_TABLE else header.e_shstrndx
     at = names.of(bytes(found[own].content or b"") if own else b"", (it.sh_name for it in found))
-    return found, [at[it.sh_name] for it in found]
+    # In an entry of no section sh_name may be any number.
+    return found, [b"" if it.sh_type == _NULL else at[it.sh_name] for it in found]
 
 
 def first_difference(one: memoryview, other: memoryview) -> Optional[int]:
