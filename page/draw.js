@@ -5,9 +5,8 @@ const ROWS_A_TIME = 100;
 const LINES_A_TIME = 32;
 // So many findings are drawn, and more if somebody asks for them.
 const FINDINGS_A_TIME = 100;
-// In a list of tables to choose from so many have their names, of so many characters; all others have their numbers alone.
+// In a list of tables to choose from so many have their names; all others have their numbers alone.
 const MOST_NAMED = 1000;
-const MOST_TO_CHOOSE = 60;
 // A part too short to be seen is drawn this wide, in points; shorter ones side by side are drawn as one.
 const LEAST_WIDTH = 4;
 const COLOURS = {
@@ -64,8 +63,8 @@ function buttons_of(...wholes) {
     return own.flatMap((it) => [" ", whole_button(it)]);
 }
 
-function whole_button({ start, len }) {
-    const button = element("button", `Show all ${counted(len, "byte")} of this name`, { type: "button", class: "more" });
+function whole_button({ start, len, whose = "this name" }) {
+    const button = element("button", `Show all ${counted(len, "byte")} of ${whose}`, { type: "button", class: "more" });
     const box = element("div", "", { class: "whole", tabindex: "0", role: "group", "aria-label": "The whole name" });
     const turn = state.turn;
     let at = start;
@@ -76,7 +75,7 @@ function whole_button({ start, len }) {
         at = next;
         if (!box.isConnected) button.after(box);
         box.append(text);
-        Object.assign(button, { disabled: false, textContent: `Show more: ${counted(start + len - at, "byte")} of this name are left` });
+        Object.assign(button, { disabled: false, textContent: `Show more: ${counted(start + len - at, "byte")} of ${whose} are left` });
         if (at < start + len) return;
         button.remove();
         box.focus();
@@ -116,6 +115,8 @@ async function show_file() {
     if (!fault) {
         state.parts = parts ? await ask("parts", 0, parts) : [];
         state.part = null;
+        show_part_name();
+        clear_filter();
         await zoom(0, state.open.length);
         await show_memory();
         show_tabs();
@@ -301,12 +302,18 @@ async function choose_part(part, told, whole) {
     for (const it of $("map").children) it.setAttribute("aria-current", String(it.getAttribute("aria-label") === told));
     $("zoom-in").disabled = false;
     show_part_words();
-    await show_bytes(part.start, [part.start, part.start + part.len]);
+    show_part_name();
+    await show_range(part.start, part.len);
 }
 
 function show_part_words() {
-    const told = state.part?.told ?? `${counted(state.parts.length, "part")}. Choose one to see its bytes.`;
-    $("map-words").replaceChildren(told, ...buttons_of(state.part?.whole));
+    $("map-words").textContent = state.part?.told ?? `${counted(state.parts.length, "part")}. Choose one to see its bytes.`;
+}
+
+// The buttons are beside the words, which change with what the mouse is over and are read aloud.
+function show_part_name() {
+    const whole = state.part?.whole;
+    $("map-name").replaceChildren(...buttons_of(whole && { ...whole, whose: "the name of the chosen part" }));
 }
 
 function zoom_out() {
@@ -331,7 +338,7 @@ async function show_memory() {
         const told = `segment ${it.index}, ${segment_flags(it.p_flags)}: ${counted(it.p_memsz, "byte")} from address ${hex(it.p_vaddr)}, ` +
             `${counted(it.p_filesz, "byte")} of them from offset ${hex(it.p_offset)} of the file`;
         const colour = COLOURS[it.p_flags & 1 ? "code" : it.p_flags & 2 ? "data" : "constants"];
-        const go = () => show_bytes(it.p_offset, [it.p_offset, it.p_offset + it.p_filesz]);
+        const go = () => show_range(it.p_offset, it.p_filesz);
         return bar_button({ left, right: left + Number(it.p_memsz) * scale }, colour, told, go, "memory-words");
     }));
     $("memory-scale").replaceChildren(element("span", hex(low)), element("span", hex(high)));
@@ -363,10 +370,7 @@ function show_tabs() {
 async function open_table(kind, section, row, shown = -1) {
     const table = tables_of(kind).find((it) => it.section === section);
     if (!table) return;
-    if (kind !== state.kind || section !== state.table || shown >= 0) {
-        state.found = null;
-        $("filter").value = "";
-    }
+    if (kind !== state.kind || section !== state.table || shown >= 0) clear_filter();
     Object.assign(state, { kind, table: section, row, shown });
     for (const it of $("tabs").children) {
         const is_own = it.id === `tab-${kind}`;
@@ -383,8 +387,7 @@ function show_choice(kind, section) {
     $("which-label").hidden = tables.length < 2;
     // There may be many: they are drawn once.
     if (state.choice !== `${state.turn} ${kind}`) {
-        const cut = (name) => (name.length > MOST_TO_CHOOSE ? `${name.slice(0, MOST_TO_CHOOSE)}…` : name);
-        const words = ({ section: own, name }, k) => (k < MOST_NAMED ? `${own} ${cut(name)}` : String(own));
+        const words = ({ section: own, name }, k) => (k < MOST_NAMED ? `${own} ${name}` : String(own));
         $("which").replaceChildren(...tables.map((it, k) => element("option", words(it, k), { value: it.section })));
         state.choice = `${state.turn} ${kind}`;
     }
@@ -392,12 +395,14 @@ function show_choice(kind, section) {
 }
 
 async function show_rows(table) {
-    const { kind, found } = state;
+    const { kind, found, turn } = state;
     const count = found ? found.length : table.entries;
     const end = Math.min(state.row + ROWS_A_TIME, count);
     const rows = found
         ? (await Promise.all(found.slice(state.row, end).map((it) => ask(kind, it, 1, state.table)))).flat()
         : await ask(kind, state.row, end - state.row, state.table);
+    // Rows of a file after which another one was opened would have links into that one.
+    if (turn !== state.turn) return;
     $("table").tHead.replaceChildren(element("tr", null, {}, ...["index", ...COLUMNS[kind].map(([title]) => title)].map((it) => element("th", it, { scope: "col" }))));
     $("table").tBodies[0].replaceChildren(...rows.map((row) => table_row(kind, row)));
     const all = table.entries.toLocaleString("en");
@@ -422,24 +427,32 @@ function table_row(kind, row) {
 function link_to(to, words) {
     const go = (event) => {
         event.preventDefault();
-        if ("bytes" in to) return void show_bytes(to.bytes, [to.bytes, to.bytes + to.length]).then(() => $("bytes-title").scrollIntoView());
+        if ("bytes" in to) return void show_range(to.bytes, to.length).then(() => $("bytes-title").scrollIntoView());
         const first = to.row - to.row % ROWS_A_TIME;
         open_table(to.kind, to.table ?? 0, first, to.row).then(() => $(`tab-${to.kind}`)?.focus());
     };
     return element("a", words, { href: "#", onclick: go });
 }
 
+function clear_filter() {
+    state.found = null;
+    $("filter").value = "";
+    $("progress").hidden = true;
+}
+
 async function filter_rows() {
     const text = $("filter").value;
+    const { turn } = state;
     const table = tables_of(state.kind).find((it) => it.section === state.table);
     if (text) {
         $("progress").hidden = false;
         const found = await ask("search", state.kind, state.table, table.entries, text);
-        if (found === null) return;
+        // Meanwhile another file may have been opened, or the text changed, as it does when another table is chosen.
+        if (found === null || turn !== state.turn || text !== $("filter").value) return;
         $("progress").hidden = true;
         state.found = found;
     } else {
-        state.found = null;
+        clear_filter();
     }
     state.row = 0;
     await show_rows(table);
@@ -449,6 +462,11 @@ async function filter_rows() {
 
 function line_length() {
     return window.innerWidth < 640 ? 8 : 16;
+}
+
+// A segment without bytes may be at an offset that no file has, and that comes as a BigInt.
+function show_range(start, length) {
+    return show_bytes(Number(start), [Number(start), Number(start) + Number(length)]);
 }
 
 async function show_bytes(at, marked) {

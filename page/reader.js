@@ -241,7 +241,8 @@ class Reader {
     }
 }
 
-const UTF8 = new TextDecoder("utf-8", { fatal: true });
+// A byte order mark is a character of a name, as any other: the decoder would drop one at the start.
+const UTF8 = new TextDecoder("utf-8", { fatal: true, ignoreBOM: true });
 
 // Bytes as text: UTF-8 where they are that, and each byte that can't be seen as \xHH.
 function words_of(bytes) {
@@ -268,7 +269,7 @@ function characters_of(bytes) {
 }
 
 function visible(text) {
-    return text.replace(/[\x00-\x1f\x7f\u2028\u2029\u202a-\u202e\u2066-\u2069]/g, escaped);
+    return text.replace(/[\x00-\x1f\x7f\u2028\u2029\u202a-\u202e\u2066-\u2069\ufeff]/g, escaped);
 }
 
 // Where the last character of bytes that were cut begins, so that none is cut in two; their end where that is of ASCII, or no UTF-8.

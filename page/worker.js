@@ -19,6 +19,8 @@ const PIECE = 1 << 24;
 const MOST_MILLISECONDS = 50;
 // A search looks at so many characters of a name.
 const MOST_SEARCHED = 4000;
+// A list of tables to choose from has so many characters of each name.
+const MOST_TO_CHOOSE = 60;
 // So many parts that share a byte are named.
 const MOST_OWNERS = 16;
 
@@ -112,7 +114,7 @@ function tables(count) {
     for (let index = 0; index < count; index++) {
         const kind = KINDS[reader.section(index).sh_type];
         const table = kind && reader.table(index);
-        if (table) found.push({ section: index, kind, entries: table.entries, name: section_name(index).name });
+        if (table) found.push({ section: index, kind, entries: table.entries, name: section_name(index, MOST_TO_CHOOSE).name });
     }
     return found;
 }
@@ -134,10 +136,10 @@ function section_row(index, most) {
     return section && { ...section, ...section_name(index, most) };
 }
 
-// The name of a section. Many may have one name, which may be long: it is looked up once.
+// The name of a section, of which a NULL one has none. Many may have one name, which may be long: it is looked up once.
 function section_name(index, most) {
     const section = reader.section(index);
-    if (!section) return { name: "", whole: null };
+    if (!section || section.sh_type === 0) return { name: "", whole: null };
     if (!section_names.has(section.sh_name)) section_names.set(section.sh_name, reader.name(index));
     const place = section_names.get(section.sh_name);
     return place ? reader.name_words(place, most) : { name: "", whole: null };
@@ -153,7 +155,7 @@ function symbol_row(table, index, most) {
     const symbol = reader.symbol(table, index);
     if (!symbol) return null;
     const is_in_section = symbol.st_shndx > 0 && (symbol.st_shndx < 0xff00 || symbol.st_shndx === 0xffff);
-    const { name: where, whole: whole_where } = is_in_section ? section_name(symbol.section) : { name: "", whole: null };
+    const { name: where, whole: whole_where } = is_in_section ? section_name(symbol.section, most) : { name: "", whole: null };
     return { ...symbol, ...reader.name_words(symbol.name, most), where, whole_where, is_in_section };
 }
 

@@ -14,7 +14,7 @@ from typing import NamedTuple, Optional, TypeVar, Union
 
 from elfmap import Bytes, File, Relocation, Section, Symbol
 from elfmap._names import machine_words, relocation_types, section_type
-from elfmap._words import LONGEST_LETTER, MOST_LETTERS, printable, shortened
+from elfmap._words import LONGEST_LETTER, MOST_LETTERS, printable
 
 _NULL, _SYMTAB, _RELA, _NOBITS, _REL, _GROUP, _SYMTAB_SHNDX = 0, 2, 4, 8, 9, 17, 18
 _INFO_LINK, _IN_INDEX_TABLE = 0x40, 0xFFFF
@@ -23,8 +23,8 @@ _PLACES = {0: "undefined", 0xFFF1: "absolute", 0xFFF2: "common"}
 _BINDINGS = {0: "LOCAL", 1: "GLOBAL", 2: "WEAK"}
 _TYPES = {0: "NOTYPE", 1: "OBJECT", 2: "FUNC", 3: "SECTION", 4: "FILE", 5: "COMMON", 6: "TLS", 10: "GNU_IFUNC"}
 _STEP = 1 << 16
-# A longer name is not copied.
-_MOST_COPIED = 256
+# A longer name is not copied, and is compared by blocks of so many bytes.
+_BLOCK = 256
 Key = TypeVar("Key", bound=Hashable)
 
 
@@ -39,7 +39,7 @@ class Sides(NamedTuple):
 
 
 class LongName:
-    """A name in its string table: a file of 1 MB may have thousands that share bytes, of half a MB each."""
+    """A name in its string table: a file of 1 MB may have thousands that share bytes, of half a MB each. `Names` makes one of equal ones."""
 
     __slots__ = ("_table", "_start", "_end")
 
@@ -48,16 +48,6 @@ class LongName:
 
     def front(self, size: int) -> bytes:
         return self._table[self._start : min(self._start + size, self._end)]
-
-    def __hash__(self) -> int:
-        return hash((self._end - self._start, self.front(_MOST_COPIED)))
-
-    def __eq__(self, other: object) -> bool:
-        if not isinstance(other, LongName) or self._end - self._start != other._end - other._start:
-            return False
-        if self._table is other._table and self._start == other._start:
-            return True
-        return self._table[self._start : self._end] == other._table[other._start : other._end]
 
 
 Text = Union[bytes, LongName]
@@ -82,28 +72,37 @@ Label = tuple[Name, int]
 
 
 class Names:
-    """The names of string tables. Equal ones are one object, so that most are compared at once."""
+    """The names of string tables. Equal ones are one object.
+
+    A long name is a front and, after it, whole blocks. They have a number by the last block, and by the number of those before it, counted
+    from the end of the name. So names that share bytes share numbers, and no name is compared with another one.
+    """
 
     def __init__(self) -> None:
-        self._known: dict[Hashable, Hashable] = {}
+        self._known: dict[Hashable, Text] = {}
+        self._numbers: dict[tuple[int, bytes], int] = {}
 
-    def of(self, table: bytes) -> Callable[[int], Text]:
-        """The name at an offset of a table."""
-        table = self._once(table)
-        by_offset: dict[int, Text] = {}
-
-        def at(offset: int) -> Text:
-            if offset not in by_offset:
+    def of(self, table: bytes, offsets: Iterable[int]) -> dict[int, Text]:
+        """The names at offsets of a table. In ascending order, so that the end of each is searched once."""
+        names: dict[int, Text] = {}
+        end, numbers = -1, [0]
+        for offset in sorted(set(offsets)):
+            if offset > end:
                 found = table.find(b"\0", offset)
-                end = found if found >= 0 else len(table)
-                is_short = end - offset <= _MOST_COPIED
-                by_offset[offset] = self._once(table[offset:end]) if is_short else self._once(LongName(table, offset, end))
-            return by_offset[offset]
+                end, numbers = found if found >= 0 else len(table), [0]
+            names[offset] = self._name(table, offset, end, numbers)
+        return names
 
-        return at
-
-    def _once(self, it: Key) -> Key:
-        return self._known.setdefault(it, it)  # type: ignore[return-value]
+    def _name(self, table: bytes, start: int, end: int, numbers: list[int]) -> Text:
+        if end - start <= _BLOCK:
+            short = table[start:end]
+            return self._known.setdefault(short, short)
+        blocks = (end - start) // _BLOCK
+        for k in range(len(numbers), blocks + 1):
+            block = table[end - k * _BLOCK : end - (k - 1) * _BLOCK]
+            numbers.append(self._numbers.setdefault((numbers[-1], block), len(self._numbers) + 1))
+        front = table[start : end - blocks * _BLOCK]
+        return self._known.setdefault((front, numbers[blocks]), LongName(table, start, end))
 
 
 def name_words(name: Name) -> str:
@@ -112,7 +111,7 @@ def name_words(name: Name) -> str:
     if isinstance(name, Signed):
         return f"{name_words(name.name)} [{name_words(name.signature)}]"
     front = name.front(LONGEST_LETTER * (MOST_LETTERS + 1)) if isinstance(name, LongName) else name
-    return shortened(printable(front))
+    return printable(front, MOST_LETTERS)
 
 
 def label_words(label: Label) -> str:
@@ -140,8 +139,9 @@ def sections_of(file: File, data: Bytes, names: Names) -> tuple[list[Section], l
         kind, start, size = row[1], row[4], row[5]
         found.append(Section._make([*row, b"", None if kind in (_NULL, _NOBITS) else view[start : start + size]]))
     own = found[0].sh_link if header.e_shstrndx == _IN_INDEX_TABLE else header.e_shstrndx
-    at = names.of(bytes(found[own].content or b"") if own else b"")
-    return found, [at(it.sh_name) for it in found]
+    at = names.of(bytes(found[own].content or b"") if own else b"", (it.sh_name for it in found))
+    # In an entry of no section sh_name may be any number.
+    return found, [b"" if it.sh_type == _NULL else at[it.sh_name] for it in found]
 
 
 def first_difference(one: memoryview, other: memoryview) -> Optional[int]:
@@ -164,8 +164,9 @@ class Canonical:
         self._table = next((k for k, it in enumerate(self.sections) if it.sh_type == _SYMTAB), 0)
         self.order = ">" if file.header.e_ident[5] == 2 else "<"
         self.symbols: Sequence[Symbol] = list(self._read_symbols()) if self._table else []
-        strings = names.of(self._content(self.sections[self._table].sh_link)) if self._table else None
-        own = [self._symbol_name(it, strings(it.st_name)) for it in self.symbols] if strings else []
+        strings = self._content(self.sections[self._table].sh_link) if self._table else b""
+        at = names.of(strings, (it.st_name for it in self.symbols))
+        own = [self._symbol_name(it, at[it.st_name]) for it in self.symbols]
         self.section_labels = labelled(self._section_name(k, own) for k in range(len(self.sections)))
         self.symbol_labels = labelled(own)
 

@@ -171,7 +171,7 @@ class Words:
 
     def string(self, table: int, at: int) -> str:
         """That name in a sentence, in letters that can be printed."""
-        return shortened(printable(self.name(table, at, min(LONGEST_NAME, LONGEST_LETTER * (self._most + 1)))), self._most)
+        return printable(self.name(table, at, min(LONGEST_NAME, LONGEST_LETTER * (self._most + 1))), self._most)
 
     def section_string(self, index: int) -> str:
         """The name of a section in a sentence."""
@@ -265,26 +265,20 @@ class Words:
             yield index, "", *self.content(index)
 
 
-class _Escapes(dict[int, str]):
-    """Each letter by its number, or how it is escaped."""
-
-    def __missing__(self, number: int) -> str:
-        letter = chr(number)
-        self[number] = letter if letter.isprintable() else ascii(letter)[1:-1]
-        return self[number]
-
-
-_ESCAPES = _Escapes()
+def printable(name: bytes, most: Optional[int] = None) -> str:
+    """A name in letters that can be printed, or its first ones, and … for the rest. A byte that is no UTF-8 is a letter too."""
+    letters = name.decode("utf-8", "surrogateescape")
+    # Letters are cut, and then escaped: no escape is cut in two.
+    front = letters[:most]
+    if not front.isprintable():
+        front = front.translate({ord(it): _escape(it) for it in set(front) if not it.isprintable()})
+    return front if most is None or len(letters) <= most else f"{front}…"
 
 
-def printable(name: bytes) -> str:
-    letters = name.decode("utf-8", "backslashreplace")
-    return letters if letters.isprintable() else letters.translate(_ESCAPES)
-
-
-def shortened(name: str, most: int = MOST_LETTERS) -> str:
-    """The first letters of a name, and … for the rest of it."""
-    return name if len(name) <= most else f"{name[:most]}…"
+def _escape(letter: str) -> str:
+    # As the decoder writes a byte that is no UTF-8.
+    is_byte = 0xDC80 <= ord(letter) <= 0xDCFF
+    return f"\\x{ord(letter) & 0xFF:02x}" if is_byte else ascii(letter)[1:-1]
 
 
 def entry_words(file: Words, index: int, at: int) -> str:

@@ -9,11 +9,14 @@ import subprocess
 import sys
 import tempfile
 import time
+import tracemalloc
 import unittest
 from pathlib import Path
 from unittest import mock
 
 from elfmap import _library, build, explain, gaps, lint, same
+from elfmap._differences import Names
+from elfmap._words import printable
 
 from tests.made import ENVIRONMENT, FolderCase, Made, relocations, setUpModule, symbols, text  # noqa: F401
 from tests.test_hostile import run
@@ -28,6 +31,8 @@ SHAPES = {
     "symbols of one name": Shape(name=HALF, symbols=HALF // 24),
     "symbols of tails": Shape(name=HALF, symbols=HALF // 24, sharing="tails"),
     "symbols of two equal names": Shape(name=HALF // 2, symbols=HALF // 24, sharing="turns"),
+    # As the names of C++ that a compiler makes.
+    "symbols of other ends": Shape(name=300, symbols=MB // 340, sharing="ends"),
     "sections of one name": Shape(name=HALF, sections=HALF // 65, long="sections"),
     "sections of tails": Shape(name=HALF, sections=HALF // 65, long="sections", sharing="tails"),
     "groups": Shape(name=HALF, groups=HALF // 136, long="both"),
@@ -132,6 +137,55 @@ class CutTest(Case):
         self.assertIn("symbol of section .text is only in a.o", said)
 
 
+class NamesTest(unittest.TestCase):
+    def test_equal_names_are_one_object(self):
+        """Of tables whose names have lengths about 256 and its multiples, and differ in one letter or in none."""
+        names, found = Names(), []
+        for length in (255, 256, 257, 511, 512, 513, 768, 900):
+            for changed in (None, 0, 1, 255, 256, length - 257, length - 256, length - 1):
+                name = bytearray(b"n" * length)
+                if changed is not None:
+                    name[changed % length] = ord("m")
+                table = b"\0" + name + b"\0" + name[1:]
+                offsets = [0, 1, 2, 3, abs(length - 256), length, length + 1, length + 2, len(table), len(table) + 1]
+                at = names.of(table, offsets)
+                self.assertEqual(set(at), set(offsets))
+                found += [(table[it:].partition(b"\0")[0], at[it]) for it in offsets]
+        for name, it in found:
+            self.assertEqual([name == other for other, _ in found], [it is other for _, other in found])
+        self.assertEqual({front_of(it) for _, it in found}, {name[:3] for name, _ in found})
+
+
+def front_of(name):
+    return name[:3] if isinstance(name, bytes) else name.front(3)
+
+
+class EscapeTest(Case):
+    # Letters that can't be printed, and one that is no escape.
+    ESCAPES = {b"\x80": "\\x80", b"\n": "\\n", "\u200b".encode(): "\\u200b", "\U000e0001".encode(): "\\U000e0001", b"\\": "\\"}
+
+    def test_letters_that_are_escaped(self):
+        """Each is one of the 200, and none is cut in two."""
+        self.put(b__o=bytes(Made(text()).data))
+        for letter, escape in self.ESCAPES.items():
+            for before, letters in ((0, 200), (0, 201), (198, 201), (199, 201), (200, 201)):
+                after = letters - before
+                name = b"n" * before + letter * after
+                self.put(a__o=bytes(Made(text(), (name, RELA, b"", dict(link=0, info=1, entsize=24))).data))
+                words = "n" * before + escape * min(after, MOST - before) + "…" * (letters > MOST)
+                self.assertIn(f"the section header of section 2 {words} of type RELA", self.said(lint, "--tables", "a.o"))
+                self.put(a__o=bytes(Made(text(), (name, 1, b"", {})).data))
+                self.assertEqual(self.said(same, "a.o", "b.o"), f"section {words} is only in a.o\ndifferent\n")
+
+    def test_nothing_is_kept_of_letters(self):
+        """A process prints those of many files, and each may have other ones."""
+        tracemalloc.start()
+        self.addCleanup(tracemalloc.stop)
+        for first in range(0xE000, 0xF000, 0x100):
+            printable("".join(map(chr, range(first, first + 0x100))).encode())
+        self.assertLess(tracemalloc.get_traced_memory()[0], 1 << 16)
+
+
 class CostTest(Case):
     """What the commands take: of the processor at most a second for a MB in and out."""
 
@@ -178,6 +232,15 @@ class CostTest(Case):
             if what in SHAPES:
                 self.assertQuick(what, explain, "a.o")
                 self.assertIn(": its size is ", self.assertQuick(what, same, "a.o", "b.o"))
+
+    def test_seconds_of_two_tables(self):
+        """The longest name begins with another letter, and its thousands of tails are the same."""
+        data = Shape(name=MB // 2, symbols=MB // 2 // 24, sharing="tails").file()
+        other = data.replace(b"\0nnnn", b"\0mnnn")
+        self.put(a__o=data, b__o=other)
+        said = self.assertQuick("symbols of tails", same, "a.o", "b.o")
+        first, second = (shown(it + "n" * (MB // 2 - 1)) for it in "nm")
+        self.assertEqual(said, f"symbol {first} is only in a.o\nsymbol {second} is only in b.o\ndifferent\n")
 
     def test_memory(self):
         """Of a process of each command, with 32 MiB and 12 times the file beside what it takes of nothing."""

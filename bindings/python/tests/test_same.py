@@ -273,6 +273,18 @@ class ImageTest(Case):
         self.put(a=one, b=one[:24] + b"\5" + one[25:])
         self.assertDiffer("a", "b", lines=["e_entry is 0x0 in a, and 0x5 in b", "different"])
 
+    def test_entries_of_no_section(self):
+        """Their sh_name may be any number. They have no name, and the section is the first one of its name."""
+        made = Made((b"none", 0, b"", {}), text(), text(b".data"))
+        at = made.at(2, "name")
+        for number in (made.data[at : at + 4], b"\xff" * 4):
+            one = bytearray(made.with_bytes(made.at(1, "name"), number))
+            one[16] = 2
+            other = bytearray(one)
+            other[made.starts[2] + 1] = 0xC3
+            self.put(a=bytes(one), b=bytes(other))
+            self.assertDiffer("a", "b", lines=["section .text: offset 0x1 is 0x90 in a, and 0xc3 in b", "different"])
+
     def test_what_is_no_section(self):
         """The section headers are 64 bytes later: the first byte that differs is that of e_shoff."""
         one = Made(text()).with_bytes(16, b"\2")

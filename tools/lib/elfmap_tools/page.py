@@ -190,6 +190,7 @@ def in_node(tally: Tally, room: str, count: int) -> None:
 # ---- in chromium
 
 SYMBOLS, MOST_MILLISECONDS = 1_000_000, 200
+GNU_STACK = 0x6474E551
 # So many characters of a name are shown, and so many of a file. Nothing holds the page up for so long: a worker does the work. And what is
 # pressed is done after so many seconds.
 MOST_CHARACTERS, MOST_SHOWN, LONGEST_TASK, MOST_SECONDS = 200, 300_000, 500, 3
@@ -212,9 +213,11 @@ NAMES = [
     b"n" + "é".encode() * 600,
     b"\xff" * 200,
     b"\xff" * 201,
+    b"\xef\xbb\xbfn",
 ]
-# Longer than what is shown at once of a name that somebody wants to see, with a character in two parts.
-LONGEST_NAME = "n" + "é" * 600_000
+# Longer than what is shown at once of a name that somebody wants to see, with a character in two parts
+# at the end of the first part, which is a byte order mark.
+LONGEST_NAME = "n" + "é" * 524_287 + "\ufeff" + "é" * 75_000
 SOUND = "Sound: this file keeps all 33 rules of an ELF-64 file."
 ROWS = "[...document.querySelectorAll('#table tbody tr')]"
 # What the tree for readers of the screen has: names by their roles.
@@ -230,6 +233,11 @@ def explained(kind: str) -> Iterator[tuple[str, bytes, str]]:
     """The cases of explain.txt of this kind of rule: the number of its rule, its file, and what the program prints."""
     for it in (it for it in cases_of(f"{TOP}/cases/explain.txt") if it.note.startswith(kind)):
         yield it.note.split(" ", 2)[1], bytes(it.files[it.needs[0].partition("=")[2]]), it.out.decode()
+
+
+def escaped(name: str) -> str:
+    """A name as the page shows it: what no one can see as escapes."""
+    return name.replace("ÿ", "\\xff").replace("\ufeff", "\\ufeff")
 
 
 class InChromium(Browser):
@@ -284,7 +292,7 @@ class InChromium(Browser):
 
     def filtered(self) -> None:
         self.opens("symbols", "Symbols")
-        self.value("const it = document.querySelector('#filter'); it.value = 'global'; it.dispatchEvent(new Event('input'))")
+        self.filter("global")
         self.waits("document.querySelector('#table-words').textContent.includes('found among')", "nothing is found")
         bindings = self.value(f"{ROWS}.map((it) => it.children[5].textContent)")
         self.check(bindings and set(bindings) == {"GLOBAL"}, f"the filter finds {bindings}")
@@ -410,7 +418,7 @@ class InChromium(Browser):
         cell = "document.querySelector('#table tbody tr:nth-child({}) td:nth-child(2)')"
         for k, name in enumerate(names):
             own, right = cell.format(k + 2), name.decode() if name[0] != 0xFF else name.decode("latin1")
-            shown = (right if len(right) <= MOST_CHARACTERS else f"{right[:MOST_CHARACTERS]}…").replace("ÿ", "\\xff")
+            shown = escaped(right if len(right) <= MOST_CHARACTERS else f"{right[:MOST_CHARACTERS]}…")
             found = self.value(f"{own}.firstChild.textContent")
             self.check(found == shown, f"the name {k} is shown as {found[:300]}")
             has_button = self.value(f"!!{own}.querySelector('button')")
@@ -421,8 +429,69 @@ class InChromium(Browser):
                 self.value(f"{own}.querySelector('button').click()")
             if has_button:
                 self.waits(f"!{own}.querySelector('button')", f"all of the name {k} is not shown")
-                self.check(self.value(whole) == right.replace("ÿ", "\\xff"), f"the whole name {k} is {self.value(whole)[:300]}")
+                self.check(self.value(whole) == escaped(right), f"the whole name {k} is {self.value(whole)[:300]}")
                 self.check(self.value(f"document.activeElement === {own}.querySelector('.whole')"), f"the focus leaves the name {k}")
+
+    def of_sections(self) -> None:
+        """A list of tables has 60 characters of a name, none of them cut in two. A search looks at 4,000 characters of a section's name."""
+        of_table, of_section = "n" * 59 + "\U0001f600" * 3, "n" * 3000 + "sought" + "n" * 1000 + "beyond"
+        made = generated.File()
+        made.names = made.strings(f"\0{of_table}\0{of_section}\0".encode())
+        section = made.section(generated.PROGBITS, b"content", name=len(of_table.encode()) + 2)
+        table = made.symbols(generated.symbol(place=section), made.names)
+        self.show(write(f"{self.room}/of-sections.o", edited(made.bytes(), ("sh_name", table, 1))))
+        self.opens("symbols", "Symbols 1 to 2 of 2")
+        listed = self.text("#which option")
+        self.check(listed == f"{table} {of_table[:60]}…", f"the list of tables has {listed!r}")
+        for text, words in (("sought", "Symbols 1 to 1 of 1 found among 2"), ("beyond", "None of 2 holds this.")):
+            self.filter(text)
+            self.waits(f"document.querySelector('#table-words').textContent === '{words}'", f"{text}: {self.text('#table-words')}")
+
+    def nameless(self) -> None:
+        """A header of type NULL has no name, and takes that of no other section."""
+        made = generated.File()
+        made.names = made.strings(b"\0.text\0.data\0")
+        for kind, name in ((generated.NULL, 1), (generated.PROGBITS, 1), (generated.PROGBITS, 7), (generated.NULL, 7)):
+            made.section(kind, b"content" if kind else b"", name=name)
+        self.sound_file(write(f"{self.room}/nameless.o", made.bytes()))
+
+    def far_segment(self) -> None:
+        """A segment without bytes in the file may be at any offset: its links lead to the end of the file."""
+        content = read_bytes("/bin/true")
+        own = next(k for k in range(File(content).segment_count) if File(content).segment(k).p_type == GNU_STACK)
+        place = ("p_type", own, 1), ("p_offset", own, 1 << 63), ("p_vaddr", own, 1 << 20), ("p_memsz", own, 4096), ("p_align", own, 4096)
+        self.show(write(f"{self.room}/far-segment", edited(content, *place)))
+        self.check(self.text("#verdict") == SOUND, f"a segment far away: {self.text('#verdict')}")
+        self.opens("segments", "Segments")
+        front = "document.querySelector('#bytes tbody th').textContent"
+        for link in (f"#table tbody tr:nth-child({own + 1}) td:nth-child(4) a", "#memory button:last-child"):
+            self.value("document.querySelector('#offset').value = '0'; document.querySelector('#go').click()")
+            self.waits(f"{front} === '0x0'", "the first bytes are not shown")
+            self.click(link)
+            self.waits(f"{front} === '{len(content) - 1:#x}'", f"{link} leads to {self.value(front)}")
+
+    def another_file(self, path: str) -> None:
+        """What comes of a file after another one was dropped is not drawn, and a filter ends with its file and its text."""
+        rows = "document.querySelector('#table tbody')"
+        for asked in ("open_table('sections', 0, 0)", "document.querySelector('#filter').value = 'text'; filter_rows()"):
+            # The chooser has this file already.
+            self.show(path, is_dropped=True)
+            self.value(f"{rows}.replaceChildren('kept'); {asked}; open_file(new File(['no ELF file'], 'other'))")
+            self.waits("document.querySelector('#verdict').className === 'broken'", "the other file is not shown")
+            self.check(self.text("#table tbody") == "kept", f"after {asked} and another file the rows are {self.text('#table tbody')}")
+        self.show(path, is_dropped=True)
+        self.filter("no such name")
+        self.waits("document.querySelector('#table-words').textContent.startsWith('None of')", "something is found")
+        self.sound_file("/bin/true")
+        self.filter("text", "")
+        # Each answer comes after those to earlier questions.
+        self.value("(async () => { for (let k = 0; k < 4; k++) await ask('around', 0); })()")
+        self.check("found" not in self.text("#table-words"), f"without a filter: {self.text('#table-words')}")
+
+    def filter(self, *texts: str) -> None:
+        """Puts texts into the filter, one after another."""
+        put = "it.value = {}; it.dispatchEvent(new Event('input'))"
+        self.value(f"const it = document.querySelector('#filter'); {'; '.join(put.format(json.dumps(text)) for text in texts)}")
 
     def long_names(self) -> None:
         self.value(WATCH)
@@ -431,7 +500,8 @@ class InChromium(Browser):
             # The sections are shown first. A part of the map is wide enough in one of the files.
             steps = [steps[0], *steps[1:][: tab != "sections"], self.show_whole_name, *[self.show_part_of_map][: tab == "relocations"]]
             took = [self.seconds(it) for it in steps]
-            length = self.value("document.querySelector('main').textContent.length") - NAME
+            wholes = "document.querySelectorAll('.whole').length"
+            length = self.value(f"document.querySelector('main').textContent.length - {NAME} * {wholes}")
             took.append(self.seconds(self.search_and_look))
             longest = self.value("window.longest")
             self.note(
@@ -461,12 +531,19 @@ class InChromium(Browser):
         self.waits(own, "the map does not show the part by itself")
         self.value(f"{own}.click()")
         self.waits("document.querySelector('#map [aria-current=true]')", "the part is not chosen")
-        words = self.text("#map-words")
-        self.check(len(words) < 2 * MOST_CHARACTERS and f"Show all {NAME:,} bytes" in words, f"the words of the part are {words[:1000]}")
+        words, button = self.text("#map-words"), self.text("#map-name")
+        self.check(len(words) < 2 * MOST_CHARACTERS and f"Show all {NAME:,} bytes" in button, f"the words of the part are {words[:1000]}")
+        self.click("#map-name button")
+        shown = f"document.querySelector('#map-name .whole')?.textContent.length === {NAME}"
+        self.waits(shown, "all of the name of the part is not shown")
+        label = self.value("(it => { it.focus(); return it.ariaLabel; })(document.querySelector('#map [aria-current=false]'))")
+        self.check(self.text("#map-words") == label, f"of another part is said {self.text('#map-words')[:1000]}")
+        self.check(self.value(shown), "the name of the chosen part is gone when another one is looked at")
+        self.check(not self.value("document.querySelector('[aria-live] .whole')"), "the whole name is read aloud")
 
     def search_and_look(self) -> None:
         """While it searches in all names, the next bytes are shown."""
-        self.value("const it = document.querySelector('#filter'); it.value = 'no such name'; it.dispatchEvent(new Event('input'))")
+        self.filter("no such name")
         before = self.text("#bytes tbody th")
         self.value("document.querySelector('#bytes-on').click()")
         self.waits(
@@ -516,7 +593,10 @@ def try_page(tally: Tally, options: Options) -> None:
         it.sound_file("/bin/true")
         tally.check(not it.value("document.querySelector('#memory-section').hidden"), "an executable has no bar by address")
         it.refused_files(file)
-        for part in (it.shared_byte, it.broken_tables, it.folder, it.million, it.named, it.long_names, it.much_to_say):
+        for part in (it.shared_byte, it.broken_tables, it.folder, it.million, it.named, it.of_sections, it.nameless, it.far_segment):
+            part()
+        it.another_file(file)
+        for part in (it.long_names, it.much_to_say):
             part()
         # What the console said, and what scripts threw.
         messages = [entry["message"] for entry in it.driver.get_log("browser")]
