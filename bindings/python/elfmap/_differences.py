@@ -77,8 +77,8 @@ Place = Union[Label, None, int]
 class Names:
     """The names of string tables. Equal ones are one object.
 
-    A long name is a front and, after it, whole blocks. They have a number by the last block, and by the number of those before it, counted
-    from the end of the name. So names that share bytes share numbers, and no name is compared with another one.
+    A long name is a front and, after it, whole blocks. Those from one block to the end of the name have a number, which is found by that
+    block and the number of those after it. So names that share bytes share numbers, and no name is compared with another one.
     """
 
     def __init__(self) -> None:
