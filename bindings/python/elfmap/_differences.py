@@ -69,13 +69,16 @@ class Signed(NamedTuple):
 Name = Union[Text, OfSection, Signed]
 # Of a section or a symbol its name, and how many of this name are before it.
 Label = tuple[Name, int]
+# Where something is: a section, none, or the reserved index of a symbol. Places and labels are compared, and not their words: long names
+# are cut there.
+Place = Union[Label, None, int]
 
 
 class Names:
     """The names of string tables. Equal ones are one object.
 
-    A long name is a front and, after it, whole blocks. They have a number by the last block, and by the number of those before it, counted
-    from the end of the name. So names that share bytes share numbers, and no name is compared with another one.
+    A long name is a front and, after it, whole blocks. Those from one block to the end of the name have a number, which is found by that
+    block and the number of those after it. So names that share bytes share numbers, and no name is compared with another one.
     """
 
     def __init__(self) -> None:
@@ -117,6 +120,12 @@ def name_words(name: Name) -> str:
 def label_words(label: Label) -> str:
     name, position = label
     return (name_words(name) or "(no name)") + (f" (number {position + 1} of this name)" if position else "")
+
+
+def place_words(place: Place) -> str:
+    if isinstance(place, int):
+        return _PLACES.get(place, hex(place))
+    return label_words(place) if place else "none"
 
 
 def labelled(names: Iterable[Name]) -> list[Label]:
@@ -188,10 +197,18 @@ class Canonical:
         for row in struct.iter_unpack(f"{self.order}QQ{'q' if has_addends else ''}", self._content(index)):
             yield Relocation(row[0], row[2] if has_addends else 0, row[1] >> 32, row[1] & 0xFFFFFFFF)
 
-    def place(self, it: Symbol) -> object:
-        """Where a symbol is defined: a reserved number, or the section by its label."""
+    def place(self, it: Symbol) -> Place:
+        """Where a symbol is defined."""
         is_reserved = it.st_shndx == 0 or 0xFF00 <= it.st_shndx < _IN_INDEX_TABLE
-        return it.st_shndx if is_reserved else self.section_labels[it.section]
+        return it.st_shndx if is_reserved else self.section(it.section)
+
+    def section(self, index: int) -> Optional[Label]:
+        return self.section_labels[index] if 0 < index < len(self.section_labels) else None
+
+    def members(self, index: int) -> tuple[int, dict[Place, int]]:
+        """Of a group its flags and its members."""
+        flags, *members = (it for (it,) in struct.iter_unpack(f"{self.order}I", self._content(index)))
+        return flags, {self.section(it): it for it in members}
 
     def _section_name(self, index: int, symbols: Sequence[Union[Text, OfSection]]) -> Name:
         """The name, and of a group also that of its signature."""
@@ -211,17 +228,16 @@ class Canonical:
         kept = (k for k, it in enumerate(self.sections) if it.sh_type not in (_NULL, _SYMTAB_SHNDX) and k not in tables)
         return {self.section_labels[k]: k for k in kept}
 
-    def section_words(self, index: int) -> str:
-        return label_words(self.section_labels[index]) if 0 < index < len(self.section_labels) else "none"
-
-    def place_words(self, it: Symbol) -> str:
-        place = self.place(it)
-        return _PLACES.get(place, hex(place)) if isinstance(place, int) else self.section_words(it.section)
+    def relocation(self, it: Relocation) -> tuple[int, int, int, Optional[Label]]:
+        """What is compared of a relocation, beside its section's target."""
+        return it.relocation_type, it.r_offset, it.r_addend, self.symbol_labels[it.symbol] if it.symbol else None
 
     def relocation_words(self, it: Relocation, target: int) -> str:
+        label = self.relocation(it)[-1]
+        name = label_words(label) if label else "no symbol"
         # A symbol of a section has that one's name, after the word "of".
-        name = label_words(self.symbol_labels[it.symbol]).removeprefix("of ") if it.symbol else "no symbol"
-        place = f"{it.r_offset:#x} of {self.section_words(target)}"
+        name = name.removeprefix("of ") if label and isinstance(label[0], OfSection) else name
+        place = f"{it.r_offset:#x} of {place_words(self.section(target))}"
         kind = relocation_types(self.machine).get(it.relocation_type) or f"type {it.relocation_type}"
         return f"{kind} at {place} to {name} {it.r_addend:+#x}"
 
@@ -259,15 +275,11 @@ class Comparison:
     def _section(self, index: int, other_index: int) -> Iterator[str]:
         one, other = self._one.sections[index], self._other.sections[other_index]
         yield from section_fields(self._sides, one, other, self._one.machine)
-        link = self._one.section_words(one.sh_link), self._other.section_words(other.sh_link)
-        if link[0] != link[1]:
-            yield self._sides.both("sh_link", *link)
+        yield from self._places("sh_link", self._one.section(one.sh_link), self._other.section(other.sh_link))
         if one.sh_type != other.sh_type or one.content is None or other.content is None:
             return
         if one.sh_type in (_REL, _RELA):
-            target = self._one.section_words(one.sh_info), self._other.section_words(other.sh_info)
-            if target[0] != target[1]:
-                yield self._sides.both("its target", *target)
+            yield from self._places("its target", self._one.section(one.sh_info), self._other.section(other.sh_info))
             yield from self._relocations(index, other_index)
         elif one.sh_type == _GROUP:
             yield from self._group(index, other_index)
@@ -277,38 +289,36 @@ class Comparison:
 
     def _info(self, one: Section, other: Section) -> Iterator[str]:
         if one.sh_flags & _INFO_LINK:
-            info = self._one.section_words(one.sh_info), self._other.section_words(other.sh_info)
-        else:
-            info = str(one.sh_info), str(other.sh_info)
-        if info[0] != info[1]:
-            yield self._sides.both("sh_info", *info)
+            yield from self._places("sh_info", self._one.section(one.sh_info), self._other.section(other.sh_info))
+        elif one.sh_info != other.sh_info:
+            yield self._sides.both("sh_info", one.sh_info, other.sh_info)
+
+    def _places(self, what: str, one: Place, other: Place) -> Iterator[str]:
+        if one != other:
+            yield self._sides.both(what, place_words(one), place_words(other))
 
     def _group(self, index: int, other_index: int) -> Iterator[str]:
-        one, other = self._members(self._one, index), self._members(self._other, other_index)
-        yield from only_in(self._sides, "member", one, other, str)
-
-    def _members(self, file: Canonical, index: int) -> dict[str, int]:
-        words = [it for (it,) in struct.iter_unpack(f"{file.order}I", bytes(file.sections[index].content or b""))]
-        return {f"flags {words[0]:#x}": 0, **{file.section_words(it): it for it in words[1:]}}
+        (flags, members), (other_flags, other_members) = self._one.members(index), self._other.members(other_index)
+        yield from only_in(self._sides, "member flags", {flags: 0}, {other_flags: 0}, hex)
+        yield from only_in(self._sides, "member", members, other_members, place_words)
 
     def _relocations(self, index: int, other_index: int) -> Iterator[str]:
         """The first entry that differs: the entries after it are often the same, moved."""
         contents = [bytes(it.sections[k].content or b"") for it, k in ((self._one, index), (self._other, other_index))]
         if contents[0] == contents[1] and self._one.symbol_labels == self._other.symbol_labels:
             return
-        one = self._relocation_words(self._one, index)
-        other = self._relocation_words(self._other, other_index)
+        one, other = self._one.relocations(index), self._other.relocations(other_index)
+        targets = self._one.sections[index].sh_info, self._other.sections[other_index].sh_info
         for position, (ours, theirs) in enumerate(zip_longest(one, other)):
-            if ours is None or theirs is None:
-                yield f"relocation {position} is only in {self._sides.second if ours is None else self._sides.first}: {ours or theirs}"
-            elif ours != theirs:
-                yield self._sides.both(f"relocation {position}", ours, theirs)
-            if ours != theirs:
-                return
-
-    def _relocation_words(self, file: Canonical, index: int) -> Iterator[str]:
-        target = file.sections[index].sh_info
-        return (file.relocation_words(it, target) for it in file.relocations(index))
+            if ours and theirs and self._one.relocation(ours) == self._other.relocation(theirs):
+                continue
+            first = self._one.relocation_words(ours, targets[0]) if ours else ""
+            second = self._other.relocation_words(theirs, targets[1]) if theirs else ""
+            if ours and theirs:
+                yield self._sides.both(f"relocation {position}", first, second)
+            else:
+                yield f"relocation {position} is only in {self._sides.first if ours else self._sides.second}: {first or second}"
+            return
 
     def _symbols(self) -> Iterator[str]:
         one = {label: k for k, label in enumerate(self._one.symbol_labels)}
@@ -333,10 +343,10 @@ class Comparison:
             ("its binding", _BINDINGS.get(one.binding, one.binding), _BINDINGS.get(other.binding, other.binding)),
             ("its type", _TYPES.get(one.symbol_type, one.symbol_type), _TYPES.get(other.symbol_type, other.symbol_type)),
             ("st_other", one.st_other, other.st_other),
-            ("its section", self._one.place_words(one), self._other.place_words(other)),
         ):
             if ours != theirs:
                 yield self._sides.both(what, ours, theirs)
+        yield from self._places("its section", self._one.place(one), self._other.place(other))
 
 
 def only_in(sides: Sides, what: str, one: dict[Key, int], other: dict[Key, int], words: Callable[[Key], str]) -> Iterator[str]:

@@ -5,6 +5,7 @@ share bytes, as many as there may be: a command takes little time and memory bes
 import contextlib
 import json
 import os
+import struct
 import subprocess
 import sys
 import tempfile
@@ -135,6 +136,55 @@ class CutTest(Case):
         said = self.said(same, "a.o", "b.o").splitlines()
         self.assertIn(f"section {shown(name)} [{shown(name)}] is only in a.o", said)
         self.assertIn("symbol of section .text is only in a.o", said)
+
+
+class TwinsTest(Case):
+    """Names that agree in their first 200 letters. Both files have all of them, and what is about the one is about the other."""
+
+    TWINS, MEMBERS = ([letter * 250 + it for it in (b"a", b"b")] for letter in (b"n", b"m"))
+    NAME, MEMBER = (shown(it[0].decode()) for it in (TWINS, MEMBERS))
+
+    def twins(self, *, symbol=1, target=1, link=1, info=1, section=1, members=((10,), (11,))):
+        strings = b"\0" + b"\0".join(self.TWINS) + b"\0answer\0"
+        places = [strings.index(it) for it in (*self.TWINS, b"answer")]
+        relocation = struct.pack("<QQq", 0, symbol << 32 | 2, 0)
+        grouped = (struct.pack(f"<{1 + len(it)}I", 1, *it) for it in members)
+        made = Made(
+            *(text(it) for it in self.TWINS),
+            symbols(4, *((it, 0x10, k) for it, k in zip(places, (1, 1, section)))),
+            (b".strtab", 3, strings, {}),
+            (b".rela", RELA, relocation, dict(link=3, info=target, entsize=24)),
+            (b".linked", 1, b"\1", dict(link=link)),
+            (b".informed", 1, b"\1", dict(flags=0x40, info=info)),
+            *((b".group", GROUP, it, dict(link=3, info=k, entsize=4)) for k, it in enumerate(grouped, 1)),
+            *((it, 1, b"\1", dict(flags=0x200)) for it in self.MEMBERS),
+        )
+        return bytes(made.data)
+
+    def assertSaid(self, one, other, *lines):
+        self.put(a__o=one, b__o=other)
+        self.assertEqual(self.said(same, "a.o", "b.o").splitlines(), [*lines, "different"])
+
+    def test_places(self):
+        for what, words in (
+            ("target", "section .rela: its target"),
+            ("link", "section .linked: sh_link"),
+            ("info", "section .informed: sh_info"),
+            ("section", "symbol answer: its section"),
+        ):
+            self.assertSaid(self.twins(), self.twins(**{what: 2}), f"{words} is {self.NAME} in a.o, and {self.NAME} in b.o")
+
+    def test_a_relocation(self):
+        words = f"R_X86_64_PC32 at 0x0 of {self.NAME} to {self.NAME} +0x0"
+        line = f"section .rela: relocation 0 is {words} in a.o, and {words} in b.o"
+        self.assertSaid(self.twins(), self.twins(symbol=2), line)
+
+    def test_members(self):
+        """Each is in the other group, or both are in one."""
+        lines = [f"section .group [{self.NAME}]: member {self.MEMBER} is only in {file}.o" for file in "ab"]
+        self.assertSaid(self.twins(), self.twins(members=[(11,), (10,)]), *lines, *lines)
+        sizes = [f"section .group [{self.NAME}]: its size is {it} in a.o, and 0x8 in b.o" for it in ("0xc", "0x4")]
+        self.assertSaid(self.twins(members=[(10, 11), ()]), self.twins(), sizes[0], lines[0], sizes[1], lines[1])
 
 
 class NamesTest(unittest.TestCase):

@@ -118,6 +118,17 @@ class ObjectTest(Case):
         found = self.differ(an_object(), an_object(named=(1, 1)))
         self.assertIn("section .rela.text: relocation 1 is only in b.o: R_X86_64_PC32 at 0x0 of .text to answer +0x0", found)
 
+    def test_a_symbol_that_is_called_as_that_of_a_section(self):
+        """A relocation to the one is no relocation to the other."""
+
+        def related(symbol):
+            strings = b".strtab", 3, b"\0of section .text\0", {}
+            return bytes(Made(text(), symbols(3, (0, 3, 1), (1, 0x10, 1), info=2), strings, relocations(2, symbol)).data)
+
+        found = self.differ(related(1), related(2))
+        ours, theirs = (f"R_X86_64_PC32 at 0x0 of .text to {it} +0x0" for it in ("section .text", "of section .text"))
+        self.assertEqual(found, [f"section .rela.text: relocation 0 is {ours} in a.o, and {theirs} in b.o"])
+
     def test_a_section(self):
         found = self.differ(an_object(), an_object(more=[(b".data", 1, b"\1\2\3\4", {})]))
         self.assertEqual(found, ["section .data is only in b.o"])
