@@ -6,7 +6,7 @@ use Rattle.elf_tool_check.specs.FileLines.{blank, further_words, line}
 use Rattle.elf_tool_text.specs.Buffered.{IsPassed}
 use Rattle.elf_tool_text.specs.declared.output.Output.{Output}
 use Rattle.elf_tool_text.proofs.Public.{line_at_once, line_of_last}
-use Rattle.elf_tool_text.specs.Line.{name_tail, name_text, with_name}
+use Rattle.elf_tool_text.specs.Line.{name_tail, name_text, ended_by_name}
 
 -- words after others, and a blank
 abbrev pub to_a_blank : List (List ℕ) → List ℕ
@@ -39,7 +39,7 @@ without [] = refl
 without (w ∷ ws) = ap (λ (s : List ℕ). blank ∷ (w ++ s)) (without ws)
 
 pub line_named : {T : Type 0} (a c : Option (List ℕ)) (o q : Output) (put w : List ℕ) (ws : List (List ℕ)) (is_whole : Bool) (name : List ℕ) (result : Result T WriteFault)
-    → put ≡ w ++ to_a_name ws (name_tail is_whole name) → IsPassed a c o q (with_name put is_whole name) result
+    → put ≡ w ++ to_a_name ws (name_tail is_whole name) → IsPassed a c o q (ended_by_name put is_whole name) result
     → IsPassed a c o q (line (w ∷ (ws ++ name_text name ∷ []))) result
 line_named a c o q put w ws true name result is passed =
     line_at_once a c o q put w (ws ++ name_text name ∷ []) result (is ∙ ap (λ (s : List ℕ). w ++ s) (whole ws (name_text name))) passed

@@ -29,9 +29,9 @@ name_tail true name = name_text name ++ codes "\n"
 name_tail false name = []
 
 -- the line then: what is put together, and the name after it where it is no part of that
-abbrev pub with_name : List ℕ → Bool → List ℕ → List ℕ
-with_name put true name = put
-with_name put false name = put ++ (name_text name ++ codes "\n")
+abbrev pub ended_by_name : List ℕ → Bool → List ℕ → List ℕ
+ended_by_name put true name = put
+ended_by_name put false name = put ++ (name_text name ++ codes "\n")
 
 -- bytes, each as two digits; - where there are none
 abbrev pub bytes_text : List ℕ → List ℕ

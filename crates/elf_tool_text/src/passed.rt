@@ -4,7 +4,7 @@ ghost use Rattle.std.specs.Prelude.{◌≡◌, ◌++◌, ◌<◌, ◌≤◌, cod
 ghost use Rattle.std.specs.List.{flat_map, range_with_len};
 ghost use Rattle.hex.specs.Hex.{encode_lower};
 ghost use Rattle.elf_tool_text.specs.Buffered.{IsPassed};
-ghost use Rattle.elf_tool_text.specs.Line.{bytes_text, name_text, with_name};
+ghost use Rattle.elf_tool_text.specs.Line.{bytes_text, name_text, ended_by_name};
 
 use crate::line::is_plain;
 use crate::line_end::LineEnd;
@@ -76,7 +76,7 @@ pub fn pass_with_name<W: Write>(
     output: &mut Output,
     writer: &mut W,
 ) -> Result<(), WriteFault>
-    ensures { IsPassed (W.contents writer.old) (W.contents writer.new) output.old output.new (with_name line.now is_whole name.now) result }
+    ensures { IsPassed (W.contents writer.old) (W.contents writer.new) output.old output.new (ended_by_name line.now is_whole name.now) result }
 {
     if is_whole {
         return output.pass(writer, line.as_bytes());
