@@ -380,8 +380,9 @@ uint32_t elfmap_show(const uint8_t *bytes, size_t len, uint8_t *buffer, size_t s
 /*
  * The lines `refused I RULE AT` of `elfmap show`: for each table that breaks a rule its section, the first rule broken, and the lowest
  * offset. A file whose tables break none has no line. Returns ELFMAP_DONE; or, without output, ELFMAP_REFUSED by a rule of images. The
- * memory that it takes does not grow with the entries of the tables, except of one section group or hash table at a time, and with the
- * places where names of more than 64 bytes begin that symbols of hash tables have. Each of these names is read once for each such place.
+ * memory that it takes does not grow with the entries of the tables, except of one section group or hash table at a time. Names of more
+ * than 64 bytes of symbols in hash tables take memory too: a few bytes for each place where such a name begins. Such a name is read once for
+ * each of these places.
  */
 uint32_t elfmap_refused_tables(const uint8_t *bytes, size_t len, uint8_t *buffer, size_t size, struct elfmap_outcome *outcome);
 

@@ -510,8 +510,8 @@ def refused_tables(data: Bytes) -> list[tuple[int, int, int]]:
     """The tables of a file that break a rule: section, first rule broken, lowest offset.
 
     Raises Refused where the file itself breaks a rule. Takes no memory for the entries of
-    tables, but for those of groups and hash tables, and for each place where a long name begins
-    that is hashed.
+    tables, but for those of one group or hash table at a time. Names of more than 64 bytes of
+    symbols in hash tables take memory too: a few bytes for each place where one begins.
     """
     lines = _done(*_said("elfmap_refused_tables", *_bytes_of(data))).splitlines()
     return [(int(section), int(rule), int(at)) for _, section, rule, at in (it.split() for it in lines)]

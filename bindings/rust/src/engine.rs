@@ -87,7 +87,8 @@ pub fn show(bytes: &[u8]) -> Result<Vec<u8>, Failure> {
 
 /// The lines `refused I RULE AT` of `elfmap show`: of each table that breaks a rule its section, the
 /// first rule broken, and the lowest offset. It takes no memory for the entries of tables, but for
-/// those of groups and hash tables, and for each place where a long name begins that is hashed.
+/// those of one group or hash table at a time. Names of more than 64 bytes of symbols in hash tables
+/// take memory too: a few bytes for each place where one begins.
 ///
 /// # Errors
 ///

@@ -50,7 +50,8 @@ impl<'i, 'a> Model for Tables<'i, 'a> {
 impl<'i, 'a> Tables<'i, 'a> {
     /// Those of this image, all of them validated. The error comes only if an allocation fails. They keep an entry for each table that
     /// breaks a rule, and one for each symbol table that has an index table. A section group or a hash table can take memory while it is
-    /// tested, and until all are tested each place where a long name begins that was hashed.
+    /// tested. Names of over 64 bytes of symbols in hash tables take memory too, until all tables are tested: a few bytes for each place
+    /// where such a name begins.
     ///
     /// The time is n log n in the section headers and the entries of all tables, and linear in the file. One case takes more: hash tables
     /// whose symbols have many tails of one long name. Each tail is hashed once, so that this takes the sum of their lengths.

@@ -166,7 +166,8 @@ def mutations(tally: Tally, options: Options) -> None:
         folder_of, lacking = built_below([it[0].crate for it in bugs]) if everything else (gate_folder, [])
         if lacking:
             return tally.fail(f"not built: {' '.join(lacking)}; `tools/dev prove CRATE` builds the libraries below a crate")
-        # Some crates at a time.
+        # Some crates at a time, those with most bugs first, so that none of these is alone at the end.
+        bugs.sort(key=len, reverse=True)
         with ThreadPoolExecutor(min(4, PROCESSORS)) as pool:
             for tried in as_completed([pool.submit(try_all, those, folder_of) for those in bugs]):
                 ends = sorted(tried.result(), key=lambda end: end[0].name)
