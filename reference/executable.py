@@ -1,14 +1,21 @@
-"""The executable of a link (System V ABI, generic part, chapter 4, ELF Header, and chapter 5, Program Header; which segments there are, and
-where their bytes stand, is this project's profile): one segment of type LOAD for each output section that takes memory, and one for the
-commons if they do."""
-import link, objects
+"""The executable of a link (System V ABI, generic part, chapter 4, ELF Header, and chapter 5,
+Program Header; which segments there are, and where their bytes stand, is this project's profile):
+one segment of type LOAD for each output section that takes memory, and one for the commons if they
+do."""
+import link
+import objects
 from objects import record
 from records import HEADER, LOAD, PN_XNUM, PROGRAM_HEADER
 
 EXEC = 2
-PF_X, PF_W, PF_R = 1, 2, 4
-SHF_WRITE, SHF_EXECINSTR = 1, 4
-EHDR_SIZE, PHDR_SIZE, MAX_LEN = 64, 56, 2 ** 30
+PF_X = 1
+PF_W = 2
+PF_R = 4
+SHF_WRITE = 1
+SHF_EXECINSTR = 4
+EHDR_SIZE = 64
+PHDR_SIZE = 56
+MAX_LEN = 2**30
 
 
 def permissions(flags):
@@ -16,22 +23,28 @@ def permissions(flags):
 
 
 def output_content(it, start, length, members):
-    """The bytes of an output section with bits: its members at their addresses, and zeros between."""
-    relocated, content = link.relocated(it), bytearray(length)
+    """The bytes of an output section with bits: its members at their addresses, and zeros
+    between."""
+    relocated = link.relocated(it)
+    content = bytearray(length)
     for f, s, at in members:
-        content[at - start:at - start + len(relocated[f, s])] = relocated[f, s]
+        content[at - start : at - start + len(relocated[f, s])] = relocated[f, s]
     return bytes(content)
 
 
 def segments(it):
-    """The address, the size, the permissions and the bytes of each segment; None for the bytes of one that has none in the file."""
+    """The address, the size, the permissions and the bytes of each segment; None for the bytes of
+    one that has none in the file."""
     all_outputs, common_at = link.placed(it)
     for (_, flags, is_without_bits), start, length, members in all_outputs:
         if length > 0:
-            yield start, length, permissions(flags), None if is_without_bits else output_content(it, start, length, members)
+            yield start, length, permissions(flags), None if is_without_bits else output_content(
+                it, start, length, members
+            )
     chosen = link.commons(it)
     if chosen:
-        start, (last, size, _) = common_at[chosen[0][0]], chosen[-1]
+        start = common_at[chosen[0][0]]
+        (last, size, _) = chosen[-1]
         if common_at[last] + size > start:
             yield start, common_at[last] + size - start, PF_R + PF_W, None
 
@@ -41,11 +54,29 @@ def entry_address(it):
 
 
 def file_header(it, count):
-    first = it.files[0] if it.files else objects.Value(order="little", osabi=0, abi=0, machine=0, flags=0)
-    identification = b"\x7fELF\2" + bytes([1 if first.order == "little" else 2, 1, first.osabi, first.abi]) + bytes(7)
-    fields = record(first.order, HEADER, e_type=EXEC, e_machine=first.machine, e_version=1, e_entry=entry_address(it),
-                    e_phoff=EHDR_SIZE if count else 0, e_flags=first.flags, e_ehsize=EHDR_SIZE, e_phentsize=PHDR_SIZE if count else 0,
-                    e_phnum=count)
+    first = (
+        it.files[0]
+        if it.files
+        else objects.Value(order="little", osabi=0, abi=0, machine=0, flags=0)
+    )
+    identification = (
+        b"\x7fELF\2"
+        + bytes([1 if first.order == "little" else 2, 1, first.osabi, first.abi])
+        + bytes(7)
+    )
+    fields = record(
+        first.order,
+        HEADER,
+        e_type=EXEC,
+        e_machine=first.machine,
+        e_version=1,
+        e_entry=entry_address(it),
+        e_phoff=EHDR_SIZE if count else 0,
+        e_flags=first.flags,
+        e_ehsize=EHDR_SIZE,
+        e_phentsize=PHDR_SIZE if count else 0,
+        e_phnum=count,
+    )
     return first.order, identification + fields[16:]
 
 
@@ -61,8 +92,18 @@ def executable(it):
         return None
     order, file = file_header(it, len(all_segments))
     for (address, size, flags, content), place in zip(all_segments, places):
-        file += record(order, PROGRAM_HEADER, p_type=LOAD, p_flags=flags, p_offset=place, p_vaddr=address, p_paddr=address,
-                       p_filesz=len(content or b""), p_memsz=size, p_align=it.page)
+        file += record(
+            order,
+            PROGRAM_HEADER,
+            p_type=LOAD,
+            p_flags=flags,
+            p_offset=place,
+            p_vaddr=address,
+            p_paddr=address,
+            p_filesz=len(content or b""),
+            p_memsz=size,
+            p_align=it.page,
+        )
     for (_, _, _, content), place in zip(all_segments, places):
         if content is not None:
             file = file.ljust(place, b"\0") + content
@@ -70,7 +111,8 @@ def executable(it):
 
 
 def answer(contents, base, page, rules, entry):
-    """What `elfmap link` says of these files: the text of a refusal, empty where there is none, and the executable."""
+    """What `elfmap link` says of these files: the text of a refusal, empty where there is none, and
+    the executable."""
     refused, it = link.validated(contents, base, page, rules, entry)
     if refused:
         return refused, b""

@@ -1,23 +1,33 @@
-"""The link of objects: rules 1 to 16 of the link in docs/RULES.md, each a function of its name there, which gives every place where it
-stands, a file, an index and an entry; the link map and the relocated bytes. A rule is asked only of a link where those before it do not
-stand. Addresses have no bound."""
+"""The link of objects: rules 1 to 16 of the link in docs/RULES.md, each a function of its name
+there, which gives every place where it stands, a file, an index and an entry; the link map and the
+relocated bytes. A rule is asked only of a link where those before it do not stand. Addresses have
+no bound."""
 import objects
 from image import is_power_of_two
 from objects import ABS, COMMON, RELOCATIONS, UNDEF
 from records import GROUP, NOBITS, REL
 
-SHF_ALLOC, SHF_LINK_ORDER, SHF_GROUP, SHF_TLS = 2, 0x80, 0x200, 0x400
-LOCAL, GLOBAL, WEAK = 0, 1, 2
+SHF_ALLOC = 2
+SHF_LINK_ORDER = 0x80
+SHF_GROUP = 0x200
+SHF_TLS = 0x400
+LOCAL = 0
+GLOBAL = 1
+WEAK = 2
 STT_TLS = 6
 COMDAT = 1
 
 
 class Link:
-    """Objects, where their first output section begins at the earliest, each at a multiple of the page, and where there is one the name of
-    the entry point."""
+    """Objects, where their first output section begins at the earliest, each at a multiple of the
+    page, and where there is one the name of the entry point."""
 
     def __init__(self, files, base, page, rules=None, entry=None):
-        self.files, self.base, self.page, self.rules, self.entry = files, base, page, rules, entry
+        self.files = files
+        self.base = base
+        self.page = page
+        self.rules = rules
+        self.entry = entry
         self.discarded = set(discarded(files))
         self.entries = {}
         for f, k, symbol in self.symbols():
@@ -25,23 +35,36 @@ class Link:
                 self.entries.setdefault(symbol.name, []).append((f, k, symbol))
 
     def symbols(self):
-        return [(f, k, symbol) for f, it in enumerate(self.files) for k, symbol in enumerate(it.symbols)]
+        return [
+            (f, k, symbol) for f, it in enumerate(self.files) for k, symbol in enumerate(it.symbols)
+        ]
 
     def sections(self):
-        return [(f, s, it) for f, file in enumerate(self.files) for s, it in enumerate(file.sections)]
+        return [
+            (f, s, it) for f, file in enumerate(self.files) for s, it in enumerate(file.sections)
+        ]
 
     def is_live(self, f, s):
         it = self.files[f].sections[s]
-        return bool(it.flags & SHF_ALLOC) and it.type not in (GROUP, *RELOCATIONS) and (f, s) not in self.discarded
+        return (
+            bool(it.flags & SHF_ALLOC)
+            and it.type not in (GROUP, *RELOCATIONS)
+            and (f, s) not in self.discarded
+        )
 
     def live(self):
         return [(f, s, it) for f, s, it in self.sections() if self.is_live(f, s)]
 
     def is_definition(self, f, symbol):
-        return symbol.reserved == ABS or symbol.section is not None and (f, symbol.section) not in self.discarded
+        return (
+            symbol.reserved == ABS
+            or symbol.section is not None
+            and (f, symbol.section) not in self.discarded
+        )
 
     def bound(self, name):
-        """What a name is bound to: a kind, and the symbol, or the size and the alignment of a common; None where it is bound to nothing."""
+        """What a name is bound to: a kind, and the symbol, or the size and the alignment of a
+        common; None where it is bound to nothing."""
         entries = self.entries[name]
         definitions = [(f, k, it) for f, k, it in entries if self.is_definition(f, it)]
         commons = [it for _, _, it in entries if it.reserved == COMMON]
@@ -60,7 +83,12 @@ def binding_of(symbol):
 
 
 def comdat_groups(files):
-    return [(f, s, it) for f, file in enumerate(files) for s, it in enumerate(file.sections) if it.type == GROUP and it.body[0] == COMDAT]
+    return [
+        (f, s, it)
+        for f, file in enumerate(files)
+        for s, it in enumerate(file.sections)
+        if it.type == GROUP and it.body[0] == COMDAT
+    ]
 
 
 def signature(files, f, group):
@@ -78,6 +106,7 @@ def discarded(files):
 
 
 # ---- rules 1 to 11
+
 
 def bad_options(link):
     return [] if is_power_of_two(link.page) and link.base % link.page == 0 else [(0, 0, 0)]
@@ -97,30 +126,52 @@ def link_order(link):
 
 
 def empty_signature(link):
-    return [(f, s, 0) for f, s, it in comdat_groups(link.files) if signature(link.files, f, it) == b""]
+    return [
+        (f, s, 0) for f, s, it in comdat_groups(link.files) if signature(link.files, f, it) == b""
+    ]
 
 
 def bad_symbol(link):
-    return [(f, k, 0) for f, k, it in link.symbols()
-            if binding_of(it) > WEAK or it.info % 16 == STT_TLS or binding_of(it) != LOCAL and it.name == b""]
+    return [
+        (f, k, 0)
+        for f, k, it in link.symbols()
+        if binding_of(it) > WEAK
+        or it.info % 16 == STT_TLS
+        or binding_of(it) != LOCAL
+        and it.name == b""
+    ]
 
 
 def bad_common(link):
-    return [(f, k, 0) for f, k, it in link.symbols()
-            if it.reserved == COMMON and (binding_of(it) != GLOBAL or not is_power_of_two(it.value))]
+    return [
+        (f, k, 0)
+        for f, k, it in link.symbols()
+        if it.reserved == COMMON and (binding_of(it) != GLOBAL or not is_power_of_two(it.value))
+    ]
 
 
 def two_definitions(link):
     found = []
     for entries in link.entries.values():
-        strong = [(f, k, 0) for f, k, it in entries if binding_of(it) == GLOBAL and link.is_definition(f, it)]
+        strong = [
+            (f, k, 0)
+            for f, k, it in entries
+            if binding_of(it) == GLOBAL and link.is_definition(f, it)
+        ]
         found += strong[1:]
     return found
 
 
 def undefined_name(link):
-    return [(f, k, 0) for name, entries in link.entries.items() for f, k, it in entries
-            if binding_of(it) == GLOBAL and it.reserved != COMMON and not link.is_definition(f, it) and link.bound(name) is None]
+    return [
+        (f, k, 0)
+        for name, entries in link.entries.items()
+        for f, k, it in entries
+        if binding_of(it) == GLOBAL
+        and it.reserved != COMMON
+        and not link.is_definition(f, it)
+        and link.bound(name) is None
+    ]
 
 
 def no_entry(link):
@@ -129,14 +180,15 @@ def no_entry(link):
     if link.entry not in link.entries or link.bound(link.entry) is None:
         return [(0, 0, 0)]
     value, kind = value_of(link, addresses(link), placed(link)[1], link.entry)
-    return [(0, 0, 0)] if kind == "zero" or value is None or value >= 2 ** 64 else []
+    return [(0, 0, 0)] if kind == "zero" or value is None or value >= 2**64 else []
 
 
 def address_overflow(link):
-    return [(0, 0, 0)] if any(address + size >= 2 ** 64 for address, size in places(link)) else []
+    return [(0, 0, 0)] if any(address + size >= 2**64 for address, size in places(link)) else []
 
 
 # ---- where everything stands
+
 
 def size_of(it):
     return it.body if it.type == NOBITS else len(it.body)
@@ -147,7 +199,8 @@ def up(address, alignment):
 
 
 def outputs(link):
-    """The output sections in their order, by their keys: the name, the flags, and whether it has no bits; each with its members."""
+    """The output sections in their order, by their keys: the name, the flags, and whether it has no
+    bits; each with its members."""
     found = {}
     for f, s, it in link.live():
         found.setdefault((it.name, it.flags & ~SHF_GROUP, it.type == NOBITS), []).append((f, s, it))
@@ -155,15 +208,21 @@ def outputs(link):
 
 
 def commons(link):
-    """The names that are bound to a common, in the order of their first common entries, with its size and alignment."""
-    first = {name: next((f, k) for f, k, it in entries if it.reserved == COMMON)
-             for name, entries in link.entries.items() if (link.bound(name) or ("",))[0] == "common"}
+    """The names that are bound to a common, in the order of their first common entries, with its
+    size and alignment."""
+    first = {
+        name: next((f, k) for f, k, it in entries if it.reserved == COMMON)
+        for name, entries in link.entries.items()
+        if (link.bound(name) or ("",))[0] == "common"
+    }
     return [(name, *link.bound(name)[1]) for name in sorted(first, key=first.get)]
 
 
 def placed(link):
-    """For each output section its key, its address, its length and its members with their addresses; then of each common the address."""
-    cursor, all_outputs = link.base, []
+    """For each output section its key, its address, its length and its members with their
+    addresses; then of each common the address."""
+    cursor = link.base
+    all_outputs = []
     for key, members in outputs(link):
         start = cursor = up(cursor, max([link.page] + [max(1, it.align) for _, _, it in members]))
         at = []
@@ -185,7 +244,11 @@ def placed(link):
 def places(link):
     """The address and the size of each live section and each common."""
     all_outputs, common_at = placed(link)
-    members = [(at, size_of(link.files[f].sections[s])) for _, _, _, members in all_outputs for f, s, at in members]
+    members = [
+        (at, size_of(link.files[f].sections[s]))
+        for _, _, _, members in all_outputs
+        for f, s, at in members
+    ]
     return members + [(common_at[name], size) for name, size, _ in commons(link)]
 
 
@@ -210,8 +273,10 @@ def value_of(link, at, common_at, name):
 
 # ---- relocations
 
+
 def applied(link):
-    """The entries that are applied, in order: file, section, entry, the target, the rule of its kind, offset, symbol and addend."""
+    """The entries that are applied, in order: file, section, entry, the target, the rule of its
+    kind, offset, symbol and addend."""
     found = []
     for f, s, it in link.sections():
         if it.type in RELOCATIONS and (f, s) not in link.discarded and link.is_live(f, it.info):
@@ -235,22 +300,36 @@ def symbol_value(link, f, k):
     if k == 0:
         return 0
     symbol = link.files[f].symbols[k - 1]
-    at, common_at = link.at, link.common_at
+    at = link.at
+    common_at = link.common_at
     if binding_of(symbol) == LOCAL:
-        return None if symbol.section is None and symbol.reserved == UNDEF else own_value(link, at, f, symbol)
+        return (
+            None
+            if symbol.section is None and symbol.reserved == UNDEF
+            else own_value(link, at, f, symbol)
+        )
     return value_of(link, at, common_at, symbol.name)[0]
 
 
 def unplaced(link):
-    return [(f, s, e) for f, s, e, _, _, _, symbol, _ in fields(link) if symbol_value(link, f, symbol) is None]
+    return [
+        (f, s, e)
+        for f, s, e, _, _, _, symbol, _ in fields(link)
+        if symbol_value(link, f, symbol) is None
+    ]
 
 
 def field_out_of_range(link):
-    return [(f, s, e) for f, s, e, it, rule, offset, *_ in fields(link) if offset + rule[2] > size_of(link.files[f].sections[it.info])]
+    return [
+        (f, s, e)
+        for f, s, e, it, rule, offset, *_ in fields(link)
+        if offset + rule[2] > size_of(link.files[f].sections[it.info])
+    ]
 
 
 def fields_overlap(link):
-    owners, found = set(), []
+    owners = set()
+    found = []
     for f, s, e, it, rule, offset, *_ in fields(link):
         own = {(f, it.info, at) for at in range(offset, offset + rule[2])}
         found += [(f, s, e)] if own & owners else []
@@ -263,9 +342,13 @@ def number(link, entry):
     f, _, _, it, (_, form, width, numbers), offset, symbol, addend = entry
     file = link.files[f]
     if it.type == REL:
-        addend = int.from_bytes(file.sections[it.info].body[offset:offset + width], file.order, signed=numbers != "unsigned")
-    elif addend >= 2 ** 63:
-        addend -= 2 ** 64
+        addend = int.from_bytes(
+            file.sections[it.info].body[offset : offset + width],
+            file.order,
+            signed=numbers != "unsigned",
+        )
+    elif addend >= 2**63:
+        addend -= 2**64
     place = link.at[f, it.info] + offset
     return symbol_value(link, f, symbol) + addend - (place if form == "pc" else 0)
 
@@ -273,11 +356,17 @@ def number(link, entry):
 def admits(rule, n):
     _, _, width, numbers = rule
     bits = 8 * width
-    return numbers == "wrap" or (-2 ** (bits - 1) <= n < 2 ** (bits - 1) if numbers == "signed" else 0 <= n < 2 ** bits)
+    return numbers == "wrap" or (
+        -(2 ** (bits - 1)) <= n < 2 ** (bits - 1) if numbers == "signed" else 0 <= n < 2**bits
+    )
 
 
 def value_out_of_range(link):
-    return [(f, s, e) for f, s, e, *rest in fields(link) if not admits(rest[1], number(link, (f, s, e, *rest)))]
+    return [
+        (f, s, e)
+        for f, s, e, *rest in fields(link)
+        if not admits(rest[1], number(link, (f, s, e, *rest)))
+    ]
 
 
 def relocated(link):
@@ -286,15 +375,34 @@ def relocated(link):
     for entry in fields(link):
         f, _, _, it, rule, offset, *_ = entry
         width = rule[2]
-        found[f, it.info][offset:offset + width] = (number(link, entry) % 2 ** (8 * width)).to_bytes(width, link.files[f].order)
+        found[f, it.info][offset : offset + width] = (
+            number(link, entry) % 2 ** (8 * width)
+        ).to_bytes(width, link.files[f].order)
     return found
 
 
 # ---- what is said
 
-LINK_RULES = [(1, bad_options), (2, mismatch), (3, tls), (4, link_order), (5, empty_signature), (6, bad_symbol), (7, bad_common),
-              (8, two_definitions), (9, undefined_name), (10, no_entry), (11, address_overflow)]
-RELOCATION_RULES = [(12, no_rule), (13, unplaced), (14, field_out_of_range), (15, fields_overlap), (16, value_out_of_range)]
+LINK_RULES = [
+    (1, bad_options),
+    (2, mismatch),
+    (3, tls),
+    (4, link_order),
+    (5, empty_signature),
+    (6, bad_symbol),
+    (7, bad_common),
+    (8, two_definitions),
+    (9, undefined_name),
+    (10, no_entry),
+    (11, address_overflow),
+]
+RELOCATION_RULES = [
+    (12, no_rule),
+    (13, unplaced),
+    (14, field_out_of_range),
+    (15, fields_overlap),
+    (16, value_out_of_range),
+]
 
 
 def word(name):
@@ -306,7 +414,8 @@ def word(name):
 
 
 def rules_of(text):
-    """The relocation rules of a file of rules: kind, form, width in bytes, and the numbers that it admits."""
+    """The relocation rules of a file of rules: kind, form, width in bytes, and the numbers that it
+    admits."""
     lines_of = [line.split(" ") for line in text.decode().splitlines()]
     return [(int(kind), form, int(width), numbers) for kind, form, width, numbers in lines_of]
 
@@ -320,7 +429,8 @@ def first_standing(rules, link):
 
 
 def validated(contents, base, page, rules=None, entry=None):
-    """The line of a refusal, or None; and the link of these files, with relocation rules or without."""
+    """The line of a refusal, or None; and the link of these files, with relocation rules or
+    without."""
     for f, content in enumerate(contents):
         broken = objects.verdict(content)
         if broken:

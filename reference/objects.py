@@ -1,6 +1,6 @@
-"""Rules 70 to 79 of docs/RULES.md, on a file that is read as an object: each is a function of its name there, which gives every offset
-where the file breaks it; then the object that a file denotes, and the canonical layout of an object. A rule is asked only of a file that
-keeps those before it."""
+"""Rules 70 to 79 of docs/RULES.md, on a file that is read as an object: each is a function of its
+name there, which gives every offset where the file breaks it; then the object that a file denotes,
+and the canonical layout of an object. A rule is asked only of a file that keeps those before it."""
 import image
 import tables
 from records import *
@@ -8,7 +8,9 @@ from tables import symbols
 
 ET_REL = 1
 SHF_INFO_LINK = 0x40
-UNDEF, ABS, COMMON = 0, 0xFFF1, 0xFFF2
+UNDEF = 0
+ABS = 0xFFF1
+COMMON = 0xFFF2
 RELOCATIONS = (RELA, REL)
 
 
@@ -19,13 +21,22 @@ def symbol_table(f):
 
 def index_table(f):
     """The index of the symbol table's first index table; None where there is none."""
-    return next((i for i, it in f.sections() if it.sh_type == SYMTAB_SHNDX and it.sh_link == symbol_table(f)), None)
+    return next(
+        (
+            i
+            for i, it in f.sections()
+            if it.sh_type == SYMTAB_SHNDX and it.sh_link == symbol_table(f)
+        ),
+        None,
+    )
 
 
 def left_out(f):
     table = symbol_table(f)
     strings = f.section(table).sh_link if table is not None else 0
-    return {0, table, strings, index_table(f), f.name_table} | {i for i, it in f.sections() if it.sh_type == NULL}
+    return {0, table, strings, index_table(f), f.name_table} | {
+        i for i, it in f.sections() if it.sh_type == NULL
+    }
 
 
 def kept(f):
@@ -46,6 +57,7 @@ def section_of(f, k, it):
 
 # ---- the rules
 
+
 def not_relocatable(f):
     return [16] if f.header.e_type != ET_REL else []
 
@@ -55,37 +67,61 @@ def loadable(f):
 
 
 def foreign_section(f):
-    return [it.at("sh_type") for _, it in f.sections() if it.sh_type in (HASH, DYNAMIC_SECTION, SHLIB, DYNSYM)]
+    return [
+        it.at("sh_type")
+        for _, it in f.sections()
+        if it.sh_type in (HASH, DYNAMIC_SECTION, SHLIB, DYNSYM)
+    ]
 
 
 def second_symbol_table(f):
-    return [it.at("sh_type") for i, it in f.sections() if it.sh_type == SYMTAB and i != symbol_table(f)]
+    return [
+        it.at("sh_type") for i, it in f.sections() if it.sh_type == SYMTAB and i != symbol_table(f)
+    ]
 
 
 def stray_index_table(f):
-    return [it.at("sh_link") for _, it in f.sections() if it.sh_type == SYMTAB_SHNDX and it.sh_link != symbol_table(f)]
+    return [
+        it.at("sh_link")
+        for _, it in f.sections()
+        if it.sh_type == SYMTAB_SHNDX and it.sh_link != symbol_table(f)
+    ]
 
 
 def symbol_outside(f):
     if symbol_table(f) is None:
         return []
     inside = {*kept(f), UNDEF}
-    return [it.at("st_shndx") for k, it in enumerate(symbols(f, symbol_table(f)))
-            if it.st_shndx not in (ABS, COMMON) and (LORESERVE <= it.st_shndx < XINDEX or section_of(f, k, it) not in inside)]
+    return [
+        it.at("st_shndx")
+        for k, it in enumerate(symbols(f, symbol_table(f)))
+        if it.st_shndx not in (ABS, COMMON)
+        and (LORESERVE <= it.st_shndx < XINDEX or section_of(f, k, it) not in inside)
+    ]
 
 
 def wrong_relocation_target(f):
     inside = set(kept(f))
     without_bits = (NOBITS, GROUP, *RELOCATIONS)
-    return [it.at("sh_info") for it in map(f.section, kept(f)) if it.sh_type in RELOCATIONS
-            and (it.sh_info not in inside or f.section(it.sh_info).sh_type in without_bits)]
+    return [
+        it.at("sh_info")
+        for it in map(f.section, kept(f))
+        if it.sh_type in RELOCATIONS
+        and (it.sh_info not in inside or f.section(it.sh_info).sh_type in without_bits)
+    ]
 
 
 def wrong_group_member(f):
-    inside, earlier, wrong = set(kept(f)), set(), []
+    inside = set(kept(f))
+    earlier = set()
+    wrong = []
     for i in (i for i, it in f.sections() if it.sh_type == GROUP):
         members = f.words(i)[1:]
-        wrong += [at for at, member in members if member not in inside or f.section(member).sh_type == GROUP or member in earlier]
+        wrong += [
+            at
+            for at, member in members
+            if member not in inside or f.section(member).sh_type == GROUP or member in earlier
+        ]
         earlier |= {member for _, member in members}
     return wrong
 
@@ -97,24 +133,44 @@ def wrong_kept_link(f):
 
 def wrong_kept_info(f):
     inside = set(kept(f))
-    return [it.at("sh_info") for it in plain(f) if it.sh_flags & SHF_INFO_LINK and it.sh_info not in inside]
+    return [
+        it.at("sh_info")
+        for it in plain(f)
+        if it.sh_flags & SHF_INFO_LINK and it.sh_info not in inside
+    ]
 
 
 def verdict(content):
-    """The first rule that these bytes break as an image or as an object, and the lowest offset where they do; None where they denote an
-    object."""
+    """The first rule that these bytes break as an image or as an object, and the lowest offset
+    where they do; None where they denote an object."""
     f = File(content)
     broken = image.verdict(content) or first_broken(
-        [(70, not_relocatable), (71, loadable), (72, foreign_section), (73, second_symbol_table), (74, stray_index_table)], f)
+        [
+            (70, not_relocatable),
+            (71, loadable),
+            (72, foreign_section),
+            (73, second_symbol_table),
+            (74, stray_index_table),
+        ],
+        f,
+    )
     if not broken and symbol_table(f) is not None:
         broken = tables.verdict(f, symbol_table(f)) or first_broken([(75, symbol_outside)], f)
     for i in kept(f) if not broken else []:
         broken = broken or f.section(i).sh_type in (GROUP, *RELOCATIONS) and tables.verdict(f, i)
     return broken or first_broken(
-        [(76, wrong_relocation_target), (77, wrong_group_member), (78, wrong_kept_link), (79, wrong_kept_info)], f)
+        [
+            (76, wrong_relocation_target),
+            (77, wrong_group_member),
+            (78, wrong_kept_link),
+            (79, wrong_kept_info),
+        ],
+        f,
+    )
 
 
 # ---- what a file denotes
+
 
 class Value:
     """A value by its fields."""
@@ -128,11 +184,19 @@ def string(table, offset):
 
 
 def body_of(f, i, position):
-    """What a section holds: the entries of relocations, a group's members, bytes, or a size alone. Sections are told by their positions."""
+    """What a section holds: the entries of relocations, a group's members, bytes, or a size alone.
+    Sections are told by their positions."""
     it = f.section(i)
     if it.sh_type in RELOCATIONS:
-        return [(entry.r_offset, entry.r_info // 2 ** 32, entry.r_info % 2 ** 32, entry.r_addend if it.sh_type == RELA else 0)
-                for entry in f.entries(i, RELOCATION, tables.ENTRY_SIZE[it.sh_type])]
+        return [
+            (
+                entry.r_offset,
+                entry.r_info // 2**32,
+                entry.r_info % 2**32,
+                entry.r_addend if it.sh_type == RELA else 0,
+            )
+            for entry in f.entries(i, RELOCATION, tables.ENTRY_SIZE[it.sh_type])
+        ]
     if it.sh_type == GROUP:
         words = [word for _, word in f.words(i)]
         return words[0], [position[member] for member in words[1:]]
@@ -140,8 +204,8 @@ def body_of(f, i, position):
 
 
 def object_of(content):
-    """The object that these bytes denote, which break no rule. A section is told by its position among the object's, a symbol by its
-    index in the table."""
+    """The object that these bytes denote, which break no rule. A section is told by its position
+    among the object's, a symbol by its index in the table."""
     f = File(content)
     position = {i: p for p, i in enumerate(kept(f))}
     names = f.content(f.name_table) if f.name_table else b""
@@ -149,26 +213,56 @@ def object_of(content):
     for i in kept(f):
         it = f.section(i)
         is_plain = it.sh_type not in (GROUP, *RELOCATIONS)
-        sections.append(Value(
-            name=string(names, it.sh_name), type=it.sh_type, flags=it.sh_flags, addr=it.sh_addr, align=it.sh_addralign,
-            entsize=it.sh_entsize, link=position.get(it.sh_link) if is_plain else None,
-            info=position[it.sh_info] if it.sh_type in RELOCATIONS or is_plain and it.sh_flags & SHF_INFO_LINK else it.sh_info,
-            body=body_of(f, i, position)))
+        sections.append(
+            Value(
+                name=string(names, it.sh_name),
+                type=it.sh_type,
+                flags=it.sh_flags,
+                addr=it.sh_addr,
+                align=it.sh_addralign,
+                entsize=it.sh_entsize,
+                link=position.get(it.sh_link) if is_plain else None,
+                info=position[it.sh_info]
+                if it.sh_type in RELOCATIONS or is_plain and it.sh_flags & SHF_INFO_LINK
+                else it.sh_info,
+                body=body_of(f, i, position),
+            )
+        )
     table = symbol_table(f)
     found = [] if table is None else list(enumerate(symbols(f, table)))[1:]
     strings = b"" if table is None else f.content(f.section(table).sh_link)
-    all_symbols = [Value(name=string(strings, it.st_name), info=it.st_info, other=it.st_other, value=it.st_value, size=it.st_size,
-                         section=position.get(section_of(f, k, it)) if it.st_shndx not in (ABS, COMMON) else None,
-                         reserved=it.st_shndx if it.st_shndx in (ABS, COMMON) else UNDEF) for k, it in found]
-    return Value(order=f.order, osabi=content[7], abi=content[8], machine=f.header.e_machine, flags=f.header.e_flags, sections=sections,
-                 symbols=all_symbols)
+    all_symbols = [
+        Value(
+            name=string(strings, it.st_name),
+            info=it.st_info,
+            other=it.st_other,
+            value=it.st_value,
+            size=it.st_size,
+            section=position.get(section_of(f, k, it))
+            if it.st_shndx not in (ABS, COMMON)
+            else None,
+            reserved=it.st_shndx if it.st_shndx in (ABS, COMMON) else UNDEF,
+        )
+        for k, it in found
+    ]
+    return Value(
+        order=f.order,
+        osabi=content[7],
+        abi=content[8],
+        machine=f.header.e_machine,
+        flags=f.header.e_flags,
+        sections=sections,
+        symbols=all_symbols,
+    )
 
 
 # ---- the canonical layout
 
+
 def string_table(names):
-    """A zero, and each distinct name that is neither empty nor a proper suffix of another one, with its zero, in the order of first use;
-    and the lowest place at which each name stands with a zero behind it."""
+    """A zero, and each distinct name that is neither empty nor a proper suffix of another one, with
+    its zero, in the order of first use; and the lowest place at which each name stands with a zero
+    behind it."""
     tails = {name[k:] for name in names for k in range(1, len(name))}
     kept = [name for name in dict.fromkeys(names) if name and name not in tails]
     table = b"\0" + b"".join(name + b"\0" for name in kept)
@@ -181,16 +275,24 @@ def record(order, layout, **fields):
     content = bytearray(size)
     for field, value in fields.items():
         place, width = layout[field]
-        content[place:place + width] = value.to_bytes(width, order)
+        content[place : place + width] = value.to_bytes(width, order)
     return bytes(content)
 
 
 def content_of(o, it):
     """The bytes of a section in the file."""
     if it.type in RELOCATIONS:
-        entries = [record(o.order, RELOCATION, r_offset=offset, r_info=symbol * 2 ** 32 + kind, r_addend=addend)
-                   for offset, symbol, kind, addend in it.body]
-        return b"".join(entry[:tables.ENTRY_SIZE[it.type]] for entry in entries)
+        entries = [
+            record(
+                o.order,
+                RELOCATION,
+                r_offset=offset,
+                r_info=symbol * 2**32 + kind,
+                r_addend=addend,
+            )
+            for offset, symbol, kind, addend in it.body
+        ]
+        return b"".join(entry[: tables.ENTRY_SIZE[it.type]] for entry in entries)
     if it.type == GROUP:
         flags, members = it.body
         return b"".join(word.to_bytes(4, o.order) for word in [flags, *(p + 1 for p in members)])
@@ -213,23 +315,67 @@ def laid(o):
     entries = [bytes(24)]
     for it, index in zip(o.symbols, indexes):
         place = XINDEX if it.section is not None and index >= LORESERVE else index
-        entries.append(record(o.order, SYMBOL, st_name=name_at[it.name], st_info=it.info, st_other=it.other, st_shndx=place,
-                              st_value=it.value, st_size=it.size))
+        entries.append(
+            record(
+                o.order,
+                SYMBOL,
+                st_name=name_at[it.name],
+                st_info=it.info,
+                st_other=it.other,
+                st_shndx=place,
+                st_value=it.value,
+                st_size=it.size,
+            )
+        )
     locals_ = sum(it.info // 16 == 0 for it in o.symbols)
     parts = []
     for it in o.sections:
         is_plain = it.type not in (GROUP, *RELOCATIONS)
         link = (0 if it.link is None else it.link + 1) if is_plain else table
-        info = it.info + 1 if it.type in RELOCATIONS or is_plain and it.flags & SHF_INFO_LINK else it.info
-        parts.append((it.name, content_of(o, it), it.body if it.type == NOBITS else None,
-                      dict(sh_type=it.type, sh_flags=it.flags, sh_addr=it.addr, sh_link=link, sh_info=info, sh_addralign=it.align,
-                           sh_entsize=it.entsize)))
-    parts.append((b".symtab", b"".join(entries), None,
-                  dict(sh_type=SYMTAB, sh_link=strings, sh_info=1 + locals_, sh_addralign=8, sh_entsize=24)))
+        info = (
+            it.info + 1
+            if it.type in RELOCATIONS or is_plain and it.flags & SHF_INFO_LINK
+            else it.info
+        )
+        parts.append(
+            (
+                it.name,
+                content_of(o, it),
+                it.body if it.type == NOBITS else None,
+                dict(
+                    sh_type=it.type,
+                    sh_flags=it.flags,
+                    sh_addr=it.addr,
+                    sh_link=link,
+                    sh_info=info,
+                    sh_addralign=it.align,
+                    sh_entsize=it.entsize,
+                ),
+            )
+        )
+    parts.append(
+        (
+            b".symtab",
+            b"".join(entries),
+            None,
+            dict(
+                sh_type=SYMTAB, sh_link=strings, sh_info=1 + locals_, sh_addralign=8, sh_entsize=24
+            ),
+        )
+    )
     if has_index_table:
-        words = [0] + [index if it.section is not None and index >= LORESERVE else 0 for it, index in zip(o.symbols, indexes)]
-        parts.append((b".symtab_shndx", b"".join(word.to_bytes(4, o.order) for word in words), None,
-                      dict(sh_type=SYMTAB_SHNDX, sh_link=table, sh_addralign=4, sh_entsize=4)))
+        words = [0] + [
+            index if it.section is not None and index >= LORESERVE else 0
+            for it, index in zip(o.symbols, indexes)
+        ]
+        parts.append(
+            (
+                b".symtab_shndx",
+                b"".join(word.to_bytes(4, o.order) for word in words),
+                None,
+                dict(sh_type=SYMTAB_SHNDX, sh_link=table, sh_addralign=4, sh_entsize=4),
+            )
+        )
     parts.append((b".strtab", names, None, dict(sh_type=STRTAB, sh_addralign=1)))
     section_names, section_name_at = string_table([name for name, *_ in parts] + [b".shstrtab"])
     parts.append((b".shstrtab", section_names, None, dict(sh_type=STRTAB, sh_addralign=1)))
@@ -238,18 +384,43 @@ def laid(o):
 
 def placed(o, parts, name_at):
     """Header, contents, each at the least multiple of its alignment, and section table."""
-    file, headers = bytearray(64), []
+    file = bytearray(64)
+    headers = []
     for name, content, size, fields in parts:
         if size is None:
             file += bytes(-len(file) % max(1, fields["sh_addralign"]))
-        headers.append(record(o.order, SECTION_HEADER, sh_name=name_at[name], sh_offset=len(file),
-                              sh_size=len(content) if size is None else size, **fields))
+        headers.append(
+            record(
+                o.order,
+                SECTION_HEADER,
+                sh_name=name_at[name],
+                sh_offset=len(file),
+                sh_size=len(content) if size is None else size,
+                **fields
+            )
+        )
         file += content
     file += bytes(-len(file) % 8)
     count = 1 + len(parts)
-    first = record(o.order, SECTION_HEADER, sh_size=count if count >= LORESERVE else 0, sh_link=count - 1 if count - 1 >= LORESERVE else 0)
-    file[:64] = record(o.order, HEADER, e_type=ET_REL, e_machine=o.machine, e_version=1, e_shoff=len(file), e_flags=o.flags, e_ehsize=64,
-                       e_shentsize=64, e_shnum=count if count < LORESERVE else 0, e_shstrndx=count - 1 if count - 1 < LORESERVE else XINDEX)
+    first = record(
+        o.order,
+        SECTION_HEADER,
+        sh_size=count if count >= LORESERVE else 0,
+        sh_link=count - 1 if count - 1 >= LORESERVE else 0,
+    )
+    file[:64] = record(
+        o.order,
+        HEADER,
+        e_type=ET_REL,
+        e_machine=o.machine,
+        e_version=1,
+        e_shoff=len(file),
+        e_flags=o.flags,
+        e_ehsize=64,
+        e_shentsize=64,
+        e_shnum=count if count < LORESERVE else 0,
+        e_shstrndx=count - 1 if count - 1 < LORESERVE else XINDEX,
+    )
     file[:9] = b"\x7fELF\2" + bytes([1 if o.order == "little" else 2, 1, o.osabi, o.abi])
     return bytes(file) + first + b"".join(headers)
 
@@ -261,7 +432,7 @@ def rewrite(content):
         return "refused %d %d\n" % broken, b""
     o = object_of(content)
     # A gap before one content alone may be too long to be made.
-    if sum(max(1, it.align) for it in o.sections if it.type != NOBITS) > 2 ** 31:
+    if sum(max(1, it.align) for it in o.sections if it.type != NOBITS) > 2**31:
         return None
     written = laid(o)
-    return ("too long\n", b"") if len(written) > 2 ** 30 else ("", written)
+    return ("too long\n", b"") if len(written) > 2**30 else ("", written)

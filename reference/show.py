@@ -1,5 +1,5 @@
-"""What `elfmap show` says of a file: a line on the file, on each of its parts, on each section and segment, and on each entry of a
-table."""
+"""What `elfmap show` says of a file: a line on the file, on each of its parts, on each section and
+segment, and on each entry of a table."""
 import image
 import tables
 from link import word
@@ -10,9 +10,18 @@ WITH_STRING = (tables.NEEDED, tables.SONAME, tables.RPATH, tables.RUNPATH)
 
 
 def parts(f):
-    """Each part that has bytes: where it begins, how long it is, and whose it is; and the gaps between them."""
-    owned = [(0, 64, "header"), (f.header.e_phoff, 56 * f.segment_count, "segments"), (f.header.e_shoff, 64 * f.section_count, "sections")]
-    owned += [(it.sh_offset, it.sh_size, f"content {i}") for i, it in f.sections() if it.sh_type not in (NULL, NOBITS)]
+    """Each part that has bytes: where it begins, how long it is, and whose it is; and the gaps
+    between them."""
+    owned = [
+        (0, 64, "header"),
+        (f.header.e_phoff, 56 * f.segment_count, "segments"),
+        (f.header.e_shoff, 64 * f.section_count, "sections"),
+    ]
+    owned += [
+        (it.sh_offset, it.sh_size, f"content {i}")
+        for i, it in f.sections()
+        if it.sh_type not in (NULL, NOBITS)
+    ]
     at = 0
     for start, size, owner in sorted(it for it in owned if it[1] > 0):
         if start > at:
@@ -24,11 +33,13 @@ def parts(f):
 
 
 def name_of(f, it):
-    return string(f.content(f.name_table), it.sh_name) if f.name_table and it.sh_type != NULL else b""
+    return (
+        string(f.content(f.name_table), it.sh_name) if f.name_table and it.sh_type != NULL else b""
+    )
 
 
 def signed(n, bits):
-    return n - 2 ** bits if n >= 2 ** (bits - 1) else n
+    return n - 2**bits if n >= 2 ** (bits - 1) else n
 
 
 def symbol_name(f, table, k):
@@ -45,8 +56,10 @@ def place(f, table, k, it):
 def symbol_lines(f, i):
     names = f.content(f.section(i).sh_link)
     for k, it in enumerate(tables.symbols(f, i)):
-        yield (f"symbol {i} {k} {it.st_info // 16} {it.st_info % 16} {it.st_other} {place(f, i, k, it)} {it.st_value:#x} {it.st_size:#x} "
-               f"{word(string(names, it.st_name))}")
+        yield (
+            f"symbol {i} {k} {it.st_info // 16} {it.st_info % 16} {it.st_other} {place(f, i, k, it)} {it.st_value:#x} {it.st_size:#x} "
+            f"{word(string(names, it.st_name))}"
+        )
 
 
 def relocation_lines(f, i):
@@ -59,13 +72,15 @@ def relocation_lines(f, i):
 def group_lines(f, i):
     it = f.section(i)
     flags, *members = [number for _, number in f.words(i)]
-    yield " ".join(map(str, ["group", i, flags, word(symbol_name(f, it.sh_link, it.sh_info)), *members]))
+    yield " ".join(
+        map(str, ["group", i, flags, word(symbol_name(f, it.sh_link, it.sh_info)), *members])
+    )
 
 
 def note_lines(f, i):
     for at, _, name, descriptor in tables.notes(f, i):
         begin = at + 12 + tables.padded(name)
-        told = f.bytes[at + 12:at + 12 + name][:-1]
+        told = f.bytes[at + 12 : at + 12 + name][:-1]
         yield f"note {i} {f.number(at + 8, 4)} {word(told)} {f.bytes[begin:begin + descriptor].hex() or '-'}"
 
 
@@ -81,8 +96,16 @@ def hash_lines(f, i):
     yield f"hash {i} {len(buckets)} {len(chains)}"
 
 
-TABLE_LINES = {SYMTAB: symbol_lines, DYNSYM: symbol_lines, RELA: relocation_lines, REL: relocation_lines, GROUP: group_lines,
-               NOTE: note_lines, DYNAMIC_SECTION: dynamic_lines, HASH: hash_lines}
+TABLE_LINES = {
+    SYMTAB: symbol_lines,
+    DYNSYM: symbol_lines,
+    RELA: relocation_lines,
+    REL: relocation_lines,
+    GROUP: group_lines,
+    NOTE: note_lines,
+    DYNAMIC_SECTION: dynamic_lines,
+    HASH: hash_lines,
+}
 
 
 def lines(f):
@@ -91,18 +114,28 @@ def lines(f):
     for start, size, owner in parts(f):
         yield f"part {start:#x} {size:#x} {owner}"
     for i, it in f.sections():
-        yield (f"section {i} {it.sh_type} {it.sh_flags:#x} {it.sh_addr:#x} {it.sh_offset:#x} {it.sh_size:#x} {it.sh_link} {it.sh_info} "
-               f"{it.sh_addralign:#x} {it.sh_entsize:#x} {word(name_of(f, it))}")
+        yield (
+            f"section {i} {it.sh_type} {it.sh_flags:#x} {it.sh_addr:#x} {it.sh_offset:#x} {it.sh_size:#x} {it.sh_link} {it.sh_info} "
+            f"{it.sh_addralign:#x} {it.sh_entsize:#x} {word(name_of(f, it))}"
+        )
     for j, it in enumerate(f.segments()):
-        yield (f"segment {j} {it.p_type} {it.p_flags:#x} {it.p_offset:#x} {it.p_vaddr:#x} {it.p_paddr:#x} {it.p_filesz:#x} {it.p_memsz:#x} "
-               f"{it.p_align:#x}")
+        yield (
+            f"segment {j} {it.p_type} {it.p_flags:#x} {it.p_offset:#x} {it.p_vaddr:#x} {it.p_paddr:#x} {it.p_filesz:#x} {it.p_memsz:#x} "
+            f"{it.p_align:#x}"
+        )
     for i, it in f.sections():
         if it.sh_type in TABLE_LINES:
             broken = tables.verdict(f, i)
-            yield from ["refused %d %d %d" % (i, *broken)] if broken else TABLE_LINES[it.sh_type](f, i)
+            yield from ["refused %d %d %d" % (i, *broken)] if broken else TABLE_LINES[it.sh_type](
+                f, i
+            )
 
 
 def show(content):
     """What `elfmap show` says of these bytes."""
     broken = image.verdict(content)
-    return "refused %d %d\n" % broken if broken else "".join(line + "\n" for line in lines(image.File(content)))
+    return (
+        "refused %d %d\n" % broken
+        if broken
+        else "".join(line + "\n" for line in lines(image.File(content)))
+    )

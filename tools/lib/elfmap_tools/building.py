@@ -1,15 +1,41 @@
-"""How the kit's checker reads a crate of this repository over built libraries; `tools/dev prove`, which proves the libraries below a crate
-and builds it; and `tools/dev check`, the loop while one writes."""
+"""How the kit's checker reads a crate of this repository over built libraries; `tools/dev prove`,
+which proves the libraries below a crate and builds it; and `tools/dev check`, the loop while one
+writes."""
 
-import fcntl, functools, glob, hashlib, os, re, resource, shutil, sys, tempfile, time
+import fcntl
+import functools
+import glob
+import hashlib
+import os
+import re
+import resource
+import shutil
+import sys
+import tempfile
+import time
 from collections.abc import Callable, Iterable
 from concurrent.futures import Future, ThreadPoolExecutor
 from pathlib import Path
 
-from .tree import LIBRARIES_OF, PROCESSORS, STATIC_LIBRARIES, TOP
-from .tree import Options, below, deps, is_newer, is_program, read_bytes, read_text, said, texts_of, write
+from .tree import (
+    LIBRARIES_OF,
+    PROCESSORS,
+    STATIC_LIBRARIES,
+    TOP,
+    Options,
+    below,
+    deps,
+    is_newer,
+    is_program,
+    read_bytes,
+    read_text,
+    said,
+    texts_of,
+    write,
+)
 
-# Where `tools/dev prove` puts the libraries that it proved, each beside a sum of what it was made from.
+# Where `tools/dev prove` puts the libraries that it proved, each beside a sum of what it was made
+# from.
 RLIBS = f"{TOP}/crates/elfmap/out/rlibs"
 FolderOf = Callable[[str], str]
 
@@ -27,7 +53,8 @@ def version() -> str:
 
 @functools.cache
 def sum_of(crate: str) -> str:
-    """A sum of all that a library is built from: the kit, its texts, and those of the libraries below it."""
+    """A sum of all that a library is built from: the kit, its texts, and those of the libraries
+    below it."""
     found = hashlib.sha256(f"{version()} {LIBRARIES_OF[crate]}".encode())
     for path in texts_of(crate):
         found.update(f"{path[len(TOP):]} {os.path.getsize(path)} ".encode() + read_bytes(path))
@@ -48,8 +75,9 @@ def gate_folder(crate: str) -> str:
 
 
 def built_below(crates: Iterable[str]) -> tuple[FolderOf, list[str]]:
-    """The folder of each library below these crates, all built by `tools/dev prove` or all by `rt ci`: a mixture does not fit together.
-    Where neither has them all, also those that `tools/dev prove` lacks."""
+    """The folder of each library below these crates, all built by `tools/dev prove` or all by `rt
+    ci`: a mixture does not fit together. Where neither has them all, also those that `tools/dev
+    prove` lacks."""
     names = list(dict.fromkeys(it for crate in crates for it in below(crate)))
     lacking = [it for it in names if not is_built_by_prove(it)]
     if lacking and all(is_newer(f"{gate_folder(it)}/{it}.rlib", texts_of(it)) for it in names):
@@ -58,7 +86,8 @@ def built_below(crates: Iterable[str]) -> tuple[FolderOf, list[str]]:
 
 
 def words(crate: str, folder_of: FolderOf) -> list[str]:
-    """The words with which `rattle check` and `rattle build` read a crate. `folder_of` returns the folder of a library below it."""
+    """The words with which `rattle check` and `rattle build` read a crate. `folder_of` returns the
+    folder of a library below it."""
     rlibs = {name: folder_of(name) for name in below(crate)}
     found = ["--crate-name", crate, "src/main.rt" if is_program(crate) else "src/lib.rt"]
     for name in ["std", *LIBRARIES_OF[crate]]:
@@ -71,29 +100,52 @@ def words(crate: str, folder_of: FolderOf) -> list[str]:
     return [*found, "--logic-built", f"{kit()}/logic_built", "--links", f"{crate}="]
 
 
-def checked(crate: str, functions: Iterable[str], folder: str, folder_of: FolderOf, kept: str) -> str:
-    """What the checker says of a crate's text in a folder, or of these functions and those that they call; it keeps its work in `kept`."""
+def checked(
+    crate: str, functions: Iterable[str], folder: str, folder_of: FolderOf, kept: str
+) -> str:
+    """What the checker says of a crate's text in a folder, or of these functions and those that
+    they call; it keeps its work in `kept`."""
     only = [word for it in functions for word in ("--only", it.removeprefix(f"{crate}::"))]
-    return said(f"{kit()}/bin/rattle", "check", *words(crate, folder_of), "--incremental", kept, *only, folder=folder).stdout
+    return said(
+        f"{kit()}/bin/rattle",
+        "check",
+        *words(crate, folder_of),
+        "--incremental",
+        kept,
+        *only,
+        folder=folder,
+    ).stdout
 
 
 def link_words(output: str, source: str) -> list[str]:
     """The command that makes a program of what `rattle build` wrote."""
-    found = [f"{kit()}/bin/rattle-link", "--target", "x86_64-unknown-linux-gnu", "--toolchain", f"{kit()}/toolchain", "-o", output, source]
+    found = [
+        f"{kit()}/bin/rattle-link",
+        "--target",
+        "x86_64-unknown-linux-gnu",
+        "--toolchain",
+        f"{kit()}/toolchain",
+        "-o",
+        output,
+        source,
+    ]
     return [*found, f"{kit()}/c/libos_c.a", f"{kit()}/c/liblibc_c.a"]
 
 
 def is_current(crate: str, path: str) -> bool:
-    """Whether what was built of a crate is at least as new as its texts and those of all crates below it."""
+    """Whether what was built of a crate is at least as new as its texts and those of all crates
+    below it."""
     return is_newer(path, (it for own in [*below(crate), crate] for it in texts_of(own)))
 
 
 # ---- tools/dev prove
 
 MOST_JOBS = 8
-# A library has a job for each processor where less than this part of all texts can be proved beside it.
+# A library has a job for each processor where less than this part of all texts can be proved beside
+# it.
 LITTLE_BESIDE = 0.18
-# A chain of libraries, each of which needs the one before, is long from this part of the longest one's texts on.
+# A chain of libraries, each of which needs the one before, is long from this part of the longest
+# one's texts on.
 LONG_CHAIN = 0.85
 
 
@@ -115,28 +167,40 @@ class Build:
     """A build of what a crate needs, and of the crate, if it is a program or a library for C."""
 
     def __init__(self, target: str) -> None:
-        self.target, self.crates = target, below(target)
+        self.target = target
+        self.crates = below(target)
         self.chains_below: dict[str, int] = {}
         for it in self.crates:
-            self.chains_below[it] = size_of(it) + max((self.chains_below[dep] for dep in deps(it)), default=0)
+            self.chains_below[it] = size_of(it) + max(
+                (self.chains_below[dep] for dep in deps(it)), default=0
+            )
         self.rlibs: dict[str, Future[None]] = {}
 
     def chain_above(self, crate: str) -> int:
         """The texts of the longest chain of libraries that begins with this one."""
-        return size_of(crate) + max((self.chain_above(it) for it in self.crates if crate in deps(it)), default=0)
+        return size_of(crate) + max(
+            (self.chain_above(it) for it in self.crates if crate in deps(it)), default=0
+        )
 
     def jobs_of(self, crate: str) -> int:
-        """A library beside which little can be proved has a job for each processor, one on a long chain half as many, any other one has
-        one: each job costs processor time too."""
+        """A library beside which little can be proved has a job for each processor, one on a long
+        chain half as many, any other one has one: each job costs processor time too."""
         most = min(MOST_JOBS, PROCESSORS)
-        beside = [it for it in self.crates if it != crate and it not in below(crate) and crate not in below(it)]
+        beside = [
+            it
+            for it in self.crates
+            if it != crate and it not in below(crate) and crate not in below(it)
+        ]
         if sum(map(size_of, beside)) < LITTLE_BESIDE * sum(map(size_of, self.crates)):
             return most
-        is_long = self.chains_below[crate] + self.chain_above(crate) - size_of(crate) >= LONG_CHAIN * max(self.chains_below.values())
+        is_long = self.chains_below[crate] + self.chain_above(crate) - size_of(
+            crate
+        ) >= LONG_CHAIN * max(self.chains_below.values())
         return max(1, most // 2) if is_long else 1
 
     def library(self, crate: str) -> None:
-        """Builds a library when those below it are built; one that was built from the same texts is kept."""
+        """Builds a library when those below it are built; one that was built from the same texts is
+        kept."""
         for dep in deps(crate):
             self.rlibs[dep].result()
         if is_built_by_prove(crate):
@@ -149,11 +213,21 @@ class Build:
 
     def output(self, folder_of: FolderOf) -> None:
         """Builds the program, or the library for C."""
-        crate, out = self.target, f"{TOP}/crates/{self.target}/out"
+        crate = self.target
+        out = f"{TOP}/crates/{self.target}/out"
         os.makedirs(out, exist_ok=True)
-        command = [f"{kit()}/bin/rattle", "build", *words(crate, folder_of), "--toolchain", f"{kit()}/toolchain"]
+        command = [
+            f"{kit()}/bin/rattle",
+            "build",
+            *words(crate, folder_of),
+            "--toolchain",
+            f"{kit()}/toolchain",
+        ]
         if is_program(crate):
-            run([*command, "--jobs", str(min(MOST_JOBS, PROCESSORS)), "-o", f"{out}/{crate}.o"], crate)
+            run(
+                [*command, "--jobs", str(min(MOST_JOBS, PROCESSORS)), "-o", f"{out}/{crate}.o"],
+                crate,
+            )
             run(link_words(f"{out}/{crate}", f"{out}/{crate}.o"), crate)
         elif crate in STATIC_LIBRARIES:
             run([*command, "-o", f"{out}/lib{crate}.a"], crate)
@@ -165,7 +239,9 @@ class Build:
         if not lacking:
             return self.output(folder_of)
         # One run at a time: another one waits here, and then finds the libraries built.
-        with open(f"{RLIBS}/lock", "w", encoding="ascii") as lock, ThreadPoolExecutor(max(1, len(self.crates))) as pool:
+        with open(f"{RLIBS}/lock", "w", encoding="ascii") as lock, ThreadPoolExecutor(
+            max(1, len(self.crates))
+        ) as pool:
             fcntl.flock(lock, fcntl.LOCK_EX)
             # In the order of `below`, so that those that a crate waits for are in `rlibs`.
             for crate in self.crates:
@@ -198,7 +274,9 @@ QUIET = re.compile(
 )
 WIDTH = 300
 # A test with its comment, as `rt fmt` lays it out: it ends with the brace below its attribute.
-TEST = re.compile(r"^(?: *///.*\n)*( *)#\[test\]\n(?:.*\n)*?\1(?:pub )?fn (\w+)(?:.*\n)*?(?:\1}|.*{})\n", re.M)
+TEST = re.compile(
+    r"^(?: *///.*\n)*( *)#\[test\]\n(?:.*\n)*?\1(?:pub )?fn (\w+)(?:.*\n)*?(?:\1}|.*{})\n", re.M
+)
 COUNTS = re.compile(r"^only=(\d+) proved=(\d+)$", re.M)
 
 
@@ -211,7 +289,8 @@ def end_of(output: str) -> tuple[bool, str]:
 
 
 def without_other_tests(folder: str, name: str) -> list[str]:
-    """Takes each test whose name does not hold this one out of the texts of this folder: the names of those that stay."""
+    """Takes each test whose name does not hold this one out of the texts of this folder: the names
+    of those that stay."""
     kept: list[str] = []
 
     def left(match: re.Match[str]) -> str:
@@ -231,8 +310,17 @@ def tested(crate: str, folder_of: FolderOf, kept: str, name: str) -> tuple[bool,
                 shutil.copytree(f"{TOP}/crates/{crate}/{part}", f"{room}/{part}")
         if not without_other_tests(room, name):
             raise SystemExit(f"check: {crate} has no test whose name holds {name}")
-        command = [f"{kit()}/bin/rattle", "build", *words(crate, folder_of), "--test", "--incremental", kept]
-        output = said(*command, "--toolchain", f"{kit()}/toolchain", "-o", "tests.o", folder=room).stdout
+        command = [
+            f"{kit()}/bin/rattle",
+            "build",
+            *words(crate, folder_of),
+            "--test",
+            "--incremental",
+            kept,
+        ]
+        output = said(
+            *command, "--toolchain", f"{kit()}/toolchain", "-o", "tests.o", folder=room
+        ).stdout
         if not os.path.isfile(f"{room}/tests.o"):
             return False, output
         output += said(*link_words("tests", "tests.o"), folder=room).stdout
@@ -241,14 +329,19 @@ def tested(crate: str, folder_of: FolderOf, kept: str, name: str) -> tuple[bool,
 
 
 def check(options: Options) -> int:
-    crate, begun = options.crate, time.monotonic()
+    crate = options.crate
+    begun = time.monotonic()
     if options.test and options.function:
         raise SystemExit("usage: tools/dev check CRATE [FUNCTION.. | --test NAME]")
     folder_of, lacking = built_below([crate])
     if lacking:
-        print(f"check: these libraries below {crate} are not built, or were changed since: {' '.join(lacking)}", file=sys.stderr)
+        print(
+            f"check: these libraries below {crate} are not built, or were changed since: {' '.join(lacking)}",
+            file=sys.stderr,
+        )
         raise SystemExit(f"check: build them with `tools/dev prove {crate}`")
-    folder, kept = f"{TOP}/crates/{crate}", f"{TOP}/crates/{crate}/out/loop"
+    folder = f"{TOP}/crates/{crate}"
+    kept = f"{TOP}/crates/{crate}/out/loop"
     os.makedirs(kept, exist_ok=True)
     if options.test:
         is_well, output = tested(crate, folder_of, kept, options.test)
@@ -257,8 +350,12 @@ def check(options: Options) -> int:
         is_well = end_of(output)[0]
     write(f"{folder}/out/check.log", output)
     # The lines on what is not proved, and why, their beginnings; and of tests how each ended.
-    for line in (it for it in output.splitlines() if not QUIET.match(it) and not it.startswith("  = ")):
+    for line in (
+        it for it in output.splitlines() if not QUIET.match(it) and not it.startswith("  = ")
+    ):
         print(line if len(line) <= WIDTH else f"{line[:WIDTH]} ..")
     used = resource.getrusage(resource.RUSAGE_CHILDREN)
-    print(f"check: {crate}: {end_of(output)[1]}; {time.monotonic() - begun:.0f} s, {used.ru_utime + used.ru_stime:.0f} of a processor")
+    print(
+        f"check: {crate}: {end_of(output)[1]}; {time.monotonic() - begun:.0f} s, {used.ru_utime + used.ru_stime:.0f} of a processor"
+    )
     return 0 if is_well else 1

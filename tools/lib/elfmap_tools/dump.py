@@ -1,22 +1,58 @@
-"""What the libraries have to say of files, by the reference implementation: the lines that bindings/c/test.c prints, and those with which
-the tests of bindings/rust and bindings/python compare. `tools/dev told FOLDER` writes these into FOLDER: a file as K.elf, and its lines as
-K.txt, K from 0; bytes as `=` and their hexadecimal digits, `-` where there are none."""
+"""What the libraries have to say of files, by the reference implementation: the lines that
+bindings/c/test.c prints, and those with which the tests of bindings/rust and bindings/python
+compare. `tools/dev told FOLDER` writes these into FOLDER: a file as K.elf, and its lines as K.txt,
+K from 0; bytes as `=` and their hexadecimal digits, `-` where there are none."""
 
 import os
 from collections.abc import Iterator
 from typing import Any
 
-from .cases import case_files
-from .doc_tables import by_anchor
-from .reference import DYNAMIC, DYNAMIC_SECTION, DYNSYM, ENTRY_SIZE, HASH, HEADER, LOAD, NOBITS, NOTE, NULL, PROGRAM_HEADER, REL, RELA
-from .reference import RELOCATION, SECTION_HEADER, SYMBOL, SYMTAB, SYMTAB_SHNDX, XINDEX
-from .reference import Broken, File, check, elf_hash, entries_before_null, is_section, name_of, notes, padded, parts, rewritten, shown
-from .reference import signed, string, symbols, table_verdict, verdict
+from .reference import (
+    DYNAMIC,
+    DYNAMIC_SECTION,
+    DYNSYM,
+    ENTRY_SIZE,
+    HASH,
+    HEADER,
+    LOAD,
+    NOBITS,
+    NOTE,
+    NULL,
+    PROGRAM_HEADER,
+    REL,
+    RELA,
+    RELOCATION,
+    SECTION_HEADER,
+    SYMBOL,
+    SYMTAB,
+    SYMTAB_SHNDX,
+    XINDEX,
+    Broken,
+    File,
+    check,
+    elf_hash,
+    entries_before_null,
+    is_section,
+    name_of,
+    notes,
+    padded,
+    parts,
+    rewritten,
+    shown,
+    signed,
+    string,
+    symbols,
+    table_verdict,
+    verdict,
+)
+from .rules_page import by_anchor
 from .tree import Options, read_bytes, write
+from .written_cases import case_files
 
 # A line for bindings/c/test.c, and one for bindings/rust and bindings/python.
 Lines = tuple[str, str]
-# The owner of a part by its index in the list of a file's extents, as the reference calls it: of a content by the section's index.
+# The owner of a part by its index in the list of a file's extents, as the reference calls it: of a
+# content by the section's index.
 OWNERS = {"header": 0, "sections": 1, "segments": 2, "content": 3, "gap": 2**64 - 1}
 
 # ---- the entries of tables: also of those that break a rule, as far as they lie in the file
@@ -30,26 +66,40 @@ def content_of(f: Any, i: int | None) -> bytes:
 
 
 def beside(f: Any, i: int) -> tuple[int | None, int | None]:
-    """The sections beside which the table in section i is read, None where there is none: its index or symbol table, and its strings."""
-    kind, link = f.section(i).sh_type, f.section(i).sh_link
+    """The sections beside which the table in section i is read, None where there is none: its index
+    or symbol table, and its strings."""
+    kind = f.section(i).sh_type
+    link = f.section(i).sh_link
     if kind in (SYMTAB, DYNSYM):
-        return next((k for k, it in f.sections() if it.sh_type == SYMTAB_SHNDX and it.sh_link == i), None), link
+        return (
+            next(
+                (k for k, it in f.sections() if it.sh_type == SYMTAB_SHNDX and it.sh_link == i),
+                None,
+            ),
+            link,
+        )
     if kind == HASH:
         return link, f.section(link).sh_link
     return None, link if kind == DYNAMIC_SECTION else None
 
 
 def entries(f: Any, i: int) -> Iterator[Lines]:
-    """The lines of a table of each type: of symbols the index of their section and their name too; of relocations their offset, addend,
-    symbol and kind; of dynamic entries also the string at their number; of whole notes type, end, name and descriptor."""
-    kind, (index_table, strings) = f.section(i).sh_type, beside(f, i)
+    """The lines of a table of each type: of symbols the index of their section and their name too;
+    of relocations their offset, addend, symbol and kind; of dynamic entries also the string at
+    their number; of whole notes type, end, name and descriptor.
+    """
+    kind = f.section(i).sh_type
+    (index_table, strings) = beside(f, i)
     names = content_of(f, strings)
     if kind in (SYMTAB, DYNSYM):
         words = [] if index_table is None else f.words(index_table)
         for k, it in enumerate(symbols(f, i)):
             if it.st_shndx != XINDEX or k < len(words):
-                section, name = words[k][1] if it.st_shndx == XINDEX else it.st_shndx, string(names, it.st_name).hex()
-                numbers = f"{it.st_value} {it.st_size} {section} {it.st_shndx} {it.st_info} {it.st_other}"
+                section = words[k][1] if it.st_shndx == XINDEX else it.st_shndx
+                name = string(names, it.st_name).hex()
+                numbers = (
+                    f"{it.st_value} {it.st_size} {section} {it.st_shndx} {it.st_info} {it.st_other}"
+                )
                 yield f"symbol {fields(it, SYMBOL)} {section} {name}", f"symbol {i} {numbers} ={name}"
     elif kind in (RELA, REL):
         for it in f.entries(i, RELOCATION, ENTRY_SIZE[kind]):
@@ -58,14 +108,18 @@ def entries(f: Any, i: int) -> Iterator[Lines]:
     elif kind == DYNAMIC_SECTION:
         found = entries_before_null(f, i)
         for it in f.entries(i, DYNAMIC, 16) if found is None else found:
-            numbers, text = f"{signed(it.d_tag, 64)} {it.d_un}", string(names, it.d_un).hex() if it.d_un < len(names) else None
+            numbers = f"{signed(it.d_tag, 64)} {it.d_un}"
+            text = string(names, it.d_un).hex() if it.d_un < len(names) else None
             yield f"dynamic {numbers} {'none' if text is None else text}", f"dynamic {i} {numbers} ={text or ''}"
     else:
         for at, end, name_size, size in notes(f, i):
-            named, begin = at + 12, at + 12 + padded(name_size)
+            named = at + 12
+            begin = at + 12 + padded(name_size)
             if begin + padded(size) <= end:
-                type, next_note = f.number(at + 8, 4), begin + padded(size) - f.section(i).sh_offset
-                own, descriptor = f.bytes[named : named + name_size][:-1].hex(), f.bytes[begin : begin + size].hex()
+                type = f.number(at + 8, 4)
+                next_note = begin + padded(size) - f.section(i).sh_offset
+                own = f.bytes[named : named + name_size][:-1].hex()
+                descriptor = f.bytes[begin : begin + size].hex()
                 yield f"note {type} {next_note} {own} {descriptor}", f"note {i} {type} ={own} ={descriptor}"
 
 
@@ -77,10 +131,15 @@ def fields(record: Any, layout: Any) -> str:
 
 
 def by_rooms(f: Any, broken: Broken | None, wanted: int) -> list[str]:
-    """The ends of the lines on a verdict by rooms: an empty one, one that is too short by one, and one that is as large as is wanted."""
+    """The ends of the lines on a verdict by rooms: an empty one, one that is too short by one, and
+    one that is as large as is wanted."""
     if broken and broken[0] < 33:
         return [f"in none {end_of(broken)}"]
-    return [f"in none refused 0 {wanted}", f"in less refused 0 {wanted}", f"in enough {end_of(broken)}"]
+    return [
+        f"in none refused 0 {wanted}",
+        f"in less refused 0 {wanted}",
+        f"in enough {end_of(broken)}",
+    ]
 
 
 def end_of(broken: Broken | None) -> str:
@@ -97,9 +156,11 @@ def loaded(f: Any, address: int) -> object:
 
 
 def found(words: list[int], names: list[bytes], name: bytes) -> object:
-    """The first symbol of this name on the chain of its bucket, or 'none': of words that may break a rule."""
+    """The first symbol of this name on the chain of its bucket, or 'none': of words that may break
+    a rule."""
     word = dict(enumerate(words))
-    buckets, chains = word.get(0, 0), word.get(1, 0)
+    buckets = word.get(0, 0)
+    chains = word.get(1, 0)
     symbol = word.get(2 + elf_hash(name) % buckets, 0) if buckets and chains == len(names) else 0
     for _ in range(chains if symbol else 0):
         if symbol == 0 or names[symbol : symbol + 1] == [name]:
@@ -111,34 +172,57 @@ def found(words: list[int], names: list[bytes], name: bytes) -> object:
 def found_lines(f: Any, i: int) -> Iterator[str]:
     """Of a hash table: which symbol of each name it finds."""
     linked, strings = (content_of(f, k) for k in beside(f, i))
-    names = [string(strings, int.from_bytes(linked[at : at + 4], f.order)) for at in range(0, len(linked) // 24 * 24, 24)]
+    names = [
+        string(strings, int.from_bytes(linked[at : at + 4], f.order))
+        for at in range(0, len(linked) // 24 * 24, 24)
+    ]
     words = [it for _, it in f.words(i)]
     for name in [*names, b"no such name"]:
         yield f"found {name.hex()} {found(words, names, name)}"
 
 
 def table_lines(f: Any, i: int, kind: int) -> Iterator[str]:
-    """Of a table whose linked sections are there: where it is and those beside it are, how many entries it has, and these."""
+    """Of a table whose linked sections are there: where it is and those beside it are, how many
+    entries it has, and these."""
     link = f.section(i).sh_link
-    if kind == NOTE or is_section(f, link) and (kind != HASH or is_section(f, f.section(link).sh_link)):
+    if (
+        kind == NOTE
+        or is_section(f, link)
+        and (kind != HASH or is_section(f, f.section(link).sh_link))
+    ):
         lines = list(found_lines(f, i)) if kind == HASH else [own for own, _ in entries(f, i)]
-        count = len(notes(f, i)) if kind == NOTE else len(lines) if kind == DYNAMIC_SECTION else f.section(i).sh_size // ENTRY_SIZE[kind]
-        places = ("0 0" if it is None else f"{f.section(it).sh_offset} {len(content_of(f, it))}" for it in (i, *beside(f, i)))
+        count = (
+            len(notes(f, i))
+            if kind == NOTE
+            else len(lines)
+            if kind == DYNAMIC_SECTION
+            else f.section(i).sh_size // ENTRY_SIZE[kind]
+        )
+        places = (
+            "0 0" if it is None else f"{f.section(it).sh_offset} {len(content_of(f, it))}"
+            for it in (i, *beside(f, i))
+        )
         yield f"table {i} {' '.join(places)} {count} {kind} {f.bytes[5]}"
         yield from lines
 
 
 def kept_lines(f: Any) -> Iterator[str]:
-    """The lines on a file that keeps the rules: its parts, its records, bytes at the ends of its segments in memory, and its tables."""
+    """The lines on a file that keeps the rules: its parts, its records, bytes at the ends of its
+    segments in memory, and its tables."""
     for start, size, whose in parts(f):
         kind, _, index = whose.partition(" ")
         yield f"part {start} {size} {OWNERS[kind] + (int(index) if kind == 'content' else 0)}"
     yield f"file {f.header.e_phoff} {f.header.e_shoff} {f.section_count} {f.segment_count} {f.name_table} {f.bytes[5]}"
     yield f"header {f.bytes[:16].hex()} {fields(f.header, HEADER)}"
-    yield from (f"section {fields(it, SECTION_HEADER)} {name_of(f, it).hex()}" for _, it in f.sections())
+    yield from (
+        f"section {fields(it, SECTION_HEADER)} {name_of(f, it).hex()}" for _, it in f.sections()
+    )
     yield from (f"segment {fields(it, PROGRAM_HEADER)}" for it in f.segments())
     for it in (it for it in f.segments() if it.p_type == LOAD):
-        for address in ((it.p_vaddr + k) % 2**64 for k in (0, it.p_filesz - 1, it.p_filesz, it.p_memsz - 1, it.p_memsz)):
+        for address in (
+            (it.p_vaddr + k) % 2**64
+            for k in (0, it.p_filesz - 1, it.p_filesz, it.p_memsz - 1, it.p_memsz)
+        ):
             yield f"load {address} {loaded(f, address)}"
     for i, it in f.sections():
         if it.sh_type in (*TABLES, HASH):
@@ -147,7 +231,8 @@ def kept_lines(f: Any) -> Iterator[str]:
 
 def c_lines(content: bytes) -> list[str]:
     """What the test of the library for C prints of a file."""
-    f, broken = File(content), verdict(content)
+    f = File(content)
+    broken = verdict(content)
     lines = [f"verdict {end_of(broken)}", *by_rooms(f, broken, 3 + f.section_count)]
     lines += [f"parts {it}" for it in by_rooms(f, broken, 3 * (3 + f.section_count) + 1)]
     return lines if broken else [*lines, *kept_lines(f)]
@@ -161,15 +246,20 @@ LONG = 1 << 20
 
 def files() -> list[bytes]:
     """The files of cases/*.txt and some of the machine's own, each once."""
-    return list(dict.fromkeys([*case_files(), *map(read_bytes, filter(os.path.isfile, ["/bin/true"]))]))
+    return list(
+        dict.fromkeys([*case_files(), *map(read_bytes, filter(os.path.isfile, ["/bin/true"]))])
+    )
 
 
 def record_line(word: str, record: Any, layout: Any, *parts: bytes | None) -> str:
-    return " ".join([word, fields(record, layout), *("-" if it is None else f"={it.hex()}" for it in parts)])
+    return " ".join(
+        [word, fields(record, layout), *("-" if it is None else f"={it.hex()}" for it in parts)]
+    )
 
 
 def lines_of(content: bytes) -> list[str]:
-    """The lines on a file: its refusal, or what it counts, each of its records, parts and entries, and its object."""
+    """The lines on a file: its refusal, or what it counts, each of its records, parts and entries,
+    and its object."""
     broken = verdict(content)
     if broken:
         return [f"refused {broken[0]} {broken[1]} {by_anchor()[f'image-{broken[0]}'].name}"]
@@ -183,11 +273,18 @@ def lines_of(content: bytes) -> list[str]:
         lines.append(record_line("segment", it, PROGRAM_HEADER, None if it.p_type == NULL else own))
     if len(content) > LONG:
         return lines
-    lines += [f"part {start} {size} {'gap' if owner.startswith('gap') else owner}" for start, size, owner in parts(f)]
+    lines += [
+        f"part {start} {size} {'gap' if owner.startswith('gap') else owner}"
+        for start, size, owner in parts(f)
+    ]
     for i, it in ((i, it) for i, it in f.sections() if it.sh_type in TABLES):
         lines += [f"broken {i}"] if table_verdict(f, i) else [own for _, own in entries(f, i)]
     refusal, written = rewritten(content) or ("", b"")
-    return [*lines, f"show ={shown(content).encode().hex()}", f"rewrite {refusal.strip()}" if refusal else f"rewrite ={written.hex()}"]
+    return [
+        *lines,
+        f"show ={shown(content).encode().hex()}",
+        f"rewrite {refusal.strip()}" if refusal else f"rewrite ={written.hex()}",
+    ]
 
 
 def main(options: Options) -> None:

@@ -1,9 +1,12 @@
-"""`tools/release man`: the manual page of the program, from docs/MANUAL.md: its first paragraph, and its section "The commands". There each
-command has a part of its own, whose text up to the first example comes below COMMANDS, and what follows below EXAMPLES. A row of a table
-becomes a paragraph with its first cell as the tag. pandoc makes the page of this. And completions of bash, zsh and fish for a command
-(completions/): they read the help that it prints, its subcommands, options, and the words that an option takes. Other words are files."""
+"""`tools/release man`: the manual page of the program, from docs/MANUAL.md: its first paragraph,
+and its section "The commands". There each command has a part of its own, whose text up to the first
+example comes below COMMANDS, and what follows below EXAMPLES. A row of a table becomes a paragraph
+with its first cell as the tag. pandoc makes the page of this. And completions of bash, zsh and fish
+for a command (completions/): they read the help that it prints, its subcommands, options, and the
+words that an option takes. Other words are files."""
 
-import re, subprocess
+import re
+import subprocess
 
 from .tree import cells, filled, read_text
 
@@ -26,31 +29,68 @@ def blocks(text: str) -> list[str]:
 
 
 # The blocks of the section "The commands": of its beginning, and of each part by its title.
-FIRST, *OTHER = re.split(r"^### (.*)\n", read_text(MANUAL).partition("\n## The commands\n")[2].partition("\n## ")[0], flags=re.M)
+FIRST, *OTHER = re.split(
+    r"^### (.*)\n",
+    read_text(MANUAL).partition("\n## The commands\n")[2].partition("\n## ")[0],
+    flags=re.M,
+)
 PARTS = {"": blocks(FIRST), **dict(zip(OTHER[::2], map(blocks, OTHER[1::2])))}
 
 
 def with_tags(block: str) -> str:
-    """A block whose table is a list of tags, and whose links are words; one to a part of the manual that the page lacks says so."""
+    """A block whose table is a list of tags, and whose links are words; one to a part of the manual
+    that the page lacks says so."""
     here = {f"#{it.lower().replace(' ', '-')}" for it in PARTS}
     if block.startswith("|"):
         rows = ([it.replace("\\|", "|") for it in cells(line)] for line in block.split("\n")[2:])
         block = "\n\n".join(f"{tag}\n:   {', '.join(texts)}" for tag, *texts in rows)
-    block = LINK.sub(lambda it: it[1] + (f" ({MANUAL})" if it[2].startswith("#") and it[2] not in here else ""), block)
+    block = LINK.sub(
+        lambda it: it[1] + (f" ({MANUAL})" if it[2].startswith("#") and it[2] not in here else ""),
+        block,
+    )
     return re.sub(r"(?<![\w/.])\./elfmap\b", "elfmap", block)
 
 
 def by_pandoc(name: str, version: str, blocks: list[str]) -> str:
-    """The manual page of a command. Inline code is bold, all signs are those of ASCII, and no word is cut: it may be one that is typed."""
-    words = {"title": name.upper(), "section": "1", "footer": f"elfmap {version}", "header": "elfmap", "adjusting": "l"}
-    command = ["pandoc", "-s", "-f", "gfm+definition_lists", "-t", "man", "-M", "hyphenate=false", *(f"-V{it}={words[it]}" for it in words)]
-    made = subprocess.run(command, input="\n\n".join(blocks), stdout=subprocess.PIPE, check=True, encoding="utf-8").stdout
-    return re.sub(r"^[^.'].*", lambda line: line[0].replace("-", r"\-").replace(r"\f[V]", r"\f[B]"), made, flags=re.M)
+    """The manual page of a command. Inline code is bold, all signs are those of ASCII, and no word
+    is cut: it may be one that is typed."""
+    words = {
+        "title": name.upper(),
+        "section": "1",
+        "footer": f"elfmap {version}",
+        "header": "elfmap",
+        "adjusting": "l",
+    }
+    command = [
+        "pandoc",
+        "-s",
+        "-f",
+        "gfm+definition_lists",
+        "-t",
+        "man",
+        "-M",
+        "hyphenate=false",
+        *(f"-V{it}={words[it]}" for it in words),
+    ]
+    made = subprocess.run(
+        command, input="\n\n".join(blocks), stdout=subprocess.PIPE, check=True, encoding="utf-8"
+    ).stdout
+    return re.sub(
+        r"^[^.'].*",
+        lambda line: line[0].replace("-", r"\-").replace(r"\f[V]", r"\f[B]"),
+        made,
+        flags=re.M,
+    )
 
 
 def page(version: str) -> str:
     summary = blocks(read_text(MANUAL))[1]
-    text = ["# NAME", summary.partition(", the ")[0].replace("elfmap ", "elfmap - ", 1), "# SYNOPSIS", PARTS[""][0]]
+    text = [
+        "# NAME",
+        summary.partition(", the ")[0].replace("elfmap ", "elfmap - ", 1),
+        "# SYNOPSIS",
+        PARTS[""][0],
+    ]
     text += ["# DESCRIPTION", summary, "# COMMANDS"]
     examples = ["# EXAMPLES"]
     for title, found in list(PARTS.items())[1:]:
@@ -60,10 +100,13 @@ def page(version: str) -> str:
     for title, name in OTHERS.items():
         text += [f"# {name}", *(it for it in PARTS[title] if not it.startswith(EXAMPLE))]
     others = re.sub(r"([\w-]+)\(", r"**\1**(", SEE_ALSO)
-    return by_pandoc("elfmap", version, list(map(with_tags, [*text, *examples, "# SEE ALSO", others, PAGES])))
+    return by_pandoc(
+        "elfmap", version, list(map(with_tags, [*text, *examples, "# SEE ALSO", others, PAGES]))
+    )
 
 
-# The help of a command, each thing listed in one line; the words of these, with what is said of them; and the words that an option takes.
+# The help of a command, each thing listed in one line; the words of these, with what is said of
+# them; and the words that an option takes.
 HELP = r"--help 2>&1 | sed -zE 's/\n {10,}/  /g'"
 LISTED = r"sed -nE 's/^ +(-., )?(--?[a-z0-9-]+|[a-z]+)( [^ ]+)*  +(.*)/\2\t\4/p'"
 CHOICES = r"sed -nE 's/^ +'$before' \{(.*)\}.*/\1/p'"
@@ -71,6 +114,19 @@ CHOICES = r"sed -nE 's/^ +'$before' \{(.*)\}.*/\1/p'"
 
 def completions(name: str) -> dict[str, str]:
     """The files of the completions of a command, by their places below /usr/share."""
-    parts = {"NAME": name, "FUNCTION": "_" + re.sub(r"\W", "_", name), "HELP": HELP, "LISTED": LISTED, "CHOICES": CHOICES}
-    shells = {"bash": "bash-completion/completions/{}", "zsh": "zsh/vendor-completions/_{}", "fish": "fish/vendor_completions.d/{}.fish"}
-    return {place.format(name): filled(read_text(f"completions/{shell}"), **parts) for shell, place in shells.items()}
+    parts = {
+        "NAME": name,
+        "FUNCTION": "_" + re.sub(r"\W", "_", name),
+        "HELP": HELP,
+        "LISTED": LISTED,
+        "CHOICES": CHOICES,
+    }
+    shells = {
+        "bash": "bash-completion/completions/{}",
+        "zsh": "zsh/vendor-completions/_{}",
+        "fish": "fish/vendor_completions.d/{}.fish",
+    }
+    return {
+        place.format(name): filled(read_text(f"completions/{shell}"), **parts)
+        for shell, place in shells.items()
+    }

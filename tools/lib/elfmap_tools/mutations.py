@@ -1,12 +1,20 @@
-"""Mutation tests: the check has to refuse each bug of crates/CRATE/mutations.txt (CONTRIBUTING.md), at the function that it is planted in.
+"""Mutation tests: the check has to refuse each bug of crates/CRATE/mutations.txt (CONTRIBUTING.md),
+at the function that it is planted in.
 
-Bugs are planted several at a time, each in a function of its own. If a check cannot tell, because all that it has against a function is
-that it calls another one that is open too, or because proof files name what the bug took away, the next check decides, and at last one of
-this bug alone. A check reads only the functions that have a bug, and those that they call: that is why it takes less than `rt ci` does for
-an edit in must-fail/, which costs a check of its crate. In the gate only those with the line `gate: yes` are planted, over the libraries as
-`rt ci` has just left them. A library that has none of them has failed: nothing shows there that the contracts refuse a wrong body."""
+Bugs are planted several at a time, each in a function of its own. If a check cannot tell, because
+all that it has against a function is that it calls another one that is open too, or because proof
+files name what the bug took away, the next check decides, and at last one of this bug alone. A
+check reads only the functions that have a bug, and those that they call: that is why it takes less
+than `rt ci` does for an edit in must-fail/, which costs a check of its crate. In the gate only
+those with the line `gate: yes` are planted, over the libraries as `rt ci` has just left them. A
+library that has none of them has failed: nothing shows there that the contracts refuse a wrong
+body."""
 
-import glob, os, re, shutil, tempfile
+import glob
+import os
+import re
+import shutil
+import tempfile
 from collections import Counter
 from collections.abc import Iterable
 from concurrent.futures import ThreadPoolExecutor, as_completed
@@ -18,8 +26,12 @@ from .tree import LIBRARIES_OF, PROCESSORS, TOP, Options, read_text, write
 ABOUT = "the check refuses each bug of mutations.txt with 'gate: yes'; of CRATE.., or with --all of every crate, each bug"
 # What the checker prints if it could read the text and came to its end.
 ENDED = re.compile(r"^only=", re.M)
-CRATES = word("crates", "the crates whose bugs are planted, all of them", nargs="*", metavar="CRATE")
-FLAGS = flag("all", "plant all bugs"), flag("fit", "plant none: only say whether each edit fits the text that it changes")
+CRATES = word(
+    "crates", "the crates whose bugs are planted, all of them", nargs="*", metavar="CRATE"
+)
+FLAGS = flag("all", "plant all bugs"), flag(
+    "fit", "plant none: only say whether each edit fits the text that it changes"
+)
 ONLY = word("--only", "plant the bug of this name alone", metavar="NAME", default="")
 
 
@@ -28,10 +40,15 @@ class Edit:
 
     def __init__(self, crate: str, name: str, text: str, is_bug: bool) -> None:
         words = re.findall(r"^(.*?): ?(.*)", text, re.M)
-        said, own = dict(words), dict[str, str]()
-        self.crate, self.name, self.is_bug, self.is_for_gate = crate, name, is_bug, said.get("gate") == "yes"
+        said = dict(words)
+        own = dict[str, str]()
+        self.crate = crate
+        self.name = name
+        self.is_bug = is_bug
+        self.is_for_gate = said.get("gate") == "yes"
         self.function = f"{crate}::{said['function']}" if "function" in said else ""
-        # Of each line `new:` the file and the old text that were named last, and the text that the old one comes after.
+        # Of each line `new:` the file and the old text that were named last, and the text that the
+        # old one comes after.
         self.pairs = list[tuple[str, str, str, str]]()
         for key, text in words:
             own[key] = text
@@ -39,7 +56,8 @@ class Edit:
                 self.pairs.append((own["file"], own.pop("after", ""), own["old"], text))
 
     def texts(self, folder: str) -> tuple[dict[str, str], str]:
-        """What it makes of the crate's texts in this folder, by file; or why it can't be planted."""
+        """What it makes of the crate's texts in this folder, by file; or why it can't be
+        planted."""
         made: dict[str, str] = {}
         for file, after, old, new in self.pairs:
             if file not in made:
@@ -47,7 +65,10 @@ class Edit:
                     return {}, f"there is no file {file}"
                 made[file] = read_text(f"{folder}/{file}")
             if after and made[file].count(after) != 1:
-                return {}, f"an 'after:' text stands {made[file].count(after)} times in {file}, and not once"
+                return (
+                    {},
+                    f"an 'after:' text stands {made[file].count(after)} times in {file}, and not once",
+                )
             front, found, rest = made[file].partition(after) if after else ("", "", made[file])
             if not after and rest.count(old) != 1 or old not in rest:
                 return {}, f"an 'old:' text stands {rest.count(old)} times in {file}, and not once"
@@ -59,7 +80,9 @@ class Edit:
 
 def bugs_of(crate: str) -> list[Edit]:
     path = f"{TOP}/crates/{crate}/mutations.txt"
-    _, *parts = re.split(r"^\[(.*)\]\n", read_text(path), flags=re.M) if os.path.isfile(path) else [""]
+    _, *parts = (
+        re.split(r"^\[(.*)\]\n", read_text(path), flags=re.M) if os.path.isfile(path) else [""]
+    )
     twice = [name for name, count in Counter(parts[::2]).items() if count > 1]
     if twice:
         raise SystemExit(f"{path}: {twice} are in it twice")
@@ -79,12 +102,23 @@ def verdict(bug: Edit, said: str, others: Iterable[Edit]) -> str:
     line = found[1]
     if line == "proved":
         return "NOT REFUSED: its function is still proved"
-    # What the check has against the text: that proof files name what it no longer has, which says nothing of a contract; and the rest.
-    # A message goes on in lines that begin with two spaces.
-    told: list[str] = re.findall(r"^(?:note: \S+:\d+:\d+: |\S+:\d+:\d+: error: ).*(?:\n  .*)*$", said, re.M)
-    lost = [it for it in told if re.match(r"(?s)(\./)?proofs/.*(has no field|is not in scope|has no `|was not admitted)", it)]
-    proofs = [f"proofs/{it.function.removeprefix(f'{it.crate}::').replace('::', '/')}/" for it in others]
-    # A proof takes the functions that it calls by their contracts: what the check doesn't prove of this one is due to its own text.
+    # What the check has against the text: that proof files name what it no longer has, which says
+    # nothing of a contract; and the rest. A message goes on in lines that begin with two spaces.
+    told: list[str] = re.findall(
+        r"^(?:note: \S+:\d+:\d+: |\S+:\d+:\d+: error: ).*(?:\n  .*)*$", said, re.M
+    )
+    lost = [
+        it
+        for it in told
+        if re.match(
+            r"(?s)(\./)?proofs/.*(has no field|is not in scope|has no `|was not admitted)", it
+        )
+    ]
+    proofs = [
+        f"proofs/{it.function.removeprefix(f'{it.crate}::').replace('::', '/')}/" for it in others
+    ]
+    # A proof takes the functions that it calls by their contracts: what the check doesn't prove of
+    # this one is due to its own text.
     is_own = "it calls" not in line or "did not prove" in line
     if proofs:
         is_lost = any(not any(own in it for own in proofs) for it in lost)
@@ -102,7 +136,10 @@ def pick(bugs: list[Edit]) -> list[Edit]:
     taken: set[object] = set()
     picked = []
     for bug in bugs:
-        places: set[object] = {bug.function, *((file, after, old) for file, after, old, _ in bug.pairs)}
+        places: set[object] = {
+            bug.function,
+            *((file, after, old) for file, after, old, _ in bug.pairs),
+        }
         if not taken & places:
             taken |= places
             picked.append(bug)
@@ -120,7 +157,11 @@ def planted(picked: list[Edit], folder: str, folder_of: FolderOf) -> dict[Edit, 
     # What another bug made of the text may be why one can't be planted: it waits for its turn.
     if not alone:
         whys = {bug: why for bug, why in whys.items() if not why}
-    said = "" if any(whys.values()) else checked(picked[0].crate, [bug.function for bug in whys], folder, folder_of, "kept")
+    said = (
+        ""
+        if any(whys.values())
+        else checked(picked[0].crate, [bug.function for bug in whys], folder, folder_of, "kept")
+    )
     # A text that the check can't read says nothing of the other bugs in it: each is planted alone.
     if not alone and not ENDED.search(said):
         return {}
@@ -130,7 +171,8 @@ def planted(picked: list[Edit], folder: str, folder_of: FolderOf) -> dict[Edit, 
 def try_all(left: list[Edit], folder_of: FolderOf) -> list[tuple[Edit, str]]:
     """Tries the bugs of a crate, as many at a time as it can: how each ended."""
     ends: list[tuple[Edit, str]] = []
-    alone, crate = False, f"{TOP}/crates/{left[0].crate}"
+    alone = False
+    crate = f"{TOP}/crates/{left[0].crate}"
     with tempfile.TemporaryDirectory(prefix="mutations-") as folder:
         # With what an earlier check kept.
         os.mkdir(f"{folder}/kept")
@@ -159,20 +201,40 @@ def mutations(tally: Tally, options: Options) -> None:
             tally.check(not why, f"{edit.crate}: {edit.name}: {why}")
     else:
         everything = bool(options.all or options.crates or options.only)
-        bugs = [[it for it in bugs_of(crate) if (everything or it.is_for_gate) and options.only in ("", it.name)] for crate in crates]
+        bugs = [
+            [
+                it
+                for it in bugs_of(crate)
+                if (everything or it.is_for_gate) and options.only in ("", it.name)
+            ]
+            for crate in crates
+        ]
         bugs = [it for it in bugs if it]
         if options.only and not bugs:
             return tally.fail(f"no bug of the name {options.only}")
-        folder_of, lacking = built_below([it[0].crate for it in bugs]) if everything else (gate_folder, [])
+        folder_of, lacking = (
+            built_below([it[0].crate for it in bugs]) if everything else (gate_folder, [])
+        )
         if lacking:
-            return tally.fail(f"not built: {' '.join(lacking)}; `tools/dev prove CRATE` builds the libraries below a crate")
-        # Some crates at a time, those with most bugs first, so that none of these is alone at the end.
+            return tally.fail(
+                f"not built: {' '.join(lacking)}; `tools/dev prove CRATE` builds the libraries below a crate"
+            )
+        # Some crates at a time, those with most bugs first, so that none of these is alone at the
+        # end.
         bugs.sort(key=len, reverse=True)
         with ThreadPoolExecutor(min(4, PROCESSORS)) as pool:
             for tried in as_completed([pool.submit(try_all, those, folder_of) for those in bugs]):
                 ends = sorted(tried.result(), key=lambda end: end[0].name)
-                tally.count(len(ends), (f"{bug.crate}: {bug.name}: {end}" for bug, end in ends if end != "refused"))
-                tally.note(f"{ends[0][0].crate}: {sum(end == 'refused' for _, end in ends)} of {len(ends)} refused")
+                tally.count(
+                    len(ends),
+                    (f"{bug.crate}: {bug.name}: {end}" for bug, end in ends if end != "refused"),
+                )
+                tally.note(
+                    f"{ends[0][0].crate}: {sum(end == 'refused' for _, end in ends)} of {len(ends)} refused"
+                )
     if not options.crates and not options.only:
         for crate in (it for it in LIBRARIES_OF if it.startswith("elf_") and bugs_of(it)):
-            tally.check(any(it.is_for_gate for it in bugs_of(crate)), f"{crate}: it has no bug with 'gate: yes'")
+            tally.check(
+                any(it.is_for_gate for it in bugs_of(crate)),
+                f"{crate}: it has no bug with 'gate: yes'",
+            )

@@ -1,37 +1,58 @@
-"""`tools/release page`: a page for a browser on which a file is dropped, and that shows its verdict and what each of its bytes belongs to.
-It is one file, which needs no network: the library for C as a WebAssembly module, and the scripts of page/. The module is made of the same
-proved crates as the library for C: the kit's compiler makes it for a memory of 64-bit addresses, which not every browser has, and wasm-opt
-(of binaryen) lowers it to one of 32-bit addresses.
+"""`tools/release page`: a page for a browser on which a file is dropped, and that shows its verdict
+and what each of its bytes belongs to. It is one file, which needs no network: the library for C as
+a WebAssembly module, and the scripts of page/. The module is made of the same proved crates as the
+library for C: the kit's compiler makes it for a memory of 64-bit addresses, which not every browser
+has, and wasm-opt (of binaryen) lowers it to one of 32-bit addresses.
 
 `tools/test page` tries it:
 
-- In node: what the page's reader and its check of tables say of files of this machine, of cases/ and of changed copies of them is what
-  `elfmap show` prints, line by line, but for the lines of groups.
-- In chromium, by Selenium: what a person sees of sound and refused files, with a mouse, by keys alone, and by a reader of the screen. Files
-  of 1 MB whose names have half a MB each, and files of which very much is to be said, do not hold it up."""
+- In node: what the page's reader and its check of tables say of files of this machine, of cases/
+  and of changed copies of them is what `elfmap show` prints, line by line, but for the lines of
+  groups.
+- In chromium, by Selenium: what a person sees of sound and refused files, with a mouse, by keys
+  alone, and by a reader of the screen. Files of 1 MB whose names have half a MB each, and files of
+  which very much is to be said, do not hold it up."""
 
-import base64, contextlib, ctypes, json, os, random, shutil, tempfile, time
+import base64
+import contextlib
+import ctypes
+import json
+import os
+import random
+import shutil
+import tempfile
+import time
 from collections.abc import Callable, Iterator
+from functools import partial
 from itertools import accumulate
 from typing import Any, cast
 
 import generated
-
 from elfmap import _library, _names as names
 
 from .building import built_below, is_current, kit, words
-from .cases import case_files, cases_of, fuzzed
-from .doc_tables import file_rules
-from .library import FOLDER, STRUCTS, VERDICTS as CRATE
+from .changes import fuzzed
+from .header import STRUCTS
+from .library import FOLDER, VERDICTS as CRATE
 from .reference import RELA, File, edited, verdict
-from .slow_files import Shape
-from .suite import SELENIUM, Tally, Test, number
+from .requirements import SELENIUM
+from .rules_page import file_rules
+from .shapes import Shape
+from .suite import Tally, Test, number
 from .tree import PROGRAM, TOP, Options, filled, read_bytes, read_text, said, wanted, write
+from .written_cases import case_files, cases_of
 
 Structs = dict[str, dict[str, Any]]
 MODULE = f"{FOLDER}/{CRATE}.wasm"
-LOWERED = "--enable-memory64 --enable-bulk-memory --enable-sign-ext --enable-nontrapping-float-to-int --enable-mutable-globals".split()
-LOWERED += ["--enable-multivalue", "--memory64-lowering"]
+LOWERED = [
+    "--enable-memory64",
+    "--enable-bulk-memory",
+    "--enable-sign-ext",
+    "--enable-nontrapping-float-to-int",
+    "--enable-mutable-globals",
+    "--enable-multivalue",
+    "--memory64-lowering",
+]
 
 
 def module() -> str:
@@ -44,57 +65,89 @@ def module() -> str:
     if not shutil.which("wasm-opt"):
         raise SystemExit("page: there is no wasm-opt, of the package binaryen")
     os.makedirs(FOLDER, exist_ok=True)
-    target, folder = ["--target", "wasm64-unknown-unknown", "--toolchain", f"{kit()}/toolchain"], f"{TOP}/crates/{CRATE}"
-    wanted(f"{kit()}/bin/rattle", "build", *words(CRATE, folder_of), *target, "-o", f"{FOLDER}/wide.a", folder=folder)
-    wanted(f"{kit()}/bin/rattle-link", *target, "-o", f"{FOLDER}/wide.wasm", f"{FOLDER}/wide.a", folder=folder)
-    wanted("wasm-opt", *LOWERED, f"{FOLDER}/wide.wasm", "-o", MODULE)
+    target = ["--target", "wasm64-unknown-unknown", "--toolchain", f"{kit()}/toolchain"]
+    folder = f"{TOP}/crates/{CRATE}"
+    wide = f"{FOLDER}/wide"
+    build = [f"{kit()}/bin/rattle", "build", *words(CRATE, folder_of), *target]
+    wanted(*build, "-o", f"{wide}.a", folder=folder)
+    link = [f"{kit()}/bin/rattle-link", *target]
+    wanted(*link, "-o", f"{wide}.wasm", f"{wide}.a", folder=folder)
+    wanted("wasm-opt", *LOWERED, f"{wide}.wasm", "-o", MODULE)
     return MODULE
 
 
 def layout() -> Structs:
-    """The structs of include/elfmap.h, as the Python package declares them: the size of each, and its fields with their offsets."""
-    tags = {getattr(_library, name): tag for name, tag in STRUCTS.items() if hasattr(_library, name)}
+    """The structs of include/elfmap.h, as the Python package declares them: the size of each, and
+    its fields with their offsets."""
+    tags = {
+        getattr(_library, name): tag for name, tag in STRUCTS.items() if hasattr(_library, name)
+    }
     found: Structs = {}
     for made, tag in tags.items():
         found[tag] = {"size": ctypes.sizeof(made), "align": ctypes.alignment(made), "fields": []}
         for name, kind in made._fields_:
             own = kind._type_ if issubclass(kind, ctypes.Array) else kind
             place = {"name": name, "at": getattr(made, name).offset, "width": ctypes.sizeof(own)}
-            more = {"struct": tags.get(own), "count": own is not kind and kind._length_, "signed": own is ctypes.c_int64}
+            more = {
+                "struct": tags.get(own),
+                "count": own is not kind and kind._length_,
+                "signed": own is ctypes.c_int64,
+            }
             found[tag]["fields"].append(place | {key: it for key, it in more.items() if it})
     return found
 
 
 def constants(**values: object) -> str:
-    return "".join(f"const {name} = {json.dumps(it, separators=(',', ':'))};\n" for name, it in values.items())
+    """A script that defines constants."""
+    lines = ""
+    for name, it in values.items():
+        lines += f"const {name} = {json.dumps(it, separators=(',', ':'))};\n"
+    return lines
 
 
 def page() -> str:
+    """The page."""
     code = base64.b64encode(read_bytes(module())).decode("ascii")
     # The names of numbers, as the Python package has them.
-    relocations = {machine: names.relocation_types(machine) for machine in names.machines_with_relocations()}
-    of_numbers = {"MACHINES": names.MACHINES, "SECTION_TYPES": names.SECTION_TYPES, "RELOCATION_TYPES": relocations}
+    relocations = {
+        machine: names.relocation_types(machine) for machine in names.machines_with_relocations()
+    }
+    of_numbers = {
+        "MACHINES": names.MACHINES,
+        "SECTION_TYPES": names.SECTION_TYPES,
+        "RELOCATION_TYPES": relocations,
+    }
     common = constants(LAYOUT=layout(), **of_numbers) + read_text("page/words.js")
     worker = common + "".join(read_text(f"page/{it}.js") for it in ("reader", "tables", "worker"))
     # Of each rule of files its name, why a file is refused, and what to do.
-    rules = {it.number: [it.name, it.sentence.replace("`", ""), it.advice.replace("`", "")] for it in file_rules()}
+    rules = {
+        it.number: [it.name, it.sentence.replace("`", ""), it.advice.replace("`", "")]
+        for it in file_rules()
+    }
     script = common + constants(RULES=rules, MODULE=code) + read_text("page/draw.js")
     if "</script" in worker + script:
         raise SystemExit("page: a script ends its own element")
-    return filled(read_text("page/page.html"), STYLE=read_text("page/style.css"), WORKER=worker, SCRIPT=script)
+    return filled(
+        read_text("page/page.html"), STYLE=read_text("page/style.css"), WORKER=worker, SCRIPT=script
+    )
 
 
 def picture(options: Options) -> None:
-    """`tools/release page-picture FILE PICTURE.png`: what the page looks like in chromium with a file on it."""
-    with tempfile.TemporaryDirectory() as room, contextlib.closing(Browser(write(f"{room}/elfmap.html", page()))) as browser:
-        browser.choose("#chosen", os.path.abspath(options.file))
-        if not browser.wait("document.body.dataset.ready"):
-            raise SystemExit(f"page-picture: {options.file} is not shown: {browser.text('#said')}")
-        write(options.picture, browser.screen(1000, 760))
+    """`tools/release page-picture FILE PICTURE.png`: what the page looks like in chromium with a
+    file on it."""
+    with tempfile.TemporaryDirectory() as room:
+        path = write(f"{room}/elfmap.html", page())
+        with contextlib.closing(Browser(path)) as browser:
+            browser.choose("#chosen", os.path.abspath(options.file))
+            if not browser.wait("document.body.dataset.ready"):
+                why = f"{options.file} is not shown: {browser.text('#said')}"
+                raise SystemExit(f"page-picture: {why}")
+            write(options.picture, browser.screen(1000, 760))
 
 
 class Browser:
-    """One page in a headless Chromium of its own, steered by Selenium, for the page's picture and its test."""
+    """One page in a headless Chromium of its own, steered by Selenium, for the page's picture and
+    its test."""
 
     def __init__(self, path: str) -> None:
         from selenium import webdriver
@@ -106,11 +159,15 @@ class Browser:
         options.set_capability("goog:loggingPrefs", {"browser": "ALL"})
         # What it leaves behind is there; its processes may write to it until they have ended.
         self.left = tempfile.TemporaryDirectory(prefix="browser-", ignore_cleanup_errors=True)
-        service = webdriver.chrome.service.Service("chromedriver", env={**os.environ, "TMPDIR": self.left.name})
-        self.selenium, self.driver = webdriver, webdriver.Chrome(service=service, options=options)
+        service = webdriver.chrome.service.Service(
+            "chromedriver", env={**os.environ, "TMPDIR": self.left.name}
+        )
+        self.selenium = webdriver
+        self.driver = webdriver.Chrome(service=service, options=options)
         self.driver.get(f"file://{path}")
 
     def close(self) -> None:
+        """Ends the browser."""
         self.driver.quit()
         self.left.cleanup()
 
@@ -130,9 +187,11 @@ class Browser:
         return bool(is_true)
 
     def text(self, selector: str) -> Any:
+        """The text of an element."""
         return self.value(f"document.querySelector({json.dumps(selector)})?.textContent")
 
     def click(self, selector: str) -> None:
+        """Clicks on an element."""
         self.value(f"document.querySelector({json.dumps(selector)}).click()")
 
     def choose(self, selector: str, path: str) -> None:
@@ -155,8 +214,10 @@ class Browser:
 
     def screen(self, width: int, height: int, dark: bool = False) -> bytes:
         """A picture of the page, as PNG."""
-        self.call("Emulation.setDeviceMetricsOverride", width=width, height=height, deviceScaleFactor=1, mobile=False)
-        self.call("Emulation.setEmulatedMedia", features=[{"name": "prefers-color-scheme", "value": "dark" if dark else "light"}])
+        size = {"width": width, "height": height, "deviceScaleFactor": 1, "mobile": False}
+        self.call("Emulation.setDeviceMetricsOverride", **size)
+        scheme = {"name": "prefers-color-scheme", "value": "dark" if dark else "light"}
+        self.call("Emulation.setEmulatedMedia", features=[scheme])
         time.sleep(0.5)
         return cast(bytes, self.driver.get_screenshot_as_png())
 
@@ -164,46 +225,74 @@ class Browser:
 # ---- the test of the page
 
 MACHINE_FILES = ["/bin/true", "/bin/ls", "/usr/lib/gcc/x86_64-linux-gnu/12/crtbegin.o"]
-MACHINE_FILES += [f"/usr/lib/x86_64-linux-gnu/{it}" for it in ("crt1.o", "Scrt1.o", "crti.o", "libdl.so.2", "libutil.so.1")]
+MACHINE_FILES += [
+    f"/usr/lib/x86_64-linux-gnu/{it}"
+    for it in ("crt1.o", "Scrt1.o", "crti.o", "libdl.so.2", "libutil.so.1")
+]
 LONGEST = 1 << 17
-ABOUT, TOOLS = "the page for a browser, in node beside `elfmap show`, and in chromium", f"node wasm-opt chromium chromedriver {SELENIUM} cc"
+ABOUT = "the page for a browser, in node beside `elfmap show`, and in chromium"
+TOOLS = f"node wasm-opt chromium chromedriver {SELENIUM} cc"
 
 
-def in_node(tally: Tally, room: str, count: int) -> None:
-    write(f"{room}/layout.json", json.dumps(layout()))
+def files_for_node(room: str, count: int) -> list[str]:
+    """Files of the cases and of this machine, and so many changed ones."""
     os.mkdir(f"{room}/files")
     contents = dict(case_files())
     for path in filter(os.path.isfile, MACHINE_FILES):
         contents.setdefault(read_bytes(path), path.replace("/", "-"))
     files = [write(f"{room}/files/{name}", content) for content, name in contents.items()]
-    chance, sound = random.Random(48), [it for it in map(read_bytes, files) if len(it) <= LONGEST and verdict(it) is None]
-    files += [write(f"{room}/files/changed-{k}", fuzzed(chance.choice(sound), chance)) for k in range(count)]
+    chance = random.Random(48)
+    sound = [it for it in map(read_bytes, files) if len(it) <= LONGEST and verdict(it) is None]
+    for k in range(count):
+        changed = fuzzed(chance.choice(sound), chance)
+        files.append(write(f"{room}/files/changed-{k}", changed))
+    return files
+
+
+def in_node(tally: Tally, room: str, count: int) -> None:
+    """What the page's reader tells of files is what `elfmap show` prints."""
+    files = files_for_node(room, count)
+    layout_path = write(f"{room}/layout.json", json.dumps(layout()))
+    script = ["node", f"{TOP}/cases/sources/page_reads_as_show.js", module(), layout_path]
     told: dict[str, str] = {}
     for k in range(0, len(files), 500):
-        text = wanted("node", f"{TOP}/page/lines.js", module(), f"{room}/layout.json", *files[k : k + 500])
+        text = wanted(*script, *files[k : k + 500])
         told |= dict(it.split("\n", 1) for it in f"\n{text}".split("\n-- ")[1:])
     for path in files:
-        own, lines = told[path].splitlines(), [it for it in said(PROGRAM, "show", path).stdout.splitlines() if not it.startswith("group ")]
-        tally.check(own == lines, f"{path}: {[pair for pair in zip(own, lines) if pair[0] != pair[1]][:2] or (len(own), len(lines))}")
+        own = told[path].splitlines()
+        shown = said(PROGRAM, "show", path).stdout.splitlines()
+        lines = [it for it in shown if not it.startswith("group ")]
+        different = [pair for pair in zip(own, lines) if pair[0] != pair[1]][:2]
+        tally.check(own == lines, f"{path}: {different or (len(own), len(lines))}")
 
 
 # ---- in chromium
 
-SYMBOLS, MOST_MILLISECONDS = 1_000_000, 200
+SYMBOLS = 1_000_000
+MOST_MILLISECONDS = 200
 GNU_STACK = 0x6474E551
-# So many characters of a name are shown, and so many of a file. Nothing holds the page up for so long: a worker does the work. And what is
-# pressed is done after so many seconds.
-MOST_CHARACTERS, MOST_SHOWN, LONGEST_TASK, MOST_SECONDS = 200, 300_000, 500, 3
-WATCH = """window.longest = 0; new PerformanceObserver((it) => it.getEntries().forEach(({ duration }) => {
+# So many characters of a name are shown, and so many of a file. Nothing holds the page up for so
+# long: a worker does the work. And what is pressed is done after so many seconds.
+MOST_CHARACTERS = 200
+MOST_SHOWN = 300_000
+LONGEST_TASK = 500
+MOST_SECONDS = 3
+WATCH = """window.longest = 0;
+new PerformanceObserver((it) => it.getEntries().forEach(({ duration }) => {
     window.longest = Math.max(window.longest, duration);
 })).observe({ type: "longtask" })"""
 NAME = 500_000
 # Files of long names, each with the tab that shows them, and what is said of its first rows.
 LONG_FILES = {
-    "symbols": (Shape(name=NAME, symbols=20_000), "Symbols 1 to 100 of 20,002"), "sections": (Shape(name=NAME, sections=7_600, long="both"), ""),
-    "relocations": (Shape(name=NAME, symbols=16, relocations=5_000, long="both"), "Relocations 1 to 1 of 1"),
-}  # fmt: skip
-# Names of about as many characters as are shown, of one byte, of two, of which the last is cut in two, and of no text.
+    "symbols": (Shape(name=NAME, symbols=20_000), "Symbols 1 to 100 of 20,002"),
+    "sections": (Shape(name=NAME, sections=7_600, long="both"), ""),
+    "relocations": (
+        Shape(name=NAME, symbols=16, relocations=5_000, long="both"),
+        "Relocations 1 to 1 of 1",
+    ),
+}
+# Names of about as many characters as are shown, of one byte, of two, of which the last is cut in
+# two, and of no text.
 NAMES = [
     b"n" * 199,
     b"n" * 200,
@@ -215,24 +304,39 @@ NAMES = [
     b"\xff" * 201,
     b"\xef\xbb\xbfn",
 ]
-# Longer than what is shown at once of a name that somebody wants to see, with a character in two parts
-# at the end of the first part, which is a byte order mark.
+# Longer than what is shown at once of a name that somebody wants to see, with a character in two
+# parts at the end of the first part, which is a byte order mark.
 LONGEST_NAME = "n" + "é" * 524_287 + "\ufeff" + "é" * 75_000
 SOUND = "Sound: this file keeps all 33 rules of an ELF-64 file."
 ROWS = "[...document.querySelectorAll('#table tbody tr')]"
 # What the tree for readers of the screen has: names by their roles.
 READ = {
-    "heading": ("Verdict", "Map of the file", "Tables", "Bytes"), "tablist": ("Kinds of tables",), "searchbox": ("Filter",),
-    "columnheader": ("name",), "group": ("The parts of the file, to scale",),
-}  # fmt: skip
+    "heading": ("Verdict", "Map of the file", "Tables", "Bytes"),
+    "tablist": ("Kinds of tables",),
+    "searchbox": ("Filter",),
+    "columnheader": ("name",),
+    "group": ("The parts of the file, to scale",),
+}
 PRESSED = ("button", "tab", "link", "textbox", "searchbox", "combobox")
-SOURCE = 'int limit = 3; int work(int); const char *name(void) { return "answer"; } int answer(int x) { return x < limit ? work(x) : 42; }'
+SOURCE = """int limit = 3;
+int work(int);
+const char *name(void) { return "answer"; }
+int answer(int x) { return x < limit ? work(x) : 42; }
+"""
+# Shows the first bytes.
+TO_FIRST_BYTES = (
+    "document.querySelector('#offset').value = '0'; document.querySelector('#go').click()"
+)
 
 
 def explained(kind: str) -> Iterator[tuple[str, bytes, str]]:
-    """The cases of explain.txt of this kind of rule: the number of its rule, its file, and what the program prints."""
-    for it in (it for it in cases_of(f"{TOP}/cases/explain.txt") if it.note.startswith(kind)):
-        yield it.note.split(" ", 2)[1], bytes(it.files[it.needs[0].partition("=")[2]]), it.out.decode()
+    """The cases of explain.txt of this kind of rule: the number of its rule, its file, and what the
+    program prints."""
+    for it in cases_of(f"{TOP}/cases/explain.txt"):
+        if it.note.startswith(kind):
+            rule = it.note.split(" ", 2)[1]
+            name = it.needs[0].partition("=")[2]
+            yield rule, bytes(it.files[name]), it.out.decode()
 
 
 def escaped(name: str) -> str:
@@ -245,9 +349,12 @@ class InChromium(Browser):
 
     def __init__(self, tally: Tally, room: str) -> None:
         super().__init__(write(f"{room}/elfmap.html", page()))
-        self.check, self.note, self.room = tally.check, tally.note, room
+        self.check = tally.check
+        self.note = tally.note
+        self.room = room
 
     def waits(self, expression: str, why: str) -> None:
+        """An expression becomes true."""
         self.check(self.wait(expression), why)
 
     def opens(self, tab: str, words: str) -> None:
@@ -263,15 +370,25 @@ class InChromium(Browser):
         self.waits(f"(document.body.dataset.ready ?? '0') !== '{before}'", f"{path} is not shown")
 
     def sound_file(self, path: str) -> None:
+        """Opens a file that keeps all rules: its verdict, parts, sections, tables and bytes."""
         self.show(path)
         self.check(self.text("#verdict") == SOUND, f"{path}: {self.text('#verdict')}")
         lines = said(PROGRAM, "show", path).stdout.splitlines()
         parts = sum(it.startswith("part ") for it in lines)
-        self.check(f"{parts} parts." in self.text("#map-words"), f"{path} has {parts} parts: {self.text('#map-words')}")
+        self.check(
+            f"{parts} parts." in self.text("#map-words"),
+            f"{path} has {parts} parts: {self.text('#map-words')}",
+        )
         sections = [it.split()[-1] for it in lines if it.startswith("section ")]
         rows = self.value(f"{ROWS}.map((it) => it.children[1].textContent)")
-        self.check(rows == [{"-": "(no name)"}.get(it, it) for it in sections[:100]], f"{path} has the sections {sections}: {rows}")
-        self.check(self.text("#findings-words") == "No table breaks a rule of tables.", f"{path}: {self.text('#findings-words')}")
+        self.check(
+            rows == [{"-": "(no name)"}.get(it, it) for it in sections[:100]],
+            f"{path} has the sections {sections}: {rows}",
+        )
+        self.check(
+            self.text("#findings-words") == "No table breaks a rule of tables.",
+            f"{path}: {self.text('#findings-words')}",
+        )
         front = self.text("#bytes tbody tr td")
         self.check(front.startswith("7f 45 4c 46 02"), f"the bytes of {path}: {front}")
 
@@ -282,18 +399,30 @@ class InChromium(Browser):
         self.click("#table tbody tr td:nth-child(4) a")
         selected = "document.querySelector('#tab-symbols').ariaSelected === 'true'"
         self.waits(f"document.querySelector('tr.shown') && {selected}", "no symbol is shown")
-        self.check(self.text("tr.shown td") == name[0], f"the relocation's symbol is {name}, and {self.text('tr.shown')} is shown")
+        self.check(
+            self.text("tr.shown td") == name[0],
+            f"the relocation's symbol is {name}, and {self.text('tr.shown')} is shown",
+        )
         row = self.value(f"{ROWS}.findIndex((it) => it.children[6].querySelector('a'))") + 1
         place = self.text(f"#table tbody tr:nth-child({row}) td:nth-child(7)").split()[0]
         self.click(f"#table tbody tr:nth-child({row}) td:nth-child(7) a")
-        self.waits(f"document.querySelector('tr.shown td')?.textContent === '{place}'", f"section {place} is not shown")
+        self.waits(
+            f"document.querySelector('tr.shown td')?.textContent === '{place}'",
+            f"section {place} is not shown",
+        )
         self.click("tr.shown td a")
-        self.waits("document.querySelector('#bytes mark')", "the bytes of the section are not marked")
+        self.waits(
+            "document.querySelector('#bytes mark')", "the bytes of the section are not marked"
+        )
 
     def filtered(self) -> None:
+        """A filter leaves the rows that hold its text."""
         self.opens("symbols", "Symbols")
         self.filter("global")
-        self.waits("document.querySelector('#table-words').textContent.includes('found among')", "nothing is found")
+        self.waits(
+            "document.querySelector('#table-words').textContent.includes('found among')",
+            "nothing is found",
+        )
         bindings = self.value(f"{ROWS}.map((it) => it.children[5].textContent)")
         self.check(bindings and set(bindings) == {"GLOBAL"}, f"the filter finds {bindings}")
 
@@ -301,13 +430,18 @@ class InChromium(Browser):
         """To the map, along it, into a part and out again, without a mouse."""
         self.value("document.querySelector('#chosen').focus()")
         self.press("TAB")
-        self.check(self.value("document.activeElement.parentElement.id") == "map", "the tabulator does not lead to the map")
+        self.check(
+            self.value("document.activeElement.parentElement.id") == "map",
+            "the tabulator does not lead to the map",
+        )
         self.press("ARROW_RIGHT")
-        label, words = self.value("document.activeElement.ariaLabel"), self.text("#map-words")
+        label = self.value("document.activeElement.ariaLabel")
+        words = self.text("#map-words")
         self.check(words == label, f"the arrow leads to {label}, and the words are {words}")
         self.press("ENTER")
         self.waits("document.querySelector('#map [aria-current=true]')", "the part is not chosen")
-        scale, before = "document.querySelector('#map-scale').textContent", self.text("#map-scale")
+        scale = "document.querySelector('#map-scale').textContent"
+        before = self.text("#map-scale")
         self.click("#zoom-in")
         self.waits(f"{scale} !== '{before}'", "there is no zoom")
         self.value("document.querySelector('#map button').focus()")
@@ -317,12 +451,23 @@ class InChromium(Browser):
         self.waits(f"{scale} === '{before}'", "there is no way back")
 
     def typed(self) -> None:
-        """What is typed into a field is in it, and does what it is for; and the tabulator leads out of it."""
+        """What is typed into a field is in it, and does what it is for; and the tabulator leads out
+        of it."""
         front = "document.querySelector('#bytes tbody th').textContent"
         rows: list[tuple[str, str, list[str], str]] = [
-            ("offset", "0x40", ["ENTER"], f"{front} === '0x40' && document.querySelector('#bytes mark')"),
+            (
+                "offset",
+                "0x40",
+                ["ENTER"],
+                f"{front} === '0x40' && document.querySelector('#bytes mark')",
+            ),
             ("offset", "129", ["BACK_SPACE", "ARROW_LEFT", "ENTER"], f"{front} === '0xc'"),
-            ("filter", "work", [], "document.querySelector('#table-words').textContent.includes('of 1 found among')"),
+            (
+                "filter",
+                "work",
+                [],
+                "document.querySelector('#table-words').textContent.includes('of 1 found among')",
+            ),
         ]
         for field, text, keys, done in rows:
             self.value(f"const it = document.querySelector('#{field}'); it.value = ''; it.focus()")
@@ -330,48 +475,83 @@ class InChromium(Browser):
             for key in keys:
                 self.press(key)
             value = self.value(f"document.querySelector('#{field}').value")
-            self.check(value == text[: len(text) - keys.count("BACK_SPACE")], f"{text} was typed into {field}, which has {value!r}")
+            self.check(
+                value == text[: len(text) - keys.count("BACK_SPACE")],
+                f"{text} was typed into {field}, which has {value!r}",
+            )
             self.waits(done, f"{text} was typed into {field}, and nothing is done")
             self.press("TAB")
-            self.check(self.value("document.activeElement.id") != field, f"the tabulator does not lead out of {field}")
+            self.check(
+                self.value("document.activeElement.id") != field,
+                f"the tabulator does not lead out of {field}",
+            )
 
     def for_readers(self) -> None:
         """What a reader of the screen is told."""
-        nodes = [it for it in self.call("Accessibility.getFullAXTree")["nodes"] if not it["ignored"]]
+        nodes = [
+            it for it in self.call("Accessibility.getFullAXTree")["nodes"] if not it["ignored"]
+        ]
         tree = [(it["role"]["value"], it.get("name", {}).get("value", "")) for it in nodes]
         missing = {(role, name) for role, names in READ.items() for name in names} - {*tree}
         self.check(not missing, f"the tree has no {missing}")
         nameless = [it for it in tree if it[0] in PRESSED and not it[1]]
-        self.check(not nameless, f"the tree has {len(nameless)} things to press without a name: {nameless[:3]}")
+        self.check(
+            not nameless,
+            f"the tree has {len(nameless)} things to press without a name: {nameless[:3]}",
+        )
 
     def on_screens(self) -> None:
-        """The colours of the map are seen, light and dark; and a screen of 360 points is wide enough."""
+        """The colours of the map are seen, light and dark; and a screen of 360 points is wide
+        enough."""
         for dark in (False, True):
             picture = base64.b64encode(self.screen(1200, 1000, dark)).decode()
             # How many points of each colour, as digits, the picture has.
-            seen: dict[str, int] = self.value(f"{read_text('page/colours.js')}\ncolours('{picture}')")
+            seen: dict[str, int] = self.value(
+                f"{read_text('cases/sources/page_picture_colours.js')}\ncolours('{picture}')"
+            )
             for colour in ("6b7689", "c0504d", "4f81bd"):
-                self.check(seen.get(colour, 0) > 100, f"the colour {colour} is not seen, dark: {dark}")
+                self.check(
+                    seen.get(colour, 0) > 100, f"the colour {colour} is not seen, dark: {dark}"
+                )
             ground = max(seen, key=seen.__getitem__)
-            self.check((sum(bytes.fromhex(ground)) < 200) == dark, f"the ground is {ground}, dark: {dark}")
+            self.check(
+                (sum(bytes.fromhex(ground)) < 200) == dark, f"the ground is {ground}, dark: {dark}"
+            )
         self.screen(360, 800)
-        self.check(self.value("document.documentElement.scrollWidth") <= 360, "a screen of 360 points is too small")
+        self.check(
+            self.value("document.documentElement.scrollWidth") <= 360,
+            "a screen of 360 points is too small",
+        )
         self.screen(1200, 1000)
 
     def refused_files(self, path: str) -> None:
+        """Of a file that breaks a rule the page says which, and marks the field."""
         content = read_bytes(path)
         size = content[:52] + b"\x3f" + content[53:]
-        files = {"magic": b"\0" + content[1:], "empty": b"", "size": size, "picture": b"<svg xmlns='http://www.w3.org/2000/svg'/>" * 4}
+        files = {
+            "magic": b"\0" + content[1:],
+            "empty": b"",
+            "size": size,
+            "picture": b"<svg xmlns='http://www.w3.org/2000/svg'/>" * 4,
+        }
         for name, made in files.items():
             file = write(f"{self.room}/{name}", made)
             _, rule, at = said(PROGRAM, "check", file).stdout.split()
             self.show(file, is_dropped=True)
             verdict = self.text("#verdict")
-            is_said = verdict.startswith(f"Refused by rule {rule}, ") and f" at {int(at):#x}: " in verdict
+            is_said = (
+                verdict.startswith(f"Refused by rule {rule}, ") and f" at {int(at):#x}: " in verdict
+            )
             self.check(is_said, f"{name}: {verdict}, and check says {rule} {at}")
-            self.check(rule == {"magic": "3", "empty": "2", "picture": "3"}.get(name, rule), f"{name} breaks rule {rule}")
+            self.check(
+                rule == {"magic": "3", "empty": "2", "picture": "3"}.get(name, rule),
+                f"{name} breaks rule {rule}",
+            )
             mark = self.value("document.querySelector('#bytes mark')?.textContent ?? ''")
-            self.check(name != "size" or "e_ehsize" in self.text("#advice") + mark, f"{name}: {self.text('#advice')}")
+            self.check(
+                name != "size" or "e_ehsize" in self.text("#advice") + mark,
+                f"{name}: {self.text('#advice')}",
+            )
             # As digits and as letters.
             marks = self.value("document.querySelectorAll('#bytes mark').length")
             self.check(marks == (2 if made else 0), f"{name}: {marks} marks, and one field")
@@ -384,32 +564,57 @@ class InChromium(Browser):
         words = self.text("#advice")
         for name in ("section 1 .text", "section 2 .data"):
             self.check(f"the content of {name} [0x" in words, f"a byte of two sections: {words}")
-        self.check("share this byte" in words and "(EM_X86_64)" in self.text("#facts"), f"{words} {self.text('#facts')}")
-        self.value("document.querySelector('#offset').value = '0'; document.querySelector('#go').click()")
-        self.waits("document.querySelector('#bytes tbody th').textContent === '0x0'", "the first bytes are not shown")
+        self.check(
+            "share this byte" in words and "(EM_X86_64)" in self.text("#facts"),
+            f"{words} {self.text('#facts')}",
+        )
+        self.value(TO_FIRST_BYTES)
+        self.waits(
+            "document.querySelector('#bytes tbody th').textContent === '0x0'",
+            "the first bytes are not shown",
+        )
         self.click("#advice a")
         self.waits("document.querySelector('#bytes mark')", "the link leads to no byte")
-        self.check(self.text("#bytes tbody th") == hex(int(at)), f"the link leads to {self.text('#bytes tbody th')}")
+        self.check(
+            self.text("#bytes tbody th") == hex(int(at)),
+            f"the link leads to {self.text('#bytes tbody th')}",
+        )
 
     def broken_tables(self) -> None:
-        """Each rule of tables that a file of the cases breaks is told, with its name, its place and what to do."""
+        """Each rule of tables that a file of the cases breaks is told, with its name, its place and
+        what to do."""
         for rule, content, out in explained("table "):
             self.show(write(f"{self.room}/table-{rule}", content))
-            _, section, _, at = next(line.split() for line in out.splitlines() if line.startswith("refused "))
+            _, section, _, at = next(
+                line.split() for line in out.splitlines() if line.startswith("refused ")
+            )
             found = self.text("#findings li")
-            is_told = f": rule {rule}, " in found and f" at {int(at):#x}, " in found and "What to do: " in found
-            self.check(is_told and self.text("#verdict") == SOUND, f"rule {rule} of the table in section {section}: {found}")
+            is_told = (
+                f": rule {rule}, " in found
+                and f" at {int(at):#x}, " in found
+                and "What to do: " in found
+            )
+            self.check(
+                is_told and self.text("#verdict") == SOUND,
+                f"rule {rule} of the table in section {section}: {found}",
+            )
         self.click("#findings li a:nth-of-type(2)")
         self.waits("document.querySelector('#bytes mark')", "the finding leads to no byte")
 
     def folder(self) -> None:
+        """A folder is no file."""
         os.mkdir(f"{self.room}/folder")
         self.drop(f"{self.room}/folder")
-        self.waits("/folder/.test(document.querySelector('#said').textContent)", f"of a folder is said: {self.text('#said')}")
+        self.waits(
+            "/folder/.test(document.querySelector('#said').textContent)",
+            f"of a folder is said: {self.text('#said')}",
+        )
 
     def named(self) -> None:
-        """A name of 200 characters is shown, and of a longer one the first 200, with a button that shows all."""
-        names, made = [*NAMES, LONGEST_NAME.encode()], generated.File()
+        """A name of 200 characters is shown, and of a longer one the first 200, with a button that
+        shows all."""
+        names = [*NAMES, LONGEST_NAME.encode()]
+        made = generated.File()
         places = accumulate((len(it) + 1 for it in names), initial=1)
         strings = made.strings(b"".join(it + b"\0" for it in [b"", *names]))
         made.symbols(b"".join(generated.symbol(at) for at, _ in zip(places, names)), strings)
@@ -417,24 +622,36 @@ class InChromium(Browser):
         self.opens("symbols", "Symbols")
         cell = "document.querySelector('#table tbody tr:nth-child({}) td:nth-child(2)')"
         for k, name in enumerate(names):
-            own, right = cell.format(k + 2), name.decode() if name[0] != 0xFF else name.decode("latin1")
-            shown = escaped(right if len(right) <= MOST_CHARACTERS else f"{right[:MOST_CHARACTERS]}…")
+            own = cell.format(k + 2)
+            right = name.decode() if name[0] != 0xFF else name.decode("latin1")
+            shown = escaped(
+                right if len(right) <= MOST_CHARACTERS else f"{right[:MOST_CHARACTERS]}…"
+            )
             found = self.value(f"{own}.firstChild.textContent")
             self.check(found == shown, f"the name {k} is shown as {found[:300]}")
             has_button = self.value(f"!!{own}.querySelector('button')")
-            self.check(has_button == (len(right) > MOST_CHARACTERS), f"the name {k} has a button: {has_button}")
+            self.check(
+                has_button == (len(right) > MOST_CHARACTERS),
+                f"the name {k} has a button: {has_button}",
+            )
             whole = f"{own}.querySelector('.whole')?.textContent"
-            for _ in range(1 + (len(name) > 1 << 20)) if has_button else ():
+            if not has_button:
+                continue
+            # A very long name comes in two parts.
+            for _ in range(2 if len(name) > 1 << 20 else 1):
                 self.waits(f"{own}.querySelector('button:enabled')", f"the name {k} has no button")
                 self.value(f"{own}.querySelector('button').click()")
-            if has_button:
-                self.waits(f"!{own}.querySelector('button')", f"all of the name {k} is not shown")
-                self.check(self.value(whole) == escaped(right), f"the whole name {k} is {self.value(whole)[:300]}")
-                self.check(self.value(f"document.activeElement === {own}.querySelector('.whole')"), f"the focus leaves the name {k}")
+            self.waits(f"!{own}.querySelector('button')", f"all of the name {k} is not shown")
+            found = self.value(whole)
+            self.check(found == escaped(right), f"the whole name {k} is {found[:300]}")
+            is_kept = self.value(f"document.activeElement === {own}.querySelector('.whole')")
+            self.check(is_kept, f"the focus leaves the name {k}")
 
     def of_sections(self) -> None:
-        """A list of tables has 60 characters of a name, none of them cut in two. A search looks at 4,000 characters of a section's name."""
-        of_table, of_section = "n" * 59 + "\U0001f600" * 3, "n" * 3000 + "sought" + "n" * 1000 + "beyond"
+        """A list of tables has 60 characters of a name, none of them cut in two. A search looks at
+        4,000 characters of a section's name."""
+        of_table = "n" * 59 + "\U0001f600" * 3
+        of_section = "n" * 3000 + "sought" + "n" * 1000 + "beyond"
         made = generated.File()
         made.names = made.strings(f"\0{of_table}\0{of_section}\0".encode())
         section = made.section(generated.PROGBITS, b"content", name=len(of_table.encode()) + 2)
@@ -443,103 +660,180 @@ class InChromium(Browser):
         self.opens("symbols", "Symbols 1 to 2 of 2")
         listed = self.text("#which option")
         self.check(listed == f"{table} {of_table[:60]}…", f"the list of tables has {listed!r}")
-        for text, words in (("sought", "Symbols 1 to 1 of 1 found among 2"), ("beyond", "None of 2 holds this.")):
+        for text, words in (
+            ("sought", "Symbols 1 to 1 of 1 found among 2"),
+            ("beyond", "None of 2 holds this."),
+        ):
             self.filter(text)
-            self.waits(f"document.querySelector('#table-words').textContent === '{words}'", f"{text}: {self.text('#table-words')}")
+            self.waits(
+                f"document.querySelector('#table-words').textContent === '{words}'",
+                f"{text}: {self.text('#table-words')}",
+            )
 
     def nameless(self) -> None:
         """A header of type NULL has no name, and takes that of no other section."""
         made = generated.File()
         made.names = made.strings(b"\0.text\0.data\0")
-        for kind, name in ((generated.NULL, 1), (generated.PROGBITS, 1), (generated.PROGBITS, 7), (generated.NULL, 7)):
+        for kind, name in (
+            (generated.NULL, 1),
+            (generated.PROGBITS, 1),
+            (generated.PROGBITS, 7),
+            (generated.NULL, 7),
+        ):
             made.section(kind, b"content" if kind else b"", name=name)
         self.sound_file(write(f"{self.room}/nameless.o", made.bytes()))
 
     def far_segment(self) -> None:
-        """A segment without bytes in the file may be at any offset: its links lead to the end of the file."""
+        """A segment without bytes in the file may be at any offset: its links lead to the end of
+        the file."""
         content = read_bytes("/bin/true")
-        own = next(k for k in range(File(content).segment_count) if File(content).segment(k).p_type == GNU_STACK)
-        place = ("p_type", own, 1), ("p_offset", own, 1 << 63), ("p_vaddr", own, 1 << 20), ("p_memsz", own, 4096), ("p_align", own, 4096)
+        kinds = [it.p_type for it in File(content).segments()]
+        own = kinds.index(GNU_STACK)
+        place = (
+            ("p_type", own, 1),
+            ("p_offset", own, 1 << 63),
+            ("p_vaddr", own, 1 << 20),
+            ("p_memsz", own, 4096),
+            ("p_align", own, 4096),
+        )
         self.show(write(f"{self.room}/far-segment", edited(content, *place)))
         self.check(self.text("#verdict") == SOUND, f"a segment far away: {self.text('#verdict')}")
         self.opens("segments", "Segments")
         front = "document.querySelector('#bytes tbody th').textContent"
-        for link in (f"#table tbody tr:nth-child({own + 1}) td:nth-child(4) a", "#memory button:last-child"):
-            self.value("document.querySelector('#offset').value = '0'; document.querySelector('#go').click()")
+        for link in (
+            f"#table tbody tr:nth-child({own + 1}) td:nth-child(4) a",
+            "#memory button:last-child",
+        ):
+            self.value(TO_FIRST_BYTES)
             self.waits(f"{front} === '0x0'", "the first bytes are not shown")
             self.click(link)
-            self.waits(f"{front} === '{len(content) - 1:#x}'", f"{link} leads to {self.value(front)}")
+            self.waits(
+                f"{front} === '{len(content) - 1:#x}'", f"{link} leads to {self.value(front)}"
+            )
 
     def another_file(self, path: str) -> None:
-        """What comes of a file after another one was dropped is not drawn, and a filter ends with its file and its text."""
+        """What comes of a file after another one was dropped is not drawn, and a filter ends with
+        its file and its text."""
         rows = "document.querySelector('#table tbody')"
-        for asked in ("open_table('sections', 0, 0)", "document.querySelector('#filter').value = 'text'; filter_rows()"):
+        for asked in (
+            "open_table('sections', 0, 0)",
+            "document.querySelector('#filter').value = 'text'; filter_rows()",
+        ):
             # The chooser has this file already.
             self.show(path, is_dropped=True)
-            self.value(f"{rows}.replaceChildren('kept'); {asked}; open_file(new File(['no ELF file'], 'other'))")
-            self.waits("document.querySelector('#verdict').className === 'broken'", "the other file is not shown")
-            self.check(self.text("#table tbody") == "kept", f"after {asked} and another file the rows are {self.text('#table tbody')}")
+            other = "open_file(new File(['no ELF file'], 'other'))"
+            self.value(f"{rows}.replaceChildren('kept'); {asked}; {other}")
+            self.waits(
+                "document.querySelector('#verdict').className === 'broken'",
+                "the other file is not shown",
+            )
+            self.check(
+                self.text("#table tbody") == "kept",
+                f"after {asked} and another file the rows are {self.text('#table tbody')}",
+            )
         self.show(path, is_dropped=True)
         self.filter("no such name")
-        self.waits("document.querySelector('#table-words').textContent.startsWith('None of')", "something is found")
+        self.waits(
+            "document.querySelector('#table-words').textContent.startsWith('None of')",
+            "something is found",
+        )
         self.sound_file("/bin/true")
         self.filter("text", "")
         # Each answer comes after those to earlier questions.
         self.value("(async () => { for (let k = 0; k < 4; k++) await ask('around', 0); })()")
-        self.check("found" not in self.text("#table-words"), f"without a filter: {self.text('#table-words')}")
+        self.check(
+            "found" not in self.text("#table-words"),
+            f"without a filter: {self.text('#table-words')}",
+        )
 
     def filter(self, *texts: str) -> None:
         """Puts texts into the filter, one after another."""
         put = "it.value = {}; it.dispatchEvent(new Event('input'))"
-        self.value(f"const it = document.querySelector('#filter'); {'; '.join(put.format(json.dumps(text)) for text in texts)}")
+        steps = [put.format(json.dumps(text)) for text in texts]
+        self.value(f"const it = document.querySelector('#filter'); {'; '.join(steps)}")
 
     def long_names(self) -> None:
+        """Files whose names have half a MB each do not hold the page up."""
         self.value(WATCH)
         for tab, (shape, words) in LONG_FILES.items():
-            steps = [lambda: self.show(write(f"{self.room}/long-{tab}.o", shape.file())), lambda: self.opens(tab, words)]
-            # The sections are shown first. A part of the map is wide enough in one of the files.
-            steps = [steps[0], *steps[1:][: tab != "sections"], self.show_whole_name, *[self.show_part_of_map][: tab == "relocations"]]
+            path = write(f"{self.room}/long-{tab}.o", shape.file())
+            steps: list[Callable[[], None]] = [partial(self.show, path)]
+            # The sections are shown first.
+            if tab != "sections":
+                steps.append(partial(self.opens, tab, words))
+            steps.append(self.show_whole_name)
+            # A part of the map is wide enough in one of the files.
+            if tab == "relocations":
+                steps.append(self.show_part_of_map)
             took = [self.seconds(it) for it in steps]
             wholes = "document.querySelectorAll('.whole').length"
-            length = self.value(f"document.querySelector('main').textContent.length - {NAME} * {wholes}")
+            length = self.value(
+                f"document.querySelector('main').textContent.length - {NAME} * {wholes}"
+            )
             took.append(self.seconds(self.search_and_look))
             longest = self.value("window.longest")
-            self.note(
-                f"{tab} of one long name: {', '.join(f'{it:.1f}' for it in took)} s, tasks of {longest:.0f} ms, {length:,} characters"
+            times = ", ".join(f"{it:.1f}" for it in took)
+            more = f"tasks of {longest:.0f} ms, {length:,} characters"
+            self.note(f"{tab} of one long name: {times} s, {more}")
+            self.check(
+                length < MOST_SHOWN, f"{length:,} characters are shown of {tab} of one long name"
             )
-            self.check(length < MOST_SHOWN, f"{length:,} characters are shown of {tab} of one long name")
             self.check(longest < LONGEST_TASK, f"the page waits for {longest:.0f} ms")
             self.check(max(took) < MOST_SECONDS, f"what is pressed takes {max(took):.1f} s")
-            self.waits("/^None of/.test(document.querySelector('#table-words').textContent)", "the search does not end")
+            self.waits(
+                "/^None of/.test(document.querySelector('#table-words').textContent)",
+                "the search does not end",
+            )
 
     def seconds(self, step: Callable[[], None]) -> float:
+        """How long a step takes."""
         begun = time.monotonic()
         step()
         return time.monotonic() - begun
 
     def show_whole_name(self) -> None:
+        """The button beside a name that is cut shows all of it."""
         self.click("#table tbody button.more")
-        self.waits(f"document.querySelector('#table .whole')?.textContent.length === {NAME}", "all of a long name is not shown")
+        self.waits(
+            f"document.querySelector('#table .whole')?.textContent.length === {NAME}",
+            "all of a long name is not shown",
+        )
 
     def show_part_of_map(self) -> None:
-        """The words of a part of the map, among several short ones, have a name that is cut, and a button that shows all of it."""
-        found = "[...document.querySelectorAll('#map button')].find((it) => it.ariaLabel.includes('{}'))"
-        own, several = found.format("n" * MOST_CHARACTERS + "…: "), found.format(" parts: ")
+        """The words of a part of the map, among several short ones, have a name that is cut, and a
+        button that shows all of it."""
+        buttons = "[...document.querySelectorAll('#map button')]"
+        found = f"{buttons}.find((it) => it.ariaLabel.includes('{{}}'))"
+        own = found.format("n" * MOST_CHARACTERS + "…: ")
+        several = found.format(" parts: ")
         # On a narrow screen the part is in a bar with others.
         if not self.value(f"!!{own}"):
             self.value(f"{several}.click()")
         self.waits(own, "the map does not show the part by itself")
         self.value(f"{own}.click()")
         self.waits("document.querySelector('#map [aria-current=true]')", "the part is not chosen")
-        words, button = self.text("#map-words"), self.text("#map-name")
-        self.check(len(words) < 2 * MOST_CHARACTERS and f"Show all {NAME:,} bytes" in button, f"the words of the part are {words[:1000]}")
+        words = self.text("#map-words")
+        button = self.text("#map-name")
+        self.check(
+            len(words) < 2 * MOST_CHARACTERS and f"Show all {NAME:,} bytes" in button,
+            f"the words of the part are {words[:1000]}",
+        )
         self.click("#map-name button")
         shown = f"document.querySelector('#map-name .whole')?.textContent.length === {NAME}"
         self.waits(shown, "all of the name of the part is not shown")
-        label = self.value("(it => { it.focus(); return it.ariaLabel; })(document.querySelector('#map [aria-current=false]'))")
-        self.check(self.text("#map-words") == label, f"of another part is said {self.text('#map-words')[:1000]}")
-        self.check(self.value(shown), "the name of the chosen part is gone when another one is looked at")
-        self.check(not self.value("document.querySelector('[aria-live] .whole')"), "the whole name is read aloud")
+        other = "document.querySelector('#map [aria-current=false]')"
+        label = self.value(f"(it => {{ it.focus(); return it.ariaLabel; }})({other})")
+        self.check(
+            self.text("#map-words") == label,
+            f"of another part is said {self.text('#map-words')[:1000]}",
+        )
+        self.check(
+            self.value(shown), "the name of the chosen part is gone when another one is looked at"
+        )
+        self.check(
+            not self.value("document.querySelector('[aria-live] .whole')"),
+            "the whole name is read aloud",
+        )
 
     def search_and_look(self) -> None:
         """While it searches in all names, the next bytes are shown."""
@@ -547,7 +841,8 @@ class InChromium(Browser):
         before = self.text("#bytes tbody th")
         self.value("document.querySelector('#bytes-on').click()")
         self.waits(
-            f"document.querySelector('#bytes tbody th').textContent !== '{before}'", "the next bytes are not shown while it searches"
+            f"document.querySelector('#bytes tbody th').textContent !== '{before}'",
+            "the next bytes are not shown while it searches",
         )
 
     def much_to_say(self) -> None:
@@ -559,29 +854,53 @@ class InChromium(Browser):
             found = self.value("document.querySelectorAll('#findings li').length")
             self.check(found == count, f"{found} findings are drawn, and not {count}")
             has_more = not self.value("document.querySelector('#findings-on').hidden")
-            self.check(has_more == (count < 250), f"after {count} findings there is a button for more: {has_more}")
+            self.check(
+                has_more == (count < 250),
+                f"after {count} findings there is a button for more: {has_more}",
+            )
             self.click("#findings-on")
-            self.waits(f"document.querySelectorAll('#findings li').length > {count} || {count} === 250", "no more findings are drawn")
-        sections = [k for k in range(File(file).section_count) if File(file).section(k).sh_size == 1]
+            self.waits(
+                f"document.querySelectorAll('#findings li').length > {count} || {count} === 250",
+                "no more findings are drawn",
+            )
+        sections = [
+            k for k in range(File(file).section_count) if File(file).section(k).sh_size == 1
+        ]
         at = File(file).section(sections[0]).sh_offset
-        self.show(write(f"{self.room}/owners.o", edited(file, *(("sh_offset", k, at) for k in sections))))
-        advice, rest = self.text("#advice"), f"and {len(sections) - 16} more sections share this byte"
+        self.show(
+            write(f"{self.room}/owners.o", edited(file, *(("sh_offset", k, at) for k in sections)))
+        )
+        advice = self.text("#advice")
+        rest = f"and {len(sections) - 16} more sections share this byte"
         self.check(
-            rest in advice and advice.count(f"{'n' * MOST_CHARACTERS}… [0x") == 16, f"of the owners of a byte is said {advice[:500]}"
+            rest in advice and advice.count(f"{'n' * MOST_CHARACTERS}… [0x") == 16,
+            f"of the owners of a byte is said {advice[:500]}",
         )
 
     def million(self) -> None:
+        """An object of very many symbols is validated at once."""
         path = f"{self.room}/million.o"
-        write(f"{self.room}/million.s", "".join(f".globl name_{k}\nname_{k}={k}\n" for k in range(SYMBOLS)))
+        write(
+            f"{self.room}/million.s",
+            "".join(f".globl name_{k}\nname_{k}={k}\n" for k in range(SYMBOLS)),
+        )
         wanted("cc", "-c", f"{self.room}/million.s", "-o", path)
         self.show(path)
         took = float(self.value("document.body.dataset.took"))
-        self.note(f"an object of {SYMBOLS:,} symbols, {os.path.getsize(path) / 2**20:.0f} MiB, was validated in {took:.1f} ms")
+        size = f"{SYMBOLS:,} symbols, {os.path.getsize(path) / 2**20:.0f} MiB"
+        self.note(f"an object of {size}, was validated in {took:.1f} ms")
         self.check(took < MOST_MILLISECONDS, f"that took {took} ms")
         self.opens("symbols", "Symbols 1 to 100 of 1,000,")
 
 
-@Test("page", ABOUT, TOOLS, f"elfmap {CRATE}", alone=True, options=(number("count", 3000, "so many changed files"),))
+@Test(
+    "page",
+    ABOUT,
+    TOOLS,
+    f"elfmap {CRATE}",
+    alone=True,
+    options=(number("count", 3000, "so many changed files"),),
+)
 def try_page(tally: Tally, options: Options) -> None:
     room = tally.folder
     in_node(tally, room, options.count)
@@ -591,9 +910,21 @@ def try_page(tally: Tally, options: Options) -> None:
         for part in (it.links, it.filtered, it.by_keys, it.for_readers, it.on_screens, it.typed):
             part()
         it.sound_file("/bin/true")
-        tally.check(not it.value("document.querySelector('#memory-section').hidden"), "an executable has no bar by address")
+        tally.check(
+            not it.value("document.querySelector('#memory-section').hidden"),
+            "an executable has no bar by address",
+        )
         it.refused_files(file)
-        for part in (it.shared_byte, it.broken_tables, it.folder, it.million, it.named, it.of_sections, it.nameless, it.far_segment):
+        for part in (
+            it.shared_byte,
+            it.broken_tables,
+            it.folder,
+            it.million,
+            it.named,
+            it.of_sections,
+            it.nameless,
+            it.far_segment,
+        ):
             part()
         it.another_file(file)
         for part in (it.long_names, it.much_to_say):

@@ -1,91 +1,316 @@
 """The subcommands of `tools/dev` and `tools/release`, and the tests of `tools/test`."""
 
-import argparse, contextlib, os, subprocess, sys
+import argparse
+import os
+import subprocess
+import sys
 from collections.abc import Callable, Iterable
 from functools import partial
+from typing import NamedTuple
 
-from . import building, cases, doc, doc_tables, dump, fuzz, hostile, library, linked, man, measuring, memory_faults, mutations
-from . import page, peers, release, shown_commands, slow_files, suite
+from . import (
+    bindings,
+    building,
+    c_library,
+    cases,
+    changed_files,
+    definitions,
+    definitions_page,
+    doc,
+    doc_examples,
+    doc_page,
+    dump,
+    explain,
+    failing_calls,
+    format,
+    fuzzed_files,
+    generated_programs,
+    guarantees,
+    hostile_files,
+    instructions,
+    launcher,
+    laws,
+    library,
+    linked_elsewhere,
+    linked_kinds,
+    linked_like_ld,
+    linked_runs,
+    make_cases,
+    man,
+    memory_faults,
+    minutes,
+    must_not_compile,
+    mutations,
+    names,
+    package_files,
+    packages,
+    page,
+    pages,
+    peers,
+    real_files,
+    real_objects,
+    release,
+    release_files,
+    rules_in_code,
+    rules_tables,
+    shared_tails,
+    shown_commands,
+    slow_files,
+    types,
+)
 from .building import Build
-from .suite import TESTS, Option, Test, commands_of, families, run_one, run_several, setup, word
+from .suite import TESTS, Option, Test, commands_of, families, run_one, run_several, word
+from .requirements import setup
 from .tree import LIBRARIES_OF, PACKAGE, PROCESSORS, TOP, Options, progress
 
-# Its name, what it does, the function, whose answer is the status, and its words.
-Command = tuple[str, str, Callable[[Options], int | None], Iterable[Option]]
+
+class Command(NamedTuple):
+    """A subcommand: its name, what it does, the function, which returns the status, and its
+    words."""
+
+    name: str
+    about: str
+    call: Callable[[Options], int | None]
+    words: Iterable[Option] = ()
 
 
 def package_command(options: Options) -> int:
     """Runs a command of bindings/python, over the program and the library of the repository."""
     words = [sys.executable, "-B", "-m", f"elfmap.{options.command}", *options.words]
-    return subprocess.run(words, env={"ELFMAP": f"{TOP}/elfmap", **os.environ, "PYTHONPATH": PACKAGE}).returncode
+    own = {"ELFMAP": f"{TOP}/elfmap", **os.environ, "PYTHONPATH": PACKAGE}
+    return subprocess.run(words, env=own).returncode
 
 
-FUNCTION = word("function", "a function's path in the crate, or the end of it that fits one alone, or a module, or a type", nargs="*")
-CRATE, OF_PACKAGE = word("crate", "a crate of crates.txt", choices=LIBRARIES_OF), word("words", "its words", nargs=argparse.REMAINDER)
+# ---- tools/dev
+
+CRATE = word("crate", "a crate of crates.txt", choices=LIBRARIES_OF)
+FUNCTION = word(
+    "function",
+    "a function's path in the crate, or the end of it that fits one alone, or a module, or a type",
+    nargs="*",
+)
 TEST = word("--test", "the tests alone whose names hold this", metavar="NAME")
-OBJECTS = [word("program", "elfmap"), word("file", "an object, or an archive of objects", nargs="+")]
-DEV: list[Command] = [
-    ("check", "prove a crate, or some functions of it, or a test, and print what is open", building.check, [CRATE, FUNCTION, TEST]),
-    ("prove", "prove the libraries below a crate; build it if it is a program or library for C", lambda it: Build(it.crate).all(), [CRATE]),
-    ("doc", "print the page of the whole library, for a browser", doc.main, []),
-    ("explain", "say in words why elfmap refused a file: elfmap-explain of the Python package", package_command, [OF_PACKAGE]),
-    ("picture", "draw the bytes of a file: elfmap-picture of the Python package", package_command, [OF_PACKAGE]),
-    ("peers", "write the tables of docs/PEERS.md: what other tools say of files that elfmap refuses", peers.peers, []),
-    ("shared-tails", "print how much shorter string tables are whose names share tails", peers.shared_tails, OBJECTS),
-    ("minutes", "print at its end the processor minutes of a process", measuring.print_minutes, [word("pid", "its number", type=int)]),
-    ("told", "write the files that the tests of bindings/ try, and what they have to say", dump.main, [word("folder", "where to")]),
+OF_PACKAGE = word("words", "its words", nargs=argparse.REMAINDER)
+OBJECTS = [
+    word("program", "elfmap"),
+    word("file", "an object, or an archive of objects", nargs="+"),
 ]
-VERSION, HERE = word("version", "the version", nargs="?", default=""), word("folder", "where to (here)", nargs="?", default=".")
+DEV = [
+    Command(
+        "check",
+        "prove a crate, or some functions of it, or a test, and print what is open",
+        building.check,
+        [CRATE, FUNCTION, TEST],
+    ),
+    Command(
+        "prove",
+        "prove the libraries below a crate; build it if it is a program or library for C",
+        lambda it: Build(it.crate).all(),
+        [CRATE],
+    ),
+    Command("doc", "print the page of the whole library, for a browser", doc_page.main),
+    Command(
+        "explain",
+        "say in words why elfmap refused a file: elfmap-explain of the Python package",
+        package_command,
+        [OF_PACKAGE],
+    ),
+    Command(
+        "picture",
+        "draw the bytes of a file: elfmap-picture of the Python package",
+        package_command,
+        [OF_PACKAGE],
+    ),
+    Command(
+        "peers",
+        "write the tables of docs/PEERS.md: what other tools say of files that elfmap refuses",
+        peers.main,
+    ),
+    Command(
+        "shared-tails",
+        "print how much shorter string tables are whose names share tails",
+        shared_tails.main,
+        OBJECTS,
+    ),
+    Command(
+        "minutes",
+        "print at its end the processor minutes of a process",
+        minutes.print_minutes,
+        [word("pid", "its number", type=int)],
+    ),
+    Command(
+        "told",
+        "write the files that the tests of bindings/ try, and what they have to say",
+        dump.main,
+        [word("folder", "where to")],
+    ),
+]
+
+# ---- tools/release
+
+VERSION = word("version", "the version", nargs="?", default="")
+HERE = word("folder", "where to (here)", nargs="?", default=".")
 THERE = word("folder", "where to (crates/elf_c/out)", nargs="?", default=library.FOLDER)
 PICTURE = [word("file", "an ELF file"), word("picture", "the picture, as PNG")]
-RELEASE: list[Command] = [
-    ("pack", "pack what is built into one archive", lambda it: print(release.pack(it.folder, it.version)), [HERE, VERSION]),
-    ("packages", "make all packages of what is built: of Debian, Python and Rust, and the archive", release.make_packages, [HERE]),
-    ("library", "pack the library for C", lambda it: print(library.pack(os.path.abspath(it.folder))), [THERE]),
-    ("man", "print the manual page", lambda it: print(man.page(release.version_of(it.version)), end=""), [VERSION]),
-    ("page", "print the page for a browser", lambda _: print(page.page(), end=""), []),
-    ("page-picture", "take a picture of the page with a file on it (docs/page.png)", page.picture, PICTURE),
-    ("tables", "write the tables of the rules' names, from docs/RULES.md", doc_tables.write_tables, []),
-    ("definitions", "write docs/DEFINITIONS.md, from the comments in crates/*/specs/", doc_tables.write_definitions, []),
+RELEASE = [
+    Command(
+        "pack",
+        "pack what is built into one archive",
+        lambda it: print(release_files.pack(it.folder, it.version)),
+        [HERE, VERSION],
+    ),
+    Command(
+        "packages",
+        "make all packages of what is built: of Debian, Python and Rust, and the archive",
+        package_files.make_packages,
+        [HERE],
+    ),
+    Command(
+        "library",
+        "pack the library for C",
+        lambda it: print(library.pack(os.path.abspath(it.folder))),
+        [THERE],
+    ),
+    Command(
+        "man",
+        "print the manual page",
+        lambda it: print(man.page(release_files.version_of(it.version)), end=""),
+        [VERSION],
+    ),
+    Command("page", "print the page for a browser", lambda _: print(page.page(), end="")),
+    Command(
+        "page-picture",
+        "take a picture of the page with a file on it (docs/page.png)",
+        page.picture,
+        PICTURE,
+    ),
+    Command(
+        "tables",
+        "write the tables of the rules' names, from docs/RULES.md",
+        rules_in_code.write_tables,
+    ),
+    Command(
+        "definitions",
+        "write docs/DEFINITIONS.md, from the comments in crates/*/specs/",
+        definitions_page.write_definitions,
+    ),
 ]
-# The modules that have tests, in the order in which these are begun.
-MODULES = [hostile, library, measuring, memory_faults, linked, suite, doc_tables, doc, cases, release, shown_commands, mutations]
-MODULES += [fuzz, page, peers, slow_files]
+
+# ---- tools/test
+
+# The modules that have a test, in the order in which these are begun.
+MODULES = [
+    failing_calls,
+    hostile_files,
+    c_library,
+    laws,
+    bindings,
+    explain,
+    instructions,
+    memory_faults,
+    linked_like_ld,
+    linked_runs,
+    linked_elsewhere,
+    linked_kinds,
+    types,
+    format,
+    definitions,
+    names,
+    rules_tables,
+    guarantees,
+    doc,
+    doc_examples,
+    must_not_compile,
+    cases,
+    make_cases,
+    release,
+    launcher,
+    packages,
+    pages,
+    shown_commands,
+    mutations,
+    fuzzed_files,
+    changed_files,
+    generated_programs,
+    page,
+    real_files,
+    real_objects,
+    slow_files,
+]
+
+
+def tests_in_order() -> dict[str, Test]:
+    """The tests by their names."""
+    order = [it.__name__ for it in MODULES]
+    own = sorted(TESTS, key=lambda it: order.index(it.function.__module__))
+    return {it.name: it for it in own}
+
+
+def commands_of_tests(tests: list[Test]) -> list[Command]:
+    """The commands of `tools/test`: each test, each family of them, and what installs what they
+    need."""
+    found = [Command(it.name, it.about, partial(run_one, it), it.options) for it in tests]
+    for name, members in families(tests).items():
+        about = f"these: {', '.join(it.name for it in members)}"
+        found.append(Command(name, about, partial(run_several, members)))
+    about = "install the Debian packages that the tests need, as root or by sudo"
+    found.append(Command("setup", about, lambda _: not setup(commands_of(tests))))
+    return found
+
+
 ABOUTS = {
-    "dev": "What you need while you change code. What is tested is in tools/test, and what a release has in tools/release.",
+    "dev": (
+        "What you need while you change code. What is tested is in tools/test, and what a release "
+        "has in tools/release."
+    ),
     "release": "What a release has, and what is generated.",
-    "test": "Runs the tests of the repository: all, as the gate does after `rt ci`, or some by their names or the name of their family.",
+    "test": (
+        "Runs the tests of the repository: all, as the gate does after `rt ci`, or some by their "
+        "names or the name of their family."
+    ),
 }
 
 
-def of_tests(tests: list[Test]) -> list[Command]:
-    """The commands of `tools/test`: each test, each family of them, and what installs what they need."""
-    found: list[Command] = [(it.name, it.about, partial(run_one, it), it.options) for it in tests]
-    for name, members in families(tests).items():
-        found.append((name, f"these: {', '.join(it.name for it in members)}", partial(run_several, members), []))
-    about = "install the Debian packages that the tests need, as root or by sudo"
-    return [*found, ("setup", about, lambda _: not setup(commands_of(tests)), [])]
+def add_commands(
+    parser: argparse.ArgumentParser, commands: list[Command], is_required: bool
+) -> None:
+    """Adds subcommands to a parser."""
+    added = parser.add_subparsers(
+        dest="command", required=is_required, metavar="NAME", title="commands"
+    )
+    for it in commands:
+        about = f"{it.about[0].upper()}{it.about[1:]}."
+        own = added.add_parser(it.name, help=it.about, description=about)
+        own.set_defaults(call=it.call)
+        for option, words in it.words:
+            own.add_argument(option, **words)  # type: ignore[arg-type]
+
+
+def run_tests(words: list[str]) -> int:
+    """Runs `tools/test` with these words: a test, or several, or all."""
+    parser = argparse.ArgumentParser("tools/test", description=ABOUTS["test"])
+    jobs = "so many tests side by side (one a processor)"
+    parser.add_argument("-j", type=int, dest="jobs", metavar="N", help=jobs)
+    tests = tests_in_order()
+    given = words[2:] if words[:1] == ["-j"] else words
+    if len(given) > 1 and tests.keys() >= {*given}:
+        # Several tests, by their names.
+        tests = {it: tests[it] for it in given}
+        words = words[: -len(given)]
+    wanted = [*tests.values()]
+    parser.set_defaults(jobs=PROCESSORS, call=partial(run_several, wanted))
+    add_commands(parser, commands_of_tests(wanted), is_required=False)
+    options = parser.parse_args(words)
+    # What runs is said by the tests themselves.
+    return int(options.call(options) or 0)
 
 
 def main(tool: str, words: list[str]) -> int:
     """Runs `tools/dev`, `tools/release` or `tools/test`, by its name there, with these words."""
-    parser, is_test = argparse.ArgumentParser(f"tools/{tool}", description=ABOUTS[tool]), tool == "test"
-    added = parser.add_subparsers(dest="command", required=not is_test, metavar="NAME", title="commands")
-    tests = {it.name: it for module in MODULES for it in TESTS if it.function.__module__ == module.__name__}
-    if is_test:
-        parser.add_argument("-j", type=int, dest="jobs", metavar="N", help="so many tests side by side (one a processor)")
-        names = words[2:] if words[:1] == ["-j"] else words
-        if len(names) > 1 and tests.keys() >= {*names}:
-            # Several tests, by their names.
-            tests, words = {it: tests[it] for it in names}, words[: -len(names)]
-        parser.set_defaults(jobs=PROCESSORS, call=partial(run_several, [*tests.values()]))
-    commands = of_tests([*tests.values()]) if is_test else DEV if tool == "dev" else RELEASE
-    for command, about, call, options in commands:
-        own = added.add_parser(command, help=about, description=f"{about[0].upper()}{about[1:]}.")
-        own.set_defaults(call=call)
-        for option, more in options:
-            own.add_argument(option, **more)  # type: ignore[arg-type]
-    given = parser.parse_args(words)
-    # Of tests is said which of them run.
-    with contextlib.nullcontext() if is_test else progress(lambda: f"tools/{tool} {given.command}"):
-        return int(given.call(given) or 0)
+    if tool == "test":
+        return run_tests(words)
+    parser = argparse.ArgumentParser(f"tools/{tool}", description=ABOUTS[tool])
+    add_commands(parser, DEV if tool == "dev" else RELEASE, is_required=True)
+    options = parser.parse_args(words)
+    with progress(lambda: f"tools/{tool} {options.command}"):
+        return int(options.call(options) or 0)

@@ -1,10 +1,16 @@
-"""The reference implementation (reference/), as the tools call it: written in Python from the rules' words in docs/RULES.md alone. Its
-modules have no types, so what they answer gets its type here. And small objects and files, made by their parts."""
+"""The reference implementation (reference/), as the tools call it: written in Python from the
+rules' words in docs/RULES.md alone. Its modules have no types, so what they answer gets its type
+here. And small objects and files, made by their parts."""
 
 from collections.abc import Callable, Mapping, Sequence
 from typing import Any, cast
 
-import executable, image, link, objects, show, tables
+import executable
+import image
+import link
+import objects
+import show
+import tables
 from objects import Value, kept, record
 from records import DYNAMIC, HEADER, PROGRAM_HEADER, RELOCATION, SECTION_HEADER, SYMBOL, File
 from show import name_of, parts, signed
@@ -17,38 +23,60 @@ Edit = tuple[Any, ...]
 laid: Callable[[Any], bytes] = objects.laid
 string: Callable[[bytes, int], bytes] = objects.string
 NULL, PROGBITS, SYMTAB, STRTAB, RELA, HASH, DYNAMIC_SECTION, NOTE, NOBITS, REL = range(10)
-DYNSYM, GROUP, SYMTAB_SHNDX, LOAD = 11, 17, 18, 1
-WRITE, ALLOC, EXEC, INFO_LINK, IN_GROUP = 1, 2, 4, 0x40, 0x200
-UNDEF, ABS, COMMON, XINDEX = 0, 0xFFF1, 0xFFF2, 0xFFFF
+DYNSYM = 11
+GROUP = 17
+SYMTAB_SHNDX = 18
+LOAD = 1
+WRITE = 1
+ALLOC = 2
+EXEC = 4
+INFO_LINK = 0x40
+IN_GROUP = 0x200
+UNDEF = 0
+ABS = 0xFFF1
+COMMON = 0xFFF2
+XINDEX = 0xFFFF
 
 # The names of the rules of images.
 RULE_NAMES: list[str] = [rule.__name__.upper() for _, rule in image.RULES]
-# The first rule that is broken, and where: by a file as an image or as an object, and by the table in a section.
+# The first rule that is broken, and where: by a file as an image or as an object, and by the table
+# in a section.
 verdict: Callable[[bytes], Broken | None] = image.verdict
 object_verdict: Callable[[bytes], Broken | None] = objects.verdict
 table_verdict: Callable[[Any, int], Broken | None] = tables.verdict
 # What `elfmap check` and `elfmap show` print.
 check: Callable[[bytes], str] = image.check
 shown: Callable[[bytes], str] = show.show
-# What `elfmap rewrite` prints on standard error, and what it writes; None where the reference leaves it open.
+# What `elfmap rewrite` prints on standard error, and what it writes; None where the reference
+# leaves it open.
 rewritten: Callable[[bytes], tuple[str, bytes] | None] = objects.rewrite
 
 
 def mapped(contents: Sequence[bytes], base: str, page: str, rules: bytes | None = None) -> str:
     """The lines of `elfmap map`, by a file of rules if one is given."""
-    return str(link.map_lines(contents, int(base, 0), int(page, 0), None if rules is None else link.rules_of(rules)))
+    return str(
+        link.map_lines(
+            contents, int(base, 0), int(page, 0), None if rules is None else link.rules_of(rules)
+        )
+    )
 
 
 def entries_of(contents: Sequence[bytes]) -> list[str]:
     """The names of the files, of letters alone, that an executable may begin at."""
     _, it = link.validated(contents, 0x400000, 0x1000)
-    names = [name for name in it.entries if link.value_of(it, it.at, it.common_at, name)[1] != "zero"] if hasattr(it, "at") else []
+    names = (
+        [name for name in it.entries if link.value_of(it, it.at, it.common_at, name)[1] != "zero"]
+        if hasattr(it, "at")
+        else []
+    )
     return [name.decode("ascii") for name in names if name.isalpha()]
 
 
 def parsed(words: Sequence[str]) -> tuple[dict[str, str], list[str]]:
     """The options of a command with what follows each, and the names of its files."""
-    options, names, rest = dict[str, str](), list[str](), iter(words[1:])
+    options = dict[str, str]()
+    names = list[str]()
+    rest = iter(words[1:])
     for it in rest:
         if it.startswith("--"):
             options[it] = next(rest) if it != "--seek" else ""
@@ -58,15 +86,19 @@ def parsed(words: Sequence[str]) -> tuple[dict[str, str], list[str]]:
 
 
 def answer(words: Sequence[str], files: Mapping[str, bytes]) -> Answer | None:
-    """What elfmap answers, called with these words on files by their names; None where the reference leaves it open."""
+    """What elfmap answers, called with these words on files by their names; None where the
+    reference leaves it open."""
     options, names = parsed(words)
-    contents, rules = [files[it] for it in names], files.get(options.get("--rules", ""))
+    contents = [files[it] for it in names]
+    rules = files.get(options.get("--rules", ""))
     if words[0] == "map":
         lines = mapped(contents, options["--base"], options["--page"], rules)
         return int(lines.startswith(("refused ", "file "))), lines.encode("latin1"), b""
     if words[0] == "link":
         base, page = (int(options[it], 0) for it in ("--base", "--page"))
-        refusal, file = executable.answer(contents, base, page, link.rules_of(rules), options["--entry"].encode())
+        refusal, file = executable.answer(
+            contents, base, page, link.rules_of(rules), options["--entry"].encode()
+        )
         return int(bool(refusal)), file, refusal.encode("latin1")
     if words[0] == "rewrite":
         found = rewritten(contents[0])
@@ -80,34 +112,89 @@ def number_words(order: str, *numbers: int) -> bytes:
 
 
 def section(
-    name: bytes, type: int, body: Any = b"", flags: int = 0, align: int = 1, entsize: int = 0, link: int | None = None, info: int = 0
+    name: bytes,
+    type: int,
+    body: Any = b"",
+    flags: int = 0,
+    align: int = 1,
+    entsize: int = 0,
+    link: int | None = None,
+    info: int = 0,
 ) -> Any:
-    """A section. The body is bytes, the size of one without, the entries of relocations, or the flags and members of a group."""
-    return Value(name=name, type=type, flags=flags, addr=0, align=align, entsize=entsize, link=link, info=info, body=body)
+    """A section. The body is bytes, the size of one without, the entries of relocations, or the
+    flags and members of a group."""
+    return Value(
+        name=name,
+        type=type,
+        flags=flags,
+        addr=0,
+        align=align,
+        entsize=entsize,
+        link=link,
+        info=info,
+        body=body,
+    )
 
 
-def symbol(name: bytes, section: int | None, info: int = 0x10, value: int = 0, size: int = 0, reserved: int = UNDEF, other: int = 0) -> Any:
+def symbol(
+    name: bytes,
+    section: int | None,
+    info: int = 0x10,
+    value: int = 0,
+    size: int = 0,
+    reserved: int = UNDEF,
+    other: int = 0,
+) -> Any:
     """A symbol in the section at this position, or of this reserved index."""
-    return Value(name=name, info=info, other=other, value=value, size=size, section=section, reserved=reserved)
+    return Value(
+        name=name,
+        info=info,
+        other=other,
+        value=value,
+        size=size,
+        section=section,
+        reserved=reserved,
+    )
 
 
-def object_of(sections: Sequence[Any], symbols: Sequence[Any] = (), order: str = "little", osabi: int = 0) -> Any:
-    return Value(order=order, osabi=osabi, abi=0, machine=62, flags=0, sections=list(sections), symbols=list(symbols))
+def object_of(
+    sections: Sequence[Any], symbols: Sequence[Any] = (), order: str = "little", osabi: int = 0
+) -> Any:
+    return Value(
+        order=order,
+        osabi=osabi,
+        abi=0,
+        machine=62,
+        flags=0,
+        sections=list(sections),
+        symbols=list(symbols),
+    )
 
 
-def object_file(sections: Sequence[Any], symbols: Sequence[Any] = (), order: str = "little") -> bytes:
-    """The file of an object, in its canonical layout: after its own sections .symtab, .strtab and .shstrtab."""
+def object_file(
+    sections: Sequence[Any], symbols: Sequence[Any] = (), order: str = "little"
+) -> bytes:
+    """The file of an object, in its canonical layout: after its own sections .symtab, .strtab and
+    .shstrtab."""
     return laid(object_of(sections, symbols, order))
 
 
 def with_index_table(o: Any) -> bytes:
     """The file of an object with an index table, which its symbols don't need."""
-    o.sections.append(section(b".symtab_shndx", SYMTAB_SHNDX, bytes(4 + 4 * len(o.symbols)), 0, 4, 4))
+    o.sections.append(
+        section(b".symtab_shndx", SYMTAB_SHNDX, bytes(4 + 4 * len(o.symbols)), 0, 4, 4)
+    )
     return edited(laid(o), ("sh_link", len(o.sections), len(o.sections) + 1))
 
 
-def relocations(entries: list[tuple[int, int, int, int]], target: int, name: bytes = b".rela.text", flags: int = 0) -> Any:
-    """A section of relocations of the one at this position: of each entry its offset, symbol, kind and addend."""
+def relocations(
+    entries: list[tuple[int, int, int, int]],
+    target: int,
+    name: bytes = b".rela.text",
+    flags: int = 0,
+) -> Any:
+    """A section of relocations of the one at this position: of each entry its offset, symbol, kind
+    and addend."""
     return section(name, RELA, entries, flags, 8, 24, info=target)
 
 
@@ -116,21 +203,32 @@ def group(members: list[int], signature: int = 1, flags: int = 1) -> Any:
     return section(b".group", GROUP, (flags, members), 0, 4, 4, info=signature)
 
 
-def text(content: bytes = b"\xc3", flags: int = ALLOC | EXEC, name: bytes = b".text", align: int = 1) -> Any:
+def text(
+    content: bytes = b"\xc3", flags: int = ALLOC | EXEC, name: bytes = b".text", align: int = 1
+) -> Any:
     return section(name, PROGBITS, content, flags, align)
 
 
 def edited(file: bytes, *edits: Edit) -> bytes:
-    """A file with fields set: of each edit the place and the number. A place is a field of the header by its name, one of a section or
-    program header by its name and index, or a triple of a section (0 for the file), an offset in its content, and a width. All places are
-    those of the file before any edit."""
-    f, new = File(file), bytearray(file)
+    """A file with fields set: of each edit the place and the number. A place is a field of the
+    header by its name, one of a section or program header by its name and index, or a triple of a
+    section (0 for the file), an offset in its content, and a width. All places are those of the
+    file before any edit."""
+    f = File(file)
+    new = bytearray(file)
     for name, *rest, number in edits:
         if isinstance(name, tuple):
             section, at, width = name
             at += f.section(section).sh_offset if section else 0
         else:
-            record = f.header if not rest else f.section(*rest) if name.startswith("sh_") else f.segment(*rest)
-            at, width = record.at(name), record.layout[name][1]
+            record = (
+                f.header
+                if not rest
+                else f.section(*rest)
+                if name.startswith("sh_")
+                else f.segment(*rest)
+            )
+            at = record.at(name)
+            width = record.layout[name][1]
         new[at : at + width] = number.to_bytes(width, f.order)
     return bytes(new)

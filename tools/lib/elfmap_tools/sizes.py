@@ -1,43 +1,72 @@
-"""The sizes that growths ask for, for `tools/test memory-faults`: each has to be a length in hand, a sum of such, or a constant of at most
-a MiB. So no more is asked for than what is there already, as often as a sum has parts.
+"""The sizes that growths ask for, for `tools/test memory-faults`: each has to be a length in hand,
+a sum of such, or a constant of at most a MiB. So no more is asked for than what is there already,
+as often as a sum has parts.
 
-An expression is followed through the variables and the parameters of a function, the calls of the libraries, and their constants. A
-difference, a quotient, a remainder and a shift to the right are no more than their first part. The least of several is a length if one of
-them is, and the greatest if all are. A product and a shift to the left are findings. So is whatever is not understood, unless a contract
-bounds it: a clause of the function says that the name is, or is at most, a length or a `MAX_`.. of the definitions; or a clause names a
-definition of BOUNDING, of which these names are parts."""
+An expression is followed through the variables and the parameters of a function, the calls of the
+libraries, and their constants. A difference, a quotient, a remainder and a shift to the right are
+no more than their first part. The least of several is a length if one of them is, and the greatest
+if all are. A product and a shift to the left are findings. So is whatever is not understood, unless
+a contract bounds it: a clause of the function says that the name is, or is at most, a length or a
+`MAX_`.. of the definitions; or a clause names a definition of BOUNDING, of which these names are
+parts."""
 
-import functools, operator, re
+import functools
+import operator
+import re
 from collections.abc import Callable, Iterable, Iterator
 from dataclasses import dataclass, field
 from typing import NamedTuple
 
 from .functions import Function
 
-# So many at most; and where a refusal is no fault, as many bytes as the longest file has, and one more.
-MOST, MOST_UNWANTED = 1 << 20, (1 << 30) + 1
-SIZED = set("with_capacity with_capacity_and_hasher reserve reserve_exact try_reserve try_reserve_exact resize resize_with vec!".split())
+# So many at most; and where a refusal is no fault, as many bytes as the longest file has, and one
+# more.
+MOST = 1 << 20
+MOST_UNWANTED = (1 << 30) + 1
+SIZED = set(
+    "with_capacity with_capacity_and_hasher reserve reserve_exact try_reserve try_reserve_exact resize resize_with vec!".split()
+)
 CALL = re.compile(rf"\b(?:{'|'.join(map(re.escape, SIZED))})(?=[(\[])")
-# Definitions, and the numbers of which each says that they are no more than a length in hand, or than those of the crate allow.
-BOUNDING = {"AreHashWords": {"nchain"}, "HasTables": {"sections", "segments"}, "IsBuilt": {"nbucket"}}
+# Definitions, and the numbers of which each says that they are no more than a length in hand, or
+# than those of the crate allow.
+BOUNDING = {
+    "AreHashWords": {"nchain"},
+    "HasTables": {"sections", "segments"},
+    "IsBuilt": {"nbucket"},
+}
 BOUND = r"(?:≡|≤|<) (?:[^{}]*\b)?(?:length|vec_len|MAX_\w+)\b"
-TOKEN = re.compile(r"\s*(\d\w*|[A-Za-z_]\w*(?:::(?:<[^()]*?>)?\w*)*!?|<<|>>|&&|\|\||[<>=!]=|\.\.=?|[-+*/%&|^.,?(){}\[\]<>=!;:])")
+TOKEN = re.compile(
+    r"\s*(\d\w*|[A-Za-z_]\w*(?:::(?:<[^()]*?>)?\w*)*!?|<<|>>|&&|\|\||[<>=!]=|\.\.=?|[-+*/%&|^.,?(){}\[\]<>=!;:])"
+)
 LEVELS = [{"|"}, {"^"}, {"&"}, {"<<", ">>"}, {"+", "-"}, {"*", "/", "%"}]
 VALUES: dict[str, Callable[[int, int], int]] = {
     "+": operator.add, "-": operator.sub, "*": operator.mul, "/": operator.floordiv, "%": operator.mod, "<<": operator.lshift,
     ">>": operator.rshift, "&": operator.and_, "|": operator.or_, "^": operator.xor,
 }  # fmt: skip
-# What the value of an operator or a method is bounded by: all of its parts, one of them, or the first.
+# What the value of an operator or a method is bounded by: all of its parts, one of them, or the
+# first.
 ALL = {"+", "|", "^", "max", "saturating_add", "checked_add", "wrapping_add", "unwrap_or"}
 ANY = {"%", "&", "min"}
-FIRST = {"-", "/", ">>", "saturating_sub", "checked_sub", "div_ceil", "isqrt", "next_power_of_two", "unwrap_or_default"}
+FIRST = {
+    "-",
+    "/",
+    ">>",
+    "saturating_sub",
+    "checked_sub",
+    "div_ceil",
+    "isqrt",
+    "next_power_of_two",
+    "unwrap_or_default",
+}
 LENGTHS = {"len", "capacity"}
-OPENING, CLOSING = "([{", ")]}"
+OPENING = "([{"
+CLOSING = ")]}"
 
 
 @dataclass
 class Node:
-    """An expression: an operator, a method or a call, by its name, with its parts; a name; or a number."""
+    """An expression: an operator, a method or a call, by its name, with its parts; a name; or a
+    number."""
 
     kind: str
     name: str
@@ -52,7 +81,8 @@ class Parser:
     """Reads an expression of numbers."""
 
     def __init__(self, text: str) -> None:
-        self.tokens, at = list[str](), 0
+        self.tokens = list[str]()
+        at = 0
         text = text.strip()
         while at < len(text):
             found = TOKEN.match(text, at)
@@ -106,7 +136,12 @@ class Parser:
             return found
         if token[0].isdigit():
             return Node("number", token)
-        if not (token[0].isalpha() or token[0] == "_") or token in ("if", "match", "unsafe", "loop"):
+        if not (token[0].isalpha() or token[0] == "_") or token in (
+            "if",
+            "match",
+            "unsafe",
+            "loop",
+        ):
             raise Unread(token)
         return Node("call", token, self.arguments()) if self.peek() == "(" else Node("name", token)
 
@@ -118,7 +153,11 @@ class Parser:
                 found = Node("field", "[]", [found])
             elif token == ".":
                 name = self.take()
-                found = Node("of", name, [found, *self.arguments()]) if self.peek() == "(" else Node("field", name, [found])
+                found = (
+                    Node("of", name, [found, *self.arguments()])
+                    if self.peek() == "("
+                    else Node("field", name, [found])
+                )
         return found
 
     def arguments(self) -> list[Node]:
@@ -151,8 +190,11 @@ class Parser:
 
 
 def parts_of(text: str, start: int, separators: str) -> list[str]:
-    """What is between the bracket at `start` and its end, cut at these signs where they are in no further brackets."""
-    level, found, last = 0, list[str](), start + 1
+    """What is between the bracket at `start` and its end, cut at these signs where they are in no
+    further brackets."""
+    level = 0
+    found = list[str]()
+    last = start + 1
     for at in range(start, len(text)):
         level += (text[at] in OPENING) - (text[at] in CLOSING)
         if level == 0 or level == 1 and text[at] in separators:
@@ -180,13 +222,17 @@ class Growth(NamedTuple):
 def growths_in(function: Function) -> list[Growth]:
     """The growths of a function that are by a number."""
     growths = list[Growth]()
-    starts, text = list[int](), ""
+    starts = list[int]()
+    text = ""
     for at in function.inner:
         starts.append(len(text))
         text += function.lines[at].strip() + " "
     for found in CALL.finditer(text):
-        line = function.begin + 1 + max(k for k, start in enumerate(starts) if start <= found.start())
-        name, start = found[0], found.end()
+        line = (
+            function.begin + 1 + max(k for k, start in enumerate(starts) if start <= found.start())
+        )
+        name = found[0]
+        start = found.end()
         parts = parts_of(text, start, ";" if name == "vec!" else ",")
         if name == "vec!":
             # `vec![in ALLOC; VALUE; COUNT]`; one with fewer parts has its elements.
@@ -195,7 +241,9 @@ def growths_in(function: Function) -> list[Growth]:
             # The allocator is before it.
             parts = parts[1:]
         if parts:
-            growths.append(Growth(line, parts[0], not re.search(r"\blet _ = [^;]*$", text[: found.start()])))
+            growths.append(
+                Growth(line, parts[0], not re.search(r"\blet _ = [^;]*$", text[: found.start()]))
+            )
     return growths
 
 
@@ -210,7 +258,11 @@ class Sizes:
         self.most = MOST
         self.constants: dict[str, set[str]] = {}
         for text in texts:
-            for name, value in re.findall(r"^ *(?:pub(?:\(crate\))? )?const (\w+): u(?:size|8|16|32|64) = ([^;]*);", text, re.M):
+            for name, value in re.findall(
+                r"^ *(?:pub(?:\(crate\))? )?const (\w+): u(?:size|8|16|32|64) = ([^;]*);",
+                text,
+                re.M,
+            ):
                 self.constants.setdefault(name, set()).add(value)
 
     def findings(self, function: Function) -> Iterator[tuple[int, str]]:
@@ -253,10 +305,14 @@ class Sizes:
         if node.kind == "name" and re.fullmatch(r"\w+", node.name):
             return self.judge_name(function, node.name, seen)
         if node.kind == "field" and node.name != "[]":
-            return "" if self.is_bounded(function, node.name) else f"{node.name} is no length in hand"
+            return (
+                "" if self.is_bounded(function, node.name) else f"{node.name} is no length in hand"
+            )
         return f"{node.name} is no length in hand"
 
-    def judge_operator(self, function: Function, node: Node, seen: set[tuple[Function, str]]) -> str:
+    def judge_operator(
+        self, function: Function, node: Node, seen: set[tuple[Function, str]]
+    ) -> str:
         name = node.name
         if name in LENGTHS and len(node.parts) == 1:
             return ""
@@ -267,7 +323,11 @@ class Sizes:
             return self.judge(function, node.parts[0], seen)
         if name in self.named and name not in VALUES:
             return self.judge_call(function, node, seen)
-        return f"{name} makes it longer than its parts" if name in VALUES else f"{name} is no method of lengths"
+        return (
+            f"{name} makes it longer than its parts"
+            if name in VALUES
+            else f"{name} is no method of lengths"
+        )
 
     def judge_call(self, function: Function, node: Node, seen: set[tuple[Function, str]]) -> str:
         """All functions of this name are bounded: by a contract, or what they answer is."""
@@ -280,9 +340,9 @@ class Sizes:
         if self.is_bounded(function, name):
             return ""
         for it in found:
-            is_said = re.search(rf"\bensures[^{{]*\{{[^{{}}]*\bresult {BOUND}", it.clauses) or re.search(
-                rf"\bresult\b[^{{}}]* {BOUND}", it.clauses
-            )
+            is_said = re.search(
+                rf"\bensures[^{{]*\{{[^{{}}]*\bresult {BOUND}", it.clauses
+            ) or re.search(rf"\bresult\b[^{{}}]* {BOUND}", it.clauses)
             if not is_said and (it, "") not in seen:
                 why = self.judge_answer(it, seen | {(it, "")})
                 if why:
@@ -305,11 +365,16 @@ class Sizes:
         return any(re.search(rf"(?<![\w]){name}\b[^≡≤<→]*{BOUND}", it) for it in clauses)
 
     def judge_name(self, function: Function, name: str, seen: set[tuple[Function, str]]) -> str:
-        """A variable or a parameter: all that it is made of is bounded, or a clause says that it is."""
+        """A variable or a parameter: all that it is made of is bounded, or a clause says that it
+        is."""
         if (function, name) in seen or self.is_bounded(function, name):
             return ""
-        seen, body = seen | {(function, name)}, self.bodies[function]
-        made = re.findall(rf"(?:\blet (?:mut )?|(?<![\w.]))\(?{name}\)?(?:: \w+)? [-+]?= ([^;]*?)(?: else \{{|;)", body)
+        seen = seen | {(function, name)}
+        body = self.bodies[function]
+        made = re.findall(
+            rf"(?:\blet (?:mut )?|(?<![\w.]))\(?{name}\)?(?:: \w+)? [-+]?= ([^;]*?)(?: else \{{|;)",
+            body,
+        )
         made += re.findall(rf"\b(?:Some|Ok)\({name}\) = ([^;]*?)(?: else)? \{{", body)
         made += re.findall(rf"\bfor {name} in [^.]*\.\.=?(.*?) \{{", body)
         if re.search(rf"(?<![\w.]){name} (?:\*|<<|\||\^)= ", body):
@@ -324,9 +389,13 @@ class Sizes:
         except Unread:
             return f"`{text}` is no length in hand"
 
-    def judge_parameter(self, function: Function, name: str, seen: set[tuple[Function, str]]) -> str:
+    def judge_parameter(
+        self, function: Function, name: str, seen: set[tuple[Function, str]]
+    ) -> str:
         """All calls of the function give it a length there."""
-        words = parts_of(function.head, function.head.index("("), ",") if "(" in function.head else []
+        words = (
+            parts_of(function.head, function.head.index("("), ",") if "(" in function.head else []
+        )
         names = [re.sub(r"^mut ", "", it.partition(":")[0].strip()) for it in words]
         if name not in names:
             return f"{name} is no length in hand"

@@ -1,6 +1,10 @@
-"""The public items of the crates, and the definitions that their contracts name, read from the sources as `rt fmt` lays them out."""
+"""The public items of the crates, and the definitions that their contracts name, read from the
+sources as `rt fmt` lays them out."""
 
-import functools, os, re, textwrap
+import functools
+import os
+import re
+import textwrap
 from collections.abc import Iterator
 from dataclasses import dataclass, field, replace
 from itertools import takewhile
@@ -13,7 +17,11 @@ Block = tuple[list[str], list[str], list[str]]
 # What words of the logic mean: of each a path and a name there.
 Uses = dict[str, tuple[str, str]]
 # The public crates, in the order of the table at the head of the crate `elf`.
-PUBLIC_CRATES = [it for it in re.findall(r"^//! \| \[`(\w+)`\]", read_text("crates/elf/src/lib.rt"), re.M) if f"elf_{it}" in LIBRARIES_OF]
+PUBLIC_CRATES = [
+    it
+    for it in re.findall(r"^//! \| \[`(\w+)`\]", read_text("crates/elf/src/lib.rt"), re.M)
+    if f"elf_{it}" in LIBRARIES_OF
+]
 HEAD = re.compile(r"pub (fn|struct|enum|trait|const|mod|type) (\w+)")
 CLAUSE = re.compile(r" *(requires|ensures)\b")
 # What holds no bracket that counts: strings, characters, comments.
@@ -22,12 +30,16 @@ WORD = re.compile(r"(?<![\w.])[^\W\d]\w*")
 IMPORT = re.compile(r"use Rattle\.([\w.]+)\.\{([^}]*)\}")
 # A word, and what it is called here, if it is called otherwise.
 NAMES = re.compile(r"([^\s,]+)(?: as ([^\s,]+))?")
-DEFINITION = re.compile(r"^(?:(?:pub )?(?:abbrev|unfoldable|record|data) (?:pub )?([^\s(:]+)|(?:pub )?([^\s(:=]+) :)", re.M)
+DEFINITION = re.compile(
+    r"^(?:(?:pub )?(?:abbrev|unfoldable|record|data) (?:pub )?([^\s(:]+)|(?:pub )?([^\s(:=]+) :)",
+    re.M,
+)
 
 
 @dataclass
 class Item:
-    """An item of a source: its doc comment, its text up to its contract, its clauses, and what is in it."""
+    """An item of a source: its doc comment, its text up to its contract, its clauses, and what is
+    in it."""
 
     kind: str
     name: str
@@ -54,21 +66,28 @@ def balance(line: str) -> int:
 
 
 def end_of(lines: list[str], start: int, ends: str) -> int:
-    """Behind the last line of what begins at `start`: all brackets are closed, and it ends as such a text ends."""
-    level, indent = 0, indent_of(lines[start])
+    """Behind the last line of what begins at `start`: all brackets are closed, and it ends as such
+    a text ends."""
+    level = 0
+    indent = indent_of(lines[start])
     for at in range(start, len(lines)):
         level += balance(lines[at])
         bare = LITERAL.sub("", lines[at]).rstrip()
-        if level <= 0 and (bare.endswith(ends) or (bare.endswith("}") and indent_of(lines[at]) == indent)):
+        if level <= 0 and (
+            bare.endswith(ends) or (bare.endswith("}") and indent_of(lines[at]) == indent)
+        ):
             return at + 1
     return len(lines)
 
 
 def blocks(lines: list[str], ends: str = ";") -> Iterator[Block]:
     """The texts of one level, each with the comment lines and attributes above it."""
-    at, docs, marks = 0, list[str](), list[str]()
+    at = 0
+    docs = list[str]()
+    marks = list[str]()
     while at < len(lines):
-        word, end = lines[at].strip(), at + 1
+        word = lines[at].strip()
+        end = at + 1
         if word.startswith("///"):
             docs.append(word[3:].removeprefix(" "))
         elif word.startswith("//"):
@@ -80,7 +99,8 @@ def blocks(lines: list[str], ends: str = ";") -> Iterator[Block]:
             if word:
                 end = end_of(lines, at, ends)
                 yield docs, marks, lines[at:end]
-            docs, marks = [], []
+            docs = []
+            marks = []
         at = end
 
 
@@ -97,16 +117,35 @@ def unindented(lines: list[str]) -> list[str]:
 def signature_and_clauses(text: list[str]) -> tuple[list[str], list[str]]:
     """A function's signature, and the clauses after it."""
     lines = list(takewhile(lambda it: it.strip() not in ("{", "{}", ";"), text))
-    count = next((k for k, it in enumerate(lines) if CLAUSE.match(it) or it.endswith(" {") or it.strip() == "where"), len(lines))
+    count = next(
+        (
+            k
+            for k, it in enumerate(lines)
+            if CLAUSE.match(it) or it.endswith(" {") or it.strip() == "where"
+        ),
+        len(lines),
+    )
     if count == len(lines) or not CLAUSE.match(lines[count]):
-        return unindented([it.removesuffix(" {") for it in lines[: count + 1] if it.strip() != "where"]), []
+        return (
+            unindented(
+                [it.removesuffix(" {") for it in lines[: count + 1] if it.strip() != "where"]
+            ),
+            [],
+        )
     clauses = re.split(r"\n(?= *(?:requires|ensures)\b)", "\n".join(lines[count:]))
-    return unindented(lines[:count]), ["\n".join(unindented(it.split("\n"))).removesuffix(";") for it in clauses]
+    return unindented(lines[:count]), [
+        "\n".join(unindented(it.split("\n"))).removesuffix(";") for it in clauses
+    ]
 
 
 def imports(text: str) -> Uses:
-    """What the words of the logic in a text stand for, by its `use` lines: a path and a name there."""
-    return {alias or name: (path, name) for path, names in IMPORT.findall(text) for name, alias in NAMES.findall(names)}
+    """What the words of the logic in a text stand for, by its `use` lines: a path and a name
+    there."""
+    return {
+        alias or name: (path, name)
+        for path, names in IMPORT.findall(text)
+        for name, alias in NAMES.findall(names)
+    }
 
 
 def members_of(text: list[str], source: str, is_trait: bool, uses: Uses) -> Iterator[Item]:
@@ -141,11 +180,14 @@ def item_of(docs: list[str], marks: list[str], text: list[str], source: str, use
         return Item(kind, name, source, docs, *signature_and_clauses(text), uses)
     item = Item(kind, name, source, docs, unindented(text), uses=uses)
     if kind in ("struct", "enum", "trait"):
-        item.text = [it for it in marks if it.startswith("#[derive")] + [text[0].rstrip().removesuffix(" {")]
+        item.text = [it for it in marks if it.startswith("#[derive")] + [
+            text[0].rstrip().removesuffix(" {")
+        ]
     if kind in ("struct", "enum"):
         item.fields = list(fields_of(text))
     if kind == "trait":
-        item.members, item.ghosts = list(members_of(text, source, True, uses)), list(ghosts_of(text))
+        item.members = list(members_of(text, source, True, uses))
+        item.ghosts = list(ghosts_of(text))
         item.uses = {**uses, **imports("\n".join(text))}
     return item
 
@@ -156,17 +198,31 @@ def source(path: str) -> tuple[list[str], dict[str, Item], list[list[str]], Uses
     lines = read_text(path).splitlines()
     front = [it[3:].removeprefix(" ") for it in lines if it.startswith("//!")]
     parts = list(blocks([it for it in lines if not it.startswith(("//!", "#!["))]))
-    uses = imports("\n".join(line for _, _, text in parts if "use " in text[0][:10] for line in text))
-    items = [item_of(docs, marks, text, path, uses) for docs, marks, text in parts if HEAD.match(text[0])]
-    return front, {it.name: it for it in items}, [text for _, _, text in parts if text[0].startswith("impl")], uses
+    uses = imports(
+        "\n".join(line for _, _, text in parts if "use " in text[0][:10] for line in text)
+    )
+    items = [
+        item_of(docs, marks, text, path, uses) for docs, marks, text in parts if HEAD.match(text[0])
+    ]
+    return (
+        front,
+        {it.name: it for it in items},
+        [text for _, _, text in parts if text[0].startswith("impl")],
+        uses,
+    )
 
 
 def sources_of(crate: str) -> list[str]:
-    return [it[len(TOP) + 1 :] for it in texts_of(crate) if it.endswith(".rt") and it.startswith(f"{TOP}/crates/{crate}/src/")]
+    return [
+        it[len(TOP) + 1 :]
+        for it in texts_of(crate)
+        if it.endswith(".rt") and it.startswith(f"{TOP}/crates/{crate}/src/")
+    ]
 
 
 def with_impls(item: Item, crate: str) -> Item:
-    """An item with the public functions of all its impls, the traits that it has, and its ghost view."""
+    """An item with the public functions of all its impls, the traits that it has, and its ghost
+    view."""
     for path in sorted(sources_of(crate), key=lambda it: it != item.source):
         _, _, impls, uses = source(path)
         for text in impls:
@@ -185,7 +241,11 @@ def with_impls(item: Item, crate: str) -> Item:
 
 def shown_by(path: str) -> Iterator[tuple[str, str]]:
     """What a file shows, modules of its own and what others have: each name with its path."""
-    for line in re.finditer(r"^pub (?:use ([\w:]+)::\{([^}]*)\}|(?:use|mod) ([\w:]+(?: as \w+)?));", read_text(path), re.M):
+    for line in re.finditer(
+        r"^pub (?:use ([\w:]+)::\{([^}]*)\}|(?:use|mod) ([\w:]+(?: as \w+)?));",
+        read_text(path),
+        re.M,
+    ):
         for place, alias in NAMES.findall(line[2] or line[3]):
             yield alias or place.rsplit("::", 1)[-1], f"{line[1]}::{place}" if line[1] else place
 
@@ -196,12 +256,17 @@ def module_file(crate: str, words: tuple[str, ...]) -> str:
 
 
 def home_of(crate: str, words: tuple[str, ...], place: str) -> tuple[str, str, str]:
-    """The crate and the file in which the item of a path is defined, as a module of a crate names it, and its name there."""
+    """The crate and the file in which the item of a path is defined, as a module of a crate names
+    it, and its name there."""
     *rest, name = place.split("::")
     is_other = bool(rest) and os.path.isdir(f"{TOP}/crates/{rest[0]}")
     crate, words = (rest[0], tuple(rest[1:])) if is_other else (crate, (*words, *rest))
     path = module_file(crate, words)
-    return (crate, path, name) if name in source(path)[1] else home_of(crate, words, dict(shown_by(path))[name])
+    return (
+        (crate, path, name)
+        if name in source(path)[1]
+        else home_of(crate, words, dict(shown_by(path))[name])
+    )
 
 
 @functools.cache
@@ -219,7 +284,9 @@ def module(crate: str, words: tuple[str, ...]) -> Item:
     front, items, _, _ = source(path)
     members = [it for it in items.values() if it.kind in ("const", "fn")]
     for shown, place in shown_by(path):
-        members.append(replace(item_at(*home_of(crate, words, place)), name=shown, text=[f"pub mod {shown}"]))
+        members.append(
+            replace(item_at(*home_of(crate, words, place)), name=shown, text=[f"pub mod {shown}"])
+        )
     return Item("mod", words[-1], path, front, [f"pub mod {words[-1]}"], members=members)
 
 
@@ -239,15 +306,19 @@ class Definition(NamedTuple):
 
 @functools.cache
 def definitions(path: str) -> tuple[dict[str, Definition], Uses]:
-    """The definitions of a file of specs/ by their names, constructors among them, and what it takes from other files."""
+    """The definitions of a file of specs/ by their names, constructors among them, and what it
+    takes from other files."""
     if not os.path.isfile(f"{TOP}/{path}"):
         return {}, {}
-    found, text = dict[str, Definition](), read_text(path)
+    found = dict[str, Definition]()
+    text = read_text(path)
     # Comment lines, and the lines below them up to an empty line or the next comment.
     for comment, lines in re.findall(r"((?:^--.*\n)*)((?:^(?!--).+\n)+)", text, re.M):
         match = DEFINITION.search(lines)
         if match:
-            said = " ".join(it[2:].strip() for it in comment.splitlines() if not it[2:].strip().startswith("--"))
+            said = " ".join(
+                it[2:].strip() for it in comment.splitlines() if not it[2:].strip().startswith("--")
+            )
             own = lines[match.start() :].rstrip("\n")
             it = found[match[1] or match[2]] = Definition(match[1] or match[2], path, said, own)
             if " data " in f" {own.partition(chr(10))[0]}":
@@ -256,12 +327,16 @@ def definitions(path: str) -> tuple[dict[str, Definition], Uses]:
 
 
 def definition(place: str, name: str) -> Definition | None:
-    """The definition that a name of a path of the logic stands for; None where it is none of the repository's specs/."""
+    """The definition that a name of a path of the logic stands for; None where it is none of the
+    repository's specs/."""
     crate, _, rest = place.partition(".specs.")
-    path, front = f"crates/{crate}/specs/{rest.replace('.', '/')}.antt", f"crates/{crate}/specs/Lib.antt"
+    path = f"crates/{crate}/specs/{rest.replace('.', '/')}.antt"
+    front = f"crates/{crate}/specs/Lib.antt"
     if not os.path.isfile(f"{TOP}/{path}") and os.path.isfile(f"{TOP}/{front}"):
         # A file of specs/ that the crate shows of another one.
-        shown = re.search(rf"^pub use Rattle\.(\S+\.specs\.{re.escape(rest)})$", read_text(front), re.M)
+        shown = re.search(
+            rf"^pub use Rattle\.(\S+\.specs\.{re.escape(rest)})$", read_text(front), re.M
+        )
         return definition(shown[1], name) if shown else None
     return named_in(path, name)
 

@@ -1,82 +1,20 @@
-"""The tests of `tools/test`: each by its name, with the commands and the built crates that it needs; alone or side by side. `tools/test
-setup` installs the Debian packages of the commands that are missing."""
+"""The tests of `tools/test`: each by its name, with the commands and the built crates that it
+needs; alone or side by side."""
 
-import glob, os, re, shutil, subprocess, sys, tempfile, time, traceback
+import os
+import re
+import sys
+import tempfile
+import time
+import traceback
 from collections.abc import Callable, Iterable
 from concurrent.futures import ThreadPoolExecutor, as_completed
+from contextlib import ExitStack
 from dataclasses import dataclass
-from itertools import chain
 
 from .building import built
-from .tree import PACKAGE, TOP, Options, Texts, filled, progress, read_text, run, said
-
-# ---- the commands that tests start, and the Debian packages that have them
-
-KLIBC = "/usr/lib/klibc/lib/libc.a"
-# What Debian's python3 imports.
-IMPORTED = "/usr/lib/python3/dist-packages/{}/__init__.py"
-IMPORTS = "jinja2 jsonschema junitparser markdown selenium setuptools wheel".split()
-JINJA2, JSONSCHEMA, JUNITPARSER, MARKDOWN, SELENIUM, SETUPTOOLS, WHEEL = map(IMPORTED.format, IMPORTS)
-# Debian's clang brings its checks of addresses and of undefined behavior only as a recommended package.
-SANITIZERS = "/usr/lib/llvm-*/lib/clang/*/lib/linux/libclang_rt.asan-x86_64.a"
-# The commands of each package, by their first words, or a file that has to be there; but for those that have the name of their package.
-COMMANDS = {
-    "binaryen": "wasm-opt", "binutils": "ar as ld nm objcopy readelf", "binutils-x86-64-linux-gnu": "x86_64-linux-gnu-as",
-    "cargo-web": "cargo", "chromium-driver": "chromedriver", "dpkg": "dpkg-deb", "elfutils": "eu-elflint", "g++": "c++ g++", "gcc": "cc gcc",
-    "libclang-rt-14-dev": SANITIZERS, "libklibc-dev": KLIBC, "lld": "ld.lld", "lld-19": "ld.lld-19", "llvm": "llvm-objcopy llvm-readobj",
-    "llvm-19": "llvm-mc-19", "nodejs": "node", "rustc-web": "rustc", "util-linux": "prlimit unshare",
-}  # fmt: skip
-PACKAGES = {command: package for package, commands in COMMANDS.items() for command in commands.split()}
-# The machines of rules/, by the names of qemu's program and of the tools; one that qemu has no program for; and those that LLVM alone has,
-# by its names of the machine and for its linker.
-RUN_BY_QEMU = {it: f"{it}-linux-gnu" for it in ("aarch64", "alpha", "riscv64", "s390x", "sparc64")}
-RUN_BY_QEMU |= {"mips64": "mips64-linux-gnuabi64", "ppc64": "powerpc64-linux-gnu"}
-MACHINES = RUN_BY_QEMU | {"ia64": "ia64-linux-gnu"}
-BY_LLVM = {"amdgpu": ("amdgcn-amd-amdhsa", "elf64_amdgpu"), "loongarch64": ("loongarch64", "elf64loongarch")}
-PACKAGES |= {f"{target}-{tool}": f"binutils-{target}" for target in MACHINES.values() for tool in ("as", "ld")}
-PACKAGES |= {IMPORTED.format(it): f"python3-{it}" for it in IMPORTS}
-PACKAGES |= {f"qemu-{qemu}": "qemu-user" for qemu in RUN_BY_QEMU}
-# A cargo whose rustc compiles the tests of bindings/rust too; Debian has an older one beside it.
-LEAST = {"cargo": (1, 85)}
-# One package that can't be had keeps none of the others away.
-INSTALL = 'get() { apt-get install -y --no-install-recommends "$@"; }; apt-get update; get "$@" || for it; do get "$it"; done'
-
-
-def is_there(command: str) -> bool:
-    """Whether a command, or a file, is on this machine, and not too old."""
-    if command.startswith("/"):
-        return bool(glob.glob(command))
-    if not shutil.which(command) or command not in LEAST:
-        return shutil.which(command) is not None
-    version = re.search(rb"(\d+)\.(\d+)", run(command, "--version").stdout)
-    return version is not None and (int(version[1]), int(version[2])) >= LEAST[command]
-
-
-def missing(commands: Iterable[str]) -> list[str]:
-    return [it for it in commands if not is_there(it)]
-
-
-def words_of(lacking: Iterable[str]) -> str:
-    """What to say of missing commands: the package of each, and how to get it."""
-    return ", ".join(f"there is no {it} (package {PACKAGES.get(it, it)})" for it in lacking) + "; `tools/test setup` installs it"
-
-
-def setup(commands: Iterable[str]) -> bool:
-    """Installs the packages of the commands that are missing: whether all are there then."""
-    lacking = missing(commands)
-    packages = sorted({PACKAGES.get(it, it) for it in lacking})
-    if not packages:
-        return True
-    print(f"setup: installs {' '.join(packages)}", flush=True)
-    words = [*["sudo"] * (os.geteuid() != 0), "env", "DEBIAN_FRONTEND=noninteractive", "sh", "-c", INSTALL, "sh", *packages]
-    subprocess.run(words, stdin=subprocess.DEVNULL, stdout=subprocess.DEVNULL)
-    left = missing(lacking)
-    if left:
-        print(f"setup: still {words_of(left)}", file=sys.stderr)
-    return not left
-
-
-# ---- what a test counts
+from .requirements import missing, setup, words_of
+from .tree import TOP, Options, Texts, filled, progress, read_text, said
 
 # Of a step its title, its script, and a pattern of what this prints.
 Step = tuple[str, str, str]
@@ -89,14 +27,20 @@ TESTS: list["Test"] = []
 
 def steps_of(name: str, **marks: str) -> list[Step]:
     """The steps of a file of cases/, with texts for its marks, as @NAME@."""
-    return re.findall(r"^== (.*)\n((?:.*\n)*?)= ?(.*)$", filled(read_text(f"cases/{name}"), **marks), re.M)
+    return re.findall(
+        r"^== (.*)\n((?:.*\n)*?)= ?(.*)$", filled(read_text(f"cases/{name}"), **marks), re.M
+    )
 
 
 class Tally:
-    """What a test counts: how many checks passed, and what failed, which is printed at once; and a folder that is gone after it."""
+    """What a test counts: how many checks passed, and what failed, which is printed at once; and a
+    folder that is gone after it."""
 
     def __init__(self, name: str, folder: str) -> None:
-        self.name, self.folder, self.passed, self.failed = name, folder, 0, 0
+        self.name = name
+        self.folder = folder
+        self.passed = 0
+        self.failed = 0
 
     def check(self, holds: object, why: str) -> bool:
         """One check, and what to print if it does not hold."""
@@ -110,6 +54,7 @@ class Tally:
         return self.check(found == right, f"{what}: {found}, and not {right}")
 
     def fail(self, why: str) -> None:
+        """One check that failed."""
         self.failed += 1
         self.note(why)
 
@@ -134,13 +79,15 @@ class Tally:
         return f"{self.folder}/{name}"
 
     def note(self, text: str) -> None:
+        """Prints something under the name of the test."""
         print(f"{self.name}: {text}", flush=True)
 
 
 @dataclass
 class Test:
-    """A test, set before its function: `@Test("NAME", "what it shows")`. It has the commands that it starts and the crates that have to be
-    built, as words; `alone` is one that uses all processors itself, or looks at the clock."""
+    """A test, set before its function: `@Test("NAME", "what it shows")`. It has the commands that
+    it starts and the crates that have to be built, as words; `alone` is one that uses all
+    processors itself, or looks at the clock."""
 
     name: str
     about: str
@@ -157,31 +104,57 @@ class Test:
 
 
 def word(name: str, about: str, **more: object) -> Option:
-    return name, {"help": about, **({} if name.startswith("-") else {"metavar": name.upper()}), **more}
+    """A word of a command, or an option of it, which begins with `-`."""
+    own: dict[str, object] = {"help": about}
+    if not name.startswith("-"):
+        own["metavar"] = name.upper()
+    return name, {**own, **more}
 
 
 def number(name: str, default: int, about: str) -> Option:
+    """An option that is a number."""
     return word(f"--{name}", f"{about} ({default})", type=int, default=default, metavar="N")
 
 
 def by_chance(count: int, what: str) -> tuple[Option, ...]:
-    return number("count", count, f"so many {what}"), number("seed", 1, f"the same seed makes the same {what}")
+    """The options of a test that tries so many things by chance."""
+    return (
+        number("count", count, f"so many {what}"),
+        number("seed", 1, f"the same seed makes the same {what}"),
+    )
 
 
 def flag(name: str, about: str) -> Option:
+    """An option that is given or not."""
     return word(f"--{name}", about, action="store_true")
 
 
 def commands_of(tests: Iterable[Test]) -> list[str]:
+    """The commands that these tests start, each once."""
     return list(dict.fromkeys(command for it in tests for command in it.commands.split()))
 
 
+def families(tests: list[Test]) -> dict[str, list[Test]]:
+    """The tests of each family, by its name."""
+    found: dict[str, list[Test]] = {}
+    for it in tests:
+        if it.family:
+            found.setdefault(it.family, []).append(it)
+    return found
+
+
+# ---- a run
+
+
 def run_one(test: Test, options: Options) -> int:
-    """Runs a test here: prints what failed, and last how many passed. A test whose commands are missing has failed."""
-    with tempfile.TemporaryDirectory(prefix=f"elfmap-{test.name}.") as folder, progress(lambda: f"tools/test {test.name}"):
-        tally, lacking = Tally(test.name, folder), missing(test.commands.split())
+    """Runs a test here: prints what failed, and last how many passed. A test whose commands are
+    missing has failed."""
+    with ExitStack() as stack:
+        folder = stack.enter_context(tempfile.TemporaryDirectory(prefix=f"elfmap-{test.name}."))
+        stack.enter_context(progress(lambda: f"tools/test {test.name}"))
+        tally = Tally(test.name, folder)
         try:
-            if lacking:
+            if lacking := missing(test.commands.split()):
                 raise SystemExit(words_of(lacking))
             for crate in test.crates.split():
                 built(crate)
@@ -195,62 +168,62 @@ def run_one(test: Test, options: Options) -> int:
     return 1 if tally.failed else 0
 
 
+class Run:
+    """A run of several tests, each in a process of its own."""
+
+    def __init__(self) -> None:
+        self.running: list[str] = []
+        self.passed = 0
+        self.failed = 0
+        # What is printed last: what was skipped, and then which tests failed.
+        self.skipped: list[str] = []
+        self.failures: list[str] = []
+
+    def run(self, test: Test) -> tuple[Test, float, Texts]:
+        """Runs a test: how many seconds it took, and how it ended."""
+        self.running.append(test.name)
+        begun = time.monotonic()
+        ended = said(sys.executable, f"{TOP}/tools/test", test.name)
+        self.running.remove(test.name)
+        return test, time.monotonic() - begun, ended
+
+    def count(self, test: Test, seconds: float, ended: Texts) -> None:
+        """Prints what a test printed, and counts what it counted."""
+        print(f"{test.name}: {seconds:.0f} s\n{ended.stdout}", end="", flush=True)
+        # One that ends without its last line has failed.
+        counts = COUNTS.search(ended.stdout)
+        passed, failed = (int(counts[1]), int(counts[2])) if counts else (0, 1)
+        failed = failed or int(ended.returncode != 0)
+        self.passed += passed
+        self.failed += failed
+        skipped = re.findall(rf"^{test.name}: (skipped: .*)", ended.stdout, re.M)
+        self.skipped[:0] = skipped
+        if failed:
+            what = f"failed: {failed} of {test.name}: run `tools/test {test.name}`"
+            self.failures.append(what)
+
+    def all(self, tests: list[Test], jobs: int) -> None:
+        """Runs these tests, so many side by side, and then those that run alone."""
+        with ThreadPoolExecutor(jobs) as pool:
+            beside = [pool.submit(self.run, it) for it in tests if not it.alone]
+            for ended in as_completed(beside):
+                self.count(*ended.result())
+            for it in tests:
+                if it.alone:
+                    self.count(*self.run(it))
+
+
 def run_several(tests: list[Test], options: Options) -> int:
-    """Installs what is missing, builds what is older than its texts, and runs these tests, each in a process of its own, so many side by
-    side; prints what each printed, in one piece, and counts what it counted."""
+    """Installs what is missing, builds what is older than its texts, and runs these tests; prints
+    what each printed, in one piece, and counts what it counted."""
     setup(commands_of(tests))
     for crate in dict.fromkeys(crate for it in tests for crate in it.crates.split()):
         try:
             built(crate)
         except SystemExit as error:
             print(f"tools/test: {error}")
-    running, all_passed, all_failed, last = list[str](), 0, 0, list[str]()
-
-    def run_beside(test: Test) -> tuple[Test, float, Texts]:
-        running.append(test.name)
-        begun, ended = time.monotonic(), said(sys.executable, f"{TOP}/tools/test", test.name)
-        running.remove(test.name)
-        return test, time.monotonic() - begun, ended
-
-    with progress(lambda: f"tools/test {', '.join(running)}"), ThreadPoolExecutor(options.jobs) as pool:
-        beside = as_completed([pool.submit(run_beside, it) for it in tests if not it.alone])
-        alone = map(run_beside, (it for it in tests if it.alone))
-        for test, seconds, ended in chain((it.result() for it in beside), alone):
-            print(f"{test.name}: {seconds:.0f} s\n{ended.stdout}", end="", flush=True)
-            # One that ends without its last line has failed.
-            counts = COUNTS.search(ended.stdout)
-            passed, failed = (int(counts[1]), int(counts[2])) if counts else (0, 1)
-            failed = failed or int(ended.returncode != 0)
-            all_passed, all_failed = all_passed + passed, all_failed + failed
-            last[:0] = re.findall(rf"^{test.name}: (skipped: .*)", ended.stdout, re.M)
-            last += [f"failed: {failed} of {test.name}: run `tools/test {test.name}`"] if failed else []
-    print("\n".join([*last, f"{all_passed} passed, {all_failed} failed"]))
-    return 1 if all_failed else 0
-
-
-def families(tests: list[Test]) -> dict[str, list[Test]]:
-    return {family: [it for it in tests if it.family == family] for family in dict.fromkeys(it.family for it in tests) if family}
-
-
-# ---- the tests of the tools themselves
-
-PROGRAMS = [f"{TOP}/tools/{it}" for it in ("dev", "test", "release")]
-SETTINGS = f"{TOP}/tools/pyproject.toml"
-
-
-@Test("types", "mypy --strict over tools/ and the Python package", commands="mypy")
-def types(tally: Tally, options: Options) -> None:
-    own = ["--config-file", SETTINGS, f"{TOP}/tools/lib/elfmap_tools", *PROGRAMS]
-    # The package runs by Python 3.9 too.
-    for folder, words in ((f"{TOP}/tools", own), (PACKAGE, ["--strict", "--python-version", "3.9", "elfmap"])):
-        ran = said("mypy", "--cache-dir", f"{TOP}/crates/elfmap/out/mypy", *words, folder=folder)
-        tally.check(ran.returncode == 0, ran.stdout)
-
-
-@Test("format", "black over tools/ and the Python package", commands="black", options=(flag("write", "format it"),))
-def format(tally: Tally, options: Options) -> None:
-    folders = (f"{TOP}/tools/lib/elfmap_tools", f"{PACKAGE}/elfmap", f"{PACKAGE}/tests")
-    # The tables of rules are generated.
-    files = [it for folder in folders for it in glob.glob(f"{folder}/*.py") if not it.endswith("/_rules.py")]
-    ran = said("black", "--config", SETTINGS, *([] if options.write else ["--check"]), "--quiet", *files, *PROGRAMS)
-    tally.check(ran.returncode == 0, "the Python is not formatted: `tools/test format --write` does it")
+    run = Run()
+    with progress(lambda: f"tools/test {', '.join(run.running)}"):
+        run.all(tests, options.jobs)
+    print("\n".join([*run.skipped, *run.failures, f"{run.passed} passed, {run.failed} failed"]))
+    return 1 if run.failed else 0

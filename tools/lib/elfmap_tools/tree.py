@@ -1,6 +1,16 @@
-"""The folders of the repository, its crates, and what every tool does: read and write files, run commands, show that it still runs."""
+"""The folders of the repository, its crates, and what every tool does: read and write files, run
+commands, show that it still runs."""
 
-import argparse, contextlib, functools, os, re, shutil, subprocess, sys, threading, time
+import argparse
+import contextlib
+import functools
+import os
+import re
+import shutil
+import subprocess
+import sys
+import threading
+import time
 from collections.abc import Callable, Iterable, Iterator, Mapping
 from concurrent.futures import ProcessPoolExecutor, ThreadPoolExecutor
 from pathlib import Path
@@ -49,14 +59,31 @@ def cells(line: str) -> list[str]:
     return [it.strip() for it in re.split(r"(?<!\\)\|", line.strip()[1:-1])]
 
 
-def run(*words: str, folder: str | None = None, env: Mapping[str, str] | None = None, timeout: float | None = None) -> Ended:
+def run(
+    *words: str,
+    folder: str | None = None,
+    env: Mapping[str, str] | None = None,
+    timeout: float | None = None,
+) -> Ended:
     """Runs a command without input: its status, and the bytes of both its outputs."""
-    return subprocess.run(words, cwd=folder, env=env, timeout=timeout, stdin=subprocess.DEVNULL, capture_output=True)
+    return subprocess.run(
+        words, cwd=folder, env=env, timeout=timeout, stdin=subprocess.DEVNULL, capture_output=True
+    )
 
 
-def said(*words: str, folder: str | None = None, env: Mapping[str, str] | None = None, timeout: float | None = None) -> Texts:
+def said(
+    *words: str,
+    folder: str | None = None,
+    env: Mapping[str, str] | None = None,
+    timeout: float | None = None,
+) -> Texts:
     """Runs a command without input: its status, and both its outputs as one text."""
-    more: dict[str, Any] = {"stdin": subprocess.DEVNULL, "stdout": subprocess.PIPE, "stderr": subprocess.STDOUT, "errors": "replace"}
+    more: dict[str, Any] = {
+        "stdin": subprocess.DEVNULL,
+        "stdout": subprocess.PIPE,
+        "stderr": subprocess.STDOUT,
+        "errors": "replace",
+    }
     return subprocess.run(words, cwd=folder or TOP, env=env, timeout=timeout, **more)
 
 
@@ -64,7 +91,9 @@ def wanted(*words: str, folder: str | None = None, timeout: float | None = None)
     """Runs a command that has to end well: what it says."""
     ended = said(*words, folder=folder, timeout=timeout)
     if ended.returncode:
-        raise SystemExit(f"{os.path.basename(words[0])} ended with status {ended.returncode}: {ended.stdout[-2000:]}")
+        raise SystemExit(
+            f"{os.path.basename(words[0])} ended with status {ended.returncode}: {ended.stdout[-2000:]}"
+        )
     return ended.stdout
 
 
@@ -84,31 +113,44 @@ def by_cc(path: str, words: str, source: str) -> str:
 
 
 def compiled(folder: str, commands: Iterable[str]) -> list[str]:
-    """Runs compilers in a folder with cases/sources/: what they made, by the last word of each command."""
+    """Runs compilers in a folder with cases/sources/: what they made, by the last word of each
+    command."""
     shutil.copytree(f"{TOP}/cases/sources", folder, dirs_exist_ok=True)
     for it in commands:
         run(*it.split(), folder=folder)
-    return [path for path in (f"{folder}/{it.split()[-1]}" for it in commands) if os.path.exists(path)]
+    return [
+        path for path in (f"{folder}/{it.split()[-1]}" for it in commands) if os.path.exists(path)
+    ]
 
 
-def side_by_side(function: Callable[[T], R], items: Iterable[T], by_processes: bool = False) -> list[R]:
-    """What a function returns for each item, with as many calls at a time as there are processors."""
+def side_by_side(
+    function: Callable[[T], R], items: Iterable[T], by_processes: bool = False
+) -> list[R]:
+    """What a function returns for each item, with as many calls at a time as there are
+    processors."""
     items = list(items)
     with (ProcessPoolExecutor if by_processes else ThreadPoolExecutor)(PROCESSORS) as pool:
         return list(pool.map(function, items, chunksize=max(1, min(10, len(items) // PROCESSORS))))
 
 
 def files_below(folder: str) -> Iterator[str]:
-    """The regular files below a folder, in the order of their names; links and what can't be read are left out."""
+    """The regular files below a folder, in the order of their names; links and what can't be read
+    are left out."""
     for at, folders, names in os.walk(folder):
         folders.sort()
-        yield from (path for path in (f"{at}/{it}" for it in sorted(names)) if os.path.isfile(path) and not os.path.islink(path))
+        yield from (
+            path
+            for path in (f"{at}/{it}" for it in sorted(names))
+            if os.path.isfile(path) and not os.path.islink(path)
+        )
 
 
 @contextlib.contextmanager
 def progress(what: Callable[[], str]) -> Iterator[None]:
-    """While the block runs, standard error has a line on what runs every ten seconds, if it is a terminal."""
-    ended, begun = threading.Event(), time.monotonic()
+    """While the block runs, standard error has a line on what runs every ten seconds, if it is a
+    terminal."""
+    ended = threading.Event()
+    begun = time.monotonic()
 
     def show() -> None:
         while not ended.wait(10):
@@ -149,9 +191,15 @@ def below(name: str) -> list[str]:
 @functools.cache
 def texts_of(crate: str) -> list[str]:
     """The files of its code, definitions and proofs, in order."""
-    return sorted(path for part in ("src", "specs", "proofs") for path in files_below(f"{TOP}/crates/{crate}/{part}"))
+    return sorted(
+        path
+        for part in ("src", "specs", "proofs")
+        for path in files_below(f"{TOP}/crates/{crate}/{part}")
+    )
 
 
 def is_newer(path: str, texts: Iterable[str]) -> bool:
     """Whether what was built is there, and at least as new as each of these files."""
-    return os.path.exists(path) and all(os.path.getmtime(it) <= os.path.getmtime(path) for it in texts)
+    return os.path.exists(path) and all(
+        os.path.getmtime(it) <= os.path.getmtime(path) for it in texts
+    )

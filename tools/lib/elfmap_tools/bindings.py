@@ -1,0 +1,96 @@
+"""`tools/test bindings`: the crate in bindings/rust by `cargo test`, and the package in
+bindings/python by unittest, over the library of `tools/release library`; what both declare of the
+library is what include/elfmap.h declares. Nothing is fetched, and nothing is written but in a
+temporary folder."""
+
+import ctypes
+import os
+import re
+from typing import Any
+
+from elfmap import _library
+
+from .header import STRUCTS, calls, calls_in, structs, structs_in
+from .library import BOTH, FOLDER, PACKERS
+from .package_tests import count_run, unittests
+from .requirements import JSONSCHEMA, JUNITPARSER
+from .suite import Tally, Test
+from .tree import TOP, Options, read_text, said
+
+BINDERS = f"{PACKERS} cargo git pre-commit {JSONSCHEMA} {JUNITPARSER}"
+# What Python declares of a struct: its fields, each with its type of ctypes.
+PythonStructs = dict[str, list[tuple[str, Any]]]
+
+
+def python_structs() -> dict[str, Any]:
+    """The structs of the Python package by their tags in C."""
+    named = {tag: name for name, tag in STRUCTS.items() if hasattr(_library, name)}
+    return {tag: getattr(_library, name) for tag, name in named.items()}
+
+
+def python_type(kind: str, is_slice: bool = False) -> Any:
+    """A type of C as ctypes has it: what a slice begins at is an address, but for one of
+    structs."""
+    ((name, size),) = re.findall(r"^(?:const )?(?:struct )?(\w+)(.*)$", kind)
+    struct = python_structs().get(name)
+    plain = name if name == "size_t" else name.removesuffix("_t")
+    own = struct or getattr(ctypes, f"c_{plain}")
+    if "*" in size:
+        return ctypes.c_void_p if is_slice and not struct else ctypes.POINTER(own)
+    return own * int(size[1:-1]) if size else own
+
+
+def python_parameters(kinds: list[str]) -> list[Any]:
+    """The types of the parameters of a call as ctypes has them."""
+    following = [*kinds[1:], ""]
+    return [python_type(kind, after == "size_t") for kind, after in zip(kinds, following)]
+
+
+def rust_is_right() -> bool:
+    """Whether what the crate for Rust declares, something at least, is declared so by the header,
+    which may have more."""
+    text = read_text("bindings/rust/src/raw.rs")
+    own_structs = structs_in(text, STRUCTS)
+    own_calls = calls_in(text, STRUCTS)
+    if not own_structs or not own_calls:
+        return False
+    return own_structs.items() <= structs().items() and own_calls.items() <= calls().items()
+
+
+def python_is_right() -> bool:
+    """Whether what the Python package declares, something at least, is declared so by the header,
+    which may have more."""
+    own_structs = {tag: it._fields_ for tag, it in python_structs().items()}
+    if not own_structs or not _library.CALLS:
+        return False
+    declared = structs()
+    right_structs: PythonStructs = {}
+    for tag in own_structs:
+        right_structs[tag] = [(name, python_type(kind)) for name, kind in declared[tag]]
+    kinds = calls()
+    right_calls = {name: python_parameters(kinds[name]) for name in _library.CALLS}
+    return own_structs == right_structs and _library.CALLS == right_calls
+
+
+def declarations(tally: Tally) -> None:
+    """The bindings declare what the header declares."""
+    tally.check(rust_is_right(), "bindings/rust/src/raw.rs declares other than include/elfmap.h")
+    why = "bindings/python/elfmap/_library.py declares other than include/elfmap.h"
+    tally.check(python_is_right(), why)
+
+
+@Test(
+    "bindings",
+    "the bindings for Rust and Python, and what they declare",
+    commands=BINDERS,
+    crates=BOTH,
+)
+def try_bindings(tally: Tally, options: Options) -> None:
+    declarations(tally)
+    unittests(tally)
+    folders = {"CARGO_HOME": f"{tally.folder}/cargo", "CARGO_TARGET_DIR": f"{tally.folder}/target"}
+    env = os.environ | folders | {"ELFMAP_LIB_DIR": FOLDER, "CARGO_INCREMENTAL": "0"}
+    words = ["cargo", "test", "--frozen", "--no-fail-fast"]
+    ran = said(*words, folder=f"{TOP}/bindings/rust", env=env)
+    found = re.findall(r"^test result: .* (\d+) passed; (\d+) failed;", ran.stdout, re.M)
+    count_run(tally, ran, sum(int(it) for it, _ in found), sum(int(it) for _, it in found))

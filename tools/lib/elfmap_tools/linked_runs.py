@@ -1,0 +1,124 @@
+"""`tools/test linked-runs`: programs run the same by ld and by elfmap: of C, of C++, and of C over
+Debian's klibc, which has the objects of its archive that it needs. Each executable is the
+reference's, and `check`, readelf and eu-elflint accept it."""
+
+import os
+import re
+from typing import NamedTuple
+
+from .reference import answer
+from .requirements import KLIBC
+from .suite import Tally, Test
+from .tree import PROGRAM, RULES, Options, ending
+from .workshop import FLAGS, Workshop
+
+C_FLAGS = [*FLAGS, "-fno-asynchronous-unwind-tables"]
+CXX_FLAGS = [
+    *(it for it in C_FLAGS if it != "-fcommon"),
+    "-fno-exceptions",
+    "-fno-rtti",
+    "-fno-threadsafe-statics",
+    "-fno-gnu-unique",
+]
+KLIBC_FLAGS = [
+    "-D__KLIBC__=2",
+    "-D__KLIBC_MINOR__=0",
+    "-D_BITSIZE=64",
+    "-nostdinc",
+    "-iwithprefix",
+    "include",
+    "-isystem",
+    "/usr/lib/klibc/include/arch/x86_64",
+    "-isystem",
+    "/usr/lib/klibc/include/bits64",
+    "-isystem",
+    "/usr/lib/klibc/include/",
+]
+CRT0 = f"{os.path.dirname(KLIBC)}/crt0.o"
+BY_LD = ["ld", "-m", "elf_x86_64", "-static", "-o", "by-ld"]
+
+
+class Program(NamedTuple):
+    """A program: the compiler and its words, the sources, the ways to compile them, and the
+    entry."""
+
+    compiler: str
+    flags: list[str]
+    sources: list[str]
+    ways: list[str]
+    entry: str
+
+
+SEVERAL = "-ffunction-sections -fdata-sections"
+PROGRAMS = [
+    Program(
+        "gcc",
+        C_FLAGS,
+        ["calls_main.c", "calls_other.c"],
+        ["-O0", "-O1", "-O2", f"-O3 {SEVERAL}", "-Os"],
+        "start",
+    ),
+    Program(
+        "g++",
+        CXX_FLAGS,
+        ["stack_main.cc", "stack_other.cc"],
+        ["-O0", "-O2", "-Os -ffunction-sections"],
+        "start",
+    ),
+    Program("gcc", C_FLAGS + KLIBC_FLAGS, ["library.c"], ["-O0", "-O2"], "_start"),
+]
+# Where each program is placed, and with which page; the kernel maps by pages of 0x1000.
+PLACES = (("0x400000", "0x1000"), ("0x10000000", "0x200000"))
+
+
+def with_klibc(shop: Workshop, objects: list[str]) -> list[str]:
+    """These objects, and those of klibc's archive that ld takes."""
+    shop.wanted("ar", "x", KLIBC)
+    traced = shop.wanted(*BY_LD, "-e", "_start", "-t", "-t", CRT0, *objects, KLIBC)
+    taken = re.findall(r"^\(.*\)(.*)$", traced, re.M)
+    return [CRT0, *objects, *dict.fromkeys(taken)]
+
+
+def complaint(shop: Workshop, words: list[str]) -> str:
+    """What a command says against the executable; nothing if it is content."""
+    ended = shop.run(*words, "by-elfmap")
+    if not ended.returncode and not ended.stderr:
+        return ""
+    return f"{os.path.basename(words[0])} {ending(ended)}"
+
+
+def difference(shop: Workshop, objects: list[str], entry: str, base: str, page: str) -> str:
+    """What the program does otherwise where elfmap links it, and what others say against the
+    executable."""
+    shop.wanted(*BY_LD, "-e", entry, *objects)
+    shop.link(objects, base, page, entry)
+    by_ld, by_elfmap = shop.answers()
+    if by_ld != by_elfmap or not by_ld[1]:
+        return f"by ld it is {by_ld}, by elfmap {by_elfmap}"
+    words = ["link", "--base", base, "--page", page, "--entry", entry, "--rules", RULES, *objects]
+    files = {it: shop.content(it) for it in [*objects, RULES]}
+    if answer(words, files) != (0, shop.content("by-elfmap"), b""):
+        return "the reference implementation links it otherwise"
+    readers = ([PROGRAM, "check"], ["readelf", "-lW"], ["eu-elflint", "--quiet"])
+    complaints = (complaint(shop, it) for it in readers)
+    return next(filter(None, complaints), "")
+
+
+@Test(
+    "linked-runs",
+    "programs run the same by ld and by elfmap",
+    f"gcc g++ ld ar readelf eu-elflint {KLIBC}",
+    "elfmap",
+    family="linked",
+)
+def try_linked_runs(tally: Tally, options: Options) -> None:
+    for program, way in [(it, way) for it in PROGRAMS for way in it.ways]:
+        title = f"{' '.join(program.sources)} by {program.compiler} {way}"
+        shop = Workshop(tally.new_folder(title))
+        flags = [*program.flags, *way.split()]
+        objects = [shop.compiled(program.compiler, it, flags) for it in program.sources]
+        if program.entry == "_start":
+            objects = with_klibc(shop, objects)
+        for base, page in PLACES:
+            wrong = difference(shop, objects, program.entry, base, page)
+            tally.check(not wrong, f"{title}: {wrong}")

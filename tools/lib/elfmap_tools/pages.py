@@ -1,0 +1,90 @@
+"""`tools/test pages`: how long the sentences of the pages are, those of each page (MEDIAN), but for
+what is generated or is all tables (TABLES), and all of them together (WORDS). Code, headings and
+the targets of links are no prose.
+
+A fenced block whose first line names a file quotes it: the file has to have these lines. README.md
+has its two commands in the first screen. A proof file of more than PROOF_LINES lines opens with a
+comment, its idea."""
+
+import glob
+import re
+import statistics
+
+from .page_texts import all_pages, sentences
+from .suite import TESTS, Tally, Test, families
+from .tree import TOP, Options, read_text
+
+MEDIAN = 18
+LONG_SENTENCE = 30
+WORDS = 30_000
+README_LINES = 160
+SCREEN = 30
+PROOF_LINES = 30
+COMMANDS = "    $ ./elfmap check ", "    $ rt ci"
+TABLES = {"docs/DEFINITIONS.md", "docs/GUARANTEES.md"}
+QUOTES = re.compile(r"^```\w+ (\S+)\n(.*?)^```", re.M | re.S)
+
+
+def try_first_screen(tally: Tally) -> None:
+    """README.md is short, and has its commands in the first screen."""
+    lines = read_text("README.md").splitlines()
+    is_short = len(lines) <= README_LINES
+    tally.check(is_short, f"README.md has {len(lines)} lines, more than {README_LINES}")
+    first = lines[:SCREEN]
+    shown = [it for it in COMMANDS if any(line.startswith(it) for line in first)]
+    why = f"README.md has {shown} of {COMMANDS} in its first {SCREEN} lines"
+    tally.check(len(shown) == len(COMMANDS), why)
+
+
+def try_proofs(tally: Tally) -> None:
+    """Long proof files open with their idea."""
+    without_idea: list[str] = []
+    for path in sorted(glob.glob("crates/*/proofs/**/*.antt", root_dir=TOP, recursive=True)):
+        text = read_text(path)
+        if text.count("\n") > PROOF_LINES and not text.startswith("-- "):
+            without_idea.append(path)
+    tally.same("proof files that do not open with their idea", without_idea, [])
+
+
+def words_in(sentence: str) -> int:
+    """How many words a sentence has. Code is one word: it is read as a name."""
+    return len(re.sub(r"`[^`]*`", "code", sentence).split())
+
+
+def try_sentences(tally: Tally, path: str, text: str) -> int:
+    """The sentences of a page are short: how many words it has."""
+    lengths = [(words_in(it), it) for it in sentences(text)]
+    words = sum(count for count, _ in lengths)
+    median = statistics.median([count for count, _ in lengths] or [0])
+    long = [(count, it) for count, it in lengths if count > LONG_SENTENCE]
+    longer = f"{len(long)} sentences of more than {LONG_SENTENCE} words"
+    tally.note(f"{path}: {words} words, median {median:g}, {longer}")
+    for count, it in long:
+        tally.note(f"{path}: {count} words: {it}")
+    why = f"{path}: the median sentence has {median:g} words, more than {MEDIAN}"
+    tally.check(path in TABLES or median <= MEDIAN, why)
+    return words
+
+
+def try_names(tally: Tally, path: str, text: str) -> None:
+    """The tests that a page names are there, and the lines that it quotes."""
+    tests = {"setup", *families(TESTS), *(it.name for it in TESTS)}
+    named = re.findall(r"\btools/test ([a-z][\w-]*)", text)
+    unknown = [it for it in named if it not in tests]
+    tally.check(not unknown, f"{path} names tests that are not there: {unknown}")
+    for file, lines in QUOTES.findall(text):
+        is_there = lines in read_text(file)
+        tally.check(is_there, f"{path} quotes what is not in {file}:\n{lines}")
+
+
+@Test("pages", "the sentences of the pages are short")
+def try_pages(tally: Tally, options: Options) -> None:
+    try_first_screen(tally)
+    try_proofs(tally)
+    total = 0
+    for path in all_pages():
+        text = read_text(path)
+        total += try_sentences(tally, path, text)
+        try_names(tally, path, text)
+    tally.note(f"all pages: {total} words of at most {WORDS}")
+    tally.check(total <= WORDS, f"the pages have {total} words, more than {WORDS}")

@@ -1,0 +1,118 @@
+"""The commands that tests start, and the Debian packages that have them. `tools/test setup`
+installs the packages of the commands that are missing."""
+
+import glob
+import os
+import re
+import shutil
+import subprocess
+import sys
+from collections.abc import Iterable
+
+from .tree import run
+
+KLIBC = "/usr/lib/klibc/lib/libc.a"
+# What Debian's python3 imports.
+IMPORTED = "/usr/lib/python3/dist-packages/{}/__init__.py"
+JINJA2 = IMPORTED.format("jinja2")
+JSONSCHEMA = IMPORTED.format("jsonschema")
+JUNITPARSER = IMPORTED.format("junitparser")
+MARKDOWN = IMPORTED.format("markdown")
+SELENIUM = IMPORTED.format("selenium")
+SETUPTOOLS = IMPORTED.format("setuptools")
+WHEEL = IMPORTED.format("wheel")
+# Debian's clang brings its checks of addresses and of undefined behavior only as a recommended
+# package.
+SANITIZERS = "/usr/lib/llvm-*/lib/clang/*/lib/linux/libclang_rt.asan-x86_64.a"
+# The commands of each package, by their first words, or a file that has to be there; but for those
+# that have the name of their package.
+COMMANDS = {
+    "binaryen": "wasm-opt",
+    "binutils": "ar as ld nm objcopy readelf",
+    "binutils-x86-64-linux-gnu": "x86_64-linux-gnu-as",
+    "cargo-web": "cargo",
+    "chromium-driver": "chromedriver",
+    "dpkg": "dpkg-deb",
+    "elfutils": "eu-elflint",
+    "g++": "c++ g++",
+    "gcc": "cc gcc",
+    "libclang-rt-14-dev": SANITIZERS,
+    "libklibc-dev": KLIBC,
+    "lld": "ld.lld",
+    "lld-19": "ld.lld-19",
+    "llvm": "llvm-objcopy llvm-readobj",
+    "llvm-19": "llvm-mc-19",
+    "nodejs": "node",
+    "python3-jinja2": JINJA2,
+    "python3-jsonschema": JSONSCHEMA,
+    "python3-junitparser": JUNITPARSER,
+    "python3-markdown": MARKDOWN,
+    "python3-selenium": SELENIUM,
+    "python3-setuptools": SETUPTOOLS,
+    "python3-wheel": WHEEL,
+    "rustc-web": "rustc",
+    "util-linux": "prlimit unshare",
+}
+PACKAGES = {
+    command: package for package, commands in COMMANDS.items() for command in commands.split()
+}
+# The machines of rules/, by the names of qemu's program and of the tools; one that qemu has no
+# program for; and those that LLVM alone has, by its names of the machine and for its linker.
+RUN_BY_QEMU = {it: f"{it}-linux-gnu" for it in ("aarch64", "alpha", "riscv64", "s390x", "sparc64")}
+RUN_BY_QEMU |= {"mips64": "mips64-linux-gnuabi64", "ppc64": "powerpc64-linux-gnu"}
+MACHINES = RUN_BY_QEMU | {"ia64": "ia64-linux-gnu"}
+BY_LLVM = {
+    "amdgpu": ("amdgcn-amd-amdhsa", "elf64_amdgpu"),
+    "loongarch64": ("loongarch64", "elf64loongarch"),
+}
+PACKAGES |= {
+    f"{target}-{tool}": f"binutils-{target}"
+    for target in MACHINES.values()
+    for tool in ("as", "ld")
+}
+PACKAGES |= {f"qemu-{qemu}": "qemu-user" for qemu in RUN_BY_QEMU}
+# A cargo whose rustc compiles the tests of bindings/rust too; Debian has an older one beside it.
+LEAST = {"cargo": (1, 85)}
+# One package that can't be had keeps none of the others away.
+INSTALL = """get() { apt-get install -y --no-install-recommends "$@"; }
+apt-get update
+get "$@" || for it; do get "$it"; done"""
+
+
+def is_there(command: str) -> bool:
+    """Whether a command, or a file, is on this machine, and not too old."""
+    if command.startswith("/"):
+        return bool(glob.glob(command))
+    if not shutil.which(command) or command not in LEAST:
+        return shutil.which(command) is not None
+    version = re.search(rb"(\d+)\.(\d+)", run(command, "--version").stdout)
+    return version is not None and (int(version[1]), int(version[2])) >= LEAST[command]
+
+
+def missing(commands: Iterable[str]) -> list[str]:
+    """Those of the commands that are not on this machine."""
+    return [it for it in commands if not is_there(it)]
+
+
+def words_of(lacking: Iterable[str]) -> str:
+    """What to say of missing commands: the package of each, and how to get it."""
+    each = (f"there is no {it} (package {PACKAGES.get(it, it)})" for it in lacking)
+    return f"{', '.join(each)}; `tools/test setup` installs it"
+
+
+def setup(commands: Iterable[str]) -> bool:
+    """Installs the packages of the commands that are missing: whether all are there then."""
+    lacking = missing(commands)
+    packages = sorted({PACKAGES.get(it, it) for it in lacking})
+    if not packages:
+        return True
+    print(f"setup: installs {' '.join(packages)}", flush=True)
+    as_root = ["sudo"] if os.geteuid() != 0 else []
+    install = ["env", "DEBIAN_FRONTEND=noninteractive", "sh", "-c", INSTALL, "sh", *packages]
+    subprocess.run(
+        [*as_root, *install], stdin=subprocess.DEVNULL, stdout=subprocess.DEVNULL, check=False
+    )
+    left = missing(lacking)
+    if left:
+        print(f"setup: still {words_of(left)}", file=sys.stderr)
+    return not left

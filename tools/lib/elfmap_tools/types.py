@@ -1,0 +1,19 @@
+"""`tools/test types`: mypy, with its strict rules, over the tools, the benchmarks and the package
+for Python."""
+
+from .python_sources import BENCHMARKS, PROGRAMS, SETTINGS
+from .suite import Tally, Test
+from .tree import PACKAGE, TOP, Options, said
+
+
+@Test("types", "mypy --strict over tools/ and the Python package", commands="mypy")
+def try_types(tally: Tally, options: Options) -> None:
+    own = [f"{TOP}/tools/lib/elfmap_tools", *PROGRAMS, f"{TOP}/bench/generated.py", *BENCHMARKS]
+    checked = {
+        f"{TOP}/tools": ["--config-file", SETTINGS, *own],
+        # The package runs by Python 3.9 too.
+        PACKAGE: ["--strict", "--python-version", "3.9", "elfmap"],
+    }
+    for folder, words in checked.items():
+        ran = said("mypy", "--cache-dir", f"{TOP}/crates/elfmap/out/mypy", *words, folder=folder)
+        tally.check(ran.returncode == 0, ran.stdout)
