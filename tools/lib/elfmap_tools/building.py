@@ -1,18 +1,10 @@
-"""How the kit's checker reads a crate of this repository over built libraries; `tools/dev prove`,
-which proves the libraries below a crate and builds it; and `tools/dev check`, the loop while one
-writes."""
+"""How the kit's checker reads a crate of this repository over built libraries; and `tools/dev
+prove`, which proves the libraries below a crate and builds it."""
 
 import fcntl
 import functools
-import glob
 import hashlib
 import os
-import re
-import resource
-import shutil
-import sys
-import tempfile
-import time
 from collections.abc import Callable, Iterable
 from concurrent.futures import Future, ThreadPoolExecutor
 from pathlib import Path
@@ -22,16 +14,13 @@ from .tree import (
     PROCESSORS,
     STATIC_LIBRARIES,
     TOP,
-    Options,
     below,
     deps,
     is_newer,
     is_program,
     read_bytes,
-    read_text,
     said,
     texts_of,
-    write,
 )
 
 # Where `tools/dev prove` puts the libraries that it proved, each beside a sum of what it was made
@@ -48,6 +37,7 @@ def kit() -> str:
 
 @functools.cache
 def version() -> str:
+    """The version of the kit."""
     return said("rt", "version").stdout
 
 
@@ -106,30 +96,15 @@ def checked(
     """What the checker says of a crate's text in a folder, or of these functions and those that
     they call; it keeps its work in `kept`."""
     only = [word for it in functions for word in ("--only", it.removeprefix(f"{crate}::"))]
-    return said(
-        f"{kit()}/bin/rattle",
-        "check",
-        *words(crate, folder_of),
-        "--incremental",
-        kept,
-        *only,
-        folder=folder,
-    ).stdout
+    command = [f"{kit()}/bin/rattle", "check", *words(crate, folder_of), "--incremental", kept]
+    return said(*command, *only, folder=folder).stdout
 
 
 def link_words(output: str, source: str) -> list[str]:
     """The command that makes a program of what `rattle build` wrote."""
-    found = [
-        f"{kit()}/bin/rattle-link",
-        "--target",
-        "x86_64-unknown-linux-gnu",
-        "--toolchain",
-        f"{kit()}/toolchain",
-        "-o",
-        output,
-        source,
-    ]
-    return [*found, f"{kit()}/c/libos_c.a", f"{kit()}/c/liblibc_c.a"]
+    target = ["--target", "x86_64-unknown-linux-gnu", "--toolchain", f"{kit()}/toolchain"]
+    libraries = [f"{kit()}/c/libos_c.a", f"{kit()}/c/liblibc_c.a"]
+    return [f"{kit()}/bin/rattle-link", *target, "-o", output, source, *libraries]
 
 
 def is_current(crate: str, path: str) -> bool:
@@ -171,31 +146,29 @@ class Build:
         self.crates = below(target)
         self.chains_below: dict[str, int] = {}
         for it in self.crates:
-            self.chains_below[it] = size_of(it) + max(
-                (self.chains_below[dep] for dep in deps(it)), default=0
-            )
+            longest = max((self.chains_below[dep] for dep in deps(it)), default=0)
+            self.chains_below[it] = size_of(it) + longest
         self.rlibs: dict[str, Future[None]] = {}
 
     def chain_above(self, crate: str) -> int:
         """The texts of the longest chain of libraries that begins with this one."""
-        return size_of(crate) + max(
-            (self.chain_above(it) for it in self.crates if crate in deps(it)), default=0
-        )
+        above = (self.chain_above(it) for it in self.crates if crate in deps(it))
+        return size_of(crate) + max(above, default=0)
+
+    def beside(self, crate: str) -> list[str]:
+        """The libraries that can be proved beside this one: neither needs the other."""
+        others = (it for it in self.crates if it != crate)
+        return [it for it in others if it not in below(crate) and crate not in below(it)]
 
     def jobs_of(self, crate: str) -> int:
         """A library beside which little can be proved has a job for each processor, one on a long
         chain half as many, any other one has one: each job costs processor time too."""
         most = min(MOST_JOBS, PROCESSORS)
-        beside = [
-            it
-            for it in self.crates
-            if it != crate and it not in below(crate) and crate not in below(it)
-        ]
-        if sum(map(size_of, beside)) < LITTLE_BESIDE * sum(map(size_of, self.crates)):
+        beside = sum(map(size_of, self.beside(crate)))
+        if beside < LITTLE_BESIDE * sum(map(size_of, self.crates)):
             return most
-        is_long = self.chains_below[crate] + self.chain_above(crate) - size_of(
-            crate
-        ) >= LONG_CHAIN * max(self.chains_below.values())
+        chain = self.chains_below[crate] + self.chain_above(crate) - size_of(crate)
+        is_long = chain >= LONG_CHAIN * max(self.chains_below.values())
         return max(1, most // 2) if is_long else 1
 
     def library(self, crate: str) -> None:
@@ -216,44 +189,43 @@ class Build:
         crate = self.target
         out = f"{TOP}/crates/{self.target}/out"
         os.makedirs(out, exist_ok=True)
-        command = [
-            f"{kit()}/bin/rattle",
-            "build",
-            *words(crate, folder_of),
-            "--toolchain",
-            f"{kit()}/toolchain",
-        ]
+        command = [f"{kit()}/bin/rattle", "build", *words(crate, folder_of)]
+        command += ["--toolchain", f"{kit()}/toolchain"]
         if is_program(crate):
-            run(
-                [*command, "--jobs", str(min(MOST_JOBS, PROCESSORS)), "-o", f"{out}/{crate}.o"],
-                crate,
-            )
+            jobs = str(min(MOST_JOBS, PROCESSORS))
+            run([*command, "--jobs", jobs, "-o", f"{out}/{crate}.o"], crate)
             run(link_words(f"{out}/{crate}", f"{out}/{crate}.o"), crate)
         elif crate in STATIC_LIBRARIES:
             run([*command, "-o", f"{out}/lib{crate}.a"], crate)
 
     def all(self) -> None:
+        """Builds what lacks: the libraries, and the output over them."""
         os.makedirs(RLIBS, exist_ok=True)
         folder_of, lacking = built_below([self.target])
         # Over the libraries that are built, by the gate or by an earlier call.
         if not lacking:
-            return self.output(folder_of)
+            self.output(folder_of)
+            return
         # One run at a time: another one waits here, and then finds the libraries built.
-        with open(f"{RLIBS}/lock", "w", encoding="ascii") as lock, ThreadPoolExecutor(
-            max(1, len(self.crates))
-        ) as pool:
+        with open(f"{RLIBS}/lock", "w", encoding="ascii") as lock:
             fcntl.flock(lock, fcntl.LOCK_EX)
+            self.libraries()
+            self.output(lambda _: RLIBS)
+
+    def libraries(self) -> None:
+        """Builds the libraries, side by side as far as they can be."""
+        with ThreadPoolExecutor(max(1, len(self.crates))) as pool:
             # In the order of `below`, so that those that a crate waits for are in `rlibs`.
             for crate in self.crates:
                 self.rlibs[crate] = pool.submit(self.library, crate)
             for it in self.rlibs.values():
                 it.result()
-            self.output(lambda _: RLIBS)
 
 
 def output_of(crate: str) -> str:
     """The path of the program or the library for C that is built of a crate."""
-    return f"{TOP}/crates/{crate}/out/" + (f"lib{crate}.a" if crate in STATIC_LIBRARIES else crate)
+    name = f"lib{crate}.a" if crate in STATIC_LIBRARIES else crate
+    return f"{TOP}/crates/{crate}/out/{name}"
 
 
 def built(crate: str) -> str:
@@ -262,100 +234,3 @@ def built(crate: str) -> str:
     if not is_current(crate, path):
         Build(crate).all()
     return path
-
-
-# ---- the inner loop
-
-# What a check says of what is proved, and of its own work.
-QUIET = re.compile(
-    r"(fn|struct|enum|union|impl|trait|const|static) \S+: (proved|assumed)"
-    r"|(crate|library|statements|logic|axioms|linked|hides) |(logic|only|tests|by-macro)[:=]|so far:"
-    r"|(\S+: )?note: large solution|note: antt's advice|$"
-)
-WIDTH = 300
-# A test with its comment, as `rt fmt` lays it out: it ends with the brace below its attribute.
-TEST = re.compile(
-    r"^(?: *///.*\n)*( *)#\[test\]\n(?:.*\n)*?\1(?:pub )?fn (\w+)(?:.*\n)*?(?:\1}|.*{})\n", re.M
-)
-COUNTS = re.compile(r"^only=(\d+) proved=(\d+)$", re.M)
-
-
-def end_of(output: str) -> tuple[bool, str]:
-    """Whether all is proved, and how a check ended, in words."""
-    if counts := COUNTS.search(output):
-        return counts[1] == counts[2], f"{counts[2]} of {counts[1]} functions proved"
-    whole = re.search(r"^logic=proved .*?functions=(\d+)", output, re.M)
-    return bool(whole), f"proved, {whole[1]} functions" if whole else "NOT PROVED"
-
-
-def without_other_tests(folder: str, name: str) -> list[str]:
-    """Takes each test whose name does not hold this one out of the texts of this folder: the names
-    of those that stay."""
-    kept: list[str] = []
-
-    def left(match: re.Match[str]) -> str:
-        kept.extend([match[2]] if name in match[2] else [])
-        return match[0] if name in match[2] else ""
-
-    for path in glob.glob(f"{folder}/src/**/*.rt", recursive=True):
-        write(path, TEST.sub(left, read_text(path)))
-    return kept
-
-
-def tested(crate: str, folder_of: FolderOf, kept: str, name: str) -> tuple[bool, str]:
-    """Proves and builds the tests of this name alone, in a copy of the crate, and runs them."""
-    with tempfile.TemporaryDirectory(prefix="one-test-") as room:
-        for part in ("src", "specs", "proofs"):
-            if os.path.isdir(f"{TOP}/crates/{crate}/{part}"):
-                shutil.copytree(f"{TOP}/crates/{crate}/{part}", f"{room}/{part}")
-        if not without_other_tests(room, name):
-            raise SystemExit(f"check: {crate} has no test whose name holds {name}")
-        command = [
-            f"{kit()}/bin/rattle",
-            "build",
-            *words(crate, folder_of),
-            "--test",
-            "--incremental",
-            kept,
-        ]
-        output = said(
-            *command, "--toolchain", f"{kit()}/toolchain", "-o", "tests.o", folder=room
-        ).stdout
-        if not os.path.isfile(f"{room}/tests.o"):
-            return False, output
-        output += said(*link_words("tests", "tests.o"), folder=room).stdout
-        ran = said(f"{kit()}/bin/rattle-test", "--seconds", "60", "tests", folder=room)
-        return ran.returncode == 0, output + ran.stdout
-
-
-def check(options: Options) -> int:
-    crate = options.crate
-    begun = time.monotonic()
-    if options.test and options.function:
-        raise SystemExit("usage: tools/dev check CRATE [FUNCTION.. | --test NAME]")
-    folder_of, lacking = built_below([crate])
-    if lacking:
-        print(
-            f"check: these libraries below {crate} are not built, or were changed since: {' '.join(lacking)}",
-            file=sys.stderr,
-        )
-        raise SystemExit(f"check: build them with `tools/dev prove {crate}`")
-    folder = f"{TOP}/crates/{crate}"
-    kept = f"{TOP}/crates/{crate}/out/loop"
-    os.makedirs(kept, exist_ok=True)
-    if options.test:
-        is_well, output = tested(crate, folder_of, kept, options.test)
-    else:
-        output = checked(crate, options.function, folder, folder_of, kept)
-        is_well = end_of(output)[0]
-    write(f"{folder}/out/check.log", output)
-    # The lines on what is not proved, and why, their beginnings; and of tests how each ended.
-    for line in (
-        it for it in output.splitlines() if not QUIET.match(it) and not it.startswith("  = ")
-    ):
-        print(line if len(line) <= WIDTH else f"{line[:WIDTH]} ..")
-    used = resource.getrusage(resource.RUSAGE_CHILDREN)
-    print(
-        f"check: {crate}: {end_of(output)[1]}; {time.monotonic() - begun:.0f} s, {used.ru_utime + used.ru_stime:.0f} of a processor"
-    )
-    return 0 if is_well else 1

@@ -71,59 +71,79 @@ def beside(f: Any, i: int) -> tuple[int | None, int | None]:
     kind = f.section(i).sh_type
     link = f.section(i).sh_link
     if kind in (SYMTAB, DYNSYM):
-        return (
-            next(
-                (k for k, it in f.sections() if it.sh_type == SYMTAB_SHNDX and it.sh_link == i),
-                None,
-            ),
-            link,
-        )
+        for k, it in f.sections():
+            if it.sh_type == SYMTAB_SHNDX and it.sh_link == i:
+                return k, link
+        return None, link
     if kind == HASH:
         return link, f.section(link).sh_link
     return None, link if kind == DYNAMIC_SECTION else None
 
 
-def entries(f: Any, i: int) -> Iterator[Lines]:
-    """The lines of a table of each type: of symbols the index of their section and their name too;
-    of relocations their offset, addend, symbol and kind; of dynamic entries also the string at
-    their number; of whole notes type, end, name and descriptor.
-    """
-    kind = f.section(i).sh_type
-    (index_table, strings) = beside(f, i)
+def symbol_lines(f: Any, i: int) -> Iterator[Lines]:
+    """The lines of a symbol table: also the index of a symbol's section, and its name."""
+    index_table, strings = beside(f, i)
     names = content_of(f, strings)
+    words = [] if index_table is None else f.words(index_table)
+    for k, it in enumerate(symbols(f, i)):
+        if it.st_shndx == XINDEX and k >= len(words):
+            continue
+        section = words[k][1] if it.st_shndx == XINDEX else it.st_shndx
+        name = string(names, it.st_name).hex()
+        places = f"{section} {it.st_shndx}"
+        numbers = f"{it.st_value} {it.st_size} {places} {it.st_info} {it.st_other}"
+        whole = f"symbol {fields(it, SYMBOL)} {section} {name}"
+        yield whole, f"symbol {i} {numbers} ={name}"
+
+
+def relocation_lines(f: Any, i: int) -> Iterator[Lines]:
+    """The lines of a table of relocations: their offset, addend, symbol and kind."""
+    kind = f.section(i).sh_type
+    for it in f.entries(i, RELOCATION, ENTRY_SIZE[kind]):
+        addend = signed(it.r_addend, 64) if kind == RELA else 0
+        numbers = f"{it.r_offset} {addend} {it.r_info // 2 ** 32} {it.r_info % 2 ** 32}"
+        yield f"relocation {numbers}", f"relocation {i} {numbers}"
+
+
+def dynamic_lines(f: Any, i: int) -> Iterator[Lines]:
+    """The lines of a dynamic array: also the string at the number of an entry."""
+    _, strings = beside(f, i)
+    names = content_of(f, strings)
+    found = entries_before_null(f, i)
+    for it in f.entries(i, DYNAMIC, 16) if found is None else found:
+        numbers = f"{signed(it.d_tag, 64)} {it.d_un}"
+        text = string(names, it.d_un).hex() if it.d_un < len(names) else None
+        whole = f"dynamic {numbers} {'none' if text is None else text}"
+        yield whole, f"dynamic {i} {numbers} ={text or ''}"
+
+
+def note_lines(f: Any, i: int) -> Iterator[Lines]:
+    """The lines of whole notes: type, end, name and descriptor."""
+    for at, end, name_size, size in notes(f, i):
+        named = at + 12
+        begin = named + padded(name_size)
+        if begin + padded(size) > end:
+            continue
+        type = f.number(at + 8, 4)
+        next_note = begin + padded(size) - f.section(i).sh_offset
+        own = f.bytes[named : named + name_size][:-1].hex()
+        descriptor = f.bytes[begin : begin + size].hex()
+        whole = f"note {type} {next_note} {own} {descriptor}"
+        yield whole, f"note {i} {type} ={own} ={descriptor}"
+
+
+def entries(f: Any, i: int) -> Iterator[Lines]:
+    """The lines of a table of each type."""
+    kind = f.section(i).sh_type
     if kind in (SYMTAB, DYNSYM):
-        words = [] if index_table is None else f.words(index_table)
-        for k, it in enumerate(symbols(f, i)):
-            if it.st_shndx != XINDEX or k < len(words):
-                section = words[k][1] if it.st_shndx == XINDEX else it.st_shndx
-                name = string(names, it.st_name).hex()
-                numbers = (
-                    f"{it.st_value} {it.st_size} {section} {it.st_shndx} {it.st_info} {it.st_other}"
-                )
-                yield f"symbol {fields(it, SYMBOL)} {section} {name}", f"symbol {i} {numbers} ={name}"
-    elif kind in (RELA, REL):
-        for it in f.entries(i, RELOCATION, ENTRY_SIZE[kind]):
-            numbers = f"{it.r_offset} {signed(it.r_addend, 64) if kind == RELA else 0} {it.r_info // 2 ** 32} {it.r_info % 2 ** 32}"
-            yield f"relocation {numbers}", f"relocation {i} {numbers}"
-    elif kind == DYNAMIC_SECTION:
-        found = entries_before_null(f, i)
-        for it in f.entries(i, DYNAMIC, 16) if found is None else found:
-            numbers = f"{signed(it.d_tag, 64)} {it.d_un}"
-            text = string(names, it.d_un).hex() if it.d_un < len(names) else None
-            yield f"dynamic {numbers} {'none' if text is None else text}", f"dynamic {i} {numbers} ={text or ''}"
-    else:
-        for at, end, name_size, size in notes(f, i):
-            named = at + 12
-            begin = at + 12 + padded(name_size)
-            if begin + padded(size) <= end:
-                type = f.number(at + 8, 4)
-                next_note = begin + padded(size) - f.section(i).sh_offset
-                own = f.bytes[named : named + name_size][:-1].hex()
-                descriptor = f.bytes[begin : begin + size].hex()
-                yield f"note {type} {next_note} {own} {descriptor}", f"note {i} {type} ={own} ={descriptor}"
+        return symbol_lines(f, i)
+    if kind in (RELA, REL):
+        return relocation_lines(f, i)
+    return dynamic_lines(f, i) if kind == DYNAMIC_SECTION else note_lines(f, i)
 
 
 def fields(record: Any, layout: Any) -> str:
+    """The fields of a record."""
     return " ".join(str(getattr(record, it)) for it in layout)
 
 
@@ -143,6 +163,7 @@ def by_rooms(f: Any, broken: Broken | None, wanted: int) -> list[str]:
 
 
 def end_of(broken: Broken | None) -> str:
+    """The end of the line of a verdict."""
     return f"refused {broken[0]} {broken[1]}" if broken else "kept"
 
 
@@ -172,38 +193,52 @@ def found(words: list[int], names: list[bytes], name: bytes) -> object:
 def found_lines(f: Any, i: int) -> Iterator[str]:
     """Of a hash table: which symbol of each name it finds."""
     linked, strings = (content_of(f, k) for k in beside(f, i))
-    names = [
-        string(strings, int.from_bytes(linked[at : at + 4], f.order))
-        for at in range(0, len(linked) // 24 * 24, 24)
-    ]
+    names: list[bytes] = []
+    for at in range(0, len(linked) // 24 * 24, 24):
+        names.append(string(strings, int.from_bytes(linked[at : at + 4], f.order)))
     words = [it for _, it in f.words(i)]
     for name in [*names, b"no such name"]:
         yield f"found {name.hex()} {found(words, names, name)}"
 
 
+def has_linked_sections(f: Any, i: int) -> bool:
+    """Whether the sections beside which a table is read are there."""
+    kind = f.section(i).sh_type
+    link = f.section(i).sh_link
+    if kind == NOTE:
+        return True
+    if not is_section(f, link):
+        return False
+    return kind != HASH or bool(is_section(f, f.section(link).sh_link))
+
+
 def table_lines(f: Any, i: int, kind: int) -> Iterator[str]:
     """Of a table whose linked sections are there: where it is and those beside it are, how many
     entries it has, and these."""
-    link = f.section(i).sh_link
-    if (
-        kind == NOTE
-        or is_section(f, link)
-        and (kind != HASH or is_section(f, f.section(link).sh_link))
-    ):
-        lines = list(found_lines(f, i)) if kind == HASH else [own for own, _ in entries(f, i)]
-        count = (
-            len(notes(f, i))
-            if kind == NOTE
-            else len(lines)
-            if kind == DYNAMIC_SECTION
-            else f.section(i).sh_size // ENTRY_SIZE[kind]
-        )
-        places = (
-            "0 0" if it is None else f"{f.section(it).sh_offset} {len(content_of(f, it))}"
-            for it in (i, *beside(f, i))
-        )
-        yield f"table {i} {' '.join(places)} {count} {kind} {f.bytes[5]}"
-        yield from lines
+    if not has_linked_sections(f, i):
+        return
+    lines = list(found_lines(f, i)) if kind == HASH else [own for own, _ in entries(f, i)]
+    if kind == NOTE:
+        count = len(notes(f, i))
+    elif kind == DYNAMIC_SECTION:
+        count = len(lines)
+    else:
+        count = f.section(i).sh_size // ENTRY_SIZE[kind]
+    places: list[str] = []
+    for it in (i, *beside(f, i)):
+        place = "0 0" if it is None else f"{f.section(it).sh_offset} {len(content_of(f, it))}"
+        places.append(place)
+    yield f"table {i} {' '.join(places)} {count} {kind} {f.bytes[5]}"
+    yield from lines
+
+
+def load_lines(f: Any, segment: Any) -> Iterator[str]:
+    """The bytes at the ends of a segment, in the file and in memory."""
+    file_size = segment.p_filesz
+    memory_size = segment.p_memsz
+    for k in (0, file_size - 1, file_size, memory_size - 1, memory_size):
+        address = (segment.p_vaddr + k) % 2**64
+        yield f"load {address} {loaded(f, address)}"
 
 
 def kept_lines(f: Any) -> Iterator[str]:
@@ -212,18 +247,17 @@ def kept_lines(f: Any) -> Iterator[str]:
     for start, size, whose in parts(f):
         kind, _, index = whose.partition(" ")
         yield f"part {start} {size} {OWNERS[kind] + (int(index) if kind == 'content' else 0)}"
-    yield f"file {f.header.e_phoff} {f.header.e_shoff} {f.section_count} {f.segment_count} {f.name_table} {f.bytes[5]}"
+    tables = f"{f.header.e_phoff} {f.header.e_shoff}"
+    counts = f"{f.section_count} {f.segment_count}"
+    yield f"file {tables} {counts} {f.name_table} {f.bytes[5]}"
     yield f"header {f.bytes[:16].hex()} {fields(f.header, HEADER)}"
-    yield from (
-        f"section {fields(it, SECTION_HEADER)} {name_of(f, it).hex()}" for _, it in f.sections()
-    )
-    yield from (f"segment {fields(it, PROGRAM_HEADER)}" for it in f.segments())
-    for it in (it for it in f.segments() if it.p_type == LOAD):
-        for address in (
-            (it.p_vaddr + k) % 2**64
-            for k in (0, it.p_filesz - 1, it.p_filesz, it.p_memsz - 1, it.p_memsz)
-        ):
-            yield f"load {address} {loaded(f, address)}"
+    for _, it in f.sections():
+        yield f"section {fields(it, SECTION_HEADER)} {name_of(f, it).hex()}"
+    for it in f.segments():
+        yield f"segment {fields(it, PROGRAM_HEADER)}"
+    for it in f.segments():
+        if it.p_type == LOAD:
+            yield from load_lines(f, it)
     for i, it in f.sections():
         if it.sh_type in (*TABLES, HASH):
             yield from table_lines(f, i, it.sh_type)
@@ -246,15 +280,25 @@ LONG = 1 << 20
 
 def files() -> list[bytes]:
     """The files of cases/*.txt and some of the machine's own, each once."""
-    return list(
-        dict.fromkeys([*case_files(), *map(read_bytes, filter(os.path.isfile, ["/bin/true"]))])
-    )
+    of_machine = map(read_bytes, filter(os.path.isfile, ["/bin/true"]))
+    return list(dict.fromkeys([*case_files(), *of_machine]))
 
 
 def record_line(word: str, record: Any, layout: Any, *parts: bytes | None) -> str:
-    return " ".join(
-        [word, fields(record, layout), *("-" if it is None else f"={it.hex()}" for it in parts)]
-    )
+    """The line of a record, with bytes that belong to it."""
+    own = ["-" if it is None else f"={it.hex()}" for it in parts]
+    return " ".join([word, fields(record, layout), *own])
+
+
+def record_lines(f: Any, content: bytes) -> Iterator[str]:
+    """The lines on the records of a file."""
+    yield record_line("header", f.header, HEADER, content[:16])
+    for i, it in f.sections():
+        own = None if it.sh_type in (NULL, NOBITS) else f.content(i)
+        yield record_line("section", it, SECTION_HEADER, name_of(f, it), own)
+    for it in f.segments():
+        own = None if it.p_type == NULL else content[it.p_offset : it.p_offset + it.p_filesz]
+        yield record_line("segment", it, PROGRAM_HEADER, own)
 
 
 def lines_of(content: bytes) -> list[str]:
@@ -262,32 +306,26 @@ def lines_of(content: bytes) -> list[str]:
     and its object."""
     broken = verdict(content)
     if broken:
-        return [f"refused {broken[0]} {broken[1]} {by_anchor()[f'image-{broken[0]}'].name}"]
+        name = by_anchor()[f"image-{broken[0]}"].name
+        return [f"refused {broken[0]} {broken[1]} {name}"]
     f = File(content)
-    lines = [check(content), record_line("header", f.header, HEADER, content[:16])]
-    for i, it in f.sections():
-        own = None if it.sh_type in (NULL, NOBITS) else f.content(i)
-        lines.append(record_line("section", it, SECTION_HEADER, name_of(f, it), own))
-    for it in f.segments():
-        own = content[it.p_offset : it.p_offset + it.p_filesz]
-        lines.append(record_line("segment", it, PROGRAM_HEADER, None if it.p_type == NULL else own))
+    lines = [check(content), *record_lines(f, content)]
     if len(content) > LONG:
         return lines
-    lines += [
-        f"part {start} {size} {'gap' if owner.startswith('gap') else owner}"
-        for start, size, owner in parts(f)
-    ]
-    for i, it in ((i, it) for i, it in f.sections() if it.sh_type in TABLES):
-        lines += [f"broken {i}"] if table_verdict(f, i) else [own for _, own in entries(f, i)]
+    for start, size, owner in parts(f):
+        lines.append(f"part {start} {size} {'gap' if owner.startswith('gap') else owner}")
+    for i, it in f.sections():
+        if it.sh_type in TABLES:
+            is_broken = table_verdict(f, i)
+            lines += [f"broken {i}"] if is_broken else [own for _, own in entries(f, i)]
+    lines.append(f"show ={shown(content).encode().hex()}")
     refusal, written = rewritten(content) or ("", b"")
-    return [
-        *lines,
-        f"show ={shown(content).encode().hex()}",
-        f"rewrite {refusal.strip()}" if refusal else f"rewrite ={written.hex()}",
-    ]
+    lines.append(f"rewrite {refusal.strip()}" if refusal else f"rewrite ={written.hex()}")
+    return lines
 
 
 def main(options: Options) -> None:
+    """`tools/dev told`."""
     os.makedirs(options.folder, exist_ok=True)
     for k, content in enumerate(files()):
         write(f"{options.folder}/{k}.elf", content)

@@ -12,12 +12,12 @@ WANT = re.compile(r"\b(OutOfMemory|AllocError)\b")
 WRITTEN = {
     "WriteFault": "WriteFault { written: 0 }",
     "CopyFault": "CopyFault::Write { written: 0 }",
-}
-WRITTEN |= {
     "ToolFault": "ToolFault::Write { written: 0 }",
     "ObjectWriteFault": "ObjectWriteFault::Io { written: 0 }",
+    "ExecFault": "ExecFault::Io { written: 0 }",
 }
-WRITTEN |= {"ExecFault": "ExecFault::Io { written: 0 }"}
+# Out of memory itself, or a fault that has it.
+FROM_WANT = re.compile(r"OutOfMemory|AllocError|AllocFailed|\bError|Fault\b")
 CLAUSE = re.compile(r" +(requires|ensures|decreases|where)\b")
 FUNCTION = re.compile(r" *(?!ghost)(?:[\w()]+ +)*fn (\w+)")
 
@@ -43,13 +43,22 @@ class Function:
         found = re.search(r"(\w+)>$", answer)
         self.fault = found[1] if found and "Result" in answer else ""
         self.faults = "out" if WANT.match(self.fault) else "other" if "Result" in answer else ""
-        # What X is in `impl From<X> for Y`: out of memory itself, or a fault that has it.
+        # What X is in `impl From<X> for Y`.
         source = re.match(r"impl.*\bFrom<(.*)> for ", self.outer)
-        self.is_from = bool(
-            source and re.search(r"OutOfMemory|AllocError|AllocFailed|\bError|Fault\b", source[1])
-        )
+        self.is_from = bool(source and FROM_WANT.search(source[1]))
         self.is_of_write = bool(source and source[1] in WRITTEN)
         self.inner = range(self.begin + 1, self.end)
+
+    def head_above(self, at: int) -> int:
+        """The first line of the head that ends in a line: a head of several lines ends with one
+        that closes brackets."""
+        indent = indent_of(self.lines[at])
+        start = at
+        while closes_brackets(self.lines[start]):
+            start -= 1
+            while not self.lines[start] or indent_of(self.lines[start]) > indent:
+                start -= 1
+        return start
 
     def statements(self, at: int) -> list[str]:
         """The line, and what it is in: the heads of blocks and the beginnings of expressions, from
@@ -58,61 +67,54 @@ class Function:
         indent = indent_of(self.lines[at])
         for k in range(at - 1, self.begin, -1):
             if self.lines[k] and indent_of(self.lines[k]) < indent:
-                start = k
                 indent = indent_of(self.lines[k])
-                # A head of several lines ends with one that closes brackets.
-                while self.lines[start].lstrip().startswith(
-                    (")", "}", ".", "?")
-                ) and not self.lines[start].lstrip().startswith("} else"):
-                    start = next(
-                        it
-                        for it in range(start - 1, self.begin, -1)
-                        if self.lines[it] and indent_of(self.lines[it]) <= indent
-                    )
+                start = self.head_above(k)
                 found.append(" ".join(it.strip() for it in self.lines[start : k + 1]))
         return found
+
+
+def closes_brackets(line: str) -> bool:
+    """Whether a line goes on with what was begun above it."""
+    bare = line.lstrip()
+    return bare.startswith((")", "}", ".", "?")) and not bare.startswith("} else")
+
+
+def outer_of(line: str, outer: str) -> str:
+    """The line of the `impl` or trait that the next lines are in."""
+    if line.startswith(("impl", "pub trait", "trait")):
+        return line
+    return "" if line.startswith("}") else outer
+
+
+def function_at(path: str, lines: list[str], outer: str, at: int, name: str) -> Function | None:
+    """The function whose head begins in a line; None where it has no body."""
+    line = lines[at]
+    if line.endswith("}"):
+        return Function(path, lines, outer, name, line.partition(" {")[0], "", at - 1, at + 1)
+    indent = " " * indent_of(line)
+    end_of_head = re.compile(rf"{indent}(\S.*)?\{{\}}?")
+    begin = at
+    while not lines[begin].endswith(";") and not end_of_head.fullmatch(lines[begin]):
+        begin += 1
+    if not lines[begin].endswith("{"):
+        return None
+    clauses = next((k for k in range(at, begin) if CLAUSE.match(lines[k])), begin + 1)
+    head = " ".join(it.strip() for it in lines[at:clauses])
+    contract = " ".join(it.strip() for it in lines[clauses:begin])
+    end = lines.index(f"{indent}}}", begin)
+    return Function(path, lines, outer, name, head, contract, begin, end)
 
 
 @functools.cache
 def functions_in(path: str, text: str) -> list[Function]:
     """The functions of a file, those of its `impl`s and traits too."""
     lines = [LITERAL.sub("", it).rstrip() for it in text.split("\n")]
-    found = list[Function]()
+    found: list[Function] = []
     outer = ""
     for at, line in enumerate(lines):
-        outer = (
-            line
-            if line.startswith(("impl", "pub trait", "trait"))
-            else ""
-            if line.startswith("}")
-            else outer
-        )
-        head = FUNCTION.match(line)
-        indent = " " * indent_of(line)
-        if head and line.endswith("}"):
-            found.append(
-                Function(path, lines, outer, head[1], line.partition(" {")[0], "", at - 1, at + 1)
-            )
-        elif head:
-            begin = next(
-                k
-                for k in range(at, len(lines))
-                if lines[k].endswith(";") or re.fullmatch(rf"{indent}(\S.*)?\{{\}}?", lines[k])
-            )
-            if lines[begin].endswith("{"):
-                clauses = next((k for k in range(at, begin) if CLAUSE.match(lines[k])), begin + 1)
-                words = " ".join(it.strip() for it in lines[at:clauses])
-                contract = " ".join(it.strip() for it in lines[clauses:begin])
-                found.append(
-                    Function(
-                        path,
-                        lines,
-                        outer,
-                        head[1],
-                        words,
-                        contract,
-                        begin,
-                        lines.index(f"{indent}}}", begin),
-                    )
-                )
+        outer = outer_of(line, outer)
+        if head := FUNCTION.match(line):
+            function = function_at(path, lines, outer, at, head[1])
+            if function:
+                found.append(function)
     return found

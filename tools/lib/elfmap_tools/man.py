@@ -17,10 +17,16 @@ OTHERS = {"Exit status": "EXIT STATUS", "Files of rules": "FILES", "Limits": "LI
 # How a block begins that shows a command.
 EXAMPLE = "    $ "
 LINK = re.compile(r"\[((?:`[^`]*`|[^\]`])*)\]\(([^)]*)\)")
-SEE_ALSO = "readelf(1), ld(1), elf(5), elfmap-lint(1), elfmap-explain(1), elfmap-same(1), elfmap-gaps(1), elfmap-picture(1)"
-PAGES = """In the directory of the release: `docs/MANUAL.md` has these texts and the libraries, `docs/RULES.md` every rule by its number,
-what it means and what to do, `docs/RULE_FILES.md` the files of rules line by line, `doc/elfmap-doc.html` the library, and
-`include/elfmap.h` the calls for C."""
+SEE_ALSO = (
+    "readelf(1), ld(1), elf(5), elfmap-lint(1), elfmap-explain(1), elfmap-same(1), elfmap-gaps(1), "
+    "elfmap-picture(1)"
+)
+PAGES = """In the directory of the release: `docs/MANUAL.md` has these texts and the libraries,
+`docs/RULES.md` every rule by its number, what it means and what to do, `docs/RULE_FILES.md` the
+files of rules line by line, `doc/elfmap-doc.html` the library, and `include/elfmap.h` the calls for
+C."""
+# How pandoc makes the page. No word is cut: it may be one that is typed.
+PANDOC = ["pandoc", "-s", "-f", "gfm+definition_lists", "-t", "man", "-M", "hyphenate=false"]
 
 
 def blocks(text: str) -> list[str]:
@@ -29,11 +35,8 @@ def blocks(text: str) -> list[str]:
 
 
 # The blocks of the section "The commands": of its beginning, and of each part by its title.
-FIRST, *OTHER = re.split(
-    r"^### (.*)\n",
-    read_text(MANUAL).partition("\n## The commands\n")[2].partition("\n## ")[0],
-    flags=re.M,
-)
+SECTION = read_text(MANUAL).partition("\n## The commands\n")[2].partition("\n## ")[0]
+FIRST, *OTHER = re.split(r"^### (.*)\n", SECTION, flags=re.M)
 PARTS = {"": blocks(FIRST), **dict(zip(OTHER[::2], map(blocks, OTHER[1::2])))}
 
 
@@ -44,16 +47,16 @@ def with_tags(block: str) -> str:
     if block.startswith("|"):
         rows = ([it.replace("\\|", "|") for it in cells(line)] for line in block.split("\n")[2:])
         block = "\n\n".join(f"{tag}\n:   {', '.join(texts)}" for tag, *texts in rows)
-    block = LINK.sub(
-        lambda it: it[1] + (f" ({MANUAL})" if it[2].startswith("#") and it[2] not in here else ""),
-        block,
-    )
-    return re.sub(r"(?<![\w/.])\./elfmap\b", "elfmap", block)
+
+    def words(link: re.Match[str]) -> str:
+        is_elsewhere = link[2].startswith("#") and link[2] not in here
+        return f"{link[1]} ({MANUAL})" if is_elsewhere else link[1]
+
+    return re.sub(r"(?<![\w/.])\./elfmap\b", "elfmap", LINK.sub(words, block))
 
 
 def by_pandoc(name: str, version: str, blocks: list[str]) -> str:
-    """The manual page of a command. Inline code is bold, all signs are those of ASCII, and no word
-    is cut: it may be one that is typed."""
+    """The manual page of a command. Inline code is bold, and all signs are those of ASCII."""
     words = {
         "title": name.upper(),
         "section": "1",
@@ -61,48 +64,43 @@ def by_pandoc(name: str, version: str, blocks: list[str]) -> str:
         "header": "elfmap",
         "adjusting": "l",
     }
-    command = [
-        "pandoc",
-        "-s",
-        "-f",
-        "gfm+definition_lists",
-        "-t",
-        "man",
-        "-M",
-        "hyphenate=false",
-        *(f"-V{it}={words[it]}" for it in words),
-    ]
+    command = [*PANDOC, *(f"-V{key}={value}" for key, value in words.items())]
+    text = "\n\n".join(blocks)
     made = subprocess.run(
-        command, input="\n\n".join(blocks), stdout=subprocess.PIPE, check=True, encoding="utf-8"
+        command, input=text, stdout=subprocess.PIPE, check=True, encoding="utf-8"
     ).stdout
-    return re.sub(
-        r"^[^.'].*",
-        lambda line: line[0].replace("-", r"\-").replace(r"\f[V]", r"\f[B]"),
-        made,
-        flags=re.M,
-    )
+
+    def plain(line: re.Match[str]) -> str:
+        return line[0].replace("-", r"\-").replace(r"\f[V]", r"\f[B]")
+
+    return re.sub(r"^[^.'].*", plain, made, flags=re.M)
 
 
-def page(version: str) -> str:
-    summary = blocks(read_text(MANUAL))[1]
-    text = [
-        "# NAME",
-        summary.partition(", the ")[0].replace("elfmap ", "elfmap - ", 1),
-        "# SYNOPSIS",
-        PARTS[""][0],
-    ]
-    text += ["# DESCRIPTION", summary, "# COMMANDS"]
+def parts_of_page() -> tuple[list[str], list[str]]:
+    """The blocks of the commands, and those of the examples."""
+    commands = ["# COMMANDS"]
     examples = ["# EXAMPLES"]
     for title, found in list(PARTS.items())[1:]:
         first = next((at for at, it in enumerate(found) if it.startswith(EXAMPLE)), len(found))
-        text += [f"## {title}", *found[:first]] if title not in OTHERS else []
-        examples += [f"## {title}", *found[first:]] if found[first:] else []
-    for title, name in OTHERS.items():
-        text += [f"# {name}", *(it for it in PARTS[title] if not it.startswith(EXAMPLE))]
+        if title not in OTHERS:
+            commands += [f"## {title}", *found[:first]]
+        if found[first:]:
+            examples += [f"## {title}", *found[first:]]
+    return commands, examples
+
+
+def page(version: str) -> str:
+    """The manual page of the program."""
+    summary = blocks(read_text(MANUAL))[1]
+    name = summary.partition(", the ")[0].replace("elfmap ", "elfmap - ", 1)
+    text = ["# NAME", name, "# SYNOPSIS", PARTS[""][0], "# DESCRIPTION", summary]
+    commands, examples = parts_of_page()
+    text += commands
+    for title, head in OTHERS.items():
+        text += [f"# {head}", *(it for it in PARTS[title] if not it.startswith(EXAMPLE))]
     others = re.sub(r"([\w-]+)\(", r"**\1**(", SEE_ALSO)
-    return by_pandoc(
-        "elfmap", version, list(map(with_tags, [*text, *examples, "# SEE ALSO", others, PAGES]))
-    )
+    text += [*examples, "# SEE ALSO", others, PAGES]
+    return by_pandoc("elfmap", version, list(map(with_tags, text)))
 
 
 # The help of a command, each thing listed in one line; the words of these, with what is said of
@@ -126,7 +124,7 @@ def completions(name: str) -> dict[str, str]:
         "zsh": "zsh/vendor-completions/_{}",
         "fish": "fish/vendor_completions.d/{}.fish",
     }
-    return {
-        place.format(name): filled(read_text(f"completions/{shell}"), **parts)
-        for shell, place in shells.items()
-    }
+    found: dict[str, str] = {}
+    for shell, place in shells.items():
+        found[place.format(name)] = filled(read_text(f"completions/{shell}"), **parts)
+    return found

@@ -26,17 +26,24 @@ import textwrap
 from collections.abc import Iterator
 
 from .functions import WANT, WRITTEN, Function, functions_in
-from .sizes import SIZED, Sizes, growths_in
+from .sizes import SIZED, Growth, Sizes, growths_in
 from .sources import indent_of
 from .suite import Tally, Test
 from .tree import TOP, Options, read_text
 
 # Calls of the standard library that fail only where memory is refused; and those by a number, which
 # sizes.py judges.
-GROWTHS = set(
-    "push push_str insert extend_from_slice collect to_vec try_clone format! append".split()
-)
-GROWTHS |= SIZED
+GROWTHS = SIZED | {
+    "push",
+    "push_str",
+    "insert",
+    "extend_from_slice",
+    "collect",
+    "to_vec",
+    "try_clone",
+    "format!",
+    "append",
+}
 # Engines over bytes. Those for C write into a vector, which fails for nothing else, and have no
 # reader.
 INTO_A_VECTOR = {"show_bytes", "push_refused_tables", "rewrite_bytes", "map_files", "link_files"}
@@ -76,15 +83,15 @@ class Reading:
         self.function = function
         self.memory_calls = memory_calls
         self.write_calls = write_calls
-        self.places = list[tuple[int, str]]()
-        self.written = list[tuple[int, str]]()
+        self.places: list[tuple[int, str]] = []
+        self.written: list[tuple[int, str]] = []
         for at in function.inner:
             line = function.lines[at]
             made = re.sub(r"[!=]= [\w:]+", "", re.sub(r"^.*? => |\blet .*? = ", "", line))
             self.places += [(at, self.form(at))] * len(WANT.findall(made))
-            if FAILED_WRITE.search(
-                f"{made} {function.lines[at + 1].strip()}" if made.endswith("::Io {") else made
-            ):
+            if made.endswith("::Io {"):
+                made = f"{made} {function.lines[at + 1].strip()}"
+            if FAILED_WRITE.search(made):
                 self.written.append((at, self.failed(at)))
 
     def branches(self, at: int) -> Iterator[tuple[str, str, bool]]:
@@ -119,141 +126,172 @@ class Reading:
             head = set(re.findall(r"\w+", self.function.head))
             if pattern == "_" and call == "write":
                 return "failed call of a writer"
-            if (
-                not is_else
-                and pattern.startswith("Err")
-                and (call in self.write_calls or expression in head and WRITTEN.keys() & head)
-            ):
+            is_of_write = call in self.write_calls or expression in head and WRITTEN.keys() & head
+            if not is_else and pattern.startswith("Err") and is_of_write:
                 return "failed write"
-        return (
-            "failed write"
-            if self.function.name == "after" or self.function.is_from or self.function.is_of_write
-            else ""
-        )
+        own = self.function
+        has_failed_write = own.name == "after" or own.is_from or own.is_of_write
+        return "failed write" if has_failed_write else ""
 
 
-def faults_in(found: dict[str, str]) -> tuple[collections.Counter[str], list[str]]:
-    """What the functions of these files make: the count of places by form, and what is wrong, each
-    as a place with its reason."""
-    functions = [it for path, text in found.items() for it in functions_in(path, text)]
+# The files of the libraries by their paths.
+Files = dict[str, str]
+# A place: its line, why a fault may be made there, if it may, and what is wrong if not.
+Place = tuple[int, str, str]
+NO_WRITE = "a failed write is made where no call of a writer failed"
+NO_GROWTH = "out of memory is made where no growth was refused"
+
+
+def readings_of(functions: list[Function]) -> list[Reading]:
+    """The places of these functions."""
     # The name of a function that has other faults too says nothing.
     others = {it.name for it in functions if it.faults == "other" and it.name not in GROWTHS}
     memory_calls = (GROWTHS | {it.name for it in functions if it.faults == "out"}) - others
     write_calls = {"write"} | {it.name for it in functions if it.fault in WRITTEN}
-    readings = [
-        Reading(
-            it,
-            memory_calls | (INTO_A_VECTOR if it.path.startswith(OF_CRATE) else set()),
-            write_calls,
-        )
-        for it in functions
-    ]
-    forms = collections.Counter[str]()
-    wrong = list[str]()
-    sizes = Sizes(functions, found.values())
+    found: list[Reading] = []
+    for it in functions:
+        more = INTO_A_VECTOR if it.path.startswith(OF_CRATE) else set()
+        found.append(Reading(it, memory_calls | more, write_calls))
+    return found
+
+
+def form_of_calls(readings: list[Reading], name: str) -> str:
+    """Why out of memory may be made in a function of this name, if each line that calls it may make
+    it."""
+    call = re.compile(rf"\b{name}\(")
+    forms: list[str] = []
     for it in readings:
-        by_callers = ""
-        if not all(form for _, form in it.places):
-            # Why it may be made in each line that calls a function of this name.
-            call = re.compile(rf"\b{it.function.name}\(")
-            calls = [
-                own.form(at)
-                for own in readings
-                for at in own.function.inner
-                if call.search(own.function.lines[at])
-            ]
-            by_callers = "called where a growth was refused" if calls and all(calls) else ""
-        made = [
-            (at, form, "a failed write is made where no call of a writer failed")
-            for at, form in it.written
-        ]
-        made += [
-            (at, form or by_callers, "out of memory is made where no growth was refused")
-            for at, form in it.places
-        ]
-        asked = [(at, "", why) for at, why in sizes.findings(it.function)]
-        made += asked
-        forms["size in hand"] += len(growths_in(it.function)) - len(asked)
+        for at in it.function.inner:
+            if call.search(it.function.lines[at]):
+                forms.append(it.form(at))
+    return "called where a growth was refused" if forms and all(forms) else ""
+
+
+def places_of(reading: Reading, readings: list[Reading]) -> list[Place]:
+    """The places where a function makes a fault."""
+    by_callers = ""
+    if not all(form for _, form in reading.places):
+        by_callers = form_of_calls(readings, reading.function.name)
+    found = [(at, form, NO_WRITE) for at, form in reading.written]
+    found += [(at, form or by_callers, NO_GROWTH) for at, form in reading.places]
+    return found
+
+
+def faults_in(files: Files) -> tuple[collections.Counter[str], list[str]]:
+    """What the functions of these files make: the count of places by form, and what is wrong, each
+    as a place with its reason."""
+    functions = [it for path, text in files.items() for it in functions_in(path, text)]
+    readings = readings_of(functions)
+    sizes = Sizes(functions, files.values())
+    forms = collections.Counter[str]()
+    wrong: list[str] = []
+    for it in readings:
+        function = it.function
+        made = places_of(it, readings)
+        asked: list[Place] = [(at, "", why) for at, why in sizes.findings(function)]
+        forms["size in hand"] += len(growths_in(function)) - len(asked)
         forms.update(form for _, form, _ in made if form)
-        wrong += [
-            f"{it.function.path}:{at + 1}: {it.function.name}: {why}"
-            for at, form, why in made
-            if not form
-        ]
+        for at, form, why in made + asked:
+            if not form:
+                wrong.append(f"{function.path}:{at + 1}: {function.name}: {why}")
     return forms, wrong
 
 
 def planted(text: str, function: Function, way: str, value: str) -> str:
     """The text of a file with a body that gives up at the head of a function: its body begins a
     line."""
-    head, _, behind = (
-        way.replace("VALUE", value).replace("FAULT", function.fault).strip("\n").partition("\n\n")
-    )
+    filled = way.replace("VALUE", value).replace("FAULT", function.fault).strip("\n")
+    head, _, behind = filled.partition("\n\n")
     lines = text.split("\n")
-    lines.insert(
-        function.begin + 1, textwrap.indent(head, " " * (indent_of(lines[function.begin]) + 4))
-    )
+    indent = " " * (indent_of(lines[function.begin]) + 4)
+    lines.insert(function.begin + 1, textwrap.indent(head, indent))
     return "\n".join([*lines, behind])
+
+
+# Of each crate a function with a fault, and a value of this.
+Plants = dict[str, tuple[Function, str]]
+
+
+def plants_in(files: Files) -> tuple[Plants, Plants]:
+    """The first function of each crate that makes out of memory, and the first that makes a failed
+    write."""
+    enums = {name for text in files.values() for name in ENUM_WITH_WANT.findall(text)}
+    out_of_memory: Plants = {}
+    failed_writes: Plants = {}
+    for path, text in files.items():
+        crate = path.split("/")[1]
+        for it in functions_in(path, text):
+            if it.is_from:
+                continue
+            if it.faults == "out":
+                out_of_memory.setdefault(crate, (it, it.fault))
+            elif it.fault in enums:
+                out_of_memory.setdefault(crate, (it, f"{it.fault}::OutOfMemory"))
+            if it.fault in WRITTEN:
+                failed_writes.setdefault(crate, (it, WRITTEN[it.fault]))
+    return out_of_memory, failed_writes
+
+
+def larger_sizes(growth: Growth) -> tuple[str, ...]:
+    """The sizes that are planted at a growth."""
+    if re.fullmatch(r"[A-Z_\d]+", growth.size):
+        # Of a constant the others are what it is.
+        return LARGE[-1:]
+    return LARGE if growth.is_wanted else LARGE[:-1]
+
+
+def is_refused(files: Files, function: Function, growth: Growth, size: str) -> bool:
+    """Whether a growth by this size, in place of its own, is a finding."""
+    path = function.path
+    lines = files[path].split("\n")
+    larger = size.replace("@", growth.size)
+    lines[growth.line] = lines[growth.line].replace(growth.size, larger)
+    every: list[Function] = []
+    for other, text in files.items():
+        if other != path:
+            every += functions_in(other, text)
+    changed = functions_in(path, "\n".join(lines))
+    own = next(it for it in changed if it.begin == function.begin)
+    return any(Sizes([*every, *changed], files.values()).findings(own))
+
+
+def try_sizes(tally: Tally, files: Files) -> None:
+    """Each size that is far too large is refused, at each growth."""
+    for path, text in files.items():
+        for it in functions_in(path, text):
+            for growth in growths_in(it):
+                place = f"{path}:{growth.line + 1}: {it.name}"
+                for size in larger_sizes(growth):
+                    why = f"{place}: a growth by {size} is not refused"
+                    tally.check(is_refused(files, it, growth, size), why)
+
+
+def try_bodies(tally: Tally, files: Files, ways: dict[str, str], plants: Plants) -> None:
+    """Each library has one of these bodies, and the first of them all: each is refused."""
+    names = list(ways)
+    for k, (crate, (function, value)) in enumerate(sorted(plants.items())):
+        path = function.path
+        for way in names if k == 0 else [names[k % len(names)]]:
+            text = planted(files[path], function, ways[way], value)
+            _, wrong = faults_in({**files, path: text})
+            is_found = any(it.startswith(f"{path}:") for it in wrong)
+            tally.check(is_found, f"{crate}, {function.name}: {way}: not refused")
 
 
 @Test(
     "memory-faults",
     "out of memory and failed writes are made only where an allocation or a write failed",
 )
-def memory_faults(tally: Tally, options: Options) -> None:
-    found = {
-        path: read_text(path)
-        for path in sorted(glob.glob("crates/elf*/src/**/*.rt", root_dir=TOP, recursive=True))
-    }
-    forms, wrong = faults_in(found)
+def try_memory_faults(tally: Tally, options: Options) -> None:
+    paths = sorted(glob.glob("crates/elf*/src/**/*.rt", root_dir=TOP, recursive=True))
+    files = {path: read_text(path) for path in paths}
+    forms, wrong = faults_in(files)
     tally.count(sum(forms.values()) + len(wrong), wrong)
     tally.note(", ".join(f"{count} {form}" for form, count in forms.most_common()))
-    enums = {name for text in found.values() for name in ENUM_WITH_WANT.findall(text)}
-    # Of each crate the first function with either fault, and the value that is planted there.
-    places = dict[str, tuple[Function, str]]()
-    writers = dict[str, tuple[Function, str]]()
-    for it in (
-        it for path, text in found.items() for it in functions_in(path, text) if not it.is_from
-    ):
-        crate = it.path.split("/")[1]
-        if it.faults == "out" or it.fault in enums:
-            places.setdefault(
-                crate, (it, it.fault if it.faults == "out" else f"{it.fault}::OutOfMemory")
-            )
-        if it.fault in WRITTEN:
-            writers.setdefault(crate, (it, WRITTEN[it.fault]))
-    for it in (it for path, text in found.items() for it in functions_in(path, text)):
-        for growth in growths_in(it):
-            # Of a constant the others are what it is.
-            is_constant = re.fullmatch(r"[A-Z_\d]+", growth.size)
-            for size in LARGE[-1:] if is_constant else LARGE if growth.is_wanted else LARGE[:-1]:
-                lines = found[it.path].split("\n")
-                lines[growth.line] = lines[growth.line].replace(
-                    growth.size, size.replace("@", growth.size)
-                )
-                changed = functions_in(it.path, "\n".join(lines))
-                own = next(other for other in changed if other.begin == it.begin)
-                others = [
-                    other
-                    for path, text in found.items()
-                    if path != it.path
-                    for other in functions_in(path, text)
-                ]
-                is_refused = any(Sizes([*others, *changed], found.values()).findings(own))
-                tally.check(
-                    is_refused,
-                    f"{it.path}:{growth.line + 1}: {it.name}: a growth by {size} is not refused",
-                )
-    ways = dict(
-        re.findall(r"^== (.*)\n((?:(?!== ).*\n)*)", read_text("cases/memory_faults.bodies"), re.M)
-    )
-    for names, plants in ((list(ways), places), ([it for it in ways if it.endswith("*")], writers)):
-        for k, (crate, (function, value)) in enumerate(sorted(plants.items())):
-            path = function.path
-            # Each library one way, the first of them all.
-            for way in names if k == 0 else [names[k % len(names)]]:
-                _, wrong = faults_in(
-                    {**found, path: planted(found[path], function, ways[way], value)}
-                )
-                is_refused = any(it.startswith(f"{path}:") for it in wrong)
-                tally.check(is_refused, f"{crate}, {function.name}: {way}: not refused")
+    try_sizes(tally, files)
+    bodies = read_text("cases/memory_faults.bodies")
+    ways: dict[str, str] = dict(re.findall(r"^== (.*)\n((?:(?!== ).*\n)*)", bodies, re.M))
+    of_writes = {name: body for name, body in ways.items() if name.endswith("*")}
+    out_of_memory, failed_writes = plants_in(files)
+    try_bodies(tally, files, ways, out_of_memory)
+    try_bodies(tally, files, of_writes, failed_writes)

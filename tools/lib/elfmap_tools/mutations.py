@@ -23,15 +23,17 @@ from .building import FolderOf, built_below, checked, gate_folder
 from .suite import Tally, Test, flag, word
 from .tree import LIBRARIES_OF, PROCESSORS, TOP, Options, read_text, write
 
-ABOUT = "the check refuses each bug of mutations.txt with 'gate: yes'; of CRATE.., or with --all of every crate, each bug"
+ABOUT = (
+    "the check refuses each bug of mutations.txt with 'gate: yes'; of CRATE.., or with --all of "
+    "every crate, each bug"
+)
 # What the checker prints if it could read the text and came to its end.
 ENDED = re.compile(r"^only=", re.M)
 CRATES = word(
     "crates", "the crates whose bugs are planted, all of them", nargs="*", metavar="CRATE"
 )
-FLAGS = flag("all", "plant all bugs"), flag(
-    "fit", "plant none: only say whether each edit fits the text that it changes"
-)
+FIT = "plant none: only say whether each edit fits the text that it changes"
+FLAGS = (flag("all", "plant all bugs"), flag("fit", FIT))
 ONLY = word("--only", "plant the bug of this name alone", metavar="NAME", default="")
 
 
@@ -41,7 +43,7 @@ class Edit:
     def __init__(self, crate: str, name: str, text: str, is_bug: bool) -> None:
         words = re.findall(r"^(.*?): ?(.*)", text, re.M)
         said = dict(words)
-        own = dict[str, str]()
+        own: dict[str, str] = {}
         self.crate = crate
         self.name = name
         self.is_bug = is_bug
@@ -49,7 +51,7 @@ class Edit:
         self.function = f"{crate}::{said['function']}" if "function" in said else ""
         # Of each line `new:` the file and the old text that were named last, and the text that the
         # old one comes after.
-        self.pairs = list[tuple[str, str, str, str]]()
+        self.pairs: list[tuple[str, str, str, str]] = []
         for key, text in words:
             own[key] = text
             if key == "new":
@@ -64,25 +66,29 @@ class Edit:
                 if not os.path.isfile(f"{folder}/{file}"):
                     return {}, f"there is no file {file}"
                 made[file] = read_text(f"{folder}/{file}")
-            if after and made[file].count(after) != 1:
-                return (
-                    {},
-                    f"an 'after:' text stands {made[file].count(after)} times in {file}, and not once",
-                )
-            front, found, rest = made[file].partition(after) if after else ("", "", made[file])
+            text = made[file]
+            if after and text.count(after) != 1:
+                return {}, f"an 'after:' text {times_in(file, text, after)}"
+            front, found, rest = text.partition(after) if after else ("", "", text)
             if not after and rest.count(old) != 1 or old not in rest:
-                return {}, f"an 'old:' text stands {rest.count(old)} times in {file}, and not once"
+                return {}, f"an 'old:' text {times_in(file, rest, old)}"
             made[file] = front + found + rest.replace(old, new, 1)
         if not self.pairs or self.is_bug and not self.function:
             return {}, "it has no 'function:' line, or no pair"
         return made, ""
 
 
+def times_in(file: str, text: str, wanted: str) -> str:
+    """How often a text is in a file that has to have it once."""
+    return f"stands {text.count(wanted)} times in {file}, and not once"
+
+
 def bugs_of(crate: str) -> list[Edit]:
+    """The bugs of a crate."""
     path = f"{TOP}/crates/{crate}/mutations.txt"
-    _, *parts = (
-        re.split(r"^\[(.*)\]\n", read_text(path), flags=re.M) if os.path.isfile(path) else [""]
-    )
+    if not os.path.isfile(path):
+        return []
+    _, *parts = re.split(r"^\[(.*)\]\n", read_text(path), flags=re.M)
     twice = [name for name, count in Counter(parts[::2]).items() if count > 1]
     if twice:
         raise SystemExit(f"{path}: {twice} are in it twice")
@@ -90,8 +96,21 @@ def bugs_of(crate: str) -> list[Edit]:
 
 
 def must_fail_of(crate: str) -> list[Edit]:
+    """The edits of must-fail/ of a crate."""
     paths = sorted(glob.glob(f"{TOP}/crates/{crate}/must-fail/*.edit"))
     return [Edit(crate, os.path.basename(it), read_text(it), False) for it in paths]
+
+
+# What the check has against a text: a message, which goes on in lines that begin with two spaces.
+MESSAGE = re.compile(r"^(?:note: \S+:\d+:\d+: |\S+:\d+:\d+: error: ).*(?:\n  .*)*$", re.M)
+# One that proof files name what the text no longer has, which says nothing of a contract.
+LOST = re.compile(r"(?s)(\./)?proofs/.*(has no field|is not in scope|has no `|was not admitted)")
+
+
+def proofs_of(bug: Edit) -> str:
+    """The folder of the proofs of a bug's function."""
+    path = bug.function.removeprefix(f"{bug.crate}::")
+    return f"proofs/{path.replace('::', '/')}/"
 
 
 def verdict(bug: Edit, said: str, others: Iterable[Edit]) -> str:
@@ -102,25 +121,12 @@ def verdict(bug: Edit, said: str, others: Iterable[Edit]) -> str:
     line = found[1]
     if line == "proved":
         return "NOT REFUSED: its function is still proved"
-    # What the check has against the text: that proof files name what it no longer has, which says
-    # nothing of a contract; and the rest. A message goes on in lines that begin with two spaces.
-    told: list[str] = re.findall(
-        r"^(?:note: \S+:\d+:\d+: |\S+:\d+:\d+: error: ).*(?:\n  .*)*$", said, re.M
-    )
-    lost = [
-        it
-        for it in told
-        if re.match(
-            r"(?s)(\./)?proofs/.*(has no field|is not in scope|has no `|was not admitted)", it
-        )
-    ]
-    proofs = [
-        f"proofs/{it.function.removeprefix(f'{it.crate}::').replace('::', '/')}/" for it in others
-    ]
+    told: list[str] = MESSAGE.findall(said)
+    lost = [it for it in told if LOST.match(it)]
     # A proof takes the functions that it calls by their contracts: what the check doesn't prove of
     # this one is due to its own text.
     is_own = "it calls" not in line or "did not prove" in line
-    if proofs:
+    if proofs := [proofs_of(it) for it in others]:
         is_lost = any(not any(own in it for own in proofs) for it in lost)
         return "refused" if is_own and not is_lost else ""
     if lost and lost == told:
@@ -134,12 +140,9 @@ def verdict(bug: Edit, said: str, others: Iterable[Edit]) -> str:
 def pick(bugs: list[Edit]) -> list[Edit]:
     """As many of the bugs as are in different functions and take no text from one another."""
     taken: set[object] = set()
-    picked = []
+    picked: list[Edit] = []
     for bug in bugs:
-        places: set[object] = {
-            bug.function,
-            *((file, after, old) for file, after, old, _ in bug.pairs),
-        }
+        places: set[object] = {bug.function, *(pair[:3] for pair in bug.pairs)}
         if not taken & places:
             taken |= places
             picked.append(bug)
@@ -149,7 +152,7 @@ def pick(bugs: list[Edit]) -> list[Edit]:
 def planted(picked: list[Edit], folder: str, folder_of: FolderOf) -> dict[Edit, str]:
     """How each of these bugs ended, planted together; nothing for one that is still open."""
     alone = len(picked) == 1
-    whys = dict[Edit, str]()
+    whys: dict[Edit, str] = {}
     for bug in picked:
         made, whys[bug] = bug.texts(folder)
         for file, text in made.items():
@@ -157,15 +160,22 @@ def planted(picked: list[Edit], folder: str, folder_of: FolderOf) -> dict[Edit, 
     # What another bug made of the text may be why one can't be planted: it waits for its turn.
     if not alone:
         whys = {bug: why for bug, why in whys.items() if not why}
-    said = (
-        ""
-        if any(whys.values())
-        else checked(picked[0].crate, [bug.function for bug in whys], folder, folder_of, "kept")
-    )
+    said = ""
+    if not any(whys.values()):
+        functions = [bug.function for bug in whys]
+        said = checked(picked[0].crate, functions, folder, folder_of, "kept")
     # A text that the check can't read says nothing of the other bugs in it: each is planted alone.
     if not alone and not ENDED.search(said):
         return {}
     return {bug: why or verdict(bug, said, whys.keys() - {bug}) for bug, why in whys.items()}
+
+
+def copy_parts(crate: str, folder: str) -> None:
+    """Copies what is not changed of a crate, and what an earlier check kept, into a folder."""
+    os.mkdir(f"{folder}/kept")
+    for part, name in (("specs", "specs"), ("proofs", "proofs"), ("out/incremental", "kept")):
+        if os.path.isdir(f"{crate}/{part}"):
+            shutil.copytree(f"{crate}/{part}", f"{folder}/{name}", dirs_exist_ok=True)
 
 
 def try_all(left: list[Edit], folder_of: FolderOf) -> list[tuple[Edit, str]]:
@@ -174,11 +184,7 @@ def try_all(left: list[Edit], folder_of: FolderOf) -> list[tuple[Edit, str]]:
     alone = False
     crate = f"{TOP}/crates/{left[0].crate}"
     with tempfile.TemporaryDirectory(prefix="mutations-") as folder:
-        # With what an earlier check kept.
-        os.mkdir(f"{folder}/kept")
-        for part, name in (("specs", "specs"), ("proofs", "proofs"), ("out/incremental", "kept")):
-            if os.path.isdir(f"{crate}/{part}"):
-                shutil.copytree(f"{crate}/{part}", f"{folder}/{name}", dirs_exist_ok=True)
+        copy_parts(crate, folder)
         while left:
             shutil.rmtree(f"{folder}/src", ignore_errors=True)
             shutil.copytree(f"{crate}/src", f"{folder}/src")
@@ -189,52 +195,76 @@ def try_all(left: list[Edit], folder_of: FolderOf) -> list[tuple[Edit, str]]:
     return ends
 
 
+def try_fit(tally: Tally, crates: list[str]) -> None:
+    """Each edit of these crates fits the text that it changes."""
+    for crate in crates:
+        for edit in must_fail_of(crate) + bugs_of(crate):
+            _, why = edit.texts(f"{TOP}/crates/{crate}")
+            tally.check(not why, f"{crate}: {edit.name}: {why}")
+
+
+def chosen(crates: list[str], options: Options) -> list[list[Edit]]:
+    """The bugs of these crates that are planted, those of each crate together."""
+    found: list[list[Edit]] = []
+    for crate in crates:
+        bugs = bugs_of(crate)
+        if not plants_all(options):
+            bugs = [it for it in bugs if it.is_for_gate]
+        bugs = [it for it in bugs if options.only in ("", it.name)]
+        if bugs:
+            found.append(bugs)
+    return found
+
+
+def plants_all(options: Options) -> bool:
+    """Whether bugs are planted that the gate does not plant too."""
+    return bool(options.all or options.crates or options.only)
+
+
+def count_ends(tally: Tally, ends: list[tuple[Edit, str]]) -> None:
+    """Counts how the bugs of a crate ended."""
+    ends.sort(key=lambda it: it[0].name)
+    wrong = [f"{bug.crate}: {bug.name}: {end}" for bug, end in ends if end != "refused"]
+    tally.count(len(ends), wrong)
+    crate = ends[0][0].crate
+    tally.note(f"{crate}: {len(ends) - len(wrong)} of {len(ends)} refused")
+
+
+def try_bugs(tally: Tally, crates: list[str], options: Options) -> None:
+    """The check refuses the bugs of these crates."""
+    bugs = chosen(crates, options)
+    if options.only and not bugs:
+        tally.fail(f"no bug of the name {options.only}")
+        return
+    folder_of: FolderOf = gate_folder
+    if plants_all(options):
+        folder_of, lacking = built_below([it[0].crate for it in bugs])
+        if lacking:
+            how = "`tools/dev prove CRATE` builds the libraries below a crate"
+            tally.fail(f"not built: {' '.join(lacking)}; {how}")
+            return
+    # Some crates at a time, those with most bugs first, so that none of these is alone at the end.
+    bugs.sort(key=len, reverse=True)
+    with ThreadPoolExecutor(min(4, PROCESSORS)) as pool:
+        for tried in as_completed([pool.submit(try_all, it, folder_of) for it in bugs]):
+            count_ends(tally, tried.result())
+
+
 @Test("mutations", ABOUT, alone=True, options=(*FLAGS, ONLY, CRATES))
-def mutations(tally: Tally, options: Options) -> None:
+def try_mutations(tally: Tally, options: Options) -> None:
     crates = options.crates or sorted(LIBRARIES_OF)
     unknown = [it for it in crates if it not in LIBRARIES_OF]
     if unknown:
-        return tally.fail(f"no crate of crates.txt: {' '.join(unknown)}")
+        tally.fail(f"no crate of crates.txt: {' '.join(unknown)}")
+        return
     if options.fit:
-        for edit in (it for crate in crates for it in must_fail_of(crate) + bugs_of(crate)):
-            why = edit.texts(f"{TOP}/crates/{edit.crate}")[1]
-            tally.check(not why, f"{edit.crate}: {edit.name}: {why}")
+        try_fit(tally, crates)
     else:
-        everything = bool(options.all or options.crates or options.only)
-        bugs = [
-            [
-                it
-                for it in bugs_of(crate)
-                if (everything or it.is_for_gate) and options.only in ("", it.name)
-            ]
-            for crate in crates
-        ]
-        bugs = [it for it in bugs if it]
-        if options.only and not bugs:
-            return tally.fail(f"no bug of the name {options.only}")
-        folder_of, lacking = (
-            built_below([it[0].crate for it in bugs]) if everything else (gate_folder, [])
-        )
-        if lacking:
-            return tally.fail(
-                f"not built: {' '.join(lacking)}; `tools/dev prove CRATE` builds the libraries below a crate"
-            )
-        # Some crates at a time, those with most bugs first, so that none of these is alone at the
-        # end.
-        bugs.sort(key=len, reverse=True)
-        with ThreadPoolExecutor(min(4, PROCESSORS)) as pool:
-            for tried in as_completed([pool.submit(try_all, those, folder_of) for those in bugs]):
-                ends = sorted(tried.result(), key=lambda end: end[0].name)
-                tally.count(
-                    len(ends),
-                    (f"{bug.crate}: {bug.name}: {end}" for bug, end in ends if end != "refused"),
-                )
-                tally.note(
-                    f"{ends[0][0].crate}: {sum(end == 'refused' for _, end in ends)} of {len(ends)} refused"
-                )
-    if not options.crates and not options.only:
-        for crate in (it for it in LIBRARIES_OF if it.startswith("elf_") and bugs_of(it)):
-            tally.check(
-                any(it.is_for_gate for it in bugs_of(crate)),
-                f"{crate}: it has no bug with 'gate: yes'",
-            )
+        try_bugs(tally, crates, options)
+    if options.crates or options.only:
+        return
+    for crate in LIBRARIES_OF:
+        bugs = bugs_of(crate) if crate.startswith("elf_") else []
+        if bugs:
+            is_in_gate = any(it.is_for_gate for it in bugs)
+            tally.check(is_in_gate, f"{crate}: it has no bug with 'gate: yes'")

@@ -10,7 +10,7 @@ from typing import NamedTuple
 
 from . import (
     bindings,
-    building,
+    inner_loop,
     c_library,
     cases,
     changed_files,
@@ -99,7 +99,7 @@ DEV = [
     Command(
         "check",
         "prove a crate, or some functions of it, or a test, and print what is open",
-        building.check,
+        inner_loop.check,
         [CRATE, FUNCTION, TEST],
     ),
     Command(

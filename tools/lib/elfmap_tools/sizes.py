@@ -23,9 +23,18 @@ from .functions import Function
 # more.
 MOST = 1 << 20
 MOST_UNWANTED = (1 << 30) + 1
-SIZED = set(
-    "with_capacity with_capacity_and_hasher reserve reserve_exact try_reserve try_reserve_exact resize resize_with vec!".split()
-)
+# The calls that grow by a number.
+SIZED = {
+    "with_capacity",
+    "with_capacity_and_hasher",
+    "reserve",
+    "reserve_exact",
+    "try_reserve",
+    "try_reserve_exact",
+    "resize",
+    "resize_with",
+    "vec!",
+}
 CALL = re.compile(rf"\b(?:{'|'.join(map(re.escape, SIZED))})(?=[(\[])")
 # Definitions, and the numbers of which each says that they are no more than a length in hand, or
 # than those of the crate allow.
@@ -35,14 +44,24 @@ BOUNDING = {
     "IsBuilt": {"nbucket"},
 }
 BOUND = r"(?:≡|≤|<) (?:[^{}]*\b)?(?:length|vec_len|MAX_\w+)\b"
+# A number; a name, with its path; or a sign.
 TOKEN = re.compile(
-    r"\s*(\d\w*|[A-Za-z_]\w*(?:::(?:<[^()]*?>)?\w*)*!?|<<|>>|&&|\|\||[<>=!]=|\.\.=?|[-+*/%&|^.,?(){}\[\]<>=!;:])"
+    r"\s*(\d\w*|[A-Za-z_]\w*(?:::(?:<[^()]*?>)?\w*)*!?"
+    r"|<<|>>|&&|\|\||[<>=!]=|\.\.=?|[-+*/%&|^.,?(){}\[\]<>=!;:])"
 )
 LEVELS = [{"|"}, {"^"}, {"&"}, {"<<", ">>"}, {"+", "-"}, {"*", "/", "%"}]
 VALUES: dict[str, Callable[[int, int], int]] = {
-    "+": operator.add, "-": operator.sub, "*": operator.mul, "/": operator.floordiv, "%": operator.mod, "<<": operator.lshift,
-    ">>": operator.rshift, "&": operator.and_, "|": operator.or_, "^": operator.xor,
-}  # fmt: skip
+    "+": operator.add,
+    "-": operator.sub,
+    "*": operator.mul,
+    "/": operator.floordiv,
+    "%": operator.mod,
+    "<<": operator.lshift,
+    ">>": operator.rshift,
+    "&": operator.and_,
+    "|": operator.or_,
+    "^": operator.xor,
+}
 # What the value of an operator or a method is bounded by: all of its parts, one of them, or the
 # first.
 ALL = {"+", "|", "^", "max", "saturating_add", "checked_add", "wrapping_add", "unwrap_or"}
@@ -73,6 +92,10 @@ class Node:
     parts: list["Node"] = field(default_factory=list)
 
 
+# Functions and names of which it is being asked whether they are bounded.
+Seen = set[tuple[Function, str]]
+
+
 class Unread(ValueError):
     """What is no expression of this kind."""
 
@@ -81,7 +104,7 @@ class Parser:
     """Reads an expression of numbers."""
 
     def __init__(self, text: str) -> None:
-        self.tokens = list[str]()
+        self.tokens: list[str] = []
         at = 0
         text = text.strip()
         while at < len(text):
@@ -93,9 +116,11 @@ class Parser:
         self.at = 0
 
     def peek(self) -> str:
+        """The next token; nothing at the end."""
         return self.tokens[self.at] if self.at < len(self.tokens) else ""
 
     def take(self, wanted: str = "") -> str:
+        """Goes behind the next token, which has to be this one, if one is given."""
         found = self.peek()
         if not found or wanted and found != wanted:
             raise Unread(f"{found} where {wanted or 'something'} is wanted")
@@ -103,12 +128,14 @@ class Parser:
         return found
 
     def whole(self) -> Node:
+        """The expression, up to the end of the text."""
         found = self.binary(0)
         if self.peek():
             raise Unread(self.peek())
         return found
 
     def binary(self, level: int) -> Node:
+        """An expression of operators of this level and above."""
         if level == len(LEVELS):
             return self.cast()
         found = self.binary(level + 1)
@@ -117,6 +144,7 @@ class Parser:
         return found
 
     def cast(self) -> Node:
+        """An expression with casts, which change nothing here."""
         found = self.unary()
         while self.peek() == "as":
             self.take()
@@ -124,11 +152,13 @@ class Parser:
         return found
 
     def unary(self) -> Node:
+        """An expression with borrows, which change nothing here."""
         while self.peek() in ("*", "&", "mut"):
             self.take()
         return self.postfix(self.primary())
 
     def primary(self) -> Node:
+        """A number, a name, a call, or an expression in brackets."""
         token = self.take()
         if token == "(":
             found = self.binary(0)
@@ -136,16 +166,13 @@ class Parser:
             return found
         if token[0].isdigit():
             return Node("number", token)
-        if not (token[0].isalpha() or token[0] == "_") or token in (
-            "if",
-            "match",
-            "unsafe",
-            "loop",
-        ):
+        is_name = token[0].isalpha() or token[0] == "_"
+        if not is_name or token in ("if", "match", "unsafe", "loop"):
             raise Unread(token)
         return Node("call", token, self.arguments()) if self.peek() == "(" else Node("name", token)
 
     def postfix(self, found: Node) -> Node:
+        """What fields, methods and indexes make of an expression."""
         while self.peek() in (".", "?", "["):
             token = self.take()
             if token == "[":
@@ -153,17 +180,16 @@ class Parser:
                 found = Node("field", "[]", [found])
             elif token == ".":
                 name = self.take()
-                found = (
-                    Node("of", name, [found, *self.arguments()])
-                    if self.peek() == "("
-                    else Node("field", name, [found])
-                )
+                if self.peek() == "(":
+                    found = Node("of", name, [found, *self.arguments()])
+                else:
+                    found = Node("field", name, [found])
         return found
 
     def arguments(self) -> list[Node]:
         """The arguments of a call; one that is no number is a name that says nothing."""
         self.take("(")
-        found = list[Node]()
+        found: list[Node] = []
         while self.peek() != ")":
             start = self.at
             try:
@@ -193,7 +219,7 @@ def parts_of(text: str, start: int, separators: str) -> list[str]:
     """What is between the bracket at `start` and its end, cut at these signs where they are in no
     further brackets."""
     level = 0
-    found = list[str]()
+    found: list[str] = []
     last = start + 1
     for at in range(start, len(text)):
         level += (text[at] in OPENING) - (text[at] in CLOSING)
@@ -207,6 +233,7 @@ def parts_of(text: str, start: int, separators: str) -> list[str]:
 
 @functools.cache
 def body_of(function: Function) -> str:
+    """The lines of a function in one."""
     return " ".join(function.lines[at].strip() for at in function.inner)
 
 
@@ -218,33 +245,46 @@ class Growth(NamedTuple):
     is_wanted: bool
 
 
+def size_of(text: str, call: re.Match[str]) -> str:
+    """The size of a growth by this call; nothing where it is by no number."""
+    name = call[0]
+    parts = parts_of(text, call.end(), ";" if name == "vec!" else ",")
+    if name == "vec!":
+        # `vec![in ALLOC; VALUE; COUNT]`; one with fewer parts has its elements.
+        parts = parts[2:] if parts and parts[0].startswith("in ") else parts[1:]
+    elif name.startswith("with_capacity"):
+        # The allocator is before it.
+        parts = parts[1:]
+    return parts[0] if parts else ""
+
+
 @functools.cache
 def growths_in(function: Function) -> list[Growth]:
     """The growths of a function that are by a number."""
-    growths = list[Growth]()
-    starts = list[int]()
+    growths: list[Growth] = []
+    starts: list[int] = []
     text = ""
     for at in function.inner:
         starts.append(len(text))
         text += function.lines[at].strip() + " "
     for found in CALL.finditer(text):
-        line = (
-            function.begin + 1 + max(k for k, start in enumerate(starts) if start <= found.start())
-        )
-        name = found[0]
-        start = found.end()
-        parts = parts_of(text, start, ";" if name == "vec!" else ",")
-        if name == "vec!":
-            # `vec![in ALLOC; VALUE; COUNT]`; one with fewer parts has its elements.
-            parts = parts[2:] if parts and parts[0].startswith("in ") else parts[1:]
-        elif name.startswith("with_capacity"):
-            # The allocator is before it.
-            parts = parts[1:]
-        if parts:
-            growths.append(
-                Growth(line, parts[0], not re.search(r"\blet _ = [^;]*$", text[: found.start()]))
-            )
+        line = max(k for k, start in enumerate(starts) if start <= found.start())
+        if size := size_of(text, found):
+            is_wanted = not re.search(r"\blet _ = [^;]*$", text[: found.start()])
+            growths.append(Growth(function.begin + 1 + line, size, is_wanted))
     return growths
+
+
+# A constant, and its value.
+CONSTANT = re.compile(
+    r"^ *(?:pub(?:\(crate\))? )?const (\w+): u(?:size|8|16|32|64) = ([^;]*);", re.M
+)
+
+
+def is_said_of_result(function: Function) -> bool:
+    """Whether a clause of a function says that its result is at most a length."""
+    ensured = re.search(rf"\bensures[^{{]*\{{[^{{}}]*\bresult {BOUND}", function.clauses)
+    return bool(ensured or re.search(rf"\bresult\b[^{{}}]* {BOUND}", function.clauses))
 
 
 class Sizes:
@@ -258,11 +298,7 @@ class Sizes:
         self.most = MOST
         self.constants: dict[str, set[str]] = {}
         for text in texts:
-            for name, value in re.findall(
-                r"^ *(?:pub(?:\(crate\))? )?const (\w+): u(?:size|8|16|32|64) = ([^;]*);",
-                text,
-                re.M,
-            ):
+            for name, value in CONSTANT.findall(text):
                 self.constants.setdefault(name, set()).add(value)
 
     def findings(self, function: Function) -> Iterator[tuple[int, str]]:
@@ -291,7 +327,8 @@ class Sizes:
             return None if one is None or other is None else VALUES[node.name](one, other)
         return None
 
-    def judge(self, function: Function, node: Node, seen: set[tuple[Function, str]]) -> str:
+    def judge(self, function: Function, node: Node, seen: Seen) -> str:
+        """Why an expression is not bounded; nothing where it is."""
         try:
             value = self.value(node)
         except (Unread, ZeroDivisionError):
@@ -304,15 +341,13 @@ class Sizes:
             return self.judge_call(function, node, seen)
         if node.kind == "name" and re.fullmatch(r"\w+", node.name):
             return self.judge_name(function, node.name, seen)
-        if node.kind == "field" and node.name != "[]":
-            return (
-                "" if self.is_bounded(function, node.name) else f"{node.name} is no length in hand"
-            )
+        is_field = node.kind == "field" and node.name != "[]"
+        if is_field and self.is_bounded(function, node.name):
+            return ""
         return f"{node.name} is no length in hand"
 
-    def judge_operator(
-        self, function: Function, node: Node, seen: set[tuple[Function, str]]
-    ) -> str:
+    def judge_operator(self, function: Function, node: Node, seen: Seen) -> str:
+        """What an operator or a method makes is bounded by its parts."""
         name = node.name
         if name in LENGTHS and len(node.parts) == 1:
             return ""
@@ -321,15 +356,13 @@ class Sizes:
             return next(filter(None, found), "") if name in ALL or all(found) else ""
         if name in FIRST:
             return self.judge(function, node.parts[0], seen)
-        if name in self.named and name not in VALUES:
+        if name in VALUES:
+            return f"{name} makes it longer than its parts"
+        if name in self.named:
             return self.judge_call(function, node, seen)
-        return (
-            f"{name} makes it longer than its parts"
-            if name in VALUES
-            else f"{name} is no method of lengths"
-        )
+        return f"{name} is no method of lengths"
 
-    def judge_call(self, function: Function, node: Node, seen: set[tuple[Function, str]]) -> str:
+    def judge_call(self, function: Function, node: Node, seen: Seen) -> str:
         """All functions of this name are bounded: by a contract, or what they answer is."""
         *_, name = node.name.split("::")
         if node.name in ("usize::from", "u64::from", "u32::from", "usize::try_from"):
@@ -340,17 +373,16 @@ class Sizes:
         if self.is_bounded(function, name):
             return ""
         for it in found:
-            is_said = re.search(
-                rf"\bensures[^{{]*\{{[^{{}}]*\bresult {BOUND}", it.clauses
-            ) or re.search(rf"\bresult\b[^{{}}]* {BOUND}", it.clauses)
-            if not is_said and (it, "") not in seen:
+            if not is_said_of_result(it) and (it, "") not in seen:
                 why = self.judge_answer(it, seen | {(it, "")})
                 if why:
                     return f"{name}: {why}"
         return ""
 
-    def judge_answer(self, function: Function, seen: set[tuple[Function, str]]) -> str:
-        last = function.lines[function.end - 1].strip() if function.end - 1 > function.begin else ""
+    def judge_answer(self, function: Function, seen: Seen) -> str:
+        """What a function answers, its last line, is bounded."""
+        end = function.end - 1
+        last = function.lines[end].strip() if end > function.begin else ""
         try:
             return self.judge(function, Parser(last).whole(), seen)
         except Unread:
@@ -364,7 +396,7 @@ class Sizes:
         clauses = re.findall(r"\b(?:requires|ensures)\b[^{]*\{([^{}]*)\}", function.clauses)
         return any(re.search(rf"(?<![\w]){name}\b[^≡≤<→]*{BOUND}", it) for it in clauses)
 
-    def judge_name(self, function: Function, name: str, seen: set[tuple[Function, str]]) -> str:
+    def judge_name(self, function: Function, name: str, seen: Seen) -> str:
         """A variable or a parameter: all that it is made of is bounded, or a clause says that it
         is."""
         if (function, name) in seen or self.is_bounded(function, name):
@@ -383,33 +415,40 @@ class Sizes:
             return self.judge_parameter(function, name, seen)
         return next(filter(None, (self.judge_text(function, it, seen) for it in made)), "")
 
-    def judge_text(self, function: Function, text: str, seen: set[tuple[Function, str]]) -> str:
+    def judge_text(self, function: Function, text: str, seen: Seen) -> str:
+        """What a text is, an expression, is bounded."""
         try:
             return self.judge(function, Parser(text).whole(), seen)
         except Unread:
             return f"`{text}` is no length in hand"
 
-    def judge_parameter(
-        self, function: Function, name: str, seen: set[tuple[Function, str]]
-    ) -> str:
+    def judge_parameter(self, function: Function, name: str, seen: Seen) -> str:
         """All calls of the function give it a length there."""
-        words = (
-            parts_of(function.head, function.head.index("("), ",") if "(" in function.head else []
-        )
+        head = function.head
+        words = parts_of(head, head.index("("), ",") if "(" in head else []
         names = [re.sub(r"^mut ", "", it.partition(":")[0].strip()) for it in words]
         if name not in names:
             return f"{name} is no length in hand"
-        position = names.index(name)
         is_method = names[0] in ("self", "&self", "&mut self")
-        owner = re.search(r"(\w+)(?:<[^<>]*>)? \{$", function.outer)
-        lead = r"\." if is_method else rf"\b{owner[1]}::" if owner else r"(?<![.\w])(?:\w+::)*"
-        call = re.compile(rf"{lead}{function.name}(?:::<[^()]*>)?(?=\()")
-        given = list[tuple[Function, str]]()
+        position = names.index(name) - is_method
+        given: list[tuple[Function, str]] = []
+        call = call_of(function, is_method)
         for own, body in self.bodies.items():
             for found in call.finditer(body):
                 arguments = parts_of(body, found.end(), ",")
-                at = position - is_method
-                given.append((own, arguments[at] if at < len(arguments) else "?"))
+                given.append((own, arguments[position] if position < len(arguments) else "?"))
         if not given:
             return f"nothing in the libraries gives {function.name} its {name}"
         return next(filter(None, (self.judge_text(own, it, seen) for own, it in given)), "")
+
+
+def call_of(function: Function, is_method: bool) -> re.Pattern[str]:
+    """How a function is called: as a method, below its type, or by its path."""
+    owner = re.search(r"(\w+)(?:<[^<>]*>)? \{$", function.outer)
+    if is_method:
+        lead = r"\."
+    elif owner:
+        lead = rf"\b{owner[1]}::"
+    else:
+        lead = r"(?<![.\w])(?:\w+::)*"
+    return re.compile(rf"{lead}{function.name}(?:::<[^()]*>)?(?=\()")

@@ -17,11 +17,8 @@ Block = tuple[list[str], list[str], list[str]]
 # What words of the logic mean: of each a path and a name there.
 Uses = dict[str, tuple[str, str]]
 # The public crates, in the order of the table at the head of the crate `elf`.
-PUBLIC_CRATES = [
-    it
-    for it in re.findall(r"^//! \| \[`(\w+)`\]", read_text("crates/elf/src/lib.rt"), re.M)
-    if f"elf_{it}" in LIBRARIES_OF
-]
+LISTED = re.findall(r"^//! \| \[`(\w+)`\]", read_text("crates/elf/src/lib.rt"), re.M)
+PUBLIC_CRATES = [it for it in LISTED if f"elf_{it}" in LIBRARIES_OF]
 HEAD = re.compile(r"pub (fn|struct|enum|trait|const|mod|type) (\w+)")
 CLAUSE = re.compile(r" *(requires|ensures)\b")
 # What holds no bracket that counts: strings, characters, comments.
@@ -30,6 +27,8 @@ WORD = re.compile(r"(?<![\w.])[^\W\d]\w*")
 IMPORT = re.compile(r"use Rattle\.([\w.]+)\.\{([^}]*)\}")
 # A word, and what it is called here, if it is called otherwise.
 NAMES = re.compile(r"([^\s,]+)(?: as ([^\s,]+))?")
+# What a file shows: several names of a path, or one, or a module.
+SHOWN = re.compile(r"^pub (?:use ([\w:]+)::\{([^}]*)\}|(?:use|mod) ([\w:]+(?: as \w+)?));", re.M)
 DEFINITION = re.compile(
     r"^(?:(?:pub )?(?:abbrev|unfoldable|record|data) (?:pub )?([^\s(:]+)|(?:pub )?([^\s(:=]+) :)",
     re.M,
@@ -57,10 +56,12 @@ class Item:
 
 
 def indent_of(line: str) -> int:
+    """How many spaces a line begins with."""
     return len(line) - len(line.lstrip(" "))
 
 
 def balance(line: str) -> int:
+    """How many brackets a line opens more than it closes."""
     bare = LITERAL.sub("", line)
     return sum(bare.count(it) for it in "([{") - sum(bare.count(it) for it in ")]}")
 
@@ -73,9 +74,8 @@ def end_of(lines: list[str], start: int, ends: str) -> int:
     for at in range(start, len(lines)):
         level += balance(lines[at])
         bare = LITERAL.sub("", lines[at]).rstrip()
-        if level <= 0 and (
-            bare.endswith(ends) or (bare.endswith("}") and indent_of(lines[at]) == indent)
-        ):
+        is_block = bare.endswith("}") and indent_of(lines[at]) == indent
+        if level <= 0 and (bare.endswith(ends) or is_block):
             return at + 1
     return len(lines)
 
@@ -83,8 +83,8 @@ def end_of(lines: list[str], start: int, ends: str) -> int:
 def blocks(lines: list[str], ends: str = ";") -> Iterator[Block]:
     """The texts of one level, each with the comment lines and attributes above it."""
     at = 0
-    docs = list[str]()
-    marks = list[str]()
+    docs: list[str] = []
+    marks: list[str] = []
     while at < len(lines):
         word = lines[at].strip()
         end = at + 1
@@ -111,41 +111,36 @@ def inside(text: list[str]) -> list[str]:
 
 
 def unindented(lines: list[str]) -> list[str]:
+    """Lines without the indentation that all have."""
     return [it.rstrip() for it in textwrap.dedent("\n".join(lines)).split("\n")]
+
+
+def ends_signature(line: str) -> bool:
+    """Whether a line ends the signature of a function, or begins what follows it."""
+    return bool(CLAUSE.match(line)) or line.endswith(" {") or line.strip() == "where"
 
 
 def signature_and_clauses(text: list[str]) -> tuple[list[str], list[str]]:
     """A function's signature, and the clauses after it."""
     lines = list(takewhile(lambda it: it.strip() not in ("{", "{}", ";"), text))
-    count = next(
-        (
-            k
-            for k, it in enumerate(lines)
-            if CLAUSE.match(it) or it.endswith(" {") or it.strip() == "where"
-        ),
-        len(lines),
-    )
+    count = next((k for k, it in enumerate(lines) if ends_signature(it)), len(lines))
     if count == len(lines) or not CLAUSE.match(lines[count]):
-        return (
-            unindented(
-                [it.removesuffix(" {") for it in lines[: count + 1] if it.strip() != "where"]
-            ),
-            [],
-        )
-    clauses = re.split(r"\n(?= *(?:requires|ensures)\b)", "\n".join(lines[count:]))
-    return unindented(lines[:count]), [
-        "\n".join(unindented(it.split("\n"))).removesuffix(";") for it in clauses
-    ]
+        signature = [it.removesuffix(" {") for it in lines[: count + 1] if it.strip() != "where"]
+        return unindented(signature), []
+    clauses: list[str] = []
+    for it in re.split(r"\n(?= *(?:requires|ensures)\b)", "\n".join(lines[count:])):
+        clauses.append("\n".join(unindented(it.split("\n"))).removesuffix(";"))
+    return unindented(lines[:count]), clauses
 
 
 def imports(text: str) -> Uses:
     """What the words of the logic in a text stand for, by its `use` lines: a path and a name
     there."""
-    return {
-        alias or name: (path, name)
-        for path, names in IMPORT.findall(text)
-        for name, alias in NAMES.findall(names)
-    }
+    found: Uses = {}
+    for path, names in IMPORT.findall(text):
+        for name, alias in NAMES.findall(names):
+            found[alias or name] = (path, name)
+    return found
 
 
 def members_of(text: list[str], source: str, is_trait: bool, uses: Uses) -> Iterator[Item]:
@@ -175,14 +170,14 @@ def fields_of(text: list[str]) -> Iterator[tuple[list[str], str]]:
 
 
 def item_of(docs: list[str], marks: list[str], text: list[str], source: str, uses: Uses) -> Item:
+    """The item of a text."""
     kind, name = HEAD.findall(text[0])[0]
     if kind == "fn":
         return Item(kind, name, source, docs, *signature_and_clauses(text), uses)
     item = Item(kind, name, source, docs, unindented(text), uses=uses)
     if kind in ("struct", "enum", "trait"):
-        item.text = [it for it in marks if it.startswith("#[derive")] + [
-            text[0].rstrip().removesuffix(" {")
-        ]
+        derived = [it for it in marks if it.startswith("#[derive")]
+        item.text = [*derived, text[0].rstrip().removesuffix(" {")]
     if kind in ("struct", "enum"):
         item.fields = list(fields_of(text))
     if kind == "trait":
@@ -194,30 +189,27 @@ def item_of(docs: list[str], marks: list[str], text: list[str], source: str, use
 
 @functools.cache
 def source(path: str) -> tuple[list[str], dict[str, Item], list[list[str]], Uses]:
-    """The front doc of a source file, its public items by their names, and its impls."""
+    """The front doc of a source file, its public items by their names, its impls, and what the
+    words of the logic in it stand for."""
     lines = read_text(path).splitlines()
     front = [it[3:].removeprefix(" ") for it in lines if it.startswith("//!")]
     parts = list(blocks([it for it in lines if not it.startswith(("//!", "#!["))]))
-    uses = imports(
-        "\n".join(line for _, _, text in parts if "use " in text[0][:10] for line in text)
-    )
-    items = [
-        item_of(docs, marks, text, path, uses) for docs, marks, text in parts if HEAD.match(text[0])
-    ]
-    return (
-        front,
-        {it.name: it for it in items},
-        [text for _, _, text in parts if text[0].startswith("impl")],
-        uses,
-    )
+    used = [line for _, _, text in parts if "use " in text[0][:10] for line in text]
+    uses = imports("\n".join(used))
+    items: dict[str, Item] = {}
+    for docs, marks, text in parts:
+        if HEAD.match(text[0]):
+            item = item_of(docs, marks, text, path, uses)
+            items[item.name] = item
+    impls = [text for _, _, text in parts if text[0].startswith("impl")]
+    return front, items, impls, uses
 
 
 def sources_of(crate: str) -> list[str]:
-    return [
-        it[len(TOP) + 1 :]
-        for it in texts_of(crate)
-        if it.endswith(".rt") and it.startswith(f"{TOP}/crates/{crate}/src/")
-    ]
+    """The sources of a crate, as paths of the repository."""
+    own = f"{TOP}/crates/{crate}/src/"
+    found = (it for it in texts_of(crate) if it.startswith(own) and it.endswith(".rt"))
+    return [it[len(TOP) + 1 :] for it in found]
 
 
 def with_impls(item: Item, crate: str) -> Item:
@@ -241,13 +233,10 @@ def with_impls(item: Item, crate: str) -> Item:
 
 def shown_by(path: str) -> Iterator[tuple[str, str]]:
     """What a file shows, modules of its own and what others have: each name with its path."""
-    for line in re.finditer(
-        r"^pub (?:use ([\w:]+)::\{([^}]*)\}|(?:use|mod) ([\w:]+(?: as \w+)?));",
-        read_text(path),
-        re.M,
-    ):
+    for line in SHOWN.finditer(read_text(path)):
         for place, alias in NAMES.findall(line[2] or line[3]):
-            yield alias or place.rsplit("::", 1)[-1], f"{line[1]}::{place}" if line[1] else place
+            name = alias or place.rsplit("::", 1)[-1]
+            yield name, f"{line[1]}::{place}" if line[1] else place
 
 
 def module_file(crate: str, words: tuple[str, ...]) -> str:
@@ -262,15 +251,15 @@ def home_of(crate: str, words: tuple[str, ...], place: str) -> tuple[str, str, s
     is_other = bool(rest) and os.path.isdir(f"{TOP}/crates/{rest[0]}")
     crate, words = (rest[0], tuple(rest[1:])) if is_other else (crate, (*words, *rest))
     path = module_file(crate, words)
-    return (
-        (crate, path, name)
-        if name in source(path)[1]
-        else home_of(crate, words, dict(shown_by(path))[name])
-    )
+    _, items, _, _ = source(path)
+    if name in items:
+        return crate, path, name
+    return home_of(crate, words, dict(shown_by(path))[name])
 
 
 @functools.cache
 def item_at(crate: str, path: str, name: str) -> Item:
+    """The item of a file of a crate, with all that belongs to it."""
     item = source(path)[1][name]
     if item.kind == "mod":
         return module(crate, (name,))
@@ -284,9 +273,8 @@ def module(crate: str, words: tuple[str, ...]) -> Item:
     front, items, _, _ = source(path)
     members = [it for it in items.values() if it.kind in ("const", "fn")]
     for shown, place in shown_by(path):
-        members.append(
-            replace(item_at(*home_of(crate, words, place)), name=shown, text=[f"pub mod {shown}"])
-        )
+        own = item_at(*home_of(crate, words, place))
+        members.append(replace(own, name=shown, text=[f"pub mod {shown}"]))
     return Item("mod", words[-1], path, front, [f"pub mod {words[-1]}"], members=members)
 
 
@@ -304,25 +292,32 @@ class Definition(NamedTuple):
     text: str
 
 
+def comment_of(lines: str) -> str:
+    """The text of comment lines, without those that are a rule or a title."""
+    bare = (it[2:].strip() for it in lines.splitlines())
+    return " ".join(it for it in bare if not it.startswith("--"))
+
+
 @functools.cache
 def definitions(path: str) -> tuple[dict[str, Definition], Uses]:
     """The definitions of a file of specs/ by their names, constructors among them, and what it
     takes from other files."""
     if not os.path.isfile(f"{TOP}/{path}"):
         return {}, {}
-    found = dict[str, Definition]()
+    found: dict[str, Definition] = {}
     text = read_text(path)
     # Comment lines, and the lines below them up to an empty line or the next comment.
     for comment, lines in re.findall(r"((?:^--.*\n)*)((?:^(?!--).+\n)+)", text, re.M):
         match = DEFINITION.search(lines)
-        if match:
-            said = " ".join(
-                it[2:].strip() for it in comment.splitlines() if not it[2:].strip().startswith("--")
-            )
-            own = lines[match.start() :].rstrip("\n")
-            it = found[match[1] or match[2]] = Definition(match[1] or match[2], path, said, own)
-            if " data " in f" {own.partition(chr(10))[0]}":
-                found |= {name: it for name in re.findall(r"^  (?:pub )?([^\s(:]+) :", own, re.M)}
+        if not match:
+            continue
+        own = lines[match.start() :].rstrip("\n")
+        name = match[1] or match[2]
+        found[name] = Definition(name, path, comment_of(comment), own)
+        head = own.partition("\n")[0]
+        if " data " in f" {head}":
+            for constructor in re.findall(r"^  (?:pub )?([^\s(:]+) :", own, re.M):
+                found[constructor] = found[name]
     return found, imports(text)
 
 
@@ -334,9 +329,8 @@ def definition(place: str, name: str) -> Definition | None:
     front = f"crates/{crate}/specs/Lib.antt"
     if not os.path.isfile(f"{TOP}/{path}") and os.path.isfile(f"{TOP}/{front}"):
         # A file of specs/ that the crate shows of another one.
-        shown = re.search(
-            rf"^pub use Rattle\.(\S+\.specs\.{re.escape(rest)})$", read_text(front), re.M
-        )
+        line = rf"^pub use Rattle\.(\S+\.specs\.{re.escape(rest)})$"
+        shown = re.search(line, read_text(front), re.M)
         return definition(shown[1], name) if shown else None
     return named_in(path, name)
 
@@ -349,7 +343,10 @@ def named_in(path: str, word: str) -> Definition | None:
 
 def reach(found: Definition, reached: dict[Definition, None]) -> None:
     """Adds a definition, and those that it is made of, to those that were reached."""
-    if found not in reached:
-        reached[found] = None
-        for it in filter(None, (named_in(found.path, word) for word in WORD.findall(found.text))):
-            reach(it, reached)
+    if found in reached:
+        return
+    reached[found] = None
+    for word in WORD.findall(found.text):
+        named = named_in(found.path, word)
+        if named:
+            reach(named, reached)

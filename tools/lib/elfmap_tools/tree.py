@@ -14,7 +14,7 @@ import time
 from collections.abc import Callable, Iterable, Iterator, Mapping
 from concurrent.futures import ProcessPoolExecutor, ThreadPoolExecutor
 from pathlib import Path
-from typing import Any, TypeVar
+from typing import TypeVar
 
 from . import TOP as TOP
 
@@ -33,6 +33,7 @@ R = TypeVar("R")
 
 
 def read_bytes(path: str) -> bytes:
+    """The bytes of a file."""
     return Path(path).read_bytes()
 
 
@@ -78,26 +79,29 @@ def said(
     timeout: float | None = None,
 ) -> Texts:
     """Runs a command without input: its status, and both its outputs as one text."""
-    more: dict[str, Any] = {
-        "stdin": subprocess.DEVNULL,
-        "stdout": subprocess.PIPE,
-        "stderr": subprocess.STDOUT,
-        "errors": "replace",
-    }
-    return subprocess.run(words, cwd=folder or TOP, env=env, timeout=timeout, **more)
+    return subprocess.run(
+        words,
+        cwd=folder or TOP,
+        env=env,
+        timeout=timeout,
+        stdin=subprocess.DEVNULL,
+        stdout=subprocess.PIPE,
+        stderr=subprocess.STDOUT,
+        errors="replace",
+    )
 
 
 def wanted(*words: str, folder: str | None = None, timeout: float | None = None) -> str:
     """Runs a command that has to end well: what it says."""
     ended = said(*words, folder=folder, timeout=timeout)
     if ended.returncode:
-        raise SystemExit(
-            f"{os.path.basename(words[0])} ended with status {ended.returncode}: {ended.stdout[-2000:]}"
-        )
+        what = f"{os.path.basename(words[0])} ended with status {ended.returncode}"
+        raise SystemExit(f"{what}: {ended.stdout[-2000:]}")
     return ended.stdout
 
 
 def answer_of(it: Ended) -> Answer:
+    """What a command answered."""
     return it.returncode, it.stdout, it.stderr
 
 
@@ -118,9 +122,8 @@ def compiled(folder: str, commands: Iterable[str]) -> list[str]:
     shutil.copytree(f"{TOP}/cases/sources", folder, dirs_exist_ok=True)
     for it in commands:
         run(*it.split(), folder=folder)
-    return [
-        path for path in (f"{folder}/{it.split()[-1]}" for it in commands) if os.path.exists(path)
-    ]
+    made = (f"{folder}/{it.split()[-1]}" for it in commands)
+    return list(filter(os.path.exists, made))
 
 
 def side_by_side(
@@ -129,8 +132,10 @@ def side_by_side(
     """What a function returns for each item, with as many calls at a time as there are
     processors."""
     items = list(items)
-    with (ProcessPoolExecutor if by_processes else ThreadPoolExecutor)(PROCESSORS) as pool:
-        return list(pool.map(function, items, chunksize=max(1, min(10, len(items) // PROCESSORS))))
+    make = ProcessPoolExecutor if by_processes else ThreadPoolExecutor
+    at_once = max(1, min(10, len(items) // PROCESSORS))
+    with make(PROCESSORS) as pool:
+        return list(pool.map(function, items, chunksize=at_once))
 
 
 def files_below(folder: str) -> Iterator[str]:
@@ -138,11 +143,10 @@ def files_below(folder: str) -> Iterator[str]:
     are left out."""
     for at, folders, names in os.walk(folder):
         folders.sort()
-        yield from (
-            path
-            for path in (f"{at}/{it}" for it in sorted(names))
-            if os.path.isfile(path) and not os.path.islink(path)
-        )
+        for it in sorted(names):
+            path = f"{at}/{it}"
+            if os.path.isfile(path) and not os.path.islink(path):
+                yield path
 
 
 @contextlib.contextmanager
@@ -174,6 +178,7 @@ STATIC_LIBRARIES = {head.split()[0] for head, _, _ in LINES if "staticlib" in he
 
 
 def is_program(crate: str) -> bool:
+    """Whether a crate is a program."""
     return os.path.isfile(f"{TOP}/crates/{crate}/src/main.rt")
 
 
@@ -191,15 +196,15 @@ def below(name: str) -> list[str]:
 @functools.cache
 def texts_of(crate: str) -> list[str]:
     """The files of its code, definitions and proofs, in order."""
-    return sorted(
-        path
-        for part in ("src", "specs", "proofs")
-        for path in files_below(f"{TOP}/crates/{crate}/{part}")
-    )
+    found: list[str] = []
+    for part in ("src", "specs", "proofs"):
+        found += files_below(f"{TOP}/crates/{crate}/{part}")
+    return sorted(found)
 
 
 def is_newer(path: str, texts: Iterable[str]) -> bool:
     """Whether what was built is there, and at least as new as each of these files."""
-    return os.path.exists(path) and all(
-        os.path.getmtime(it) <= os.path.getmtime(path) for it in texts
-    )
+    if not os.path.exists(path):
+        return False
+    built = os.path.getmtime(path)
+    return all(os.path.getmtime(it) <= built for it in texts)
