@@ -38,13 +38,12 @@ def segments(it):
     all_outputs, common_at = link.placed(it)
     for (_, flags, is_without_bits), start, length, members in all_outputs:
         if length > 0:
-            yield start, length, permissions(flags), None if is_without_bits else output_content(
-                it, start, length, members
-            )
+            content = None if is_without_bits else output_content(it, start, length, members)
+            yield start, length, permissions(flags), content
     chosen = link.commons(it)
     if chosen:
         start = common_at[chosen[0][0]]
-        (last, size, _) = chosen[-1]
+        last, size, _ = chosen[-1]
         if common_at[last] + size > start:
             yield start, common_at[last] + size - start, PF_R + PF_W, None
 
@@ -54,16 +53,12 @@ def entry_address(it):
 
 
 def file_header(it, count):
-    first = (
-        it.files[0]
-        if it.files
-        else objects.Value(order="little", osabi=0, abi=0, machine=0, flags=0)
-    )
-    identification = (
-        b"\x7fELF\2"
-        + bytes([1 if first.order == "little" else 2, 1, first.osabi, first.abi])
-        + bytes(7)
-    )
+    if it.files:
+        first = it.files[0]
+    else:
+        first = objects.Value(order="little", osabi=0, abi=0, machine=0, flags=0)
+    data = 1 if first.order == "little" else 2
+    identification = b"\x7fELF\2" + bytes([data, 1, first.osabi, first.abi]) + bytes(7)
     fields = record(
         first.order,
         HEADER,

@@ -300,15 +300,11 @@ def symbol_value(link, f, k):
     if k == 0:
         return 0
     symbol = link.files[f].symbols[k - 1]
-    at = link.at
-    common_at = link.common_at
     if binding_of(symbol) == LOCAL:
-        return (
-            None
-            if symbol.section is None and symbol.reserved == UNDEF
-            else own_value(link, at, f, symbol)
-        )
-    return value_of(link, at, common_at, symbol.name)[0]
+        if symbol.section is None and symbol.reserved == UNDEF:
+            return None
+        return own_value(link, link.at, f, symbol)
+    return value_of(link, link.at, link.common_at, symbol.name)[0]
 
 
 def unplaced(link):
@@ -342,11 +338,8 @@ def number(link, entry):
     f, _, _, it, (_, form, width, numbers), offset, symbol, addend = entry
     file = link.files[f]
     if it.type == REL:
-        addend = int.from_bytes(
-            file.sections[it.info].body[offset : offset + width],
-            file.order,
-            signed=numbers != "unsigned",
-        )
+        field = file.sections[it.info].body[offset : offset + width]
+        addend = int.from_bytes(field, file.order, signed=numbers != "unsigned")
     elif addend >= 2**63:
         addend -= 2**64
     place = link.at[f, it.info] + offset
@@ -356,9 +349,11 @@ def number(link, entry):
 def admits(rule, n):
     _, _, width, numbers = rule
     bits = 8 * width
-    return numbers == "wrap" or (
-        -(2 ** (bits - 1)) <= n < 2 ** (bits - 1) if numbers == "signed" else 0 <= n < 2**bits
-    )
+    if numbers == "wrap":
+        return True
+    if numbers == "signed":
+        return -(2 ** (bits - 1)) <= n < 2 ** (bits - 1)
+    return 0 <= n < 2**bits
 
 
 def value_out_of_range(link):
@@ -375,9 +370,8 @@ def relocated(link):
     for entry in fields(link):
         f, _, _, it, rule, offset, *_ = entry
         width = rule[2]
-        found[f, it.info][offset : offset + width] = (
-            number(link, entry) % 2 ** (8 * width)
-        ).to_bytes(width, link.files[f].order)
+        own = number(link, entry) % 2 ** (8 * width)
+        found[f, it.info][offset : offset + width] = own.to_bytes(width, link.files[f].order)
     return found
 
 
@@ -451,7 +445,8 @@ def map_lines(contents, base, page, rules=None):
 
 def lines(link, all_outputs):
     for (name, flags, without_bits), start, length, members in all_outputs:
-        yield f"output {start:#x} {length:#x} {'nobits' if without_bits else 'bits'} {flags:#x} {word(name)}"
+        bits = "nobits" if without_bits else "bits"
+        yield f"output {start:#x} {length:#x} {bits} {flags:#x} {word(name)}"
         for f, s, at in members:
             yield f"member {at:#x} {size_of(link.files[f].sections[s]):#x} {f} {s}"
     for name, size, _ in commons(link):

@@ -203,56 +203,55 @@ def body_of(f, i, position):
     return it.sh_size if it.sh_type == NOBITS else f.content(i)
 
 
+def section_value(f, i, position):
+    """A section of the object, by its index."""
+    it = f.section(i)
+    names = f.content(f.name_table) if f.name_table else b""
+    is_plain = it.sh_type not in (GROUP, *RELOCATIONS)
+    names_section = it.sh_type in RELOCATIONS or is_plain and it.sh_flags & SHF_INFO_LINK
+    return Value(
+        name=string(names, it.sh_name),
+        type=it.sh_type,
+        flags=it.sh_flags,
+        addr=it.sh_addr,
+        align=it.sh_addralign,
+        entsize=it.sh_entsize,
+        link=position.get(it.sh_link) if is_plain else None,
+        info=position[it.sh_info] if names_section else it.sh_info,
+        body=body_of(f, i, position),
+    )
+
+
+def symbol_value(f, k, it, strings, position):
+    """A symbol of the object, entry k of the symbol table."""
+    is_reserved = it.st_shndx in (ABS, COMMON)
+    return Value(
+        name=string(strings, it.st_name),
+        info=it.st_info,
+        other=it.st_other,
+        value=it.st_value,
+        size=it.st_size,
+        section=None if is_reserved else position.get(section_of(f, k, it)),
+        reserved=it.st_shndx if is_reserved else UNDEF,
+    )
+
+
 def object_of(content):
     """The object that these bytes denote, which break no rule. A section is told by its position
     among the object's, a symbol by its index in the table."""
     f = File(content)
     position = {i: p for p, i in enumerate(kept(f))}
-    names = f.content(f.name_table) if f.name_table else b""
-    sections = []
-    for i in kept(f):
-        it = f.section(i)
-        is_plain = it.sh_type not in (GROUP, *RELOCATIONS)
-        sections.append(
-            Value(
-                name=string(names, it.sh_name),
-                type=it.sh_type,
-                flags=it.sh_flags,
-                addr=it.sh_addr,
-                align=it.sh_addralign,
-                entsize=it.sh_entsize,
-                link=position.get(it.sh_link) if is_plain else None,
-                info=position[it.sh_info]
-                if it.sh_type in RELOCATIONS or is_plain and it.sh_flags & SHF_INFO_LINK
-                else it.sh_info,
-                body=body_of(f, i, position),
-            )
-        )
     table = symbol_table(f)
     found = [] if table is None else list(enumerate(symbols(f, table)))[1:]
     strings = b"" if table is None else f.content(f.section(table).sh_link)
-    all_symbols = [
-        Value(
-            name=string(strings, it.st_name),
-            info=it.st_info,
-            other=it.st_other,
-            value=it.st_value,
-            size=it.st_size,
-            section=position.get(section_of(f, k, it))
-            if it.st_shndx not in (ABS, COMMON)
-            else None,
-            reserved=it.st_shndx if it.st_shndx in (ABS, COMMON) else UNDEF,
-        )
-        for k, it in found
-    ]
     return Value(
         order=f.order,
         osabi=content[7],
         abi=content[8],
         machine=f.header.e_machine,
         flags=f.header.e_flags,
-        sections=sections,
-        symbols=all_symbols,
+        sections=[section_value(f, i, position) for i in kept(f)],
+        symbols=[symbol_value(f, k, it, strings, position) for k, it in found],
     )
 
 
@@ -304,82 +303,64 @@ def index_of(it):
     return it.reserved if it.section is None else it.section + 1
 
 
+def is_far(it):
+    """Whether the section index of a symbol is in the index table."""
+    return it.section is not None and index_of(it) >= LORESERVE
+
+
+def section_part(o, it, table):
+    """A section of an object: its name, its bytes, its size if it has none, and the fields of its
+    header."""
+    is_plain = it.type not in (GROUP, *RELOCATIONS)
+    names_section = it.type in RELOCATIONS or is_plain and it.flags & SHF_INFO_LINK
+    link = table
+    if is_plain:
+        link = 0 if it.link is None else it.link + 1
+    fields = dict(
+        sh_type=it.type,
+        sh_flags=it.flags,
+        sh_addr=it.addr,
+        sh_link=link,
+        sh_info=it.info + 1 if names_section else it.info,
+        sh_addralign=it.align,
+        sh_entsize=it.entsize,
+    )
+    return it.name, content_of(o, it), it.body if it.type == NOBITS else None, fields
+
+
+def symbol_entry(o, it, name):
+    """The entry of a symbol, whose name is at this place."""
+    fields = dict(st_name=name, st_info=it.info, st_other=it.other)
+    fields |= dict(st_shndx=XINDEX if is_far(it) else index_of(it))
+    return record(o.order, SYMBOL, **fields, st_value=it.value, st_size=it.size)
+
+
 def laid(o):
     """The one list of bytes that is written for an object."""
-    count = 1 + len(o.sections)
-    table = count
-    indexes = [index_of(it) for it in o.symbols]
-    has_index_table = any(it.section is not None and index_of(it) >= LORESERVE for it in o.symbols)
+    table = 1 + len(o.sections)
+    has_index_table = any(is_far(it) for it in o.symbols)
     strings = table + 1 + has_index_table
+    parts = [section_part(o, it, table) for it in o.sections]
     names, name_at = string_table([it.name for it in o.symbols])
-    entries = [bytes(24)]
-    for it, index in zip(o.symbols, indexes):
-        place = XINDEX if it.section is not None and index >= LORESERVE else index
-        entries.append(
-            record(
-                o.order,
-                SYMBOL,
-                st_name=name_at[it.name],
-                st_info=it.info,
-                st_other=it.other,
-                st_shndx=place,
-                st_value=it.value,
-                st_size=it.size,
-            )
-        )
-    locals_ = sum(it.info // 16 == 0 for it in o.symbols)
-    parts = []
-    for it in o.sections:
-        is_plain = it.type not in (GROUP, *RELOCATIONS)
-        link = (0 if it.link is None else it.link + 1) if is_plain else table
-        info = (
-            it.info + 1
-            if it.type in RELOCATIONS or is_plain and it.flags & SHF_INFO_LINK
-            else it.info
-        )
-        parts.append(
-            (
-                it.name,
-                content_of(o, it),
-                it.body if it.type == NOBITS else None,
-                dict(
-                    sh_type=it.type,
-                    sh_flags=it.flags,
-                    sh_addr=it.addr,
-                    sh_link=link,
-                    sh_info=info,
-                    sh_addralign=it.align,
-                    sh_entsize=it.entsize,
-                ),
-            )
-        )
-    parts.append(
-        (
-            b".symtab",
-            b"".join(entries),
-            None,
-            dict(
-                sh_type=SYMTAB, sh_link=strings, sh_info=1 + locals_, sh_addralign=8, sh_entsize=24
-            ),
-        )
-    )
+    entries = bytes(24) + b"".join(symbol_entry(o, it, name_at[it.name]) for it in o.symbols)
+    first_global = 1 + sum(it.info // 16 == 0 for it in o.symbols)
+    fields = dict(sh_type=SYMTAB, sh_link=strings, sh_info=first_global)
+    parts.append((b".symtab", entries, None, dict(**fields, sh_addralign=8, sh_entsize=24)))
     if has_index_table:
-        words = [0] + [
-            index if it.section is not None and index >= LORESERVE else 0
-            for it, index in zip(o.symbols, indexes)
-        ]
-        parts.append(
-            (
-                b".symtab_shndx",
-                b"".join(word.to_bytes(4, o.order) for word in words),
-                None,
-                dict(sh_type=SYMTAB_SHNDX, sh_link=table, sh_addralign=4, sh_entsize=4),
-            )
-        )
+        words = [0] + [index_of(it) if is_far(it) else 0 for it in o.symbols]
+        content = b"".join(word.to_bytes(4, o.order) for word in words)
+        fields = dict(sh_type=SYMTAB_SHNDX, sh_link=table, sh_addralign=4, sh_entsize=4)
+        parts.append((b".symtab_shndx", content, None, fields))
     parts.append((b".strtab", names, None, dict(sh_type=STRTAB, sh_addralign=1)))
     section_names, section_name_at = string_table([name for name, *_ in parts] + [b".shstrtab"])
     parts.append((b".shstrtab", section_names, None, dict(sh_type=STRTAB, sh_addralign=1)))
     return placed(o, parts, section_name_at)
+
+
+def section_header(o, name, place, size, fields):
+    """A section header, by the places of its name and its content."""
+    own = dict(sh_name=name, sh_offset=place, sh_size=size)
+    return record(o.order, SECTION_HEADER, **own, **fields)
 
 
 def placed(o, parts, name_at):
@@ -389,16 +370,8 @@ def placed(o, parts, name_at):
     for name, content, size, fields in parts:
         if size is None:
             file += bytes(-len(file) % max(1, fields["sh_addralign"]))
-        headers.append(
-            record(
-                o.order,
-                SECTION_HEADER,
-                sh_name=name_at[name],
-                sh_offset=len(file),
-                sh_size=len(content) if size is None else size,
-                **fields
-            )
-        )
+        own_size = len(content) if size is None else size
+        headers.append(section_header(o, name_at[name], len(file), own_size, fields))
         file += content
     file += bytes(-len(file) % 8)
     count = 1 + len(parts)

@@ -33,9 +33,9 @@ def parts(f):
 
 
 def name_of(f, it):
-    return (
-        string(f.content(f.name_table), it.sh_name) if f.name_table and it.sh_type != NULL else b""
-    )
+    if not f.name_table or it.sh_type == NULL:
+        return b""
+    return string(f.content(f.name_table), it.sh_name)
 
 
 def signed(n, bits):
@@ -56,32 +56,32 @@ def place(f, table, k, it):
 def symbol_lines(f, i):
     names = f.content(f.section(i).sh_link)
     for k, it in enumerate(tables.symbols(f, i)):
-        yield (
-            f"symbol {i} {k} {it.st_info // 16} {it.st_info % 16} {it.st_other} {place(f, i, k, it)} {it.st_value:#x} {it.st_size:#x} "
-            f"{word(string(names, it.st_name))}"
-        )
+        about = f"{it.st_info // 16} {it.st_info % 16} {it.st_other} {place(f, i, k, it)}"
+        name = word(string(names, it.st_name))
+        yield f"symbol {i} {k} {about} {it.st_value:#x} {it.st_size:#x} {name}"
 
 
 def relocation_lines(f, i):
     kind = f.section(i).sh_type
     for k, it in enumerate(f.entries(i, RELOCATION, tables.ENTRY_SIZE[kind])):
         addend = signed(it.r_addend, 64) if kind == RELA else "-"
-        yield f"reloc {i} {k} {it.r_offset:#x} {it.r_info // 2 ** 32} {it.r_info % 2 ** 32} {addend}"
+        info = f"{it.r_info // 2 ** 32} {it.r_info % 2 ** 32}"
+        yield f"reloc {i} {k} {it.r_offset:#x} {info} {addend}"
 
 
 def group_lines(f, i):
     it = f.section(i)
     flags, *members = [number for _, number in f.words(i)]
-    yield " ".join(
-        map(str, ["group", i, flags, word(symbol_name(f, it.sh_link, it.sh_info)), *members])
-    )
+    signature = word(symbol_name(f, it.sh_link, it.sh_info))
+    yield " ".join(map(str, ["group", i, flags, signature, *members]))
 
 
 def note_lines(f, i):
     for at, _, name, descriptor in tables.notes(f, i):
         begin = at + 12 + tables.padded(name)
         told = f.bytes[at + 12 : at + 12 + name][:-1]
-        yield f"note {i} {f.number(at + 8, 4)} {word(told)} {f.bytes[begin:begin + descriptor].hex() or '-'}"
+        digits = f.bytes[begin : begin + descriptor].hex() or "-"
+        yield f"note {i} {f.number(at + 8, 4)} {word(told)} {digits}"
 
 
 def dynamic_lines(f, i):
@@ -114,28 +114,25 @@ def lines(f):
     for start, size, owner in parts(f):
         yield f"part {start:#x} {size:#x} {owner}"
     for i, it in f.sections():
-        yield (
-            f"section {i} {it.sh_type} {it.sh_flags:#x} {it.sh_addr:#x} {it.sh_offset:#x} {it.sh_size:#x} {it.sh_link} {it.sh_info} "
-            f"{it.sh_addralign:#x} {it.sh_entsize:#x} {word(name_of(f, it))}"
-        )
+        head = f"section {i} {it.sh_type} {it.sh_flags:#x} {it.sh_addr:#x}"
+        place = f"{it.sh_offset:#x} {it.sh_size:#x} {it.sh_link} {it.sh_info}"
+        yield f"{head} {place} {it.sh_addralign:#x} {it.sh_entsize:#x} {word(name_of(f, it))}"
     for j, it in enumerate(f.segments()):
-        yield (
-            f"segment {j} {it.p_type} {it.p_flags:#x} {it.p_offset:#x} {it.p_vaddr:#x} {it.p_paddr:#x} {it.p_filesz:#x} {it.p_memsz:#x} "
-            f"{it.p_align:#x}"
-        )
+        head = f"segment {j} {it.p_type} {it.p_flags:#x} {it.p_offset:#x}"
+        place = f"{it.p_vaddr:#x} {it.p_paddr:#x} {it.p_filesz:#x} {it.p_memsz:#x}"
+        yield f"{head} {place} {it.p_align:#x}"
     for i, it in f.sections():
         if it.sh_type in TABLE_LINES:
             broken = tables.verdict(f, i)
-            yield from ["refused %d %d %d" % (i, *broken)] if broken else TABLE_LINES[it.sh_type](
-                f, i
-            )
+            if broken:
+                yield "refused %d %d %d" % (i, *broken)
+            else:
+                yield from TABLE_LINES[it.sh_type](f, i)
 
 
 def show(content):
     """What `elfmap show` says of these bytes."""
     broken = image.verdict(content)
-    return (
-        "refused %d %d\n" % broken
-        if broken
-        else "".join(line + "\n" for line in lines(image.File(content)))
-    )
+    if broken:
+        return "refused %d %d\n" % broken
+    return "".join(line + "\n" for line in lines(image.File(content)))

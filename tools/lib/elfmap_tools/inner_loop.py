@@ -1,5 +1,5 @@
-"""`tools/dev check`, the loop while one writes: what is open of a crate, of some functions of it, or
-of a test."""
+"""`tools/dev check`, the loop while one writes: what is open of a crate, of some functions of it,
+or of a test."""
 
 import glob
 import os
