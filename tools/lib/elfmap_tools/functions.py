@@ -42,7 +42,9 @@ class Function:
         answer = self.head.partition("->")[2].strip("() {")
         found = re.search(r"(\w+)>$", answer)
         self.fault = found[1] if found and "Result" in answer else ""
-        self.faults = "out" if WANT.match(self.fault) else "other" if "Result" in answer else ""
+        self.faults = "other" if "Result" in answer else ""
+        if WANT.match(self.fault):
+            self.faults = "out"
         # What X is in `impl From<X> for Y`.
         source = re.match(r"impl.*\bFrom<(.*)> for ", self.outer)
         self.is_from = bool(source and FROM_WANT.search(source[1]))

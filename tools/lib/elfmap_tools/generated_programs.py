@@ -165,12 +165,11 @@ class Program:
                 file += field("addl %edi, 0(%rip)", "PC32", name)
                 word.number = (number + self.status) % 2**32
                 return
-            absolute = "addl 0, %edi", chance.choice(("32", "32S")), name, 0
-            file += (
-                field(*absolute)
-                if kind == "absolute"
-                else field("addl 0(%rip), %edi", "PC32", name)
-            )
+            form = chance.choice(("32", "32S"))
+            if kind == "absolute":
+                file += field("addl 0, %edi", form, name, 0)
+            else:
+                file += field("addl 0(%rip), %edi", "PC32", name)
         elif kind == "pointer" and self.pointers:
             name, target = chance.choice(list(self.pointers.items()))
             file += [*field("movq 0(%rip), %rax", "PC32", name), "addl (%rax), %edi"]

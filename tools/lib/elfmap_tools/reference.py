@@ -18,7 +18,9 @@ from tables import ENTRY_SIZE, elf_hash, entries_before_null, is_section, notes,
 
 from .tree import Answer
 
+# The rule that is broken, and where.
 Broken = tuple[int, int]
+# An edit of a file: the place, and the number.
 Edit = tuple[Any, ...]
 laid: Callable[[Any], bytes] = objects.laid
 string: Callable[[bytes, int], bytes] = objects.string
@@ -54,28 +56,28 @@ rewritten: Callable[[bytes], tuple[str, bytes] | None] = objects.rewrite
 
 def mapped(contents: Sequence[bytes], base: str, page: str, rules: bytes | None = None) -> str:
     """The lines of `elfmap map`, by a file of rules if one is given."""
-    return str(
-        link.map_lines(
-            contents, int(base, 0), int(page, 0), None if rules is None else link.rules_of(rules)
-        )
-    )
+    given = None if rules is None else link.rules_of(rules)
+    return str(link.map_lines(contents, int(base, 0), int(page, 0), given))
 
 
 def entries_of(contents: Sequence[bytes]) -> list[str]:
     """The names of the files, of letters alone, that an executable may begin at."""
     _, it = link.validated(contents, 0x400000, 0x1000)
-    names = (
-        [name for name in it.entries if link.value_of(it, it.at, it.common_at, name)[1] != "zero"]
-        if hasattr(it, "at")
-        else []
-    )
-    return [name.decode("ascii") for name in names if name.isalpha()]
+    # One that is refused has no addresses.
+    if not hasattr(it, "at"):
+        return []
+    found: list[str] = []
+    for name in it.entries:
+        _, kind = link.value_of(it, it.at, it.common_at, name)
+        if kind != "zero" and name.isalpha():
+            found.append(name.decode("ascii"))
+    return found
 
 
 def parsed(words: Sequence[str]) -> tuple[dict[str, str], list[str]]:
     """The options of a command with what follows each, and the names of its files."""
-    options = dict[str, str]()
-    names = list[str]()
+    options: dict[str, str] = {}
+    names: list[str] = []
     rest = iter(words[1:])
     for it in rest:
         if it.startswith("--"):
@@ -95,10 +97,10 @@ def answer(words: Sequence[str], files: Mapping[str, bytes]) -> Answer | None:
         lines = mapped(contents, options["--base"], options["--page"], rules)
         return int(lines.startswith(("refused ", "file "))), lines.encode("latin1"), b""
     if words[0] == "link":
-        base, page = (int(options[it], 0) for it in ("--base", "--page"))
-        refusal, file = executable.answer(
-            contents, base, page, link.rules_of(rules), options["--entry"].encode()
-        )
+        base = int(options["--base"], 0)
+        page = int(options["--page"], 0)
+        entry = options["--entry"].encode()
+        refusal, file = executable.answer(contents, base, page, link.rules_of(rules), entry)
         return int(bool(refusal)), file, refusal.encode("latin1")
     if words[0] == "rewrite":
         found = rewritten(contents[0])
@@ -108,6 +110,7 @@ def answer(words: Sequence[str], files: Mapping[str, bytes]) -> Answer | None:
 
 
 def number_words(order: str, *numbers: int) -> bytes:
+    """Numbers of four bytes."""
     return b"".join(it.to_bytes(4, cast(Any, order)) for it in numbers)
 
 
@@ -160,6 +163,7 @@ def symbol(
 def object_of(
     sections: Sequence[Any], symbols: Sequence[Any] = (), order: str = "little", osabi: int = 0
 ) -> Any:
+    """An object of these sections and symbols."""
     return Value(
         order=order,
         osabi=osabi,
@@ -181,9 +185,8 @@ def object_file(
 
 def with_index_table(o: Any) -> bytes:
     """The file of an object with an index table, which its symbols don't need."""
-    o.sections.append(
-        section(b".symtab_shndx", SYMTAB_SHNDX, bytes(4 + 4 * len(o.symbols)), 0, 4, 4)
-    )
+    indexes = bytes(4 + 4 * len(o.symbols))
+    o.sections.append(section(b".symtab_shndx", SYMTAB_SHNDX, indexes, 0, 4, 4))
     return edited(laid(o), ("sh_link", len(o.sections), len(o.sections) + 1))
 
 
@@ -206,7 +209,15 @@ def group(members: list[int], signature: int = 1, flags: int = 1) -> Any:
 def text(
     content: bytes = b"\xc3", flags: int = ALLOC | EXEC, name: bytes = b".text", align: int = 1
 ) -> Any:
+    """A section of bytes, which is code if nothing else is said."""
     return section(name, PROGBITS, content, flags, align)
+
+
+def record_at(f: Any, field: str, index: list[int]) -> Any:
+    """The header, or the section or program header of this index, that has a field."""
+    if not index:
+        return f.header
+    return f.section(*index) if field.startswith("sh_") else f.segment(*index)
 
 
 def edited(file: bytes, *edits: Edit) -> bytes:
@@ -221,13 +232,7 @@ def edited(file: bytes, *edits: Edit) -> bytes:
             section, at, width = name
             at += f.section(section).sh_offset if section else 0
         else:
-            record = (
-                f.header
-                if not rest
-                else f.section(*rest)
-                if name.startswith("sh_")
-                else f.segment(*rest)
-            )
+            record = record_at(f, name, rest)
             at = record.at(name)
             width = record.layout[name][1]
         new[at : at + width] = number.to_bytes(width, f.order)
