@@ -34,9 +34,12 @@ NOT_YET: list[tuple[str, tuple[str, ...], Standing]] = [
     ("sections_far_apart", ("check --seek",), Standing(0, 1)),
 ]
 STANDINGS = {(family, command): it for family, commands, it in NOT_YET for command in commands}
+# The greatest exponent of n, from the smaller files to the larger ones.
 GROWTH = 1.1
+# The commands that read any file, and those that read an object.
 READING = ["check", "check --seek", "show", "lint --tables", "explain", "gaps"]
 OF_OBJECTS = [*READING, "rewrite", "map", "map --rules", "link", "lint --object"]
+
 # ---- the families
 
 
