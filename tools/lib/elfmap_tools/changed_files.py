@@ -32,6 +32,7 @@ def variants(file: bytes) -> Iterator[bytes]:
 
 
 def next_line(output: IO[bytes]) -> str:
+    """The next line of an output."""
     return output.readline().decode().strip()
 
 

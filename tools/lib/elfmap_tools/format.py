@@ -36,6 +36,7 @@ def imports(tree: ast.Module) -> Iterator[tuple[int, str]]:
 
 
 def names_in(node: ast.AST) -> set[str]:
+    """The names that are in a part of a module."""
     return {it.id for it in ast.walk(node) if isinstance(it, ast.Name)}
 
 
