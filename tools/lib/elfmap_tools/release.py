@@ -17,7 +17,7 @@ Debian 12 that has neither the kit nor anything of the repository. All parts of 
 by debootstrap, once, and kept in the cache; each run has a copy. Without root's rights, debootstrap or a mirror the tests in it are
 skipped by their names."""
 
-import functools, glob, gzip, os, re, shutil, sys, tempfile, zipfile, zlib
+import email.utils, functools, glob, gzip, os, re, shutil, sys, tempfile, zipfile, zlib
 from collections.abc import Iterator
 
 from . import doc, library, man, page
@@ -213,6 +213,13 @@ def put_help(root: str, tree: str, name: str) -> None:
         put(f"{root}/usr/share/{place}", text)
 
 
+def put_changelog(root: str, name: str, version: str) -> None:
+    """Puts the list of changes into a package, in the form that Debian asks for."""
+    text = f"{name} ({version}) unstable; urgency=medium\n\n  * CHANGELOG.md of elfmap-doc has what changed.\n\n"
+    text += f" -- {MAINTAINER}  {email.utils.formatdate(epoch())}\n"
+    put(f"{root}/usr/share/doc/{name}/changelog.gz", gzip.compress(text.encode(), mtime=0))
+
+
 def put_elfmap(root: str, tree: str, version: str) -> None:
     copied(f"{tree}/elfmap", f"{root}/usr/lib/elfmap/elfmap")
     copied(f"{tree}/rules", f"{root}/usr/share/elfmap/rules")
@@ -222,7 +229,7 @@ def put_elfmap(root: str, tree: str, version: str) -> None:
 
 def put_doc(root: str, tree: str, version: str) -> None:
     own = f"{root}/usr/share/doc/elfmap"
-    for it in "README.md docs doc elfmap.html examples rules bindings/python/README.md bindings/python/examples".split():
+    for it in "README.md CHANGELOG.md docs doc elfmap.html examples rules bindings/python/README.md bindings/python/examples".split():
         if os.path.exists(f"{tree}/{it}"):
             copied(f"{tree}/{it}", f"{own}/{it}")
     without_dead_links(own)
@@ -265,6 +272,8 @@ PACKAGES = {
     "libelfmap-dev": ("libelfmap0 (= {version})", "header and static library of libelfmap0", put_dev),
     "python3-elfmap": ("python3 (>= 3.9), libelfmap0 (= {version})", "elfmap for Python, and elfmap-lint for whole trees", put_python),
 }
+# `apt install` installs these too. The commands beside the program are in one of them.
+RECOMMENDED = {"elfmap": "python3-elfmap"}
 
 
 def settle(root: str) -> None:
@@ -281,9 +290,11 @@ def deb(name: str, tree: str, folder: str, version: str) -> None:
     with tempfile.TemporaryDirectory(prefix=f"{name}-") as room:
         root = f"{room}/root"
         fill(root, tree, version)
+        put_changelog(root, name, version)
         size = sum(map(os.path.getsize, files_below(root))) // 1024 + 1
         lines = {"Package": name, "Version": version, "Architecture": machine, "Maintainer": MAINTAINER, "Installed-Size": size}
         lines |= {"Depends": needs.format(**numbers)} if needs else {}
+        lines |= {"Recommends": RECOMMENDED[name]} if name in RECOMMENDED else {}
         lines |= {"Section": "devel", "Priority": "optional", "Description": f"{about}\n This is {level}"}
         lines |= {"Multi-Arch": "same"} if name == "libelfmap0" else {}
         put(f"{root}/DEBIAN/control", "".join(f"{key}: {value}\n" for key, value in lines.items()))
@@ -473,6 +484,12 @@ def inside(root: str, script: str) -> Texts:
     return said("unshare", "--mount", "--pid", "--fork", "sh", "-c", MOUNTED, "sh", root, script, env=AS_ROOT)
 
 
+def lintian_errors(folder: str) -> list[str]:
+    """What lintian calls an error in the packages of Debian, but for what nobody can fill in: there is no licence and no address yet."""
+    lines = said("lintian", "--allow-root", *sorted(glob.glob(f"{folder}/*.deb"))).stdout.splitlines()
+    return [it for it in lines if it.startswith("E: ") and not re.search(r": (no-copyright-file|bogus-mail-host[a-z-]*)\b", it)]
+
+
 def contents(folder: str) -> dict[str, bytes]:
     return {os.path.basename(it): read_bytes(it) for it in files_below(folder)}
 
@@ -493,6 +510,12 @@ def packages(tally: Tally, options: Options) -> None:
     is_whole = summed.returncode == 0 and names == set(read_text(f"{first}/SHA256SUMS").split()[1::2])
     tally.check(is_whole, f"SHA256SUMS, beside {names}: {summed.stdout}")
     tally.check(all(re.search(rf"[-_]{re.escape(version)}[-_.]", it) for it in names), f"not all have the version {version}: {names}")
+    recommended = said("dpkg-deb", "-f", f"{first}/elfmap_{version}_amd64.deb", "Recommends").stdout
+    tally.same("what the package of the program recommends", recommended, "python3-elfmap\n")
+    if shutil.which("lintian"):
+        tally.same("the errors of lintian", lintian_errors(first), [])
+    else:
+        tally.note("skipped: lintian is not installed")
     said("dpkg-deb", "-x", f"{first}/libelfmap0_{version}_amd64.deb", f"{room}/own")
     lines = said("nm", "-D", "--defined-only", f"{room}/own/{LIBRARIES}/libelfmap.so.0").stdout.splitlines()
     exported = sorted(name.partition("@")[0] for _, kind, name in map(str.split, lines) if kind != "A")
