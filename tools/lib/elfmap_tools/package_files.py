@@ -3,6 +3,7 @@
 Rust crate with the static library, and their SHA256SUMS. docs/MANUAL.md lists what each has. The
 same build makes the same bytes: every file has the time of the commit."""
 
+import email.utils
 import glob
 import gzip
 import os
@@ -48,7 +49,8 @@ py3clean -p python3-elfmap
 }
 # The files of a release that the manual has.
 OF_MANUAL = """
-README.md docs doc elfmap.html examples rules bindings/python/README.md bindings/python/examples
+README.md CHANGELOG.md docs doc elfmap.html examples rules
+bindings/python/README.md bindings/python/examples
 """.split()
 # What fills a package: of its folder, a release, and the version.
 Fill = Callable[[str, str, str], None]
@@ -69,6 +71,16 @@ def put_help(root: str, tree: str, name: str) -> None:
     put(f"{root}/usr/share/man/man1/{name}.1.gz", gzip.compress(page, mtime=0))
     for place, text in man.completions(name).items():
         put(f"{root}/usr/share/{place}", text)
+
+
+def put_changelog(root: str, name: str, version: str) -> None:
+    """Puts the list of changes into a package, in the form that Debian asks for."""
+    head = f"{name} ({version}) unstable; urgency=medium"
+    changes = "  * CHANGELOG.md of elfmap-doc has what changed."
+    end = f" -- {MAINTAINER}  {email.utils.formatdate(epoch())}"
+    text = f"{head}\n\n{changes}\n\n{end}\n"
+    path = f"{root}/usr/share/doc/{name}/changelog.gz"
+    put(path, gzip.compress(text.encode(), mtime=0))
 
 
 def put_elfmap(root: str, tree: str, version: str) -> None:
@@ -156,6 +168,10 @@ PACKAGES = {
 }
 
 
+# `apt install` installs these too. The commands beside the program are in one of them.
+RECOMMENDED = {"elfmap": "python3-elfmap"}
+
+
 def settle(root: str) -> None:
     """Gives a folder and each file below it plain permissions and the time of the commit."""
     wanted("chmod", "-R", PLAIN_MODE, root)
@@ -177,6 +193,8 @@ def control(name: str, machine: str, numbers: dict[str, str], size: int) -> str:
     }
     if package.needs:
         lines["Depends"] = package.needs.format(**numbers)
+    if name in RECOMMENDED:
+        lines["Recommends"] = RECOMMENDED[name]
     lines |= {"Section": "devel", "Priority": "optional"}
     lines["Description"] = f"{package.about}\n This is {level}"
     if name == "libelfmap0":
@@ -195,6 +213,7 @@ def deb(name: str, tree: str, folder: str, version: str) -> None:
     with tempfile.TemporaryDirectory(prefix=f"{name}-") as room:
         root = f"{room}/root"
         PACKAGES[name].fill(root, tree, version)
+        put_changelog(root, name, version)
         size = sum(map(os.path.getsize, files_below(root))) // 1024 + 1
         put(f"{root}/DEBIAN/control", control(name, machine, numbers, size))
         settle(root)

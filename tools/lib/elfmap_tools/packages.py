@@ -5,6 +5,7 @@ repository. All parts of the repository have the version of VERSION.
 The root is made by debootstrap, once, and kept in the cache; each run has a copy. Without root's
 rights, debootstrap or a mirror the tests in it are skipped by their names."""
 
+import glob
 import os
 import re
 import shutil
@@ -48,6 +49,9 @@ exec chroot "$1" sh -c "$2"
 """
 
 
+NOBODY_CAN_FILL_IN = re.compile(r": (no-copyright-file|bogus-mail-host[a-z-]*)\b")
+
+
 def make_root() -> str:
     """Makes the root where there is none: why that can't be done."""
     if os.path.isdir(ROOT):
@@ -70,6 +74,27 @@ def inside(root: str, script: str) -> Texts:
     """Runs a script in a root, with processes and mounts of its own."""
     own = ["unshare", "--mount", "--pid", "--fork"]
     return said(*own, "sh", "-c", MOUNTED, "sh", root, script, env=AS_ROOT)
+
+
+def lintian_errors(folder: str) -> list[str]:
+    """What lintian calls an error in the packages of Debian, but for what nobody can fill in: there
+    is no licence and no address yet."""
+    packages = sorted(glob.glob(f"{folder}/*.deb"))
+    errors = re.findall(r"^E: .*$", said("lintian", "--allow-root", *packages).stdout, re.M)
+    return [it for it in errors if not NOBODY_CAN_FILL_IN.search(it)]
+
+
+def compare_debian(tally: Tally, folder: str, version: str) -> None:
+    """The package of the program recommends that of the commands beside it, and lintian has nothing
+    against the packages, if it is installed."""
+    program = f"{folder}/elfmap_{version}_amd64.deb"
+    recommended = said("dpkg-deb", "-f", program, "Recommends").stdout
+    what = "what the package of the program recommends"
+    tally.same(what, recommended, "python3-elfmap\n")
+    if shutil.which("lintian"):
+        tally.same("the errors of lintian", lintian_errors(folder), [])
+    else:
+        tally.note("skipped: lintian is not installed")
 
 
 def contents(folder: str) -> dict[str, bytes]:
@@ -140,6 +165,7 @@ def try_packages(tally: Tally, options: Options) -> None:
     is_same = contents(first) == contents(second)
     tally.check(is_same, "the packages have other bytes the second time")
     compare_sums(tally, first, version)
+    compare_debian(tally, first, version)
     compare_exports(tally, first, version)
     steps = steps_of("packages.steps", V=version)
     root = f"{tally.folder}/root"
