@@ -1,7 +1,7 @@
-"""The tables of docs/DEFINITIONS.md, docs/RULES.md and docs/GUARANTEES.md, beside the sources.
+"""The tables of docs/generated/DEFINITIONS.md, docs/RULES.md and docs/GUARANTEES.md, beside the sources.
 
-`tools/release definitions`: brings docs/DEFINITIONS.md, the words that contracts name, up to the comments in crates/*/specs/. The page
-lists the words: a line "| `WORD`" in it becomes the word's row. A word that has no comment of its own keeps the sentence in its row.
+`tools/release definitions`: brings docs/generated/DEFINITIONS.md, the words that contracts name, up to the comments in crates/*/specs/.
+The page lists the words: a line "| `WORD`" in it becomes the word's row. A word that has no comment of its own keeps the sentence in its row.
 `tools/test definitions` fails where a word is in no file of specs/ or has no sentence, and where the page is not up to date.
 
 `tools/release tables`: the names of the rules of files, objects and links, as docs/RULES.md has them, for the faults of the crates: each
@@ -21,9 +21,9 @@ from .sources import Definition, Item, definition, definitions, imports, items_o
 from .suite import TESTS, Tally, Test
 from .tree import LIBRARIES_OF, TOP, Options, cells, read_text, write
 
-# ---- docs/DEFINITIONS.md
+# ---- docs/generated/DEFINITIONS.md
 
-DEFINITIONS = "docs/DEFINITIONS.md"
+DEFINITIONS = "docs/generated/DEFINITIONS.md"
 # A row: its word, and its sentence if it has one.
 ROW = re.compile(r"^\| `([^`]+)`(?: \| (.*?) \|)?.*$", re.M)
 
@@ -49,14 +49,14 @@ def word_row(own: re.Match[str]) -> str:
     found = known()[own[1]]
     said = found.comment.replace("|", r"\|") or own[2] or ""
     name = os.path.basename(found.path).removesuffix(".antt")
-    return f"| `{own[1]}` | {said} | {section_of(found)} | [`{found.path.split('/')[1]}` {name}](../{found.path}) |"
+    return f"| `{own[1]}` | {said} | {section_of(found)} | [`{found.path.split('/')[1]}` {name}](../../{found.path}) |"
 
 
 def write_definitions(options: Options) -> None:
     write(f"{TOP}/{DEFINITIONS}", ROW.sub(word_row, read_text(DEFINITIONS)))
 
 
-@Test("definitions", "docs/DEFINITIONS.md is what the comments of specs/ say")
+@Test("definitions", "docs/generated/DEFINITIONS.md is what the comments of specs/ say")
 def try_definitions(tally: Tally, options: Options) -> None:
     page = read_text(DEFINITIONS)
     for word, sentence in ROW.findall(page):

@@ -3,8 +3,8 @@
 `tools/test real-files` and `tools/test real-objects`: files of this machine. A part of them is tried, the same each time: those whose paths
 have the least sums.
 
-`tools/dev peers`: the tables of docs/PEERS.md, what other tools say of files that elfmap refuses. The page says how the files are made;
-which rule one breaks the reference implementation says. Tools that are not installed have no column.
+`tools/dev peers`: the tables of docs/generated/PEERS.md, what other tools say of files that elfmap refuses. The page says how the files
+are made; which rule one breaks the reference implementation says. Tools that are not installed have no column.
 
 `tools/dev shared-tails PROGRAM FILE..`: how much shorter string tables are whose names share their tails."""
 
@@ -185,7 +185,7 @@ def real_objects(tally: Tally, options: Options) -> None:
 
 # ---- what other tools say of files that elfmap refuses
 
-PAGE = "docs/PEERS.md"
+PAGE = "docs/generated/PEERS.md"
 # So many files break a rule; and so many bytes are changed, one at a time.
 FILES_A_RULE, CHANGES = 2, 30000
 # How cc makes the files that are changed: an object, one with groups and debug information, an executable, and a library with a hash table.

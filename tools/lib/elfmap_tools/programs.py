@@ -30,7 +30,7 @@ DEV: list[Command] = [
     ("doc", "print the page of the whole library, for a browser", doc.main, []),
     ("explain", "say in words why elfmap refused a file: elfmap-explain of the Python package", package_command, [OF_PACKAGE]),
     ("picture", "draw the bytes of a file: elfmap-picture of the Python package", package_command, [OF_PACKAGE]),
-    ("peers", "write the tables of docs/PEERS.md: what other tools say of files that elfmap refuses", peers.peers, []),
+    ("peers", "write the tables of docs/generated/PEERS.md: what other tools say of files that elfmap refuses", peers.peers, []),
     ("shared-tails", "print how much shorter string tables are whose names share tails", peers.shared_tails, OBJECTS),
     ("minutes", "print at its end the processor minutes of a process", measuring.print_minutes, [word("pid", "its number", type=int)]),
     ("told", "write the files that the tests of bindings/ try, and what they have to say", dump.main, [word("folder", "where to")]),
@@ -46,7 +46,7 @@ RELEASE: list[Command] = [
     ("page", "print the page for a browser", lambda _: print(page.page(), end=""), []),
     ("page-picture", "take a picture of the page with a file on it (docs/page.png)", page.picture, PICTURE),
     ("tables", "write the tables of the rules' names, from docs/RULES.md", doc_tables.write_tables, []),
-    ("definitions", "write docs/DEFINITIONS.md, from the comments in crates/*/specs/", doc_tables.write_definitions, []),
+    ("definitions", "write docs/generated/DEFINITIONS.md, from the comments in crates/*/specs/", doc_tables.write_definitions, []),
 ]
 # The modules that have tests, in the order in which these are begun.
 MODULES = [hostile, library, measuring, memory_faults, linked, suite, doc_tables, doc, cases, release, shown_commands, mutations]

@@ -6,9 +6,9 @@ the repository alone has. Commands within prose are not looked at. Skipped are t
 tool of another version than README.md names, or a file of the machine of another length.
 
 `tools/test pages`: how long the sentences of the pages are, those of each page (MEDIAN), but for what is generated or is all tables
-(TABLES), and all of them together (WORDS). Code, headings and the targets of links are no prose. A fenced block whose first line names a
-file quotes it: the file has to have these lines. README.md has its two commands in the first screen. A proof file of more than PROOF_LINES
-lines opens with a comment, its idea."""
+(TABLES), and all of them together (WORDS). Pages that tools write are in docs/generated/, and begin with who makes them. Code, headings
+and the targets of links are no prose. A fenced block whose first line names a file quotes it: the file has to have these lines. README.md
+has its two commands in the first screen. A proof file of more than PROOF_LINES lines opens with a comment, its idea."""
 
 import glob, os, re, shutil, statistics, sys
 from collections.abc import Iterator
@@ -21,8 +21,10 @@ from .tree import PROGRAM, TOP, Options, read_text, said, wanted, write
 MEDIAN, LONG_SENTENCE, WORDS = 18, 30, 30_000
 README_LINES, SCREEN, PROOF_LINES = 160, 30, 30
 COMMANDS = "    $ ./elfmap check ", "    $ rt ci"
-PATTERNS = ("README.md", "CONTRIBUTING.md", "CHANGELOG.md", "SECURITY.md", "docs/*.md", "bindings/*/README.md")
-TABLES = {"docs/DEFINITIONS.md", "docs/GUARANTEES.md"}
+PATTERNS = ("README.md", "CONTRIBUTING.md", "CHANGELOG.md", "SECURITY.md", "docs/*.md", "docs/generated/*.md", "bindings/*/README.md")
+TABLES = {"docs/generated/DEFINITIONS.md", "docs/GUARANTEES.md"}
+# How a page of docs/generated/ begins.
+GENERATED = re.compile(r"# .*\n\n`((?:tools|bench)/\w+)[^`]*`.* the tables of this page\. Do not edit them by hand[.:]")
 QUOTES = re.compile(r"^```\w+ (\S+)\n(.*?)^```", re.M | re.S)
 # A block of code, fenced or indented. That comes after an empty line or more code; other indented lines continue an item.
 CODE = re.compile(r"^(?P<fence> *)```.*\n(?P<fenced>(?:.*\n)*?) *```|(?:\A|(?<=\n))\n(?P<indented>(?:    .*\n|\n(?=    ))+)", re.M)
@@ -64,6 +66,8 @@ def pages(tally: Tally, options: Options) -> None:
         tally.note(f"{path}: {words} words, median {median:g}, {len(long)} sentences of more than {LONG_SENTENCE} words")
         for count, it in long:
             tally.note(f"{path}: {count} words: {it}")
+        made = GENERATED.match(text)
+        tally.check(path.startswith("docs/generated/") == bool(made), f"{path}: its first line says {made and made[0]!r} of who makes it")
         unknown = [it for it in re.findall(r"\btools/test ([a-z][\w-]*)", text) if it not in tests]
         tally.check(not unknown, f"{path} names tests that are not there: {unknown}")
         for file, lines in QUOTES.findall(text):
