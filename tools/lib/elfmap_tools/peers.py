@@ -257,7 +257,7 @@ def said_of(tool: str, content: bytes) -> str:
         except subprocess.TimeoutExpired:
             return "takes over a minute"
     if ran.returncode:
-        return "killed" if ran.returncode < 0 else "rejects"
+        return "killed" if ran.returncode < 0 else "refuses"
     return "warns" if ran.stderr.strip() or re.search(rb"\b(warning|error)\b", ran.stdout, re.I) else "silent"
 
 

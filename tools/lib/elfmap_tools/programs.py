@@ -28,12 +28,12 @@ DEV: list[Command] = [
     ("check", "prove a crate, or some functions of it, or a test, and print what is open", building.check, [CRATE, FUNCTION, TEST]),
     ("prove", "prove the libraries below a crate; build it if it is a program or library for C", lambda it: Build(it.crate).all(), [CRATE]),
     ("doc", "print the page of the whole library, for a browser", doc.main, []),
-    ("explain", "say in words why elfmap refused a file: elfmap-explain of the Python package", package_command, [OF_PACKAGE]),
+    ("explain", "explain in words why elfmap refuses a file: elfmap-explain of the Python package", package_command, [OF_PACKAGE]),
     ("picture", "draw the bytes of a file: elfmap-picture of the Python package", package_command, [OF_PACKAGE]),
     ("peers", "write the tables of docs/generated/PEERS.md: what other tools say of files that elfmap refuses", peers.peers, []),
     ("shared-tails", "print how much shorter string tables are whose names share tails", peers.shared_tails, OBJECTS),
     ("minutes", "print at its end the processor minutes of a process", measuring.print_minutes, [word("pid", "its number", type=int)]),
-    ("told", "write the files that the tests of bindings/ try, and what they have to say", dump.main, [word("folder", "where to")]),
+    ("told", "write the files that the tests of bindings/ read, and what they have to print", dump.main, [word("folder", "where to")]),
 ]
 VERSION, HERE = word("version", "the version", nargs="?", default=""), word("folder", "where to (here)", nargs="?", default=".")
 THERE = word("folder", "where to (crates/elf_c/out)", nargs="?", default=library.FOLDER)

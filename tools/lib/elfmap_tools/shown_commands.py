@@ -47,6 +47,17 @@ def all_pages() -> list[str]:
     return [it for pattern in PATTERNS for it in sorted(glob.glob(pattern, root_dir=TOP))]
 
 
+def decisions(tally: Tally) -> None:
+    """Each number of a decision is on one of the two pages. What a crate's decision is about is there."""
+    text = read_text("docs/INTERNALS.md")
+    numbers = [int(it) for it in re.findall(r"^- \((\d+)\) ", read_text("docs/DECISIONS.md") + text, re.M)]
+    tally.same("the numbers of decisions", sorted(numbers), [*range(1, len(numbers) + 1)])
+    for crate, part in re.findall(r"^## `(\w+)`.*\n((?:(?!## ).*\n)*)", text, re.M):
+        places = re.findall(r"`((?:src|specs|proofs)/[\w./]*)`", part)
+        gone = [it for it in [f"crates/{crate}", *(f"crates/{crate}/{it}" for it in places)] if not os.path.exists(f"{TOP}/{it}")]
+        tally.check(not gone, f"docs/INTERNALS.md names what is not there: {gone}")
+
+
 @Test("pages", "the sentences of the pages are short")
 def pages(tally: Tally, options: Options) -> None:
     first = read_text("README.md").splitlines()
@@ -56,6 +67,7 @@ def pages(tally: Tally, options: Options) -> None:
     proofs = sorted(glob.glob("crates/*/proofs/**/*.antt", root_dir=TOP, recursive=True))
     without_idea = [it for it in proofs if read_text(it).count("\n") > PROOF_LINES and not read_text(it).startswith("-- ")]
     tally.same("proof files that do not open with their idea", without_idea, [])
+    decisions(tally)
     tests, total = {"setup", *families(TESTS), *(it.name for it in TESTS)}, 0
     for path in all_pages():
         text = read_text(path)
