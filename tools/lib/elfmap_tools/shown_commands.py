@@ -22,7 +22,11 @@ MEDIAN, LONG_SENTENCE, WORDS = 18, 30, 30_000
 README_LINES, SCREEN, PROOF_LINES = 160, 30, 30
 COMMANDS = "    $ ./elfmap check ", "    $ rt ci"
 PATTERNS = ("README.md", "CONTRIBUTING.md", "CHANGELOG.md", "SECURITY.md", "docs/*.md", "docs/generated/*.md", "bindings/*/README.md")
-TABLES = {"docs/generated/DEFINITIONS.md", "docs/GUARANTEES.md"}
+DEFINITIONS = "docs/generated/DEFINITIONS.md"
+TABLES = {DEFINITIONS, "docs/GUARANTEES.md"}
+# Words for which the pages have others: refuse, return or print, after, again, what others made. Code may have them, and DEFINITIONS, which
+# has comments of the crates.
+UNUSUAL = re.compile(r"\b(?:reject\w*|told|tells?|behind|anew|strangers?)\b", re.I)
 # How a page of docs/generated/ begins.
 GENERATED = re.compile(r"# .*\n\n`((?:tools|bench)/\w+)[^`]*`.* the tables of this page\. Do not edit them by hand[.:]")
 QUOTES = re.compile(r"^```\w+ (\S+)\n(.*?)^```", re.M | re.S)
@@ -78,6 +82,8 @@ def pages(tally: Tally, options: Options) -> None:
         tally.note(f"{path}: {words} words, median {median:g}, {len(long)} sentences of more than {LONG_SENTENCE} words")
         for count, it in long:
             tally.note(f"{path}: {count} words: {it}")
+        unusual = UNUSUAL.findall(re.sub(r"`[^`]*`", "", CODE.sub("\n", text))) if path != DEFINITIONS else []
+        tally.check(not unusual, f"{path} has {sorted(unusual)}, for which the pages have other words")
         made = GENERATED.match(text)
         tally.check(path.startswith("docs/generated/") == bool(made), f"{path}: its first line says {made and made[0]!r} of who makes it")
         unknown = [it for it in re.findall(r"\btools/test ([a-z][\w-]*)", text) if it not in tests]
