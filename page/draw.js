@@ -264,10 +264,11 @@ function runs_of_parts() {
 
 // The ranges of the file that loadable segments put into memory, ascending and apart, each with the first segment that has it.
 function loaded_ranges(loads) {
+    const own = loads.filter((it) => it.p_filesz > 0);
     const ends = ({ p_offset, p_filesz }) => [Number(p_offset), Number(p_offset) + Number(p_filesz)];
-    const cuts = [...new Set(loads.flatMap(ends))].sort((a, b) => a - b);
+    const cuts = [...new Set(own.flatMap(ends))].sort((a, b) => a - b);
     const ranges = cuts.slice(1).map((end, k) => ({ start: cuts[k], end }));
-    const segment_of = ({ start, end }) => loads.find((it) => ends(it)[0] <= start && end <= ends(it)[1]);
+    const segment_of = ({ start, end }) => own.find((it) => ends(it)[0] <= start && end <= ends(it)[1]);
     return ranges.map((it) => ({ ...it, segment: segment_of(it) })).filter((it) => it.segment);
 }
 

@@ -323,7 +323,7 @@ def member_name(archive: bytes, key: tuple[bytes, int]) -> bytes:
 def _parser() -> argparse.ArgumentParser:
     parser = argparse.ArgumentParser(
         prog=PROGRAM,
-        description="Compares two objects, archives of objects, or trees: says that they are the same, or what differs, by name.",
+        description="Compares two objects, archives of objects, or directories, and prints what differs, by name.",
         epilog="Status: 0 the same, 1 different, 2 usage, 3 something can't be read or is refused.",
     )
     add = parser.add_argument

@@ -574,7 +574,9 @@ class InChromium(Browser):
         for path in ("/bin/true", write(f"{self.room}/nothing", b"")):
             self.value(WATCH_WORDS)
             self.drop(slow)
-            self.waits("/^Sound/.test(document.querySelector('#verdict').textContent)", "the first file is not shown")
+            # Its verdict is there, and its tables are not yet checked.
+            words = "/^Reading slow.o/.test(document.querySelector('#said').textContent)"
+            self.waits(f"{words} && !document.querySelector('#main').hidden", "the first file is not shown")
             self.value("window.said = []")
             self.drop(path)
             name = os.path.basename(path)
