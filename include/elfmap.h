@@ -179,9 +179,10 @@ struct elfmap_note {
 bool elfmap_verdict(const uint8_t *bytes, size_t len, struct elfmap_fault *fault);
 
 /*
- * The same in n log n for any file. The caller lends a buffer of `count` extents, which is overwritten. A file that breaks none of rules 1
- * to 32 needs three extents, and one for each section header. If there are fewer, the result is false, `fault->rule` is ELFMAP_SHORT_ROOM,
- * `fault->at` is how many are needed, and rule 33 is not tested. A file that breaks one of rules 1 to 32 needs no buffer.
+ * The result of elfmap_verdict, in n log n for any file. The caller lends a buffer of `count` extents, which is overwritten. A file that
+ * breaks none of rules 1 to 32 needs three extents, and one for each section header. If there are fewer, the result is false,
+ * `fault->rule` is ELFMAP_SHORT_ROOM, `fault->at` is how many are needed, and rule 33 is not tested. A file that breaks one of rules 1 to
+ * 32 needs no buffer.
  */
 bool elfmap_verdict_in(const uint8_t *bytes, size_t len, struct elfmap_extent *buffer, size_t count, struct elfmap_fault *fault);
 
@@ -310,8 +311,7 @@ bool elfmap_note_at(const struct elfmap_table *table, const uint8_t *bytes, size
 /*
  * Finds a symbol by its name of `name_len` bytes, without a closing zero, in the symbol table that a hash table links to. `symbol` is the
  * index of the first one with this name on the chain of the name's bucket. True exactly if a symbol from 1 on has the name. It takes the
- * time of the hash, and of one comparison for each symbol on the chain. Whatever the table holds, it looks at no more symbols than there
- * are.
+ * time of the hash, and of one comparison for each symbol on the chain. Whatever the table holds, it visits no more symbols than there are.
  */
 bool elfmap_find(const struct elfmap_table *table, const uint8_t *bytes, size_t len, const uint8_t *name, size_t name_len,
                  uint32_t *symbol);
@@ -345,7 +345,7 @@ bool elfmap_find(const struct elfmap_table *table, const uint8_t *bytes, size_t 
  */
 
 enum {
-    ELFMAP_DONE = 0,       /* nothing is rejected */
+    ELFMAP_DONE = 0,       /* nothing is refused */
     ELFMAP_REFUSED = 1,    /* file `file` breaks rule `rule`, lowest at the offset `at`, and no file before it breaks any */
     ELFMAP_NOT_LINKED = 2, /* the files do not link: rule `rule` of the link is broken, first at entry `at` of `index` of file `file` */
     ELFMAP_TOO_LONG = 3,   /* the output would be longer than 2^30 bytes, or have 0xffff segments or more */
@@ -380,9 +380,9 @@ uint32_t elfmap_show(const uint8_t *bytes, size_t len, uint8_t *buffer, size_t s
 /*
  * The lines `refused I RULE AT` of `elfmap show`: for each table that breaks a rule its section, the first rule broken, and the lowest
  * offset. A file whose tables break none has no line. Returns ELFMAP_DONE; or, without output, ELFMAP_REFUSED by a rule of images. The
- * memory that it takes does not grow with the entries of the tables, except of one section group or hash table at a time. Names of more
- * than 64 bytes of symbols in hash tables take memory too: a few bytes for each place where such a name begins. Such a name is read once for
- * each of these places.
+ * memory that it takes does not grow with the entries of the tables, except of one section group or hash table at a time. In hash
+ * tables, names of symbols of more than 64 bytes take memory too: a few bytes for each place where such a name begins. Such a name is
+ * read once for each of these places.
  */
 uint32_t elfmap_refused_tables(const uint8_t *bytes, size_t len, uint8_t *buffer, size_t size, struct elfmap_outcome *outcome);
 
@@ -417,7 +417,7 @@ uint32_t elfmap_link(const uint8_t *bytes, size_t len, const struct elfmap_exten
  * its own are used, and it needs no malloc.
  *
  * A file of many megabytes is shown in less time if malloc keeps its memory, in large pieces and on large pages; a link of a million names
- * took longer. With the GNU C library you set that before the first call by mallopt (M_MMAP_THRESHOLD and M_TRIM_THRESHOLD of 1 GiB and
+ * takes longer. With the GNU C library you set that before the first call by mallopt (M_MMAP_THRESHOLD and M_TRIM_THRESHOLD of 1 GiB and
  * more, M_TOP_PAD of 64 MiB), or in the environment by GLIBC_TUNABLES (glibc.malloc.mmap_threshold, trim_threshold, top_pad). Large pages
  * are set only there, by glibc.malloc.hugetlb=1.
  *

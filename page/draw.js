@@ -14,12 +14,17 @@ const COLOURS = {
     "relocations": "#8064a2", "other": "#8aa0a8", "several parts": "#b9c4c9",
     "gap": "repeating-linear-gradient(45deg, transparent 0 4px, #8888 4px 6px)",
 };
+// Over the colour of bytes that a segment loads and that no section has.
+const LOADED_ONLY = "repeating-linear-gradient(45deg, transparent 0 4px, #fff6 4px 6px)";
+const LEGEND = { ...COLOURS, "loaded, in no section": `${LOADED_ONLY}, ${COLOURS.code}` };
 const OWNERS = ["the ELF header", "the section header table", "the program header table"];
 const FIRST_SECTION = 3;
 const KIND_TITLES = { sections: "Sections", segments: "Segments", symbols: "Symbols", relocations: "Relocations", dynamic: "Dynamic", notes: "Notes" };
 
 const $ = (id) => document.getElementById(id);
-const state = { open: null, parts: [], range: [0, 0], part: null, kind: "sections", table: 0, row: 0, found: null, shown: -1, at: 0, marked: [0, 0], turn: 0 };
+// `turn` grows with each file. `is_drawn` is true from when all of a sound file is drawn until the next file comes.
+const state = { open: null, parts: [], loads: [], range: [0, 0], part: null, kind: "sections", table: 0, row: 0, found: null, shown: -1, at: 0,
+    marked: [0, 0], turn: 0, is_drawn: false };
 
 // ---- The worker
 
@@ -29,15 +34,17 @@ let asked = 0;
 
 worker.onmessage = ({ data }) => {
     if ("progress" in data) return void ($("progress").value = data.progress);
-    const { go_on, give_up } = waiting.get(data.id);
+    const { go_on, give_up, turn } = waiting.get(data.id);
     waiting.delete(data.id);
+    // What was asked about an earlier file is not answered: all that was to be drawn of that file ends here.
+    if (turn !== state.turn) return;
     "fault" in data ? give_up(new Error(data.fault)) : go_on(data.value);
 };
 worker.postMessage({ module: Uint8Array.from(atob(MODULE), (it) => it.charCodeAt(0)) });
 
 function ask(question, ...words) {
     return new Promise((go_on, give_up) => {
-        waiting.set(++asked, { go_on, give_up });
+        waiting.set(++asked, { go_on, give_up, turn: state.turn });
         worker.postMessage({ id: asked, ask: question, words });
     });
 }
@@ -66,12 +73,10 @@ function buttons_of(...wholes) {
 function whole_button({ start, len, whose = "this name" }) {
     const button = element("button", `Show all ${counted(len, "byte")} of ${whose}`, { type: "button", class: "more" });
     const box = element("div", "", { class: "whole", tabindex: "0", role: "group", "aria-label": "The whole name" });
-    const turn = state.turn;
     let at = start;
     button.onclick = async () => {
         button.disabled = true;
         const { text, next } = await ask("name", at, start + len);
-        if (turn !== state.turn) return;
         at = next;
         if (!box.isConnected) button.after(box);
         box.append(text);
@@ -86,45 +91,55 @@ function whole_button({ start, len, whose = "this name" }) {
 // ---- Opening
 
 async function open_file(file) {
-    const turn = ++state.turn;
-    $("main").hidden = true;
+    state.turn++;
+    forget_file();
     $("progress").hidden = false;
     $("progress").value = 0;
     say(`Reading ${file.name} …`);
     try {
-        const open = await ask("open", file);
-        if (turn !== state.turn) return;
-        state.open = open;
+        state.open = await ask("open", file);
         await show_file();
         say(`${file.name}: ${counted(file.size, "byte")}`);
         document.title = `${file.name} - elfmap`;
-        document.body.dataset.ready = String(turn);
+        document.body.dataset.ready = String(state.turn);
     } catch (fault) {
-        if (turn === state.turn) say(`${file.name || "This"} can't be read: it may be a folder, or have changed, or be gone. (${fault.message})`);
-    } finally {
-        if (turn === state.turn) $("progress").hidden = true;
+        say(`${file.name || "This"} can't be read: it may be a folder, or have changed, or be gone. (${fault.message})`);
     }
+    $("progress").hidden = true;
+}
+
+// Nothing of the page is about the file before: neither what is drawn, nor what was typed, nor the name in the chooser.
+function forget_file() {
+    Object.assign(state, { open: null, is_drawn: false, parts: [], loads: [], part: null, kind: "", table: 0 });
+    $("main").hidden = true;
+    document.title = "elfmap";
+    for (const id of ["memory-words", "bytes-words", "table-words"]) $(id).textContent = "";
+    $("offset").value = "";
+    clear_filter();
+    show_part_name();
 }
 
 async function show_file() {
-    const { fault, parts } = state.open;
+    const { fault, parts, file } = state.open;
     $("main").hidden = false;
     show_verdict();
     for (const id of ["map-section", "tables-section"]) $(id).hidden = fault !== null;
     const { start, length } = fault ? field_at(fault.at) : { start: 0, length: 0 };
     if (!fault) {
-        state.parts = parts ? await ask("parts", 0, parts) : [];
-        state.part = null;
-        show_part_name();
-        clear_filter();
+        state.loads = await loadable_segments();
+        state.parts = parts ? with_segments(await ask("parts", 0, parts), loaded_ranges(state.loads)) : [];
         await zoom(0, state.open.length);
-        await show_memory();
+        show_memory();
         show_tabs();
-        await open_table("sections", 0, 0);
+        $("tables-section").hidden = file.sections + file.segments === 0;
+        await open_table(file.sections ? "sections" : "segments", 0, 0);
     }
     await show_bytes(start - start % 16, [start, start + length]);
     if (!fault) await ask("findings").then(show_findings, ({ message }) => { $("findings-words").textContent = `The tables are not checked: ${message}.`; });
     document.body.dataset.took = state.open.took.toFixed(1);
+    state.is_drawn = !fault;
+    // The window may have changed meanwhile.
+    if (state.is_drawn && $("map").clientWidth !== state.width) await redraw_bars();
 }
 
 // ---- The verdict
@@ -167,9 +182,8 @@ async function show_findings(count) {
 
 async function more_findings() {
     const drawn = $("findings").children.length;
-    const turn = state.turn;
     const rows = await ask("finding_rows", drawn, FINDINGS_A_TIME);
-    if (turn !== state.turn || drawn !== $("findings").children.length) return;
+    if (drawn !== $("findings").children.length) return;
     $("findings").append(...rows.map(finding));
     $("findings-on").hidden = drawn + rows.length >= state.findings;
     $("findings-on").textContent = `Show more of the ${counted(state.findings, "table")}`;
@@ -210,13 +224,14 @@ function field_at(offset) {
 
 async function zoom(from, to) {
     state.range = [from, Math.max(to, from + 1)];
+    state.width = $("map").clientWidth;
     const runs = runs_of_parts();
     const owners = [...new Set(runs.filter((it) => it.count === 1).map((it) => it.part.owner).filter((it) => it >= FIRST_SECTION))];
     const sections = new Map();
     for (const owner of owners) sections.set(owner, (await ask("sections", owner - FIRST_SECTION, 1))[0]);
     draw_bar("map", runs.map((run) => map_button(run, sections)));
     $("map-scale").replaceChildren(element("span", hex(state.range[0])), element("span", hex(state.range[1])));
-    $("legend").replaceChildren(...Object.entries(COLOURS).map(([words, colour]) => element("li", null, {}, coloured(colour), words)));
+    $("legend").replaceChildren(...Object.entries(LEGEND).map(([words, colour]) => element("li", null, {}, coloured(colour), words)));
     show_part_words();
     for (const [id, is_whole] of [["zoom-out", true], ["zoom-whole", true], ["zoom-in", false]]) {
         $(id).disabled = is_whole ? from === 0 && to >= state.open.length : !state.part;
@@ -232,7 +247,7 @@ function coloured(colour) {
 // The parts of the range, those too short to be seen in runs, each with its place in points.
 function runs_of_parts() {
     const [from, to] = state.range;
-    const scale = ($("map").clientWidth || 300) / (to - from);
+    const scale = (state.width || 300) / (to - from);
     const runs = [];
     for (const [index, part] of state.parts.entries()) {
         if (part.start + part.len <= from || part.start >= to) continue;
@@ -247,6 +262,41 @@ function runs_of_parts() {
     return runs;
 }
 
+// The ranges of the file that loadable segments put into memory, ascending and apart, each with the first segment that has it.
+function loaded_ranges(loads) {
+    const own = loads.filter((it) => it.p_filesz > 0);
+    const ends = ({ p_offset, p_filesz }) => [Number(p_offset), Number(p_offset) + Number(p_filesz)];
+    const cuts = [...new Set(own.flatMap(ends))].sort((a, b) => a - b);
+    const ranges = cuts.slice(1).map((end, k) => ({ start: cuts[k], end }));
+    const segment_of = ({ start, end }) => own.find((it) => ends(it)[0] <= start && end <= ends(it)[1]);
+    return ranges.map((it) => ({ ...it, segment: segment_of(it) })).filter((it) => it.segment);
+}
+
+// The parts, each gap cut where a range of a loadable segment begins or ends: its bytes are in no section, but they are loaded.
+function with_segments(parts, ranges) {
+    let next = 0;
+    return parts.flatMap((part) => {
+        if (part.owner !== null) return [part];
+        const [pieces, end] = [[], part.start + part.len];
+        let at = part.start;
+        const piece = (to, segment) => {
+            if (at < to) pieces.push({ ...part, start: at, len: to - at, segment });
+            at = Math.max(at, to);
+        };
+        while (next < ranges.length && ranges[next].end <= at) next++;
+        for (let k = next; k < ranges.length && ranges[k].start < end; k++) {
+            piece(ranges[k].start);
+            piece(Math.min(ranges[k].end, end), ranges[k].segment);
+        }
+        piece(end);
+        return pieces;
+    });
+}
+
+function kind_of_segment({ p_flags }) {
+    return p_flags & 1 ? "code" : p_flags & 2 ? "data" : "constants";
+}
+
 function kind_of_part(owner, section) {
     if (owner === null) return "gap";
     if (owner < FIRST_SECTION) return "header and tables";
@@ -257,15 +307,20 @@ function kind_of_part(owner, section) {
     return flags & 4n ? "code" : flags & 1n ? "data" : flags & 2n ? "constants" : "other";
 }
 
-function owner_words(owner, section) {
+function colour_of_part({ owner, segment }, section) {
+    return segment ? `${LOADED_ONLY}, ${COLOURS[kind_of_segment(segment)]}` : COLOURS[kind_of_part(owner, section)];
+}
+
+function owner_words({ owner, segment }, section) {
+    if (segment) return `segment ${segment.index}, ${segment_flags(segment.p_flags)}, in no section`;
     if (owner === null) return "a gap: no record says whose these bytes are";
     return OWNERS[owner] ?? `section ${owner - FIRST_SECTION} ${section.name || "(no name)"}`;
 }
 
 function map_button(run, sections) {
     const section = sections.get(run.part.owner);
-    const words = run.count > 1 ? `${run.count.toLocaleString("en")} parts` : owner_words(run.part.owner, section);
-    const colour = COLOURS[run.count > 1 ? "several parts" : kind_of_part(run.part.owner, section)];
+    const words = run.count > 1 ? `${run.count.toLocaleString("en")} parts` : owner_words(run.part, section);
+    const colour = run.count > 1 ? COLOURS["several parts"] : colour_of_part(run.part, section);
     const told = `${words}: ${counted(run.end - run.start, "byte")} from ${hex(run.start)}`;
     const whole = run.count > 1 ? null : section?.whole;
     const go = run.count > 1 ? () => zoom(run.start, run.end) : () => choose_part(run.part, told, whole);
@@ -307,7 +362,7 @@ async function choose_part(part, told, whole) {
 }
 
 function show_part_words() {
-    $("map-words").textContent = state.part?.told ?? `${counted(state.parts.length, "part")}. Choose one to see its bytes.`;
+    $("map-words").textContent = state.part?.told ?? `${counted(state.open.parts, "part")}. Choose one to see its bytes.`;
 }
 
 // The buttons are beside the words, which change with what the mouse is over and are read aloud.
@@ -325,10 +380,14 @@ function zoom_out() {
 
 // ---- The bar by address
 
-async function show_memory() {
+async function loadable_segments() {
     const { header, file } = state.open;
     const segments = header.e_type > 1 ? await ask("segments", 0, Math.min(file.segments, 1000)) : [];
-    const loads = segments.filter((it) => it.p_type === 1 && it.p_memsz > 0);
+    return segments.filter((it) => it.p_type === 1 && it.p_memsz > 0);
+}
+
+function show_memory() {
+    const { loads } = state;
     $("memory-section").hidden = !loads.length;
     if (!loads.length) return;
     const [low, high] = [Math.min(...loads.map((it) => Number(it.p_vaddr))), Math.max(...loads.map((it) => Number(it.p_vaddr) + Number(it.p_memsz)))];
@@ -337,7 +396,7 @@ async function show_memory() {
         const left = (Number(it.p_vaddr) - low) * scale;
         const told = `segment ${it.index}, ${segment_flags(it.p_flags)}: ${counted(it.p_memsz, "byte")} from address ${hex(it.p_vaddr)}, ` +
             `${counted(it.p_filesz, "byte")} of them from offset ${hex(it.p_offset)} of the file`;
-        const colour = COLOURS[it.p_flags & 1 ? "code" : it.p_flags & 2 ? "data" : "constants"];
+        const colour = COLOURS[kind_of_segment(it)];
         const go = () => show_range(it.p_offset, it.p_filesz);
         return bar_button({ left, right: left + Number(it.p_memsz) * scale }, colour, told, go, "memory-words");
     }));
@@ -395,14 +454,12 @@ function show_choice(kind, section) {
 }
 
 async function show_rows(table) {
-    const { kind, found, turn } = state;
+    const { kind, found } = state;
     const count = found ? found.length : table.entries;
     const end = Math.min(state.row + ROWS_A_TIME, count);
     const rows = found
         ? (await Promise.all(found.slice(state.row, end).map((it) => ask(kind, it, 1, state.table)))).flat()
         : await ask(kind, state.row, end - state.row, state.table);
-    // Rows of a file after which another one was opened would have links into that one.
-    if (turn !== state.turn) return;
     $("table").tHead.replaceChildren(element("tr", null, {}, ...["index", ...COLUMNS[kind].map(([title]) => title)].map((it) => element("th", it, { scope: "col" }))));
     $("table").tBodies[0].replaceChildren(...rows.map((row) => table_row(kind, row)));
     const all = table.entries.toLocaleString("en");
@@ -442,13 +499,12 @@ function clear_filter() {
 
 async function filter_rows() {
     const text = $("filter").value;
-    const { turn } = state;
     const table = tables_of(state.kind).find((it) => it.section === state.table);
     if (text) {
         $("progress").hidden = false;
         const found = await ask("search", state.kind, state.table, table.entries, text);
-        // Meanwhile another file may have been opened, or the text changed, as it does when another table is chosen.
-        if (found === null || turn !== state.turn || text !== $("filter").value) return;
+        // Meanwhile the text may have changed, as it does when another table is chosen.
+        if (found === null || text !== $("filter").value) return;
         $("progress").hidden = true;
         state.found = found;
     } else {
@@ -527,10 +583,16 @@ $("offset").onkeydown = (event) => void (event.key === "Enter" && go_to_offset()
 $("bytes-back").onclick = () => show_bytes(state.at - line_length() * LINES_A_TIME, state.marked);
 $("bytes-on").onclick = () => show_bytes(state.at + line_length() * LINES_A_TIME, state.marked);
 
+async function redraw_bars() {
+    await zoom(...state.range);
+    show_memory();
+}
+
+// While a file is read there is nothing to draw: what is drawn at its end has the width that the window has then.
 let resizing;
 window.onresize = () => {
     clearTimeout(resizing);
-    resizing = setTimeout(() => state.open && !state.open.fault && zoom(...state.range).then(show_memory), 200);
+    resizing = setTimeout(() => state.is_drawn && redraw_bars(), 200);
 };
 
 document.ondragover = (event) => {
@@ -545,5 +607,7 @@ document.ondrop = (event) => {
     if (item?.webkitGetAsEntry?.()?.isDirectory) return say("This is a folder: drop one file of it.");
     const [file, ...more] = event.dataTransfer.files;
     if (!file) return say("This is no file: drop one from a folder.");
+    // The chooser names another file.
+    $("chosen").value = "";
     open_file(file).then(() => more.length && say(`${$("said").textContent}. Of several files the first one is shown.`));
 };

@@ -63,7 +63,10 @@ async function open(file) {
     const own = ++turn;
     const length = Math.min(file.size, MOST_BYTES + 1);
     reader = null;
-    const made = new Reader(await WebAssembly.instantiate(await module), LAYOUT, length);
+    const instance = await WebAssembly.instantiate(await module);
+    // Also of an empty file, which is read in no piece.
+    if (own !== turn) throw new Error("another file was opened");
+    const made = new Reader(instance, LAYOUT, length);
     for (let at = 0; at < length; at += PIECE) {
         const piece = await file.slice(at, Math.min(at + PIECE, length)).arrayBuffer();
         if (own !== turn) throw new Error("another file was opened");

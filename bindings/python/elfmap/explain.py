@@ -1,4 +1,4 @@
-"""elfmap-explain: why elfmap rejects a file, in words.
+"""elfmap-explain: why elfmap refuses a file, in words.
 
     elfmap-explain FILE... < LINES     what elfmap printed of these files
     elfmap-explain LINE FILE...        one such line, as words
@@ -195,7 +195,7 @@ class Explainer:
         return "\n".join(self._filled.fill(it) for it in (lead, *found)) + "\n"
 
     def refusals(self) -> Iterator[bytes]:
-        """Why the given files are rejected, their tables, and what is no object, in the lines of the program."""
+        """Why the given files are refused, their tables, and what is no object, in the lines of the program."""
         checks = {it: Checks(tables=True, objects=it) for it in (False, True)}
         for position, file in enumerate(self._named):
             source = file.words.data
@@ -348,7 +348,7 @@ def records(end: bytes) -> Iterator[bytes]:
 def _parser() -> argparse.ArgumentParser:
     parser = argparse.ArgumentParser(
         prog=PROGRAM,
-        description="Says in words why elfmap rejects a file. Lines come from standard input: what elfmap printed of FILE..., "
+        description="Explains in words why elfmap refuses a file. Lines come from standard input: what elfmap printed of FILE..., "
         "or findings of elfmap-lint (text or jsonl), which name their files. If no line is a refusal, each FILE is checked here.",
         epilog="Status: 0 explained, 2 usage, 3 a file can't be read.",
     )

@@ -5,7 +5,7 @@
 A gap is a run of bytes that is in no header, no table and no section. Each line has its
 length, its file and place, the parts before and after it, and whether it has bytes that are
 not zero. The longest gap comes first. The status is 0, 2 for a usage error, and 3 if a file
-can't be read or is rejected. The other files are read all the same.
+can't be read or is refused. The other files are read all the same.
 """
 
 from __future__ import annotations
@@ -92,7 +92,7 @@ def _parser() -> argparse.ArgumentParser:
     parser = argparse.ArgumentParser(
         prog=PROGRAM,
         description="Lists the longest gaps of ELF-64 files: bytes that are in no header, no table and no section.",
-        epilog="Status: 0 done, 2 usage, 3 something can't be read or is rejected.",
+        epilog="Status: 0 done, 2 usage, 3 something can't be read or is refused.",
     )
     add = parser.add_argument
     add("--version", action="version", version=f"%(prog)s {__version__}")

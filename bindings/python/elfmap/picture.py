@@ -117,7 +117,7 @@ def read(lines: list[str]) -> tuple[list[Part], str]:
     """The parts of the file, and the head of the picture."""
     rows = [it.split() for it in lines if it]
     if rows and rows[0][0] == "refused":
-        raise NoLines(f"elfmap rejects it: {' '.join(rows[0])}; elfmap-explain says why")
+        raise NoLines(f"elfmap refuses it: {' '.join(rows[0])}; elfmap-explain says why")
     if not rows or rows[0][0] != "file":
         raise NoLines(f"these are no lines of `elfmap show`: {' '.join(rows[0])[:80] if rows else 'none'}")
     sections = {int(it[1]): content(it) for it in rows if it[0] == "section"}
@@ -262,7 +262,7 @@ def _parser() -> argparse.ArgumentParser:
     parser = argparse.ArgumentParser(
         prog=PROGRAM,
         description="Writes a picture of the bytes of an ELF-64 file, as SVG, to standard output.",
-        epilog="Status: 0 drawn, 1 elfmap rejects the file, 2 usage, 3 it can't be read.",
+        epilog="Status: 0 drawn, 1 elfmap refuses the file, 2 usage, 3 it can't be read.",
     )
     parser.add_argument("--version", action="version", version=f"%(prog)s {__version__}")
     parser.add_argument("file", metavar="FILE", help="the file, or - for the lines of `elfmap show` on standard input")

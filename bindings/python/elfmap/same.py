@@ -6,7 +6,7 @@ Two files are the same object if `elfmap rewrite` writes the same bytes for both
 libraries are the same if their bytes are. Each difference is a line with the name of what
 differs: the section and the first offset in it, the symbol, or the relocation. The status is
 0 if A and B are the same, 1 if they differ, 2 for a usage error, and 3 if something can't be
-read, or is rejected. The rest is compared all the same.
+read, or is refused. The rest is compared all the same.
 """
 
 from __future__ import annotations
@@ -184,7 +184,7 @@ class Run:
         self._differ(name, compared(self._sides, one, other))
 
     def _canonical(self, it: Content, is_image: bool) -> Optional[elfmap.Bytes]:
-        """The bytes to compare; none where the file is rejected, which is said."""
+        """The bytes to compare; none where the file is refused, which is printed."""
         content = whole_content(it.source)
         try:
             if not is_image:
@@ -323,8 +323,8 @@ def member_name(archive: bytes, key: tuple[bytes, int]) -> bytes:
 def _parser() -> argparse.ArgumentParser:
     parser = argparse.ArgumentParser(
         prog=PROGRAM,
-        description="Compares two objects, archives of objects, or trees: says that they are the same, or what differs, by name.",
-        epilog="Status: 0 the same, 1 different, 2 usage, 3 something can't be read or is rejected.",
+        description="Compares two objects, archives of objects, or directories, and prints what differs, by name.",
+        epilog="Status: 0 the same, 1 different, 2 usage, 3 something can't be read or is refused.",
     )
     add = parser.add_argument
     add("--version", action="version", version=f"%(prog)s {__version__}")

@@ -133,7 +133,7 @@ class Case(FolderCase):
             status, texts, said = self.draw("bad.o", **program)
             self.assertEqual((status, texts), (1, []))
             self.assertTrue(said.startswith("elfmap-picture: bad.o: "), said)
-        self.assertIn("elfmap rejects it: refused 33 114; elfmap-explain says why", self.draw("bad.o")[2])
+        self.assertIn("elfmap refuses it: refused 33 114; elfmap-explain says why", self.draw("bad.o")[2])
 
     def test_what_are_no_lines(self):
         for lines in (b"", b"\n", b"file\n", b"file little 1\n", b"\xff\n", HEADER.encode() + b"part 0x0 zz content 9\n", b"x" * 100_000):

@@ -1,12 +1,13 @@
-"""`tools/test definitions`: docs/DEFINITIONS.md is what the comments of specs/ say. It fails where
-a word is in no file of specs/ or has no sentence, and where the page is not up to date."""
+"""`tools/test definitions`: docs/generated/DEFINITIONS.md is what the comments of specs/ say. It
+fails where a word is in no file of specs/ or has no sentence, and where the page is not up to
+date."""
 
 from .definitions_page import DEFINITIONS, ROW, known, whole
 from .suite import Tally, Test
 from .tree import Options, read_text
 
 
-@Test("definitions", "docs/DEFINITIONS.md is what the comments of specs/ say")
+@Test("definitions", "docs/generated/DEFINITIONS.md is what the comments of specs/ say")
 def try_definitions(tally: Tally, options: Options) -> None:
     page = read_text(DEFINITIONS)
     for word, sentence in ROW.findall(page):

@@ -1,4 +1,5 @@
-"""docs/DEFINITIONS.md, the words that contracts name, beside the comments in crates/*/specs/.
+"""docs/generated/DEFINITIONS.md, the words that contracts name, beside the comments in
+crates/*/specs/.
 
 `tools/release definitions` brings the page up to the comments. The page lists the words: a line "|
 `WORD`" in it becomes the word's row. A word that has no comment of its own keeps the sentence in
@@ -12,7 +13,7 @@ import re
 from .sources import Definition, definitions
 from .tree import TOP, Options, read_text, write
 
-DEFINITIONS = "docs/DEFINITIONS.md"
+DEFINITIONS = "docs/generated/DEFINITIONS.md"
 # A row: its word, and its sentence if it has one.
 ROW = re.compile(r"^\| `([^`]+)`(?: \| (.*?) \|)?.*$", re.M)
 
@@ -45,7 +46,7 @@ def word_row(own: re.Match[str]) -> str:
     said = found.comment.replace("|", r"\|") or own[2] or ""
     crate = found.path.split("/")[1]
     name = os.path.basename(found.path).removesuffix(".antt")
-    place = f"[`{crate}` {name}](../{found.path})"
+    place = f"[`{crate}` {name}](../../{found.path})"
     return f"| `{own[1]}` | {said} | {section_of(found)} | {place} |"
 
 

@@ -116,14 +116,15 @@ def linked(text: str, place: Callable[[str], Place]) -> str:
 
 
 def said_of(found: Definition) -> str:
-    """What is said of a definition: the comment above it, or else its line in docs/DEFINITIONS.md
-    or docs/RULES.md."""
+    """What is said of a definition: the comment above it, or else its line in
+    docs/generated/DEFINITIONS.md or docs/RULES.md."""
     return found.comment or table_words().get(found.name, "")
 
 
 @functools.cache
 def table_words() -> dict[str, str]:
-    """The sentence for each word of the tables of docs/RULES.md and docs/DEFINITIONS.md."""
+    """The sentence for each word of the tables of docs/RULES.md and
+    docs/generated/DEFINITIONS.md."""
     rules = {it.definition: f"rule {it.number}: {it.words}" for it in by_anchor().values()}
     return rules | dict(ROW.findall(read_text(DEFINITIONS)))
 

@@ -11,17 +11,25 @@ has, and wasm-opt (of binaryen) lowers it to one of 32-bit addresses.
   groups.
 - In chromium, by Selenium: what a person sees of sound and refused files, with a mouse, by keys
   alone, and by a reader of the screen. Files of 1 MB whose names have half a MB each, and files of
-  which very much is to be said, do not hold it up."""
+  which very much is to be said, do not hold it up. Files come while others are read, and the window
+  changes. Each way in which a script could send something fails. The picture in the manual is of
+  this page."""
 
 import base64
 import contextlib
 import ctypes
+import hashlib
+import http.server
 import json
 import os
 import random
+import re
 import shutil
+import struct
 import tempfile
+import threading
 import time
+import zlib
 from collections.abc import Callable, Iterator
 from functools import partial
 from itertools import accumulate
@@ -105,6 +113,28 @@ def constants(**values: object) -> str:
     return lines
 
 
+def sum_of(text: str) -> str:
+    """The sum by which a policy allows a text."""
+    digest = hashlib.sha256(text.encode()).digest()
+    return f"'sha256-{base64.b64encode(digest).decode()}'"
+
+
+def policy(script: str, style: str) -> str:
+    """The Content-Security-Policy of the page: nothing is loaded but these two texts, the worker
+    and the icon that are in the page, and nothing is sent. A worker of a blob has the policy of its
+    page. Without 'wasm-unsafe-eval' it could not compile the module."""
+    allowed = {
+        "default-src": "'none'",
+        "script-src": f"{sum_of(script)} 'wasm-unsafe-eval'",
+        "style-src": sum_of(style),
+        "worker-src": "blob:",
+        "img-src": "data:",
+        "base-uri": "'none'",
+        "form-action": "'none'",
+    }
+    return "; ".join(f"{directive} {sources}" for directive, sources in allowed.items())
+
+
 def page() -> str:
     """The page."""
     code = base64.b64encode(read_bytes(module())).decode("ascii")
@@ -127,8 +157,13 @@ def page() -> str:
     script = common + constants(RULES=rules, MODULE=code) + read_text("page/draw.js")
     if "</script" in worker + script:
         raise SystemExit("page: a script ends its own element")
+    style = read_text("page/style.css")
     return filled(
-        read_text("page/page.html"), STYLE=read_text("page/style.css"), WORKER=worker, SCRIPT=script
+        read_text("page/page.html"),
+        POLICY=policy(script, style),
+        STYLE=style,
+        WORKER=worker,
+        SCRIPT=script,
     )
 
 
@@ -142,7 +177,27 @@ def picture(options: Options) -> None:
             if not browser.wait("document.body.dataset.ready"):
                 why = f"{options.file} is not shown: {browser.text('#said')}"
                 raise SystemExit(f"page-picture: {why}")
-            write(options.picture, browser.screen(1000, 760))
+            screen = browser.screen(*PICTURE_SIZE)
+            write(options.picture, with_text(screen, "Description", sum_of_page(browser)))
+
+
+PICTURE_SIZE = (1000, 760)
+PICTURE = "docs/page.png"
+
+
+def sum_of_page(browser: "Browser") -> str:
+    """A sum of what the page says, and of its style: the picture of another page has another one,
+    on whatever machine it is taken."""
+    text = read_text("page/style.css") + browser.value("document.body.innerText")
+    return hashlib.sha256(text.encode()).hexdigest()
+
+
+def with_text(png: bytes, keyword: str, text: str) -> bytes:
+    """A PNG file with a text in it, in a chunk after its first one, the header."""
+    body = b"tEXt" + f"{keyword}\0{text}".encode("ascii")
+    chunk = struct.pack(">I", len(body) - 4) + body + struct.pack(">I", zlib.crc32(body))
+    end = 8 + 12 + 13
+    return png[:end] + chunk + png[end:]
 
 
 class Browser:
@@ -176,8 +231,14 @@ class Browser:
         return self.driver.execute_cdp_cmd(method, words)
 
     def value(self, expression: str) -> Any:
-        """What an expression is in the page."""
-        return self.driver.execute_script("return eval(arguments[0])", expression)
+        """What an expression, or the last of some statements, is in the page, whose policy forbids
+        `eval`."""
+        words = {"expression": f"{{ {expression} }}", "returnByValue": True, "awaitPromise": True}
+        ended = self.call("Runtime.evaluate", **words)
+        if fault := ended.get("exceptionDetails"):
+            thrown = fault.get("exception", fault)
+            raise RuntimeError(f"{expression}: {thrown.get('description', fault)}")
+        return ended["result"].get("value")
 
     def wait(self, expression: str) -> bool:
         """Waits for a minute until an expression is true: whether it is."""
@@ -231,7 +292,7 @@ MACHINE_FILES += [
 ]
 LONGEST = 1 << 17
 ABOUT = "the page for a browser, in node beside `elfmap show`, and in chromium"
-TOOLS = f"node wasm-opt chromium chromedriver {SELENIUM} cc"
+TOOLS = f"node wasm-opt chromium chromedriver {SELENIUM} cc gcc"
 
 
 def files_for_node(room: str, count: int) -> list[str]:
@@ -270,6 +331,7 @@ def in_node(tally: Tally, room: str, count: int) -> None:
 
 SYMBOLS = 1_000_000
 MOST_MILLISECONDS = 200
+LOAD = 1
 GNU_STACK = 0x6474E551
 # So many characters of a name are shown, and so many of a file. Nothing holds the page up for so
 # long: a worker does the work. And what is pressed is done after so many seconds.
@@ -327,6 +389,118 @@ int answer(int x) { return x < limit ? work(x) : 42; }
 TO_FIRST_BYTES = (
     "document.querySelector('#offset').value = '0'; document.querySelector('#go').click()"
 )
+
+
+# A header of no sections and no segments; a file that begins with it, and is read for longer than
+# the page waits before it draws anew in a window of another size; and a file of which the page has
+# the verdict at once, and the findings of tables much later.
+HEADER_ALONE = generated.File().bytes()[:64]
+HEADER_ALONE = HEADER_ALONE[:40] + bytes(8) + HEADER_ALONE[48:60] + bytes(4)
+LARGE = 1 << 29
+# A part of the map: what has it, its length and its offset.
+PART = re.compile(r"(.*): ([\d,]+) bytes? from (0x[0-9a-f]+)")
+# What the page says, as it says it.
+WATCH_WORDS = """window.said = [];
+window.watch ??= new MutationObserver(() => {
+    window.said.push(document.querySelector('#said').textContent, document.title);
+});
+window.watch.observe(document.querySelector('#said'), { childList: true })"""
+# Puts an element into the page.
+APPEND = (
+    "document.{place}.append(Object.assign(document.createElement('{kind}'), {{{{ {fields} }}}}))"
+)
+STYLE_SHEET = "rel: 'stylesheet', href: '{address}'"
+# The ways in which a script can send something to an address.
+SENDING = {
+    "fetch": "fetch('{address}', {{ mode: 'no-cors' }}).catch(() => null)",
+    "request": (
+        "(it => {{ it.onerror = () => null; it.open('GET', '{address}'); it.send(); }})"
+        "(new XMLHttpRequest())"
+    ),
+    "beacon": "navigator.sendBeacon('{address}', 'words')",
+    "picture": "new Image().src = '{address}'",
+    "socket": "new WebSocket('{address}'.replace('http', 'ws'))",
+    "events": "new EventSource('{address}').close",
+    "script": APPEND.format(place="head", kind="script", fields="src: '{address}'"),
+    "style": APPEND.format(place="head", kind="link", fields=STYLE_SHEET),
+    "frame": APPEND.format(place="body", kind="iframe", fields="src: '{address}'"),
+    "form": (
+        "(it => {{ document.body.append(it); it.submit(); }})"
+        "(Object.assign(document.createElement('form'), {{ action: '{address}' }}))"
+    ),
+}
+IN_WORKER = "new Worker(URL.createObjectURL(new Blob([`{script}`])))"
+
+
+class Listener(http.server.BaseHTTPRequestHandler):
+    """Notes what it is asked for."""
+
+    asked: list[str] = []
+
+    def note(self) -> None:
+        """Notes a request."""
+        self.asked.append(f"{self.command} {self.path}")
+        self.send_response(204)
+        self.end_headers()
+
+    do_GET = do_POST = note
+
+    def log_message(self, format: str, *words: object) -> None:
+        """Nothing: a request is a failure of the test, which tells it."""
+
+
+@contextlib.contextmanager
+def listening(asked: list[str]) -> Iterator[str]:
+    """The address of a server on this machine that notes what it is asked for."""
+    own = type("Own", (Listener,), {"asked": asked})
+    server = http.server.ThreadingHTTPServer(("127.0.0.1", 0), own)
+    threading.Thread(target=server.serve_forever, daemon=True).start()
+    try:
+        yield f"http://127.0.0.1:{server.server_port}"
+    finally:
+        server.shutdown()
+        server.server_close()
+
+
+def stripped_program(room: str) -> bytes:
+    """A program of code, constants and data, cut after its segments, with a header that names no
+    section headers."""
+    sections = "".join(f".section {it}\n.fill 2000\n" for it in ('.rodata,"a"', ".data"))
+    code = ".text\n.globl _start\n_start: .fill 2000\n"
+    source = write(f"{room}/program.s", sections + code)
+    wanted("cc", "-nostdlib", "-static", source, "-o", f"{room}/program")
+    file = File(read_bytes(f"{room}/program"))
+    end = max(it.p_offset + it.p_filesz for it in map(file.segment, range(file.segment_count)))
+    return edited(file.bytes, ("e_shoff", 0), ("e_shnum", 0), ("e_shstrndx", 0))[:end]
+
+
+def parts_by_segments(content: bytes) -> list[tuple[str, int, int]]:
+    """What the map has to show of a file without sections: header, program headers, what segments
+    load, and gaps; lengths and offsets."""
+    file = File(content)
+    table = range(file.header.e_phoff, file.header.e_phoff + 56 * file.segment_count)
+    owners = ["a gap: no record says whose these bytes are"] * len(content)
+    for k in reversed(range(file.segment_count)):
+        it = file.segment(k)
+        flags = ""
+        for letter, bit in zip("RWX", (4, 2, 1)):
+            flags += letter if it.p_flags & bit else "-"
+        if it.p_type == LOAD:
+            owner = f"segment {k}, {flags}, in no section"
+            owners[it.p_offset : it.p_offset + it.p_filesz] = [owner] * it.p_filesz
+    owners[:64] = ["the ELF header"] * 64
+    owners[table.start : table.stop] = ["the program header table"] * len(table)
+    starts = [at for at in range(len(content)) if at == 0 or owners[at] != owners[at - 1]]
+    return [(owners[at], end - at, at) for at, end in zip(starts, [*starts[1:], len(content)])]
+
+
+def slow_to_check() -> bytes:
+    """A sound file whose hash tables take long: each hashes the same long names."""
+    made = generated.File()
+    names = made.strings(b"\0" + b"n" * 4_000_000 + b"\0")
+    symbols = made.symbols(b"".join(generated.symbol(1 + k) for k in range(60)), names)
+    made.table(generated.HASH, generated.words([1, 61, 1, 0, *range(2, 61), 0]), symbols)
+    return made.bytes()
 
 
 def explained(kind: str) -> Iterator[tuple[str, bytes, str]]:
@@ -600,6 +774,139 @@ class InChromium(Browser):
             )
         self.click("#findings li a:nth-of-type(2)")
         self.waits("document.querySelector('#bytes mark')", "the finding leads to no byte")
+
+    def without_sections(self) -> None:
+        """A program without section headers: its segments are listed, what they load is no gap, and
+        nothing is left of the file before."""
+        self.sound_file("/bin/true")
+        self.value("document.querySelector('#memory button').focus()")
+        self.value("document.querySelector('#offset').value = '0x40'")
+        words = self.text("#memory-words")
+        self.check(words.startswith("segment "), f"of the bar by address is said {words}")
+        content = stripped_program(self.room)
+        self.show(write(f"{self.room}/stripped", content), is_dropped=True)
+        verdict = self.text("#verdict")
+        self.check(verdict == SOUND, f"a program without sections: {verdict}")
+        left = [self.text("#memory-words")]
+        for field in ("offset", "filter", "chosen"):
+            left.append(self.value(f"document.querySelector('#{field}').value"))
+        self.check(not any(left), f"of the file before is left: {left}")
+        self.segments_alone(content)
+
+    def segments_alone(self, content: bytes) -> None:
+        """The segments of a program are listed, and the map has what they load."""
+        is_selected = self.value("document.querySelector('#tab-segments').ariaSelected") == "true"
+        words = self.text("#table-words")
+        rows = self.value(f"{ROWS}.length")
+        count = File(content).segment_count
+        is_whole = words == f"Segments 1 to {count} of {count}" and rows == count
+        self.check(is_selected and is_whole, f"{words}: {rows} rows")
+        labels = "[...document.querySelectorAll('#map button')].map((it) => it.ariaLabel)"
+        parts: list[tuple[str, int, int]] = []
+        for it in map(PART.fullmatch, self.value(labels)):
+            if it:
+                parts.append((it[1], int(it[2].replace(",", "")), int(it[3], 16)))
+        right = parts_by_segments(content)
+        self.check(parts == right, f"the map shows {parts}, and not {right}")
+
+    def resized(self, path: str) -> None:
+        """The window is resized while a file is read: nothing is thrown, and at last the map is as
+        wide as the window."""
+        self.call("Emulation.clearDeviceMetricsOverride")
+        self.driver.set_window_size(1200, 1000)
+        self.show(path, is_dropped=True)
+        large = write(f"{self.room}/large", HEADER_ALONE)
+        os.truncate(large, LARGE)
+        before = self.value("document.body.dataset.ready")
+        self.drop(large)
+        self.driver.set_window_size(700, 1000)
+        self.waits("document.querySelector('#progress').value > 0", "the file is not read")
+        self.driver.set_window_size(900, 1000)
+        self.check(
+            self.value("document.body.dataset.ready") == before,
+            "the file was read before the window was resized",
+        )
+        self.waits(
+            f"document.body.dataset.ready !== '{before}'",
+            "a file is not shown after the window was resized",
+        )
+        self.check(
+            self.text("#verdict") == SOUND, f"a header and {LARGE:,} bytes: {self.text('#verdict')}"
+        )
+        width = self.value("document.querySelector('#map').clientWidth")
+        drawn = self.value("document.querySelector('#map button:last-child').offsetWidth")
+        self.check(
+            0.9 * width < drawn <= width,
+            f"a part of all of the file is {drawn} points wide, and the map {width}",
+        )
+        self.silent("the window was resized while a file was read")
+
+    def dropped_in_turn(self) -> None:
+        """Files are dropped one after the other: the last one is shown, and nothing more is said of
+        those before it."""
+        slow = write(f"{self.room}/slow.o", slow_to_check())
+        for path in ("/bin/true", write(f"{self.room}/nothing", b"")):
+            self.value(WATCH_WORDS)
+            self.drop(slow)
+            # Its verdict is there, and its tables are not yet checked.
+            words = "/^Reading slow.o/.test(document.querySelector('#said').textContent)"
+            self.waits(
+                f"{words} && !document.querySelector('#main').hidden", "the first file is not shown"
+            )
+            self.value("window.said = []")
+            self.drop(path)
+            name = os.path.basename(path)
+            is_titled = f"document.title === '{name} - elfmap'"
+            is_done = "document.querySelector('#progress').hidden"
+            self.waits(f"{is_titled} && {is_done}", f"{path} is not shown")
+            # Each answer comes after those to earlier questions.
+            self.value("ask('name', 0, 0)")
+            said = self.value("window.said")
+            last = self.text("#said")
+            is_last = said[-2:] == [last, f"{name} - elfmap"] and last.startswith(f"{name}: ")
+            is_silent = not any("slow.o" in it for it in said)
+            self.check(is_last and is_silent, f"after {path} was dropped is said {said}")
+            self.check(
+                self.text("#facts").endswith("13 segments") == (name == "true"),
+                f"{path} is shown as {self.text('#facts')}",
+            )
+            self.check(
+                self.text("#bytes").startswith("0x07f 45") == (name == "true"),
+                f"the bytes of {path}: {self.text('#bytes')[:80]}",
+            )
+            self.silent(f"{path} was dropped after another file")
+
+    def of_picture(self) -> None:
+        """The picture in the manual is of this page, with the object that gcc 12.2 makes of
+        examples/answer.c on it."""
+        if not said("gcc", "-dumpfullversion").stdout.startswith("12.2"):
+            self.note("skipped: the picture of the page, here with another gcc than 12.2")
+            return
+        wanted("gcc", "-c", "-O1", "examples/answer.c", "-o", f"{self.room}/answer.o")
+        self.show(f"{self.room}/answer.o")
+        self.screen(*PICTURE_SIZE)
+        is_own = sum_of_page(self).encode() in read_bytes(f"{TOP}/{PICTURE}")
+        how = f"`tools/release page-picture answer.o {PICTURE}` takes it"
+        self.check(is_own, f"{PICTURE} is of another page; {how}")
+
+    def sends_nothing(self) -> None:
+        """Each way in which a script could send something is tried, in the page and in a worker of
+        it: nothing comes to a server."""
+        asked: list[str] = []
+        with listening(asked) as address:
+            in_worker = IN_WORKER.format(script=SENDING["fetch"])
+            for name, script in {**SENDING, "worker": in_worker}.items():
+                self.value(f"{script.format(address=f'{address}/{name}')}; null")
+            # What would be sent has come by then.
+            time.sleep(1)
+        self.check(not asked, f"the page sends {asked}")
+        # The browser tells of each.
+        self.driver.get_log("browser")
+
+    def silent(self, when: str) -> None:
+        """The console has no messages of scripts, nor of what they threw."""
+        messages = [entry["message"] for entry in self.driver.get_log("browser")]
+        self.check(not messages, f"{when}: the console says {messages[:3]}")
 
     def folder(self) -> None:
         """A folder is no file."""
@@ -927,8 +1234,10 @@ def try_page(tally: Tally, options: Options) -> None:
         ):
             part()
         it.another_file(file)
-        for part in (it.long_names, it.much_to_say):
+        for part in (it.long_names, it.much_to_say, it.without_sections):
             part()
-        # What the console said, and what scripts threw.
-        messages = [entry["message"] for entry in it.driver.get_log("browser")]
-        tally.check(not messages, f"the console says {messages[:3]}")
+        it.resized(file)
+        it.dropped_in_turn()
+        it.of_picture()
+        it.silent("at the end")
+        it.sends_nothing()

@@ -12,6 +12,7 @@ PATTERNS = (
     "CHANGELOG.md",
     "SECURITY.md",
     "docs/*.md",
+    "docs/generated/*.md",
     "bindings/*/README.md",
 )
 # A block of code, fenced or indented. That comes after an empty line or more code; other indented

@@ -1,16 +1,18 @@
 """`tools/test pages`: how long the sentences of the pages are, those of each page (MEDIAN), but for
-what is generated or is all tables (TABLES), and all of them together (WORDS). Code, headings and
-the targets of links are no prose.
+what is generated or is all tables (TABLES), and all of them together (WORDS). Pages that tools
+write are in docs/generated/, and begin with who makes them. Code, headings and the targets of links
+are no prose.
 
 A fenced block whose first line names a file quotes it: the file has to have these lines. README.md
 has its two commands in the first screen. A proof file of more than PROOF_LINES lines opens with a
 comment, its idea."""
 
 import glob
+import os
 import re
 import statistics
 
-from .page_texts import all_pages, sentences
+from .page_texts import CODE, all_pages, sentences
 from .suite import TESTS, Tally, Test, families
 from .tree import TOP, Options, read_text
 
@@ -21,7 +23,19 @@ README_LINES = 160
 SCREEN = 30
 PROOF_LINES = 30
 COMMANDS = "    $ ./elfmap check ", "    $ rt ci"
-TABLES = {"docs/DEFINITIONS.md", "docs/GUARANTEES.md"}
+DEFINITIONS = "docs/generated/DEFINITIONS.md"
+TABLES = {DEFINITIONS, "docs/GUARANTEES.md"}
+# Words for which the pages have others: refuse, return or print, after, again, what others made.
+# Code may have them, and DEFINITIONS, which has comments of the crates.
+UNUSUAL = re.compile(r"\b(?:reject\w*|told|tells?|behind|anew|strangers?)\b", re.I)
+# How a page of docs/generated/ begins.
+GENERATED = re.compile(
+    r"# .*\n\n`((?:tools|bench)/\w+)[^`]*`.* the tables of this page\. "
+    r"Do not edit them by hand[.:]"
+)
+# A number of a decision; and the part of docs/INTERNALS.md on a crate.
+DECISION = re.compile(r"^- \((\d+)\) ", re.M)
+OF_CRATE = re.compile(r"^## `(\w+)`.*\n((?:(?!## ).*\n)*)", re.M)
 QUOTES = re.compile(r"^```\w+ (\S+)\n(.*?)^```", re.M | re.S)
 
 
@@ -44,6 +58,30 @@ def try_proofs(tally: Tally) -> None:
         if text.count("\n") > PROOF_LINES and not text.startswith("-- "):
             without_idea.append(path)
     tally.same("proof files that do not open with their idea", without_idea, [])
+
+
+def try_decisions(tally: Tally) -> None:
+    """Each number of a decision is on one of the two pages. What a crate's decision is about is
+    there."""
+    internals = read_text("docs/INTERNALS.md")
+    numbers = [int(it) for it in DECISION.findall(read_text("docs/DECISIONS.md") + internals)]
+    right = [*range(1, len(numbers) + 1)]
+    tally.same("the numbers of decisions", sorted(numbers), right)
+    for crate, part in OF_CRATE.findall(internals):
+        places = re.findall(r"`((?:src|specs|proofs)/[\w./]*)`", part)
+        named = [f"crates/{crate}", *(f"crates/{crate}/{it}" for it in places)]
+        gone = [it for it in named if not os.path.exists(f"{TOP}/{it}")]
+        tally.check(not gone, f"docs/INTERNALS.md names what is not there: {gone}")
+
+
+def try_words(tally: Tally, path: str, text: str) -> None:
+    """A page has the usual words, and begins with who makes it, if a tool does."""
+    prose = re.sub(r"`[^`]*`", "", CODE.sub("\n", text))
+    unusual = [] if path == DEFINITIONS else sorted(UNUSUAL.findall(prose))
+    tally.check(not unusual, f"{path} has {unusual}, for which the pages have other words")
+    made = GENERATED.match(text)
+    why = f"{path}: its first line says {made and made[0]!r} of who makes it"
+    tally.check(path.startswith("docs/generated/") == bool(made), why)
 
 
 def words_in(sentence: str) -> int:
@@ -81,10 +119,12 @@ def try_names(tally: Tally, path: str, text: str) -> None:
 def try_pages(tally: Tally, options: Options) -> None:
     try_first_screen(tally)
     try_proofs(tally)
+    try_decisions(tally)
     total = 0
     for path in all_pages():
         text = read_text(path)
         total += try_sentences(tally, path, text)
+        try_words(tally, path, text)
         try_names(tally, path, text)
     tally.note(f"all pages: {total} words of at most {WORDS}")
     tally.check(total <= WORDS, f"the pages have {total} words, more than {WORDS}")

@@ -1,6 +1,6 @@
-"""`tools/dev peers`: the tables of docs/PEERS.md, what other tools say of files that elfmap
-refuses. The page says how the files are made; which rule one breaks the reference implementation
-says. Tools that are not installed have no column."""
+"""`tools/dev peers`: the tables of docs/generated/PEERS.md, what other tools say of files that
+elfmap refuses. The page says how the files are made; which rule one breaks the reference
+implementation says. Tools that are not installed have no column."""
 
 import random
 import re
@@ -14,7 +14,7 @@ from .rules_page import file_rules
 from .tree import TOP, Options, by_cc, read_bytes, read_text, run, write
 from .written_cases import every_case
 
-PAGE = "docs/PEERS.md"
+PAGE = "docs/generated/PEERS.md"
 # So many files break a rule; and so many bytes are changed, one at a time.
 FILES_A_RULE = 2
 CHANGES = 30000
@@ -103,7 +103,7 @@ def said_of(tool: str, content: bytes) -> str:
         except subprocess.TimeoutExpired:
             return "takes over a minute"
     if ran.returncode:
-        return "killed" if ran.returncode < 0 else "rejects"
+        return "killed" if ran.returncode < 0 else "refuses"
     complains = ran.stderr.strip() or re.search(rb"\b(warning|error)\b", ran.stdout, re.I)
     return "warns" if complains else "silent"
 

@@ -111,7 +111,7 @@ DEV = [
     Command("doc", "print the page of the whole library, for a browser", doc_page.main),
     Command(
         "explain",
-        "say in words why elfmap refused a file: elfmap-explain of the Python package",
+        "explain in words why elfmap refuses a file: elfmap-explain of the Python package",
         package_command,
         [OF_PACKAGE],
     ),
@@ -123,7 +123,8 @@ DEV = [
     ),
     Command(
         "peers",
-        "write the tables of docs/PEERS.md: what other tools say of files that elfmap refuses",
+        "write the tables of docs/generated/PEERS.md: what other tools say of files that elfmap "
+        "refuses",
         peers.main,
     ),
     Command(
@@ -140,7 +141,7 @@ DEV = [
     ),
     Command(
         "told",
-        "write the files that the tests of bindings/ try, and what they have to say",
+        "write the files that the tests of bindings/ read, and what they have to print",
         dump.main,
         [word("folder", "where to")],
     ),
@@ -191,7 +192,7 @@ RELEASE = [
     ),
     Command(
         "definitions",
-        "write docs/DEFINITIONS.md, from the comments in crates/*/specs/",
+        "write docs/generated/DEFINITIONS.md, from the comments in crates/*/specs/",
         definitions_page.write_definitions,
     ),
 ]
