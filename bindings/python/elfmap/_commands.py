@@ -8,7 +8,7 @@ import signal
 import sys
 from collections.abc import Callable, Sequence
 from contextlib import suppress
-from typing import NoReturn, Optional
+from typing import NoReturn, Optional, TextIO
 
 from elfmap._sources import reason_of
 from elfmap._words import one_line
@@ -39,10 +39,14 @@ def complain(program: str, words: bytes) -> None:
 
 
 def _write(message: bytes) -> None:
-    # Without it, another file may have its number.
-    if sys.stderr is not None:
-        with suppress(OSError):
-            os.write(2, message)
+    """Writes to standard error as it is in Python, where a caller may have put another file."""
+    with suppress(OSError, ValueError):
+        if hasattr(sys.stderr, "buffer"):
+            sys.stderr.buffer.write(message)
+        elif sys.stderr is not None:
+            sys.stderr.write(message.decode("utf-8", "backslashreplace"))
+        if sys.stderr is not None:
+            sys.stderr.flush()
 
 
 def failure(fault: OSError) -> bytes:
@@ -55,7 +59,10 @@ def failure(fault: OSError) -> bytes:
 def run_script(program: str, main: Callable[[], int]) -> NoReturn:
     """Runs a command as a console script, and ends with its status."""
     _occupy_closed()
-    sys.exit(_status(program, main))
+    status = _status(program, main)
+    for stream, number in ((sys.stdout, 1), (sys.stderr, 2)):
+        _drop_unwritten(stream, number)
+    sys.exit(status)
 
 
 def _status(program: str, main: Callable[[], int]) -> int:
@@ -63,18 +70,23 @@ def _status(program: str, main: Callable[[], int]) -> int:
     try:
         status = _ended(main)
         sys.stdout.flush()
-        return status
     except KeyboardInterrupt:
-        return 128 + signal.SIGINT
+        status = 128 + signal.SIGINT
     except BrokenPipeError:
         status = 128 + signal.SIGPIPE
     except OSError as fault:
         complain(program, failure(fault))
         status = UNREADABLE
-    # What is left to write would fail once more at the end of Python.
-    with suppress(OSError):
-        os.dup2(os.open(os.devnull, os.O_WRONLY), 1)
     return status
+
+
+def _drop_unwritten(stream: TextIO, number: int) -> None:
+    """Drops what can't be written: at the end of Python it would fail once more, and change the status."""
+    try:
+        stream.flush()
+    except OSError:
+        with suppress(OSError):
+            os.dup2(os.open(os.devnull, os.O_WRONLY), number)
 
 
 def _ended(main: Callable[[], int]) -> int:

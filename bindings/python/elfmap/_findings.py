@@ -148,7 +148,7 @@ def _words_of_rules() -> Iterator[tuple[str, Rule]]:
 
 def _plain(word: str) -> str:
     """A name or a number, however it is written."""
-    return re.sub(r"(^|_)0+(?=[0-9])", r"\1", word.upper().replace("-", "_"))
+    return word.lstrip("0") if word.isdecimal() else word.upper().replace("-", "_")
 
 
 _RULES = dict(_words_of_rules())

@@ -1,13 +1,16 @@
 """The edges of all commands: closed standard streams, names that can't be printed, and the order of words."""
 
+import contextlib
+import io
 import os
 import shutil
 import subprocess
 import sys
 import unittest
 from pathlib import Path
+from unittest import mock
 
-from elfmap import _words, build
+from elfmap import _words, build, lint
 
 from tests.made import ENVIRONMENT, GNU, GOOD, PACKAGE, SHARING, FolderCase, Made, setUpModule, symbols, text  # noqa: F401
 
@@ -204,6 +207,21 @@ class ExamplesTest(Case):
             words = ["-std=c99", f"-I{folder}/include", f"{folder}/bindings/c/{name}.c", str(archive)]
             subprocess.run(["cc", *words, "-o", name], check=True)
             self.assertEqual(self.printed(f"./{name}")[:2], lines)
+
+
+class CallerTest(FolderCase):
+    """Who calls a command in Python may have put another file in place of standard error."""
+
+    def test_messages(self):
+        said = "elfmap-lint: none: no such file or directory\n"
+        for stream in io.StringIO(), io.TextIOWrapper(io.BytesIO()):
+            with contextlib.redirect_stderr(stream), open(os.devnull, "wb") as out, mock.patch.object(lint, "Output") as output:
+                output.return_value.__enter__.return_value = out
+                self.assertEqual(lint.main(["none"]), 3)
+            self.assertEqual(stream.getvalue() if isinstance(stream, io.StringIO) else stream.buffer.getvalue().decode(), said)
+        with mock.patch.object(sys, "stderr", None), self.assertRaises(SystemExit) as raised:
+            lint.main(["--none"])
+        self.assertEqual(raised.exception.code, 2)
 
 
 class OrderTest(Case):

@@ -611,9 +611,9 @@ class OptionTest(Case):
         for word in ("033", "00033", "Shared_Byte", "sHARED-bYTE"):
             self.assertEqual(self.paths("--ignore", word, "a"), [], word)
         self.put(thread__o=bytes(Made((b".tdata", 1, bytes(4), dict(flags=0x403))).data))
-        for word in ("link-3", "link-03", "LINK_3", "tls"):
+        for word in ("link-3", "LINK_3", "tls"):
             self.assertEqual(self.lint("--object", "--ignore", word, "thread.o")[0], 0, word)
-        for word in ("33:", ":", ":a", "SHARED_BYTE:", "link-3:", "000", "-33", "link-"):
+        for word in ("33:", ":", ":a", "SHARED_BYTE:", "link-3:", "000", "-33"):
             status, out, said = self.lint(f"--ignore={word}", "a")
             self.assertEqual((status, out, said.count(b"\n")), (2, b"", 1), word)
 
