@@ -22,6 +22,13 @@ static uint8_t *bytes_of(const char *path, size_t *len) {
     return bytes;
 }
 
+/* Ends a line with a name. Bytes that are not printable ASCII are escaped, because a terminal may obey them. */
+static void tell_name(const uint8_t *name, uint64_t len) {
+    for (uint64_t k = 0; k < len; k++)
+        printf(name[k] >= ' ' && name[k] <= '~' ? "%c" : "\\x%02x", name[k]);
+    putchar('\n');
+}
+
 /* Prints the sections, or the fault: true where there is none. */
 static bool tell(const uint8_t *bytes, size_t len) {
     struct elfmap_fault fault;
@@ -33,8 +40,10 @@ static bool tell(const uint8_t *bytes, size_t len) {
         return false;
     }
     if (elfmap_file(bytes, len, &file))
-        for (uint64_t i = 0; elfmap_section(&file, bytes, len, i, &section) && elfmap_name(&file, bytes, len, i, &name); i++)
-            printf("0x%" PRIx64 " %.*s\n", section.sh_size, (int) name.len, (const char *) bytes + name.start);
+        for (uint64_t i = 0; elfmap_section(&file, bytes, len, i, &section) && elfmap_name(&file, bytes, len, i, &name); i++) {
+            printf("0x%" PRIx64 " ", section.sh_size);
+            tell_name(bytes + name.start, name.len);
+        }
     return true;
 }
 

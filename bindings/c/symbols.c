@@ -22,12 +22,21 @@ static uint8_t *bytes_of(const char *path, size_t *len) {
     return bytes;
 }
 
+/* Ends a line with a name. Bytes that are not printable ASCII are escaped, because a terminal may obey them. */
+static void tell_name(const uint8_t *name, uint64_t len) {
+    for (uint64_t k = 0; k < len; k++)
+        printf(name[k] >= ' ' && name[k] <= '~' ? "%c" : "\\x%02x", name[k]);
+    putchar('\n');
+}
+
 /* Prints the symbols of a table; of any other section nothing. */
 static void tell_table(const struct elfmap_table *table, const uint8_t *bytes, size_t len) {
     struct elfmap_symbol symbol;
     for (uint64_t j = 0; j < table->entries; j++)
-        if (elfmap_symbol(table, bytes, len, j, &symbol))
-            printf("0x%" PRIx64 " %.*s\n", symbol.st_value, (int) symbol.name.len, (const char *) bytes + symbol.name.start);
+        if (elfmap_symbol(table, bytes, len, j, &symbol)) {
+            printf("0x%" PRIx64 " ", symbol.st_value);
+            tell_name(bytes + symbol.name.start, symbol.name.len);
+        }
 }
 
 /* Prints all symbols, or the fault: true where there is none. */

@@ -11,18 +11,24 @@ What is called here is the library for C of elfmap, whose answers are proved for
 bytes. Fields have the names of the gABI (System V ABI, generic part, chapters 4 and 5).
 """
 
-from __future__ import annotations
-
-import ctypes
+# Annotations are no strings: `help(elfmap)` shows them.
+import array
 import builtins
+import ctypes
 import mmap
 import operator
 import os
+import pickle
 from collections.abc import Callable, Iterable, Iterator, Sequence
-from typing import Any, NamedTuple, Optional, TypeVar, Union
+from typing import TYPE_CHECKING, Any, NamedTuple, Optional, TypeVar, Union
 
 from elfmap import _library
+from elfmap._columns import LAYOUTS, Column, columns
 from elfmap._rules import LINK_RULES, RULES
+
+# They are names of this module too. In `__all__` they would make `help` ten times as long.
+from elfmap.constants import DT as DT, EM as EM, ET as ET, PF as PF, PT as PT, SHF as SHF, SHN as SHN
+from elfmap.constants import SHT as SHT, STB as STB, STT as STT, STV as STV
 
 __all__ = [
     "BadRules",
@@ -43,25 +49,37 @@ __all__ = [
     "check",
     "link",
     "map",
+    "open",
     "parse",
     "rewrite",
     "show",
 ]
 __version__ = "0.1.0"
 
-Bytes = Union[bytes, bytearray, memoryview, mmap.mmap]
+# All that has its bytes in one piece, for a type checker by Python's buffer protocol.
+if TYPE_CHECKING:
+    from _typeshed import ReadableBuffer
+
+    Bytes = ReadableBuffer
+else:
+    Bytes = Union[bytes, bytearray, memoryview, mmap.mmap, array.array]
 Text = Union[str, bytes]
+AnyPath = Union[str, bytes, os.PathLike[str], os.PathLike[bytes]]
 Record = TypeVar("Record")
 
-_SHT_NULL, _SHT_NOBITS, _PT_NULL = 0, 8, 0
 # How many extents the first buffer has: enough for a file with 61 sections.
 _SMALL_ROOM = 64
-_SYMBOLS, _RELOCATIONS, _NOTES, _DYNAMIC, _HASH = (2, 11), (4, 9), (7,), (6,), (5,)
+_SYMBOLS, _RELOCATIONS = (SHT.SYMTAB, SHT.DYNSYM), (SHT.RELA, SHT.REL)
 _OWNERS = ("header", "section headers", "program headers")
 _GAP = 2**64 - 1
 # ctypes would take this number for 0, and each one modulo it.
 _END = 2**64
 _UNKNOWN = ("UNKNOWN_RULE", "it is refused by a rule without a sentence", "")
+# The longest file that keeps rule 1, and one byte more.
+_LONGEST = 2**30 + 1
+_DATA_MSB = 2
+# So many bytes of a name are in a message.
+_MOST_OF_NAME = 200
 
 
 class Refused(ValueError):
@@ -96,14 +114,17 @@ class NotLinked(ValueError):
     """Why objects don't link: the first of the link's rules that is broken, and where.
 
     `file`, `index` and `entry` count from 0; docs/RULES.md says what for each `rule`.
+    `symbol` is the name of the symbol that it is about: that of rules 6 to 9, that of the
+    relocation of rules 12 to 16, and the entry point of rule 10. None if there is none.
     """
 
-    def __init__(self, rule: int, file: int, index: int, entry: int) -> None:
-        super().__init__(rule, file, index, entry)
+    def __init__(self, rule: int, file: int, index: int, entry: int, symbol: Optional[bytes] = None) -> None:
+        super().__init__(rule, file, index, entry, symbol)
         self.rule = rule
         self.file = file
         self.index = index
         self.entry = entry
+        self.symbol = symbol
 
     @property
     def name(self) -> str:
@@ -117,7 +138,8 @@ class NotLinked(ValueError):
 
     def __str__(self) -> str:
         place = f"entry {self.entry} of {self.index} in file {self.file}"
-        return f"rule {self.rule} ({self.name}) at {place}: {self.sentence}"
+        about = f", symbol {self.symbol[:_MOST_OF_NAME]!r}" if self.symbol else ""
+        return f"rule {self.rule} ({self.name}) at {place}{about}: {self.sentence}"
 
 
 class TooLong(ValueError):
@@ -187,6 +209,9 @@ class Section(NamedTuple):
     name: bytes
     content: Optional[memoryview]
 
+    def __reduce__(self) -> tuple[Any, ...]:
+        return _with_contents, (type(self), *_without_views(self))
+
 
 class Segment(NamedTuple):
     """A segment: the fields of its program header, and its bytes in the file.
@@ -203,6 +228,9 @@ class Segment(NamedTuple):
     p_memsz: int
     p_align: int
     content: Optional[memoryview]
+
+    def __reduce__(self) -> tuple[Any, ...]:
+        return _with_contents, (type(self), *_without_views(self))
 
 
 class Symbol(NamedTuple):
@@ -258,6 +286,9 @@ class Note(NamedTuple):
     n_type: int
     desc: memoryview
 
+    def __reduce__(self) -> tuple[Any, ...]:
+        return _with_contents, (type(self), *_without_views(self))
+
 
 class Part(NamedTuple):
     """Bytes of a file that belong together.
@@ -271,15 +302,39 @@ class Part(NamedTuple):
     owner: Union[str, int]
 
 
-class _Records(Sequence[Record]):
-    """Records that are read when they are asked for; of a broken table some can't be."""
+def _without_views(record: tuple[Any, ...]) -> tuple[list[Any], list[int]]:
+    """The fields of a record with copies in place of views, which can't be pickled; and the positions of these."""
+    views = [position for position, it in enumerate(record) if isinstance(it, memoryview)]
+    return [bytes(it) if position in views else it for position, it in enumerate(record)], views
 
-    def __init__(self, count: int, read: Callable[[int], Optional[Record]]) -> None:
+
+def _with_contents(kind: Any, fields: list[Any], views: list[int]) -> Any:
+    """A record that was pickled: its contents are views again, of its own bytes."""
+    return kind._make(memoryview(it) if position in views else it for position, it in enumerate(fields))
+
+
+class _Read(Sequence[Record]):
+    """So many records that are read when they are asked for. They are pickled as a list."""
+
+    def __init__(self, count: int) -> None:
         self._indices = range(count)
-        self._read = read
 
     def __len__(self) -> int:
         return len(self._indices)
+
+    def __repr__(self) -> str:
+        return f"<{len(self)} records>"
+
+    def __reduce__(self) -> tuple[Any, ...]:
+        return list, ([*self],)
+
+
+class _Records(_Read[Record]):
+    """Records that are read by their index; of a broken table some can't be."""
+
+    def __init__(self, count: int, read: Callable[[int], Optional[Record]]) -> None:
+        super().__init__(count)
+        self._read = read
 
     def __getitem__(self, index: Any) -> Any:
         if isinstance(index, slice):
@@ -295,15 +350,44 @@ class _Records(Sequence[Record]):
     def _found(self, indices: range) -> Iterator[Record]:
         return (it for it in builtins.map(self._read, indices) if it is not None)
 
-    def __repr__(self) -> str:
-        return f"<{len(self)} records>"
+
+class _Notes(_Read[Note]):
+    """Notes, each of which says where the next one begins: they are read as far as they are asked for."""
+
+    def __init__(self, count: int, read: Callable[[int], Optional[tuple[Note, int]]]) -> None:
+        super().__init__(count)
+        self._read = read
+        # Where those begin that were passed.
+        self._starts = [0]
+
+    def __getitem__(self, index: Any) -> Any:
+        if isinstance(index, slice):
+            return [self[it] for it in self._indices[index]]
+        position = self._indices[index]
+        while position >= len(self._starts):
+            self._starts.append(self._at(self._starts[-1])[1])
+        return self._at(self._starts[position])[0]
+
+    def _at(self, start: int) -> tuple[Note, int]:
+        found = self._read(start)
+        if found is None:
+            raise IndexError("the table has no entry of this index")
+        return found
+
+    def __iter__(self) -> Iterator[Note]:
+        found = self._read(0)
+        while found:
+            yield found[0]
+            found = self._read(found[1])
 
 
 class File:
-    """An ELF-64 file that breaks no rule, as `parse` makes it.
+    """An ELF-64 file that breaks no rule, as `parse` and `open` make it.
 
     It borrows the bytes that it was made of: a bytearray keeps its length meanwhile, a
-    mmap stays open. If the bytes change, its results are no longer true.
+    mmap stays open. If the bytes change, its results are no longer true. `close`, or the
+    end of a `with`, releases them. A pickle of it has its bytes, which are validated where
+    it is loaded.
     """
 
     def __init__(self, data: Bytes) -> None:
@@ -317,10 +401,23 @@ class File:
             raise
         self._numbers = self._filled(_library.Numbers, "elfmap_file")
 
+    def close(self) -> None:
+        """Releases the bytes. Contents that are still held keep them. What is asked for afterwards is a ValueError."""
+        self._view.release()
+
+    def __enter__(self) -> "File":
+        return self
+
+    def __exit__(self, *_: object) -> None:
+        self.close()
+
+    def __reduce__(self) -> tuple[Any, ...]:
+        return type(self), (self._view.tobytes(),)
+
     @property
     def header(self) -> Header:
         """The ELF header."""
-        e_ident, *fields = _fields(self._filled(_library.Header, "elfmap_header"))
+        e_ident, *fields = _values(self._filled(_library.Header, "elfmap_header"))
         return Header(bytes(e_ident), *fields)
 
     @property
@@ -368,32 +465,51 @@ class File:
     def relocations(self, section: int) -> Sequence[Relocation]:
         """The relocations of a relocation section; none where it is none."""
         kind, call = _library.Relocation, "elfmap_relocation"
-        return self._entries(section, _RELOCATIONS, call, kind, lambda _, it: Relocation(*_fields(it)))
+        return self._entries(section, _RELOCATIONS, call, kind, lambda _, it: Relocation(*_values(it)))
 
     def dynamic(self, section: int) -> Sequence[Dynamic]:
         """The entries of the dynamic array in a section, before the first DT_NULL."""
-        return self._entries(section, _DYNAMIC, "elfmap_dynamic", _library.Dynamic, self._dynamic)
+        return self._entries(section, (SHT.DYNAMIC,), "elfmap_dynamic", _library.Dynamic, self._dynamic)
 
-    def notes(self, section: int) -> list[Note]:
+    def notes(self, section: int) -> Sequence[Note]:
         """The notes of a note section; none where it is none."""
-        table, found, offset = self._table(section, _NOTES), [], 0
-        note = _library.Note()
-        while table and self._call("elfmap_note_at", offset, note, of=(table,)):
+        table, note = self._table(section, (SHT.NOTE,)), _library.Note()
+
+        def read(start: int) -> Optional[tuple[Note, int]]:
+            if not table or not self._call("elfmap_note_at", start, note, of=(table,)):
+                return None
             name, desc = self._at(note.name.start, note.name.len), self._at(note.desc.start, note.desc.len)
-            found.append(Note(bytes(name), note.n_type, desc))
-            offset = note.next
-        return found
+            return Note(bytes(name), note.n_type, desc), note.next
+
+        return _Notes(table.entries if table else 0, read)
+
+    def columns(self, section: int) -> dict[str, Column]:
+        """The numbers of a symbol table, relocation section or dynamic array: an array for each field.
+
+        Each array has as many numbers as `symbols`, `relocations` or `dynamic` has entries.
+        numpy.asarray takes one without a copy. A section without such a table has no arrays.
+        The fields are those of the records, without names and the `section` of a symbol.
+        """
+        table = self._table(section, tuple(LAYOUTS))
+        if not table:
+            return {}
+        layout = LAYOUTS[table.sh_type]
+        content = self._at(table.content.start, table.entries * layout.size)
+        return dict(columns(layout, content, table.ei_data == _DATA_MSB))
 
     def find(self, section: int, name: Text) -> Optional[int]:
         """The index of the symbol of this name, by the hash table in a section."""
         words, symbol = _text(name, "a name"), ctypes.c_uint32()
-        table = self._table(section, _HASH)
+        table = self._table(section, (SHT.HASH,))
         if table and self._call("elfmap_find", *words, symbol, of=(table,)):
             return symbol.value
         return None
 
     def __repr__(self) -> str:
-        return "<elfmap.File: {} bytes, {} sections, {} segments>".format(*self.summary)
+        try:
+            return "<elfmap.File: {} bytes, {} sections, {} segments>".format(*self.summary)
+        except ValueError:
+            return "<elfmap.File: closed>"
 
     def _call(self, name: str, *words: Any, of: tuple[Any, ...] = ()) -> bool:
         # The length of a view that was released is an error, before its bytes are read.
@@ -422,17 +538,17 @@ class File:
         return it
 
     def _section(self, index: int) -> Section:
-        fields = _fields(self._filled(_library.Section, "elfmap_section", index))
+        fields = _values(self._filled(_library.Section, "elfmap_section", index))
         it = self._filled(_library.Extent, "elfmap_name", index)
         section = Section._make([*fields, bytes(self._at(it.start, it.len)), None])
-        if section.sh_type in (_SHT_NULL, _SHT_NOBITS):
+        if section.sh_type in (SHT.NULL, SHT.NOBITS):
             return section
         return section._replace(content=self._at(section.sh_offset, section.sh_size))
 
     def _segment(self, index: int) -> Segment:
-        fields = _fields(self._filled(_library.Segment, "elfmap_segment", index))
+        fields = _values(self._filled(_library.Segment, "elfmap_segment", index))
         segment = Segment._make([*fields, None])
-        if segment.p_type == _PT_NULL:
+        if segment.p_type == PT.NULL:
             return segment
         return segment._replace(content=self._at(segment.p_offset, segment.p_filesz))
 
@@ -460,7 +576,7 @@ class File:
         return _Records(table.entries if table else 0, read)
 
     def _symbol(self, _: _library.Table, it: _library.Symbol) -> Symbol:
-        return Symbol(bytes(self._at(it.name.start, it.name.len)), *_fields(it)[1:])
+        return Symbol(bytes(self._at(it.name.start, it.name.len)), *_values(it)[1:])
 
     def _dynamic(self, table: _library.Table, it: _library.Dynamic) -> Dynamic:
         place = _library.Extent()
@@ -471,7 +587,8 @@ class File:
         return self._view[start : start + size]
 
 
-def _fields(struct: ctypes.Structure) -> list[Any]:
+# A function called `_fields` would make the module a named tuple for `help`, which then shows all private names.
+def _values(struct: ctypes.Structure) -> list[Any]:
     return [getattr(struct, name) for name, _ in struct._fields_]
 
 
@@ -484,10 +601,19 @@ def parse(data: Bytes) -> File:
     """Validates the bytes by all rules, in n log n steps, and copies none of them.
 
     Raises Refused with the first rule that they break, and the lowest offset at which
-    they do. Takes any bytes in one piece: bytes, bytearray, memoryview, mmap. A path is
-    a TypeError here and in all calls: nothing is opened.
+    they do. Takes any bytes in one piece: bytes, bytearray, memoryview, mmap, array. A path
+    is a TypeError here and in all calls but `open`.
     """
     return File(data)
+
+
+def open(path: AnyPath) -> File:
+    """Reads the file of this path into memory, and validates it as `parse` does.
+
+    Raises OSError where it can't be read. Nothing is mapped: the file may change meanwhile.
+    """
+    with builtins.open(os.fspath(path), "rb") as it:
+        return parse(it.read(_LONGEST))
 
 
 def check(data: Bytes) -> Summary:
@@ -539,8 +665,9 @@ def link(
     TooLong; and OverflowError where `base` or `page` is not from 0 to 2^64 - 1. The bytes
     of the files are copied, for the time of the call.
     """
-    words = (*_linked(files, base, page), *_text(entry, "entry"), *_text(rules, "rules"))
-    return _done(*_said("elfmap_link", *words))
+    contents, start = _views_of(files), _text(entry, "entry")
+    words = (*_linked(contents, base, page), *start, *_text(rules, "rules"))
+    return _done(*_said("elfmap_link", *words), contents, start[0])
 
 
 def map(files: Iterable[Bytes], rules: Text, *, base: int = 0x400000, page: int = 0x1000) -> str:
@@ -548,15 +675,19 @@ def map(files: Iterable[Bytes], rules: Text, *, base: int = 0x400000, page: int 
 
     Raises what `link` does.
     """
-    words = (*_linked(files, base, page), *_text(rules, "rules"))
-    return _done(*_said("elfmap_map", *words)).decode("ascii")
+    contents = _views_of(files)
+    words = (*_linked(contents, base, page), *_text(rules, "rules"))
+    return _done(*_said("elfmap_map", *words), contents).decode("ascii")
 
 
 def _view_of(data: Bytes) -> memoryview:
-    """The bytes that are in one piece."""
+    """The bytes that are in one piece, whatever numbers they are taken for."""
     if isinstance(data, (str, os.PathLike)):
         raise TypeError("the bytes of a file are wanted, and no path: pass those of Path.read_bytes()")
-    return memoryview(data).cast("B").toreadonly()
+    try:
+        return pickle.PickleBuffer(data).raw().toreadonly()
+    except BufferError:
+        raise TypeError("bytes in one piece are wanted") from None
 
 
 def _bytes_of(data: Bytes) -> tuple[Any, int]:
@@ -588,9 +719,8 @@ def _number(value: int, what: str) -> int:
     return number
 
 
-def _linked(files: Iterable[Bytes], base: int, page: int) -> tuple[Any, ...]:
+def _linked(contents: list[memoryview], base: int, page: int) -> tuple[Any, ...]:
     options = _library.LinkOptions(_number(base, "base"), _number(page, "page"), 1)
-    contents = _views_of(files)
     places, start = (_library.Extent * len(contents))(), 0
     for place, content in zip(places, contents):
         place.start, place.len = start, len(content)
@@ -625,20 +755,31 @@ def _said(name: str, *words: Any) -> tuple[int, _library.Outcome, bytes]:
     return status, outcome, room.raw[: outcome.length]
 
 
-def _done(status: int, outcome: _library.Outcome, said: bytes) -> bytes:
+def _done(status: int, outcome: _library.Outcome, said: bytes, contents: Sequence[memoryview] = (), entry: bytes = b"") -> bytes:
     if status != _library.DONE:
-        raise _failure(status, outcome)
+        raise _failure(status, outcome, contents, entry)
     return said
 
 
-def _failure(status: int, outcome: _library.Outcome) -> Exception:
-    """What a status says, with the numbers of its outcome."""
+def _failure(status: int, outcome: _library.Outcome, contents: Sequence[memoryview] = (), entry: bytes = b"") -> Exception:
+    """What a status says, with the numbers of its outcome, and the name of the symbol in these files."""
     if status == _library.REFUSED:
         return Refused(outcome.rule, outcome.at, outcome.file)
     if status == _library.NOT_LINKED:
-        return NotLinked(outcome.rule, outcome.file, outcome.index, outcome.at)
+        place = outcome.rule, outcome.file, outcome.index, outcome.at
+        return NotLinked(*place, _symbol_of(*place, contents, entry))
     if status == _library.TOO_LONG:
         return TooLong()
     if status == _library.BAD_RULES:
         return BadRules(outcome.at)
     return MemoryError()
+
+
+def _symbol_of(rule: int, file: int, index: int, entry: int, contents: Sequence[memoryview], start: bytes) -> Optional[bytes]:
+    """The name of the symbol that a rule of the link is about."""
+    # What it needs is not imported with the package.
+    from elfmap._link_words import NO_ENTRY, refused_symbol
+
+    if rule == NO_ENTRY:
+        return start
+    return refused_symbol(contents[file].tobytes(), rule, index, entry) if file < len(contents) else None

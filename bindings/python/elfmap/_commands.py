@@ -1,41 +1,120 @@
-"""What the commands of the package share: their statuses, and how they end."""
+"""What the commands of the package share: how they read their words, their statuses, and how they end."""
 
 from __future__ import annotations
 
+import argparse
 import os
 import signal
 import sys
-from collections.abc import Callable
+from collections.abc import Callable, Sequence
+from contextlib import suppress
+from typing import NoReturn, Optional, TextIO
 
 from elfmap._sources import reason_of
+from elfmap._words import one_line
 
 DONE, FOUND, USAGE, UNREADABLE = range(4)
 
 
+class Parser(argparse.ArgumentParser):
+    """Reads the words of a command. A usage error has its status also where standard error is closed."""
+
+    def error(self, message: str) -> NoReturn:
+        _write(self.format_usage().encode("utf-8", "backslashreplace"))
+        complain(self.prog, b"error: " + message.encode("utf-8", "surrogateescape"))
+        sys.exit(USAGE)
+
+    def in_any_order(self, words: Optional[Sequence[str]], operands: str) -> argparse.Namespace:
+        """Reads words among which options may be anywhere; after `--` there are none. `operands` names the others."""
+        every = list(sys.argv[1:] if words is None else words)
+        end = every.index("--") if "--" in every else len(every)
+        found = self.parse_intermixed_args(every[:end])
+        setattr(found, operands, [*getattr(found, operands), *every[end + 1 :]])
+        return found
+
+
 def complain(program: str, words: bytes) -> None:
-    """Prints a message on standard error."""
-    try:
-        sys.stderr.buffer.write(program.encode() + b": " + words + b"\n")
-        sys.stderr.flush()
-    except (OSError, ValueError):
-        pass
+    """Prints a message on standard error, with what can't be printed escaped."""
+    _write(b"\n".join(map(one_line, (program.encode() + b": " + words).split(b"\n"))) + b"\n")
+
+
+def _write(message: bytes) -> None:
+    """Writes to standard error as it is in Python, where a caller may have put another file."""
+    with suppress(OSError, ValueError):
+        if hasattr(sys.stderr, "buffer"):
+            sys.stderr.buffer.write(message)
+        elif sys.stderr is not None:
+            sys.stderr.write(message.decode("utf-8", "backslashreplace"))
+        if sys.stderr is not None:
+            sys.stderr.flush()
 
 
 def failure(fault: OSError) -> bytes:
     """What an error is about, and its reason."""
-    name = f"{os.fsdecode(fault.filename)}: " if fault.filename else ""
-    return f"{name}{reason_of(fault)}".encode("utf-8", "surrogateescape")
+    name = fault.filename if isinstance(fault.filename, (str, bytes)) else ""
+    lead = one_line(os.fsencode(name)) + b": " if name else b""
+    return lead + reason_of(fault).encode("utf-8", "surrogateescape")
 
 
-def run_script(program: str, main: Callable[[], int]) -> None:
-    """Runs a command as a console script. A reader that closes the pipe ends it silently."""
+def run_script(program: str, main: Callable[[], int]) -> NoReturn:
+    """Runs a command as a console script, and ends with its status."""
+    _occupy_closed()
+    status = _status(program, main)
+    for stream, number in ((sys.stdout, 1), (sys.stderr, 2)):
+        _drop_unwritten(stream, number)
+    sys.exit(status)
+
+
+def _status(program: str, main: Callable[[], int]) -> int:
+    """The status of a run. A reader that closes the pipe ends it silently."""
     try:
-        status = main()
-    except BrokenPipeError:
-        status = 128 + signal.SIGPIPE
+        status = _ended(main)
+        sys.stdout.flush()
     except KeyboardInterrupt:
         status = 128 + signal.SIGINT
+    except BrokenPipeError:
+        status = 128 + signal.SIGPIPE
     except OSError as fault:
         complain(program, failure(fault))
         status = UNREADABLE
-    sys.exit(status)
+    return status
+
+
+def _drop_unwritten(stream: TextIO, number: int) -> None:
+    """Drops what can't be written: at the end of Python it would fail once more, and change the status."""
+    try:
+        stream.flush()
+    except OSError:
+        with suppress(OSError):
+            os.dup2(os.open(os.devnull, os.O_WRONLY), number)
+
+
+def _ended(main: Callable[[], int]) -> int:
+    try:
+        return main()
+    except SystemExit as end:
+        return end.code if isinstance(end.code, int) else DONE
+
+
+def _occupy_closed() -> None:
+    """Gives the numbers of closed standard streams away, so that no file that is opened later has one of them.
+
+    What is written to standard output then fails, and what is written to standard error is lost.
+    """
+    with suppress(OSError):
+        for number, access in ((1, os.O_RDONLY), (2, os.O_WRONLY)):
+            if not is_open(number):
+                handle = os.open(os.devnull, access)
+                if handle != number:
+                    os.dup2(handle, number)
+                    os.close(handle)
+    sys.stdout = sys.stdout or open(1, "w", closefd=False)
+    sys.stderr = sys.stderr or open(2, "w", closefd=False, errors="backslashreplace")
+
+
+def is_open(number: int) -> bool:
+    try:
+        os.fstat(number)
+    except OSError:
+        return False
+    return True

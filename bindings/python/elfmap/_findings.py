@@ -37,6 +37,12 @@ class Rule(NamedTuple):
         return f"link-{self.number}" if self.is_of_link else self.number
 
     @property
+    def place(self) -> str:
+        """Where docs/RULES.md has it."""
+        kind = "link" if self.is_of_link else "image" if self.number < 40 else "table" if self.number < 70 else "object"
+        return f"docs/RULES.md#{kind}-{self.number}"
+
+    @property
     def table(self) -> dict[int, tuple[str, str, str]]:
         """All rules that are numbered with it: of each its name, its sentence and its advice."""
         return LINK_RULES if self.is_of_link else RULES
@@ -163,6 +169,8 @@ class Ignored:
         globs: dict[Rule, list[str]] = {}
         for word in words:
             rule, colon, glob = word.partition(":")
+            if colon and not glob:
+                raise BadWord(f"GLOB is missing in {word!r}")
             globs.setdefault(rule_of(rule), []).append(glob if colon else "*")
         self._globs = {rule: Globs(it) for rule, it in globs.items()}
 
@@ -175,35 +183,35 @@ class Ignored:
 Known = tuple[str, str, tuple[str, ...]]
 
 
-def _known(finding: Finding) -> Known:
+def known(finding: Finding) -> Known:
+    """What a finding is known by."""
     return os.fsdecode(finding.path), finding.name, finding.sections
 
 
 class Baseline:
     """Findings that were there before, each as often as it was."""
 
-    def __init__(self, known: Iterable[Known]) -> None:
-        self._known = Counter(known)
+    def __init__(self, every: Iterable[Known]) -> None:
+        self._known = Counter(every)
 
     @classmethod
     def read(cls, path: str) -> Baseline:
         try:
             entries = json.loads(Path(path).read_bytes())["findings"]
-            known = [(it["path"], it["rule"], tuple(it["sections"])) for it in entries]
-            return cls(known)
+            return cls((it["path"], it["rule"], tuple(it["sections"])) for it in entries)
         except OSError as fault:
             raise BadWord(f"{path}: {reason_of(fault)}") from None
         except (ValueError, KeyError, TypeError, RecursionError):
             raise BadWord(f"{path} is no baseline") from None
 
     def match(self, finding: Finding) -> bool:
-        known = _known(finding)
-        if self._known[known] <= 0:
+        own = known(finding)
+        if self._known[own] <= 0:
             return False
-        self._known[known] -= 1
+        self._known[own] -= 1
         return True
 
 
 def baseline_text(findings: Iterable[Finding]) -> bytes:
-    entries = [{"path": path, "rule": rule, "sections": list(sections)} for path, rule, sections in map(_known, findings)]
+    entries = [{"path": path, "rule": rule, "sections": list(sections)} for path, rule, sections in map(known, findings)]
     return json.dumps({"version": 1, "findings": entries}, indent=1).encode("ascii") + b"\n"

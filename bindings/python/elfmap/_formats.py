@@ -2,23 +2,23 @@
 
 from __future__ import annotations
 
+import hashlib
 import json
+from collections import Counter
 from collections.abc import Callable, Iterable, Iterator
 from itertools import groupby
 from typing import Any
 from urllib.parse import quote_from_bytes
 
-from elfmap._findings import Finding, Report, Rule, Unread
-from elfmap._words import printable
+from elfmap import __version__
+from elfmap._findings import Finding, Known, Report, Rule, Unread, known
+from elfmap._words import one_line, printable
 
 # What ends a record: a line feed, or a zero byte.
 Format = Callable[[Report, bytes], Iterable[bytes]]
 _TOO_SHORT = Rule(False, 2)
-
-
-def one_line(path: bytes) -> bytes:
-    """A path without its control characters, so that it stays in one line."""
-    return b"".join(b"\\x%02x" % it if it < 32 or it == 127 else bytes([it]) for it in path)
+# The number is another one if another thing is hashed.
+_FINGERPRINT = "elfmapFinding/v1"
 
 
 def _encoded(text: str) -> bytes:
@@ -93,8 +93,9 @@ def _command(level: str, path: bytes, title: str, message: str) -> bytes:
     def escaped(words: str, more: str = "") -> str:
         return "".join(f"%{ord(it):02X}" if it in "%\r\n" + more else it for it in words)
 
-    file = path.decode("utf-8", "backslashreplace")
-    words = f"file={escaped(file, ':,')},title={escaped(title, ':,')}::{escaped(message)}"
+    # Those signs are escaped as the file's own, so that it is found. Others that can't be printed are not.
+    file = printable(escaped(path.decode("utf-8", "surrogateescape"), ":,").encode("utf-8", "surrogateescape"))
+    words = f"file={file},title={escaped(title, ':,')}::{escaped(message)}"
     return _encoded(f"::{level} {words}")
 
 
@@ -104,7 +105,8 @@ def _command(level: str, path: bytes, title: str, message: str) -> bytes:
 def sarif(report: Report, end: bytes) -> Iterator[bytes]:
     rules = sorted({(it.rule, it.name) for it in report.findings})
     positions = {rule: position for position, (rule, _) in enumerate(rules)}
-    driver = {"name": "elfmap-lint", "rules": [_sarif_rule(rule, name) for rule, name in rules]}
+    driver = {"name": "elfmap-lint", "version": __version__, "rules": [_sarif_rule(rule, name) for rule, name in rules]}
+    fingerprints = _fingerprints(report.findings)
     run = {
         "tool": {"driver": driver},
         "invocations": [
@@ -113,7 +115,7 @@ def sarif(report: Report, end: bytes) -> Iterator[bytes]:
                 "toolExecutionNotifications": [_notification(it) for it in report.unreadable],
             }
         ],
-        "results": [_sarif_result(it, positions[it.rule]) for it in report.findings],
+        "results": [_sarif_result(it, positions[it.rule], next(fingerprints)) for it in report.findings],
         "properties": report.summary(),
     }
     schema = "https://json.schemastore.org/sarif-2.1.0.json"
@@ -130,12 +132,21 @@ def _sarif_rule(rule: Rule, name: str) -> dict[str, Any]:
     return {
         **words,
         "shortDescription": {"text": f"{kind} {rule.number}: {sentence}"},
-        "help": {"text": advice},
+        "help": {"text": f"{advice}; see {rule.place}"},
         "defaultConfiguration": {"level": "error"},
     }
 
 
-def _sarif_result(it: Finding, position: int) -> dict[str, Any]:
+def _fingerprints(findings: Iterable[Finding]) -> Iterator[str]:
+    """Of each finding what stays the same where its file is built again, and differs from that of any other one."""
+    seen = Counter[Known]()
+    for it in findings:
+        own = known(it)
+        yield hashlib.sha256(json.dumps([*own, seen[own]]).encode("ascii")).hexdigest()
+        seen[own] += 1
+
+
+def _sarif_result(it: Finding, position: int, fingerprint: str) -> dict[str, Any]:
     region = {"byteOffset": it.start + it.offset, **({} if it.rule == _TOO_SHORT else {"byteLength": 1})}
     location: dict[str, Any] = {"physicalLocation": {**_artifact(it.file), "region": region}}
     # The schema asks for locations that differ; the names of sections need not.
@@ -144,7 +155,14 @@ def _sarif_result(it: Finding, position: int) -> dict[str, Any]:
     if names or member:
         location["logicalLocations"] = [*member, *names]
     message = {"text": f"offset {it.offset:#x}: {it.message}"}
-    return {"ruleId": it.name, "ruleIndex": position, "level": "error", "message": message, "locations": [location]}
+    return {
+        "ruleId": it.name,
+        "ruleIndex": position,
+        "level": "error",
+        "message": message,
+        "locations": [location],
+        "partialFingerprints": {_FINGERPRINT: fingerprint},
+    }
 
 
 def _notification(it: Unread) -> dict[str, Any]:

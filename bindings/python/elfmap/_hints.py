@@ -2,18 +2,22 @@
 
 from __future__ import annotations
 
+import os
+import re
 import shlex
 from collections.abc import Iterator, Sequence
 from typing import Optional
 
 from elfmap._link_words import UNDEFINED_NAME, Linked
 from elfmap._names import machine_words, relocation_types, section_type
-from elfmap._words import SECTION, Words
+from elfmap._words import SECTION, Words, one_line
 
 TOO_SHORT, WRONG_MAGIC, WRONG_CLASS, NOT_NULL, NOT_RELOCATABLE = 2, 3, 4, 13, 70
 _OF_SECTION_TABLE = (12, NOT_NULL, 15)
 _KEPT_LINK, _KEPT_INFO, NO_RULE = 78, 79, 12
 _ADDRSIG = "LLVM_ADDRSIG"
+# What has another meaning within $'..'.
+_QUOTED = re.compile(rb"[\\']")
 # What other files begin with.
 _MAGICS = {
     b"!<arch>\n": "it is an archive: elfmap-lint checks its members",
@@ -86,8 +90,16 @@ def _fields_that_are_set(words: Words) -> int:
 def _address_significance(words: Words, path: str, at: int) -> Iterator[str]:
     index = (at - words.table) // 64
     if section_type(words.section(index, "sh_type")) == _ADDRSIG or words.section_name(index) == ".llvm_addrsig":
-        strip = f"objcopy --remove-section=.llvm_addrsig {shlex.quote(path)}"
+        strip = f"objcopy --remove-section=.llvm_addrsig {_shell_word(os.fsencode(path))}"
         yield f"clang wrote .llvm_addrsig: compile with -fno-addrsig, or strip it: {strip}"
+
+
+def _shell_word(path: bytes) -> str:
+    """A path as a word of a command for bash, zsh or ksh, in letters that can be printed."""
+    if one_line(path) == path:
+        return shlex.quote(os.fsdecode(path))
+    quoted = _QUOTED.sub(rb"\\\g<0>", path)
+    return f"$'{one_line(quoted).decode()}'"
 
 
 def link_hints(files: Sequence[Linked], rule: int, file: int, index: int, entry: int) -> Iterator[str]:

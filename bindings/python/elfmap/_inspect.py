@@ -10,7 +10,8 @@ from elfmap._archives import Content, Contents, is_archive, members, printed
 from elfmap._checks import TOO_LONG_AS_OBJECT, Checks, Fault
 from elfmap._findings import Finding, Report, Rule, Unread
 from elfmap._link_words import Linked, explain_alone
-from elfmap._sources import Source, Unreadable, opened
+from elfmap._sources import Source, Unreadable, opened, standard_input
+from elfmap._walk import Named, reason_of_foreign
 from elfmap._words import MOST_LETTERS, Words, explain
 
 _MAGIC = b"\x7fELF"
@@ -23,7 +24,7 @@ _TOO_LONG = (
 
 class Depth(NamedTuple):
     """How much of a file is checked, and what is reported: of each name in a sentence at most so many letters,
-    and of sections also their names by themselves.
+    and of sections also their names by themselves. Whether a file that is named may be no ELF file.
     """
 
     tables: bool = False
@@ -33,6 +34,7 @@ class Depth(NamedTuple):
     follows_thin: bool = False
     most_letters: int = MOST_LETTERS
     names_sections: bool = True
+    skips_named: bool = True
 
 
 class Inspector:
@@ -48,14 +50,14 @@ class Inspector:
         self._report = Report()
         for path in paths:
             with self._guarded(path), opened(path) as source:
-                self._file(path, source)
+                self._file(path, source, isinstance(path, Named))
         return self._report
 
-    def source(self, path: bytes, source: Source) -> Report:
-        """What is open already, as standard input."""
+    def standard_input(self, path: bytes) -> Report:
+        """What standard input has, under this path."""
         self._report = Report()
         with self._guarded(path):
-            self._file(path, source)
+            self._file(path, standard_input(), True)
         return self._report
 
     @contextmanager
@@ -68,8 +70,10 @@ class Inspector:
         except MemoryError:
             self._report.unreadable.append(Unread(path, "there is no memory for it"))
 
-    def _file(self, path: bytes, source: Source) -> None:
+    def _file(self, path: bytes, source: Source, is_named: bool) -> None:
         if not is_archive(source):
+            if is_named and not self._depth.skips_named and source[:4] != _MAGIC:
+                raise Unreadable(reason_of_foreign(len(source)))
             self._image(Content(path, path, source))
             return
         for member in members(source, path):

@@ -7,6 +7,7 @@ instead, and is of a rule that needs no other file.
 
 from __future__ import annotations
 
+import os
 import struct
 from collections.abc import Iterator, Sequence
 from functools import cached_property
@@ -15,7 +16,7 @@ from typing import Optional
 
 from elfmap._names import machine_words
 from elfmap._rules import LINK_RULES
-from elfmap._words import NULL, RELA, SECTION, SYMTAB, Told, Words, entry_words, reason
+from elfmap._words import LONGEST_NAME, NULL, RELA, SECTION, SYMTAB, Told, Words, entry_words, printable, reason
 
 _GLOBAL, _UNDEFINED, _COMMON = 1, 0, 0xFFF2
 _HEADER_SIZE, _SYMBOL_SIZE = 64, 24
@@ -24,16 +25,18 @@ _SYMBOLS_AT_ONCE, _BYTES_AT_ONCE = 1 << 14, 1 << 20
 _MOST_OFFSETS = 1 << 20
 # The rules by what their positions are of.
 _OF_OPTIONS, _OF_SECTIONS = (1, 10, 11), (3, 4, 5)
-_MISMATCH, _EMPTY_SIGNATURE, _BAD_COMMON, _TWO_DEFINITIONS, UNDEFINED_NAME = 2, 5, 7, 8, 9
+_MISMATCH, _EMPTY_SIGNATURE, _BAD_COMMON, _TWO_DEFINITIONS, UNDEFINED_NAME, NO_ENTRY = 2, 5, 7, 8, 9, 10
+_OF_SYMBOLS, _OF_RELOCATIONS = range(6, 10), range(12, 17)
 # The rules that a file keeps or breaks whatever the options and the other files are.
 OF_ONE_FILE = range(3, 8)
 
 
 class Linked:
-    """A file of a link: its path, its bytes in words, and what is looked up in it."""
+    """A file of a link: its path as it is and as it is printed, its bytes in words, and what is looked up in it."""
 
     def __init__(self, path: str, words: Words) -> None:
-        self.path = path
+        self.file = os.fsencode(path)
+        self.path = printable(self.file)
         self.words = words
 
     @cached_property
@@ -76,9 +79,9 @@ class Linked:
         index = (at - start) // size
         return index if 0 <= index < count else count
 
-    def raw_name(self, position: int) -> bytes:
-        """The name of the symbol at a position."""
-        return self.words.name(self._strings, self.words.symbol(self.symbols, position + 1, "st_name"))
+    def raw_name(self, position: int, most: int = LONGEST_NAME) -> bytes:
+        """The name of the symbol at a position, or so many bytes of it."""
+        return self.words.name(self._strings, self.words.symbol(self.symbols, position + 1, "st_name"), most)
 
     def first_definition(self, name: bytes) -> Optional[int]:
         """The first symbol that is a global definition of a name."""
@@ -154,6 +157,16 @@ class Linked:
         index, at = self.section(position), self.relocation(position, entry)
         own = entry_words(self.words, index, at) if at >= 0 else f"relocation {entry}, which isn't there"
         return f"{self.path}, {self.words.section_words(index)}: {own}"
+
+
+def refused_symbol(data: bytes, rule: int, index: int, entry: int) -> Optional[bytes]:
+    """The whole name of the symbol of a file that a rule of the link is about; None if there is none."""
+    file = Linked("", Words(data))
+    if rule in _OF_SYMBOLS:
+        return file.raw_name(index, len(data))
+    at = file.relocation(index, entry) if rule in _OF_RELOCATIONS else -1
+    symbol = file.words.number(at + 8, 8) >> 32 if at >= 0 else 0
+    return file.raw_name(symbol - 1, len(data)) if symbol else None
 
 
 def explain_alone(file: Linked, rule: int, at: int) -> Told:

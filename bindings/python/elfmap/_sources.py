@@ -107,7 +107,10 @@ def opened(path: bytes) -> Iterator[Source]:
 
 def standard_input() -> Source:
     """What standard input has: a file as it is, anything else once it is read into memory."""
-    found = os.fstat(0)
+    try:
+        found = os.fstat(0)
+    except OSError:
+        raise Unreadable("standard input is closed") from None
     if stat.S_ISREG(found.st_mode):
         start = os.lseek(0, 0, os.SEEK_CUR)
         return Source(0, start, max(found.st_size - start, 0))
@@ -118,7 +121,10 @@ def whole(reader: int) -> Source:
     """All that can be read from an open file, in memory."""
     handle, size = os.memfd_create("what was read"), 0
     while size < LONGEST:
-        content = os.read(reader, min(1 << 20, LONGEST - size))
+        try:
+            content = os.read(reader, min(1 << 20, LONGEST - size))
+        except OSError as fault:
+            raise Unreadable(reason_of(fault)) from None
         if not content:
             break
         size += os.pwrite(handle, content, size)

@@ -15,9 +15,18 @@ _LEAST = 4
 Identity = tuple[int, int]
 
 
+class Named(bytes):
+    """The path of a file that the user named, and that was not only found in a folder."""
+
+
 class Found(NamedTuple):
     path: bytes
     size: int
+
+
+def reason_of_foreign(size: int) -> str:
+    """Why a file of so many bytes, which does not begin as an ELF file or an archive, is not checked."""
+    return "it is neither an ELF file nor an archive; --skip skips it" if size else "it is empty; --skip skips it"
 
 
 class Walk:
@@ -25,11 +34,13 @@ class Walk:
 
     A symbolic link that is named is followed, one in a folder is not. Of hard links the
     path that sorts first is used. Only hard links, and what is named, are remembered: a
-    folder may have any number of files.
+    folder may have any number of files. A file that is named has a path of type Named.
+    Unless those are skipped, one that is too short for an ELF file is unreadable.
     """
 
-    def __init__(self, names: Iterable[bytes], excluded: Globs, report: Report) -> None:
+    def __init__(self, names: Iterable[bytes], excluded: Globs, report: Report, skips_named: bool = True) -> None:
         self._names = names
+        self._skips_named = skips_named
         self._excluded = excluded
         self._report = report
         self._once: dict[Identity, Found] = {}
@@ -66,8 +77,10 @@ class Walk:
     def _root(self, name: bytes, found: os.stat_result) -> None:
         if not stat.S_ISREG(found.st_mode):
             self._report.unreadable.append(Unread(name, "it is no regular file"))
-        elif found.st_size < _LEAST:
+        elif found.st_size < _LEAST and self._skips_named:
             self._report.no_elf += 1
+        elif found.st_size < _LEAST:
+            self._report.unreadable.append(Unread(name, reason_of_foreign(found.st_size)))
         else:
             self._named.add(_identity(found))
             self._remember(name, found)
@@ -104,8 +117,10 @@ class Walk:
             yield Found(entry.path, found.st_size)
 
     def _remember(self, path: bytes, found: os.stat_result) -> None:
-        file = Found(path, found.st_size)
-        self._once[_identity(found)] = min(file, self._once.get(_identity(found), file))
+        key, file = _identity(found), Found(path, found.st_size)
+        first = min(file, self._once.get(key, file))
+        # It is a named one also by another path, which only a folder has.
+        self._once[key] = Found(Named(first.path), first.size) if key in self._named else first
 
     def _unreadable(self, path: bytes, fault: Exception) -> None:
         reason = reason_of(fault) if isinstance(fault, OSError) else str(fault)

@@ -9,6 +9,7 @@ from __future__ import annotations
 import bisect
 import ctypes
 import itertools
+import re
 import struct
 from collections.abc import Iterable, Iterator
 from functools import cached_property
@@ -76,6 +77,8 @@ _HEADERS_AT_ONCE = 1024
 # So many letters of a name are in a sentence of a text, and so many bytes of it in JSON: names may share bytes, so that a short file has
 # many long ones. A letter has at most so many bytes.
 MOST_LETTERS, LONGEST_NAME, LONGEST_LETTER = 200, 4096, 4
+# What is escaped in a path: no byte of a letter of ASCII that can be printed.
+_ESCAPED_BYTE = re.compile(rb"\\x([01][0-9a-f]|7f|[89a-f][0-9a-f])")
 # Notes have no index: more than these are not counted.
 _MOST_NOTES = 100_000
 
@@ -279,6 +282,23 @@ def _escape(letter: str) -> str:
     # As the decoder writes a byte that is no UTF-8.
     is_byte = 0xDC80 <= ord(letter) <= 0xDCFF
     return f"\\x{ord(letter) & 0xFF:02x}" if is_byte else ascii(letter)[1:-1]
+
+
+def one_line(path: bytes) -> bytes:
+    """A path in letters that can be printed. Of any other letter, and of what is no UTF-8, each byte is escaped as `\\xNN`."""
+    letters = path.decode("utf-8", "surrogateescape")
+    return path if letters.isprintable() else "".join(map(_in_bytes, letters)).encode("utf-8")
+
+
+def original_path(line: bytes) -> bytes:
+    """The path that `one_line` makes this of."""
+    return _ESCAPED_BYTE.sub(lambda it: bytes([int(it[1], 16)]), line)
+
+
+def _in_bytes(letter: str) -> str:
+    if letter.isprintable():
+        return letter
+    return "".join(f"\\x{it:02x}" for it in letter.encode("utf-8", "surrogateescape"))
 
 
 def entry_words(file: Words, index: int, at: int) -> str:

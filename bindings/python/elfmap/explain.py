@@ -6,7 +6,7 @@
     elfmap-explain FILE...             what the rules of images, tables and objects say of them
 
 Lines are read from a pipe, a socket or a file; from a terminal or another device only if
-`-` is in place of LINE, or if there is no FILE. Other lines are passed over. If no line is
+`-` is among the FILEs, or if there is no FILE. Other lines are passed over. If no line is
 a refusal or a finding, the FILEs are checked here, and the output begins with that.
 
 The status is 0, 2 for a usage error, and 3 if a file can't be read. The other lines are
@@ -25,7 +25,6 @@ Nothing in a FILE has to be sound: what is not there is left unsaid.
 
 from __future__ import annotations
 
-import argparse
 import json
 import os
 import re
@@ -38,13 +37,13 @@ from typing import BinaryIO, NamedTuple, Optional
 from elfmap import __version__
 from elfmap._archives import Content, Contents, Member, is_archive, members, printed
 from elfmap._checks import Checks
-from elfmap._commands import USAGE, UNREADABLE, complain, run_script
+from elfmap._commands import USAGE, UNREADABLE, Parser, complain, is_open, run_script
 from elfmap._findings import Rule
 from elfmap._hints import hints, link_hints
 from elfmap._link_words import OF_ONE_FILE, Linked, link_words
 from elfmap._rules import LINK_RULES, RULES
 from elfmap._sources import Source, Unreadable, opened, reason_of, whole
-from elfmap._words import MOST_OWNERS, Words, found_at, printable
+from elfmap._words import MOST_OWNERS, Words, found_at, one_line, original_path, printable
 
 PROGRAM = "elfmap-explain"
 WIDTH = 130
@@ -53,7 +52,6 @@ _FINDING = re.compile(
     rb"(?P<path>.*?): offset 0x(?P<offset>[0-9a-f]{1,16}): (?P<name>[A-Z_0-9]+) \((?P<link>link )?(?P<rule>\d{1,3})\): ", re.S
 )
 _LINK_RULE = re.compile(r"link-([0-9]{1,3})")
-_CONTROL = re.compile(rb"\\x([01][0-9a-f]|7f)")
 _FIRST_WORD, _WORD = re.compile(r"file|refused"), re.compile(r"refused|\d+")
 # So many files are held open.
 _MOST_OPEN = 16
@@ -103,8 +101,8 @@ class Files:
         stack.close()
 
     def _content(self, path: bytes, stack: ExitStack) -> Content:
-        # In text the control characters of a path are escaped.
-        for own in dict.fromkeys((path, _CONTROL.sub(lambda it: bytes([int(it[1], 16)]), path))):
+        # In text what can't be printed of a path is escaped.
+        for own in dict.fromkeys((path, original_path(path))):
             if os.path.lexists(own):
                 return Content(path, own, stack.enter_context(opened(own)))
             archive = _archive_of(own)
@@ -163,7 +161,7 @@ class Explainer:
 
     @property
     def paths(self) -> list[str]:
-        return [printable(os.fsencode(it.path)) for it in self._named]
+        return [it.path for it in self._named]
 
     def tell(self, lines: Iterable[bytes], out: BinaryIO, head: str = "") -> None:
         """Writes the words for each of the lines, and an empty line between them."""
@@ -204,7 +202,7 @@ class Explainer:
                 faults = checks[file.words.number(16, 2) == _RELOCATABLE].faults(source)
             except Unreadable as fault:
                 self.lost = True
-                complain(PROGRAM, f"{file.path}: {fault.reason}".encode("utf-8", "surrogateescape"))
+                complain(PROGRAM, one_line(file.file) + f": {fault.reason}".encode())
                 continue
             # A rule of the link is no reason against the file.
             for it in (it for it in faults if not it.is_of_link):
@@ -220,7 +218,7 @@ class Explainer:
             yield f"there is no file {position}"
             return
         file = self._named[position]
-        yield from self._of_file(file.path, file.words, os.fsencode(file.path), rule, at, table[0] if table else None)
+        yield from self._of_file(file.path, file.words, file.file, rule, at, table[0] if table else None)
 
     def _finding(self, it: Finding) -> Iterator[str]:
         try:
@@ -239,7 +237,6 @@ class Explainer:
             yield _TOO_LONG if rule == 0 else f"there is no rule {rule}"
             return
         name, sentence, advice = RULES[rule]
-        kind = "image" if rule < 40 else "table" if rule < 70 else "object"
         yield f"{name}: {sentence}"
         if table is not None:
             yield f"the table in {words.typed_words(table)}"
@@ -247,7 +244,7 @@ class Explainer:
         more = [f"{len(places) - MOST_OWNERS} more sections"] if len(places) > MOST_OWNERS else []
         yield from (f"{path}, offset {at} ({at:#x}): {it}" for it in places[:MOST_OWNERS] + more)
         yield from (f"likely cause: {it}" for it in hints(words, os.fsdecode(file), rule, at))
-        yield from (f"what to do: {advice}", f"docs/RULES.md#{kind}-{rule}")
+        yield from (f"what to do: {advice}", Rule(False, rule).place)
 
     def _of_link(self, rule: int, file: int, index: int, entry: int) -> Iterator[str]:
         if rule not in LINK_RULES:
@@ -269,7 +266,7 @@ def _link_lines(rule: int, place: str, causes: Iterable[str]) -> Iterator[str]:
     name, sentence, advice = LINK_RULES[rule]
     yield from (f"{name}: {sentence}", place)
     yield from (f"likely cause: {it}" for it in causes)
-    yield from (f"what to do: {advice}", f"docs/RULES.md#link-{rule}")
+    yield from (f"what to do: {advice}", Rule(True, rule).place)
 
 
 def finding_in(line: bytes) -> Optional[Finding]:
@@ -304,10 +301,9 @@ def named_file(path: str, stack: ExitStack) -> Linked:
     try:
         is_regular = stat.S_ISREG(os.stat(path).st_mode)
         source = stack.enter_context(opened(os.fsencode(path))) if is_regular else _read_whole(path, stack)
-    except (OSError, ValueError) as fault:
-        raise Unreadable(f"{path}: {reason_of(fault) if isinstance(fault, OSError) else fault}") from None
-    except Unreadable as fault:
-        raise Unreadable(f"{path}: {fault.reason}") from None
+    except (OSError, ValueError, Unreadable) as fault:
+        reason = reason_of(fault) if isinstance(fault, OSError) else str(fault)
+        raise Unreadable(f"{one_line(os.fsencode(path)).decode()}: {reason}") from None
     return Linked(path, Words(source))
 
 
@@ -321,10 +317,7 @@ def _read_whole(path: str, stack: ExitStack) -> Source:
 
 def input_mode() -> int:
     """What standard input is; 0 where it is closed."""
-    try:
-        return os.fstat(0).st_mode
-    except OSError:
-        return 0
+    return os.fstat(0).st_mode if is_open(0) else 0
 
 
 def is_sent(mode: int) -> bool:
@@ -345,8 +338,8 @@ def records(end: bytes) -> Iterator[bytes]:
         rest = rest if len(rest) <= _LONGEST_RECORD else b""
 
 
-def _parser() -> argparse.ArgumentParser:
-    parser = argparse.ArgumentParser(
+def _parser() -> Parser:
+    parser = Parser(
         prog=PROGRAM,
         description="Explains in words why elfmap refuses a file. Lines come from standard input: what elfmap printed of FILE..., "
         "or findings of elfmap-lint (text or jsonl), which name their files. If no line is a refusal, each FILE is checked here.",
@@ -358,7 +351,7 @@ def _parser() -> argparse.ArgumentParser:
         "words",
         metavar="[LINE] FILE",
         nargs="*",
-        help="one line of elfmap, as words, or - for lines of standard input, also where that is a terminal; then the files",
+        help="one line of elfmap, as words, and then the files; with - among files, lines of standard input are read also from a terminal",
     )
     return parser
 
@@ -371,14 +364,14 @@ def _line_of(words: list[str]) -> int:
 
 def main(words: Optional[Sequence[str]] = None) -> int:
     """Runs the program, and returns its status."""
-    options = _parser().parse_args(words)
+    options = _parser().in_any_order(words, "words")
     count = _line_of(options.words)
     paths, line = options.words[count:], " ".join(options.words[:count]).encode()
     if count and not (paths and _REFUSAL.match(line)):
         complain(PROGRAM, b"`%s` is no line of elfmap; see --help" % line if paths else b"FILE is missing; see --help")
         return USAGE
-    is_asked = not count and paths[:1] == ["-"]
-    paths = paths[1:] if is_asked else paths
+    is_asked = not count and "-" in paths
+    paths = [it for it in paths if it != "-"] if is_asked else paths
     # Where standard input is closed, the first FILE that is opened gets its number.
     mode = input_mode()
     is_read = not count and (is_asked or not paths or is_sent(mode))

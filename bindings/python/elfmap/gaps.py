@@ -10,7 +10,6 @@ can't be read or is refused. The other files are read all the same.
 
 from __future__ import annotations
 
-import argparse
 import heapq
 import os
 from collections.abc import Iterator, Sequence
@@ -18,14 +17,14 @@ from typing import NamedTuple, Optional
 
 from elfmap import __version__, _library
 from elfmap._archives import Content
-from elfmap._commands import DONE, UNREADABLE, USAGE, complain, run_script
+from elfmap._commands import DONE, UNREADABLE, USAGE, Parser, complain, run_script
 from elfmap._findings import Globs, Report
-from elfmap._formats import counted, one_line
+from elfmap._formats import counted
 from elfmap._inspect import Depth, Inspector
 from elfmap._rules import RULES
 from elfmap._sources import Source, Unreadable
 from elfmap._walk import Walk
-from elfmap._words import Words
+from elfmap._words import Words, one_line
 
 PROGRAM = "elfmap-gaps"
 _MOST = 20
@@ -88,15 +87,15 @@ def _blocks(source: Source, start: int, length: int) -> Iterator[bytes]:
         yield source[at : min(at + _STEP, start + length)]
 
 
-def _parser() -> argparse.ArgumentParser:
-    parser = argparse.ArgumentParser(
+def _parser() -> Parser:
+    parser = Parser(
         prog=PROGRAM,
         description="Lists the longest gaps of ELF-64 files: bytes that are in no header, no table and no section.",
         epilog="Status: 0 done, 2 usage, 3 something can't be read or is refused.",
     )
     add = parser.add_argument
     add("--version", action="version", version=f"%(prog)s {__version__}")
-    add("paths", metavar="PATH", nargs="+", help="a file, a directory, or an archive")
+    add("paths", metavar="PATH", nargs="*", help="a file, a directory, or an archive")
     add("--exclude", metavar="GLOB", action="append", default=[], help="skip files and directories of such names")
     add("--most", metavar="N", type=int, default=_MOST, help=f"print N gaps (default: {_MOST})")
     return parser
@@ -111,9 +110,9 @@ def _summary(finder: Finder, report: Report) -> str:
 
 def main(words: Optional[Sequence[str]] = None) -> int:
     """Runs the program, and returns its status."""
-    options = _parser().parse_args(words)
-    if options.most < 0:
-        complain(PROGRAM, b"--most needs a number from 0 on")
+    options = _parser().in_any_order(words, "paths")
+    if options.most < 0 or not options.paths:
+        complain(PROGRAM, b"--most needs a number from 0 on" if options.paths else b"PATH is missing; see --help")
         return USAGE
     finder, report = Finder(options.most), Report()
     for found in Walk([os.fsencode(it) for it in options.paths], Globs(options.exclude), report):

@@ -3,8 +3,8 @@
     elfmap-lint [OPTIONS] PATH...
 
 Prints a line for each finding, and a summary. The status is 0 if nothing is found, 1 if
-something is, 2 for a usage error, and 3 if a file can't be read. The other files are
-checked all the same.
+something is, 2 for a usage error, and 3 if a file can't be read, or if a file that is named
+is no ELF file. The other files are checked all the same.
 """
 
 from __future__ import annotations
@@ -21,12 +21,12 @@ from itertools import chain
 from typing import Any, BinaryIO, Optional
 
 from elfmap import __version__, _library
-from elfmap._commands import DONE, FOUND, UNREADABLE, USAGE, complain, failure, run_script
+from elfmap._commands import DONE, FOUND, UNREADABLE, USAGE, Parser, complain, failure, run_script
 from elfmap._findings import BadWord, Baseline, Globs, Ignored, Report, Unread, baseline_text
 from elfmap._inspect import Depth, Inspector
-from elfmap._sources import reason_of, standard_input
+from elfmap._sources import reason_of
 from elfmap._walk import Walk, chunks
-from elfmap._words import LONGEST_NAME, MOST_LETTERS
+from elfmap._words import LONGEST_NAME, MOST_LETTERS, one_line
 from elfmap._workers import Pool, Work
 
 PROGRAM = "elfmap-lint"
@@ -37,11 +37,11 @@ _MOST_FILES, _MOST_BYTES = 64, 16 << 20
 _STANDARD_INPUT = b"-"
 
 
-def _parser() -> argparse.ArgumentParser:
-    parser = argparse.ArgumentParser(
+def _parser() -> Parser:
+    parser = Parser(
         prog=PROGRAM,
         description="Checks all ELF-64 files of files, directories and .a archives.",
-        epilog="Status: 0 clean, 1 findings, 2 usage, 3 something can't be read.",
+        epilog="Status: 0 clean, 1 findings, 2 usage, 3 something can't be read, or a PATH is no ELF file.",
     )
     add = parser.add_argument
     add("--version", action="version", version=f"%(prog)s {__version__}")
@@ -55,6 +55,7 @@ def _parser() -> argparse.ArgumentParser:
         help="skip files and directories of such names; with a / GLOB is of the whole path",
     )
     add("--follow-thin", action="store_true", help="read the members of a thin archive also outside of its directory")
+    add("--skip", action="store_true", help="skip a PATH that is empty or no ELF file too, as files of directories are skipped")
     add("--class32", choices=("skip", "fail"), default="skip", help="skip files of class 32, or report them (default: skip)")
     add("--tables", action="store_true", help="check the tables too: symbols, relocations, groups, notes, dynamic arrays, hash tables")
     add("--object", action="store_true", help="check what `elfmap rewrite` and `link` need of an object by itself")
@@ -139,9 +140,9 @@ class Run:
         _library.library()
         names = [os.fsencode(it) for it in self._options.paths]
         if _STANDARD_INPUT in names:
-            self._add(self._tools().source(_STANDARD_INPUT, standard_input()))
+            self._add(self._tools().standard_input(_STANDARD_INPUT))
         named = (it for it in names if it != _STANDARD_INPUT)
-        walk = Walk([*named, *self._listed()], self._excluded, self.report)
+        walk = Walk([*named, *self._listed()], self._excluded, self.report, self._options.skip)
         self._check_all(chunks(walk, _MOST_FILES, _MOST_BYTES))
         self._progress.end()
         self.report.sort()
@@ -164,7 +165,7 @@ class Run:
         letters = LONGEST_NAME if format in _OF_JSON else MOST_LETTERS
         # A baseline has them too.
         names_sections = format in _OF_JSON or bool(it.baseline or it.write_baseline)
-        depth = Depth(it.tables, it.object, it.class32 == "fail", format == "junit", it.follow_thin, letters, names_sections)
+        depth = Depth(it.tables, it.object, it.class32 == "fail", format == "junit", it.follow_thin, letters, names_sections, it.skip)
         return Inspector(depth)
 
     def _work(self) -> Work:
@@ -205,7 +206,7 @@ class Run:
         from elfmap import _formats
 
         for lost in self.report.unreadable:
-            complain(PROGRAM, _formats.one_line(lost.path) + b": " + lost.reason.encode())
+            complain(PROGRAM, one_line(lost.path) + b": " + lost.reason.encode())
         end = b"\0" if self._options.zero else b"\n"
         with Output(self._options.output) as it:
             for part in _formats.FORMATS[self._options.format](self.report, end):
@@ -257,7 +258,7 @@ class Output:
 
 def main(words: Optional[Sequence[str]] = None) -> int:
     """Runs the program, and returns its status."""
-    options = _parser().parse_args(words)
+    options = _parser().in_any_order(words, "paths")
     try:
         run = Run(options)
     except BadWord as fault:

@@ -15,7 +15,6 @@ The lines come from the library, or from the program that ELFMAP names.
 
 from __future__ import annotations
 
-import argparse
 import os
 import subprocess
 import sys
@@ -25,9 +24,10 @@ from xml.sax.saxutils import escape
 
 import elfmap
 from elfmap import __version__
-from elfmap._commands import FOUND, UNREADABLE, complain, run_script
+from elfmap._commands import FOUND, UNREADABLE, Parser, complain, run_script
 from elfmap._names import MACHINES
 from elfmap._sources import LONGEST, Unreadable, opened
+from elfmap._words import one_line, printable
 
 PROGRAM = "elfmap-picture"
 MOST, LARGEST = 300, 150
@@ -258,8 +258,15 @@ def shown(path: str) -> bytes:
     return elfmap.show(content).encode("ascii")
 
 
-def _parser() -> argparse.ArgumentParser:
-    parser = argparse.ArgumentParser(
+def piped() -> bytes:
+    """The lines of `elfmap show` on standard input."""
+    if sys.stdin is None:
+        raise Unreadable("it is closed")
+    return sys.stdin.buffer.read()
+
+
+def _parser() -> Parser:
+    parser = Parser(
         prog=PROGRAM,
         description="Writes a picture of the bytes of an ELF-64 file, as SVG, to standard output.",
         epilog="Status: 0 drawn, 1 elfmap refuses the file, 2 usage, 3 it can't be read.",
@@ -274,16 +281,17 @@ def main(words: Optional[Sequence[str]] = None) -> int:
     """Runs the program, and returns its status."""
     options = _parser().parse_args(words)
     file, is_piped = options.file, options.file == "-"
-    title = " ".join(options.title) or ("standard input" if is_piped else os.path.basename(file))
+    own = b"standard input" if is_piped else os.fsencode(file)
+    title = printable(os.fsencode(" ".join(options.title)) or os.path.basename(own))
     try:
-        lines = sys.stdin.buffer.read() if is_piped else shown(file)
+        lines = piped() if is_piped else shown(file)
         drawn = picture(title, *read(lines.decode("ascii").splitlines()))
     except Unreadable as fault:
-        complain(PROGRAM, os.fsencode(f"{file}: {fault.reason}"))
+        complain(PROGRAM, one_line(own) + f": {fault.reason}".encode())
         return UNREADABLE
     except (ValueError, LookupError) as fault:
         words_of = str(fault) if isinstance(fault, NoLines) else "these are no lines of `elfmap show`"
-        complain(PROGRAM, os.fsencode(f"{file}: {words_of}"))
+        complain(PROGRAM, one_line(own) + f": {words_of}".encode("utf-8", "backslashreplace"))
         return FOUND
     with open(1, "wb", closefd=False) as out:
         out.write(drawn.encode("utf-8", "backslashreplace"))

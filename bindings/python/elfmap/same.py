@@ -22,12 +22,11 @@ from typing import NamedTuple, Optional, TextIO
 import elfmap
 from elfmap import __version__, _library
 from elfmap._archives import Content, Contents, Member, is_archive, members
-from elfmap._commands import DONE, FOUND, UNREADABLE, USAGE, complain, run_script
+from elfmap._commands import DONE, FOUND, UNREADABLE, USAGE, Parser, complain, run_script
 from elfmap._differences import Sides, image_differences, object_differences
-from elfmap._formats import one_line
 from elfmap._rules import RULES
 from elfmap._sources import LONGEST, Source, Unreadable, opened, reason_of
-from elfmap._words import Words, explain, printable
+from elfmap._words import Words, explain, one_line, printable
 
 PROGRAM = "elfmap-same"
 _MAGIC, _RELOCATABLE, _CLASS_32 = b"\x7fELF", 1, 1
@@ -320,8 +319,8 @@ def member_name(archive: bytes, key: tuple[bytes, int]) -> bytes:
     return b"%s(%s)" % (archive, name) + (b" number %d" % (position + 1) if position else b"")
 
 
-def _parser() -> argparse.ArgumentParser:
-    parser = argparse.ArgumentParser(
+def _parser() -> Parser:
+    parser = Parser(
         prog=PROGRAM,
         description="Compares two objects, archives of objects, or directories, and prints what differs, by name.",
         epilog="Status: 0 the same, 1 different, 2 usage, 3 something can't be read or is refused.",

@@ -98,7 +98,7 @@ class GapsTest(FolderCase):
 
     def test_names_of_any_bytes(self):
         Path(os.fsdecode(b"\xff\n.o")).write_bytes(GAPPED)
-        self.assertEqual(self.gaps(".")[1][0], f"37 ./\udcff\\x0a.o: {LONG}")
+        self.assertEqual(self.gaps(".")[1][0], f"37 ./\\xff\\x0a.o: {LONG}")
 
     def test_a_closed_pipe_ends_it_silently(self):
         self.put(good__o=GOOD)

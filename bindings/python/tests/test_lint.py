@@ -90,7 +90,7 @@ class Case(FolderCase):
                 self.assert_sarif_result(it, rules)
 
     def assert_sarif_result(self, it, rules):
-        self.assertLessEqual(set(it), {"ruleId", "ruleIndex", "level", "message", "locations"})
+        self.assertLessEqual(set(it), {"ruleId", "ruleIndex", "level", "message", "locations", "partialFingerprints"})
         self.assertEqual(rules[it["ruleIndex"]], it["ruleId"])
         self.assertIn(it["level"], ("none", "note", "warning", "error"))
         self.assertTrue(it["message"]["text"])
@@ -408,7 +408,7 @@ class FormatTest(Case):
         records = self.lint("-0", "a")[1].split(b"\0")
         self.assertEqual(len(records), 4)
         self.assertEqual(records[0], b"a/b\n\xff: " + SHARED)
-        self.assertEqual(self.lint("a")[1].splitlines()[0], b"a/b\\x0a\xff: " + SHARED)
+        self.assertEqual(self.lint("a")[1].splitlines()[0], b"a/b\\x0a\\xff: " + SHARED)
 
     def test_jsonl(self):
         lines = [json.loads(it) for it in self.told("--format", "jsonl", "a", "none")]
@@ -439,6 +439,52 @@ class FormatTest(Case):
         self.assertEqual(places[1]["region"]["byteOffset"], GNU.index(SHARING) + 0x72)
         self.assertFalse(run["invocations"][0]["executionSuccessful"])
         self.assertIn("none: no such file", run["invocations"][0]["toolExecutionNotifications"][0]["message"]["text"])
+
+    def test_sarif_of_the_tool(self):
+        """Its version, and of each rule where it is described (3.19.13, 3.49.13)."""
+        self.put(**{"a/thread__o": bytes(Made((b".tdata", 1, bytes(4), dict(flags=0x403))).data), "a/tables__o": BROKEN_SYMBOLS})
+        driver = json.loads(self.lint("--tables", "--object", "--format", "sarif", "a")[1])["runs"][0]["tool"]["driver"]
+        self.assertEqual(driver["version"], (build.REPOSITORY / "VERSION").read_text().splitlines()[0])
+        places = {it["id"]: it["help"]["text"].rpartition("; see ")[2] for it in driver["rules"]}
+        self.assertEqual(
+            places,
+            {
+                "SHARED_BYTE": "docs/RULES.md#image-33",
+                "WRONG_SYMBOL_SECTION": "docs/RULES.md#table-51",
+                "TLS": "docs/RULES.md#link-3",
+            },
+        )
+        pages = (build.REPOSITORY / "docs/RULES.md").read_text(encoding="utf-8")
+        for rule, is_of_link in [*((it, False) for it in _rules.RULES), *((it, True) for it in _rules.LINK_RULES)]:
+            _, _, anchor = _findings.Rule(is_of_link, rule).place.partition("#")
+            self.assertIn(f'<a id="{anchor}">', pages)
+
+    def fingerprints(self, *words):
+        results = json.loads(self.lint("--tables", "--format", "sarif", *words)[1])["runs"][0]["results"]
+        return [it["partialFingerprints"]["elfmapFinding/v1"] for it in results]
+
+    def test_sarif_of_a_file_that_is_built_again(self):
+        """A result is known by its fingerprint (3.27.17): at another offset it is the same one, and no two of a log are."""
+        before = self.fingerprints("a")
+        moved = Made(text(content=bytes(0x35)), (b".data", 1, bytes(4), {})).with_field(2, "offset", 0x74)
+        self.put(**{"a/bad__o": moved})
+        self.assertEqual(self.fingerprints("a"), before)
+        self.assertEqual(len({*before}), 2)
+        # Another path, another section, and another rule.
+        others = [("b/bad__o", moved), ("a/bad__o", SHARING.replace(b".data", b".dato")), ("a/bad__o", GOOD[:63])]
+        for path, content in others:
+            self.put(**{path: content})
+            self.assertEqual({*self.fingerprints(path.replace("__", "."))} & {*before}, set())
+        rows = [relocations(2, 9), relocations(2, 9)]
+        self.put(twice__o=bytes(Made(text(), symbols(3, (1, 0x10, 1)), (b".strtab", 3, b"\0f\0", {}), *rows).data))
+        found = self.fingerprints("twice.o")
+        self.assertEqual((len(found), len({*found})), (2, 2))
+
+    def test_sarif_of_a_run(self):
+        """It is successful if each file was read, whatever was found (3.20.14)."""
+        for words, is_successful in ((["a/good.o"], True), (["a/bad.o"], True), (["a/bad.o", "none"], False), (["a/text"], False)):
+            run = json.loads(self.lint("--format", "sarif", *words)[1])["runs"][0]
+            self.assertEqual(run["invocations"][0]["executionSuccessful"], is_successful, words)
 
     def test_sarif_of_a_member(self):
         results = json.loads(self.lint("--format", "sarif", "a")[1])["runs"][0]["results"]
@@ -560,6 +606,49 @@ class OptionTest(Case):
         self.assertEqual(self.paths("--ignore", "22", "a"), ["a/b/bad.o", "a/bad.o"])
         for rule in ("34", "NO_RULE", "", "0", "²"):
             self.assertEqual(self.lint("--ignore", rule, "a")[0], 2)
+
+    def test_how_a_rule_to_ignore_is_written(self):
+        for word in ("033", "00033", "Shared_Byte", "sHARED-bYTE"):
+            self.assertEqual(self.paths("--ignore", word, "a"), [], word)
+        self.put(thread__o=bytes(Made((b".tdata", 1, bytes(4), dict(flags=0x403))).data))
+        for word in ("link-3", "LINK_3", "tls"):
+            self.assertEqual(self.lint("--object", "--ignore", word, "thread.o")[0], 0, word)
+        for word in ("33:", ":", ":a", "SHARED_BYTE:", "link-3:", "000", "-33"):
+            status, out, said = self.lint(f"--ignore={word}", "a")
+            self.assertEqual((status, out, said.count(b"\n")), (2, b"", 1), word)
+
+    def test_the_case_of_globs(self):
+        """It is that of names of files, in which it matters."""
+        self.assertEqual(self.paths("--exclude", "*.O", "--exclude", "A/*", "--ignore", "33:BAD.o", "a"), ["a/b/bad.o", "a/bad.o"])
+        self.assertEqual(self.paths("--exclude", "[A-Z]*.o", "a"), ["a/b/bad.o", "a/bad.o"])
+        self.put(**{"a/BAD__O": SHARING})
+        self.assertEqual(self.paths("--exclude", "*.O", "a"), ["a/b/bad.o", "a/bad.o"])
+
+    def test_a_named_file_that_is_no_elf_file(self):
+        """It is an error, and not skipped as one of a directory is, unless that is asked for."""
+        foreign, empty = b"it is neither an ELF file nor an archive; --skip skips it", b"it is empty; --skip skips it"
+        self.put(**{"a/text": b"no ELF file", "a/short": b"\x7fEL", "a/empty": b"", "names": b"a/text\0a/bad.o\0"})
+        skipped = b"0 findings in 0 of 0 ELF files; skipped: 1 not ELF\n"
+        for name, reason in (("text", foreign), ("short", foreign), ("empty", empty)):
+            lost = b"elfmap-lint: a/%s: %s\n" % (name.encode(), reason)
+            self.assertEqual(self.lint(f"a/{name}"), (3, b"0 findings in 0 of 0 ELF files; 1 unreadable\n", lost))
+            self.assertEqual(self.lint("--skip", f"a/{name}"), (0, skipped, b""))
+            # It is named, whatever directory has it too.
+            self.assertEqual(self.lint("a", f"a/{name}")[::2], (3, lost))
+            self.assertEqual(self.lint("-j3", f"a/{name}", "a")[::2], (3, lost))
+            self.assertEqual(self.lint("--exclude", name, f"a/{name}")[0], 0)
+            content = Path(f"a/{name}").read_bytes()
+            self.assertEqual(self.lint("-", stdin=content)[::2], (3, b"elfmap-lint: -: " + reason + b"\n"))
+            self.assertEqual(self.lint("--skip", "-", stdin=content), (0, skipped, b""))
+        self.assertEqual(
+            (self.lint("a")[0], self.lint("--files0-from", "names")[0], self.lint("--skip", "--files0-from", "names")[0]), (1, 3, 1)
+        )
+        # By one of its hard links, of which the first one is in a directory.
+        os.link("a/text", "z")
+        self.assertEqual(self.lint("a", "z")[::2], (3, b"elfmap-lint: a/text: " + foreign + b"\n"))
+        # What is in an archive is not named, and an ELF file of 32 bits is one.
+        self.put(lib__a=GNU)
+        self.assertEqual(self.lint("--ignore", "33", "lib.a", "a/b/narrow")[0], 0)
 
     def test_a_rule_is_ignored_where_one_of_its_globs_matches(self):
         self.put(**{"a/x:y__o": SHARING, "a/lib__a": GNU})
@@ -696,6 +785,9 @@ class StatusTest(Case):
             ([], 2),
             (["--none", "good.o"], 2),
             (["-j", "-1", "good.o"], 2),
+            (["-j-1", "good.o"], 2),
+            (["good.o", "-j-1"], 2),
+            (["--jobs", "good.o"], 2),
             (["-j", "x", "good.o"], 2),
             (["none"], 3),
             (["none", "good.o", "bad.o"], 3),
@@ -734,9 +826,10 @@ class StatusTest(Case):
         said.write.assert_not_called()
 
     def test_nothing_to_check(self):
-        self.put(text=b"no ELF file")
-        self.assertEqual(self.lint("text")[0], 0)
-        self.assertEqual(self.lint("--fail-on-empty", "text")[0], 1)
+        self.put(**{"a/text": b"no ELF file"})
+        self.assertEqual(self.lint("a")[0], 0)
+        self.assertEqual(self.lint("--fail-on-empty", "a")[0], 1)
+        self.assertEqual(self.lint("--fail-on-empty", "--skip", "a/text")[0], 1)
         self.put(good__o=GOOD)
         self.assertSaid(["--fail-on-empty", "good.o"], 0, [b"0 findings in 0 of 1 ELF file"])
 
@@ -958,7 +1051,7 @@ class TreeTest(Case):
         for path in ("a", "a/bad"):
             self.assertTrue(self.told(path)[0].startswith(words), path)
         self.put(short=b"\x7fEL")
-        self.assertSaid(["short"], 0, [b"0 findings in 0 of 0 ELF files; skipped: 1 not ELF"])
+        self.assertSaid(["--skip", "short"], 0, [b"0 findings in 0 of 0 ELF files; skipped: 1 not ELF"])
 
     def test_a_file_whose_status_can_not_be_read(self):
         """In a folder that may be listed, and not searched."""

@@ -485,7 +485,7 @@ class TreeTest(Case):
                 if it not in b"/.":
                     Path(os.fsdecode(side + b"/" + bytes([it]))).write_bytes(GOOD)
         Path(os.fsdecode(b"a/\xff\n")).write_bytes(GOOD)
-        lines = ["\udcff\\x0a: it is only in a", "253 the same, 1 only in a"]
+        lines = ["\\xff\\x0a: it is only in a", "253 the same, 1 only in a"]
         self.assertDiffer("a", "b", lines=lines)
 
     def test_deep_folders(self):

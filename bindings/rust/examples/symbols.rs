@@ -23,9 +23,8 @@ fn main() -> io::Result<ExitCode> {
     let mut out = io::stdout().lock();
     for index in 0..file.sections().len() {
         for symbol in file.symbols(index).into_iter().flatten() {
-            write!(out, "{:#x} ", symbol.st_value)?;
-            out.write_all(symbol.name)?;
-            writeln!(out)?;
+            // Other bytes are escaped, because a terminal may obey them.
+            writeln!(out, "{:#x} {}", symbol.st_value, symbol.name.escape_ascii())?;
         }
     }
     Ok(ExitCode::SUCCESS)
