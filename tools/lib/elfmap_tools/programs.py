@@ -45,6 +45,7 @@ from . import (
     package_files,
     packages,
     page,
+    page_picture,
     pages,
     peers,
     real_files,
@@ -57,6 +58,7 @@ from . import (
     shown_commands,
     slow_files,
     types,
+    web_page,
 )
 from .building import Build
 from .suite import TESTS, Option, Test, commands_of, families, run_one, run_several, word
@@ -177,11 +179,11 @@ RELEASE = [
         lambda it: print(man.page(release_files.version_of(it.version)), end=""),
         [VERSION],
     ),
-    Command("page", "print the page for a browser", lambda _: print(page.page(), end="")),
+    Command("page", "print the page for a browser", lambda _: print(web_page.page(), end="")),
     Command(
         "page-picture",
         "take a picture of the page with a file on it (docs/page.png)",
-        page.picture,
+        page_picture.picture,
         PICTURE,
     ),
     Command(

@@ -16,7 +16,7 @@ import tempfile
 from collections.abc import Iterator
 from functools import partial
 
-from . import doc_page, library, man, page
+from . import doc_page, library, man, web_page
 from .building import is_current, output_of
 from .library import PACKERS
 from .requirements import JINJA2, MARKDOWN
@@ -189,7 +189,7 @@ def made_texts(version: str) -> dict[str, str]:
         texts[f"bin/{name}"] = COMMAND.format(**words)
         texts[f"share/man/man1/{name}.1"] = page_of(name, module, version)
     if shutil.which("wasm-opt"):
-        texts["elfmap.html"] = page.page()
+        texts["elfmap.html"] = web_page.page()
     else:
         print("release: without elfmap.html: there is no wasm-opt", file=sys.stderr)
     return texts

@@ -1,0 +1,53 @@
+"""The page's reader in node: what it and its check of tables say of files of this machine, of
+cases/ and of changed copies of them is what `elfmap show` prints, line by line, but for the lines
+of groups."""
+
+import json
+import os
+import random
+
+from .changes import fuzzed
+from .reference import verdict
+from .suite import Tally
+from .tree import PROGRAM, TOP, read_bytes, said, wanted, write
+from .web_page import layout, module
+from .written_cases import case_files
+
+MACHINE_FILES = ["/bin/true", "/bin/ls", "/usr/lib/gcc/x86_64-linux-gnu/12/crtbegin.o"]
+MACHINE_FILES += [
+    f"/usr/lib/x86_64-linux-gnu/{it}"
+    for it in ("crt1.o", "Scrt1.o", "crti.o", "libdl.so.2", "libutil.so.1")
+]
+LONGEST = 1 << 17
+
+
+def files_for_node(room: str, count: int) -> list[str]:
+    """Files of the cases and of this machine, and so many changed ones."""
+    os.mkdir(f"{room}/files")
+    contents = dict(case_files())
+    for path in filter(os.path.isfile, MACHINE_FILES):
+        contents.setdefault(read_bytes(path), path.replace("/", "-"))
+    files = [write(f"{room}/files/{name}", content) for content, name in contents.items()]
+    chance = random.Random(48)
+    sound = [it for it in map(read_bytes, files) if len(it) <= LONGEST and verdict(it) is None]
+    for k in range(count):
+        changed = fuzzed(chance.choice(sound), chance)
+        files.append(write(f"{room}/files/changed-{k}", changed))
+    return files
+
+
+def in_node(tally: Tally, room: str, count: int) -> None:
+    """What the page's reader tells of files is what `elfmap show` prints."""
+    files = files_for_node(room, count)
+    layout_path = write(f"{room}/layout.json", json.dumps(layout()))
+    script = ["node", f"{TOP}/cases/sources/page_reads_as_show.js", module(), layout_path]
+    told: dict[str, str] = {}
+    for k in range(0, len(files), 500):
+        text = wanted(*script, *files[k : k + 500])
+        told |= dict(it.split("\n", 1) for it in f"\n{text}".split("\n-- ")[1:])
+    for path in files:
+        own = told[path].splitlines()
+        shown = said(PROGRAM, "show", path).stdout.splitlines()
+        lines = [it for it in shown if not it.startswith("group ")]
+        different = [pair for pair in zip(own, lines) if pair[0] != pair[1]][:2]
+        tally.check(own == lines, f"{path}: {different or (len(own), len(lines))}")

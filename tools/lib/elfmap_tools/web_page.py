@@ -1,0 +1,111 @@
+"""`tools/release page`: a page for a browser on which a file is dropped, and that shows its verdict
+and what each of its bytes belongs to.
+
+It is one file, which needs no network: the library for C as a WebAssembly module, and the scripts
+of page/. The module is made of the same proved crates as the library for C: the kit's compiler
+makes it for a memory of 64-bit addresses, which not every browser has, and wasm-opt (of binaryen)
+lowers it to one of 32-bit addresses."""
+
+import base64
+import ctypes
+import json
+import os
+import shutil
+from typing import Any
+
+from elfmap import _library, _names as names
+
+from .building import built_below, is_current, kit, words
+from .header import STRUCTS
+from .library import FOLDER, VERDICTS as CRATE
+from .rules_page import file_rules
+from .tree import TOP, filled, read_bytes, read_text, wanted
+
+Structs = dict[str, dict[str, Any]]
+MODULE = f"{FOLDER}/{CRATE}.wasm"
+LOWERED = [
+    "--enable-memory64",
+    "--enable-bulk-memory",
+    "--enable-sign-ext",
+    "--enable-nontrapping-float-to-int",
+    "--enable-mutable-globals",
+    "--enable-multivalue",
+    "--memory64-lowering",
+]
+
+
+def module() -> str:
+    """The path of the module, which is made where it is older than the library's texts."""
+    if is_current(CRATE, MODULE):
+        return MODULE
+    folder_of, lacking = built_below([CRATE])
+    if lacking:
+        raise SystemExit(f"page: tools/dev prove {CRATE} builds {', '.join(lacking)} first")
+    if not shutil.which("wasm-opt"):
+        raise SystemExit("page: there is no wasm-opt, of the package binaryen")
+    os.makedirs(FOLDER, exist_ok=True)
+    target = ["--target", "wasm64-unknown-unknown", "--toolchain", f"{kit()}/toolchain"]
+    folder = f"{TOP}/crates/{CRATE}"
+    wide = f"{FOLDER}/wide"
+    build = [f"{kit()}/bin/rattle", "build", *words(CRATE, folder_of), *target]
+    wanted(*build, "-o", f"{wide}.a", folder=folder)
+    link = [f"{kit()}/bin/rattle-link", *target]
+    wanted(*link, "-o", f"{wide}.wasm", f"{wide}.a", folder=folder)
+    wanted("wasm-opt", *LOWERED, f"{wide}.wasm", "-o", MODULE)
+    return MODULE
+
+
+def layout() -> Structs:
+    """The structs of include/elfmap.h, as the Python package declares them: the size of each, and
+    its fields with their offsets."""
+    tags = {
+        getattr(_library, name): tag for name, tag in STRUCTS.items() if hasattr(_library, name)
+    }
+    found: Structs = {}
+    for made, tag in tags.items():
+        found[tag] = {"size": ctypes.sizeof(made), "align": ctypes.alignment(made), "fields": []}
+        for name, kind in made._fields_:
+            own = kind._type_ if issubclass(kind, ctypes.Array) else kind
+            place = {"name": name, "at": getattr(made, name).offset, "width": ctypes.sizeof(own)}
+            more = {
+                "struct": tags.get(own),
+                "count": own is not kind and kind._length_,
+                "signed": own is ctypes.c_int64,
+            }
+            found[tag]["fields"].append(place | {key: it for key, it in more.items() if it})
+    return found
+
+
+def constants(**values: object) -> str:
+    """A script that defines constants."""
+    lines = ""
+    for name, it in values.items():
+        lines += f"const {name} = {json.dumps(it, separators=(',', ':'))};\n"
+    return lines
+
+
+def page() -> str:
+    """The page."""
+    code = base64.b64encode(read_bytes(module())).decode("ascii")
+    # The names of numbers, as the Python package has them.
+    relocations = {
+        machine: names.relocation_types(machine) for machine in names.machines_with_relocations()
+    }
+    of_numbers = {
+        "MACHINES": names.MACHINES,
+        "SECTION_TYPES": names.SECTION_TYPES,
+        "RELOCATION_TYPES": relocations,
+    }
+    common = constants(LAYOUT=layout(), **of_numbers) + read_text("page/words.js")
+    worker = common + "".join(read_text(f"page/{it}.js") for it in ("reader", "tables", "worker"))
+    # Of each rule of files its name, why a file is refused, and what to do.
+    rules = {
+        it.number: [it.name, it.sentence.replace("`", ""), it.advice.replace("`", "")]
+        for it in file_rules()
+    }
+    script = common + constants(RULES=rules, MODULE=code) + read_text("page/draw.js")
+    if "</script" in worker + script:
+        raise SystemExit("page: a script ends its own element")
+    return filled(
+        read_text("page/page.html"), STYLE=read_text("page/style.css"), WORKER=worker, SCRIPT=script
+    )
