@@ -27,8 +27,19 @@ from elfmap._columns import LAYOUTS, Column, columns
 from elfmap._rules import LINK_RULES, RULES
 
 # They are names of this module too. In `__all__` they would make `help` ten times as long.
-from elfmap.constants import DT as DT, EM as EM, ET as ET, PF as PF, PT as PT, SHF as SHF, SHN as SHN
-from elfmap.constants import SHT as SHT, STB as STB, STT as STT, STV as STV
+from elfmap.constants import (
+    DT as DT,
+    EM as EM,
+    ET as ET,
+    PF as PF,
+    PT as PT,
+    SHF as SHF,
+    SHN as SHN,
+    SHT as SHT,
+    STB as STB,
+    STT as STT,
+    STV as STV,
+)
 
 __all__ = [
     "BadRules",
@@ -69,7 +80,8 @@ Record = TypeVar("Record")
 
 # How many extents the first buffer has: enough for a file with 61 sections.
 _SMALL_ROOM = 64
-_SYMBOLS, _RELOCATIONS = (SHT.SYMTAB, SHT.DYNSYM), (SHT.RELA, SHT.REL)
+_SYMBOLS = (SHT.SYMTAB, SHT.DYNSYM)
+_RELOCATIONS = (SHT.RELA, SHT.REL)
 _OWNERS = ("header", "section headers", "program headers")
 _GAP = 2**64 - 1
 # ctypes would take this number for 0, and each one modulo it.
@@ -118,7 +130,9 @@ class NotLinked(ValueError):
     relocation of rules 12 to 16, and the entry point of rule 10. None if there is none.
     """
 
-    def __init__(self, rule: int, file: int, index: int, entry: int, symbol: Optional[bytes] = None) -> None:
+    def __init__(
+        self, rule: int, file: int, index: int, entry: int, symbol: Optional[bytes] = None
+    ) -> None:
         super().__init__(rule, file, index, entry, symbol)
         self.rule = rule
         self.file = file
@@ -303,14 +317,17 @@ class Part(NamedTuple):
 
 
 def _without_views(record: tuple[Any, ...]) -> tuple[list[Any], list[int]]:
-    """The fields of a record with copies in place of views, which can't be pickled; and the positions of these."""
+    """The fields of a record with copies in place of views, which can't be pickled; and the
+    positions of these."""
     views = [position for position, it in enumerate(record) if isinstance(it, memoryview)]
     return [bytes(it) if position in views else it for position, it in enumerate(record)], views
 
 
 def _with_contents(kind: Any, fields: list[Any], views: list[int]) -> Any:
     """A record that was pickled: its contents are views again, of its own bytes."""
-    return kind._make(memoryview(it) if position in views else it for position, it in enumerate(fields))
+    return kind._make(
+        memoryview(it) if position in views else it for position, it in enumerate(fields)
+    )
 
 
 class _Read(Sequence[Record]):
@@ -352,7 +369,8 @@ class _Records(_Read[Record]):
 
 
 class _Notes(_Read[Note]):
-    """Notes, each of which says where the next one begins: they are read as far as they are asked for."""
+    """Notes, each of which says where the next one begins: they are read as far as they are asked
+    for."""
 
     def __init__(self, count: int, read: Callable[[int], Optional[tuple[Note, int]]]) -> None:
         super().__init__(count)
@@ -402,7 +420,8 @@ class File:
         self._numbers = self._filled(_library.Numbers, "elfmap_file")
 
     def close(self) -> None:
-        """Releases the bytes. Contents that are still held keep them. What is asked for afterwards is a ValueError."""
+        """Releases the bytes. Contents that are still held keep them. What is asked for afterwards
+        is a ValueError."""
         self._view.release()
 
     def __enter__(self) -> "File":
@@ -438,7 +457,8 @@ class File:
     @property
     def parts(self) -> list[Part]:
         """What each byte belongs to: ascending parts, none of them empty."""
-        count, fault = ctypes.c_uint64(), _library.Fault()
+        count = ctypes.c_uint64()
+        fault = _library.Fault()
         wanted = 0
         for _ in range(2):
             room = (_library.Part * wanted)()
@@ -449,7 +469,9 @@ class File:
 
     def load(self, address: int) -> Optional[int]:
         """The byte that the loadable segments give an address; None where none does."""
-        number, byte, of = operator.index(address), ctypes.c_uint8(), (self._numbers,)
+        number = operator.index(address)
+        byte = ctypes.c_uint8()
+        of = (self._numbers,)
         is_there = 0 <= number < _END and self._call("elfmap_load", number, byte, of=of)
         return byte.value if is_there else None
 
@@ -464,31 +486,39 @@ class File:
 
     def relocations(self, section: int) -> Sequence[Relocation]:
         """The relocations of a relocation section; none where it is none."""
-        kind, call = _library.Relocation, "elfmap_relocation"
-        return self._entries(section, _RELOCATIONS, call, kind, lambda _, it: Relocation(*_values(it)))
+        kind = _library.Relocation
+        call = "elfmap_relocation"
+        return self._entries(
+            section, _RELOCATIONS, call, kind, lambda _, it: Relocation(*_values(it))
+        )
 
     def dynamic(self, section: int) -> Sequence[Dynamic]:
         """The entries of the dynamic array in a section, before the first DT_NULL."""
-        return self._entries(section, (SHT.DYNAMIC,), "elfmap_dynamic", _library.Dynamic, self._dynamic)
+        return self._entries(
+            section, (SHT.DYNAMIC,), "elfmap_dynamic", _library.Dynamic, self._dynamic
+        )
 
     def notes(self, section: int) -> Sequence[Note]:
         """The notes of a note section; none where it is none."""
-        table, note = self._table(section, (SHT.NOTE,)), _library.Note()
+        table = self._table(section, (SHT.NOTE,))
+        note = _library.Note()
 
         def read(start: int) -> Optional[tuple[Note, int]]:
             if not table or not self._call("elfmap_note_at", start, note, of=(table,)):
                 return None
-            name, desc = self._at(note.name.start, note.name.len), self._at(note.desc.start, note.desc.len)
+            name = self._at(note.name.start, note.name.len)
+            desc = self._at(note.desc.start, note.desc.len)
             return Note(bytes(name), note.n_type, desc), note.next
 
         return _Notes(table.entries if table else 0, read)
 
     def columns(self, section: int) -> dict[str, Column]:
-        """The numbers of a symbol table, relocation section or dynamic array: an array for each field.
+        """The numbers of a symbol table, relocation section or dynamic array: an array for each
+        field.
 
         Each array has as many numbers as `symbols`, `relocations` or `dynamic` has entries.
-        numpy.asarray takes one without a copy. A section without such a table has no arrays.
-        The fields are those of the records, without names and the `section` of a symbol.
+        numpy.asarray takes one without a copy. A section without such a table has no arrays. The
+        fields are those of the records, without names and the `section` of a symbol.
         """
         table = self._table(section, tuple(LAYOUTS))
         if not table:
@@ -499,7 +529,8 @@ class File:
 
     def find(self, section: int, name: Text) -> Optional[int]:
         """The index of the symbol of this name, by the hash table in a section."""
-        words, symbol = _text(name, "a name"), ctypes.c_uint32()
+        words = _text(name, "a name")
+        symbol = ctypes.c_uint32()
         table = self._table(section, (SHT.HASH,))
         if table and self._call("elfmap_find", *words, symbol, of=(table,)):
             return symbol.value
@@ -554,8 +585,11 @@ class File:
 
     def _table(self, section: int, types: tuple[int, ...]) -> Optional[_library.Table]:
         """The table in a section of one of these types."""
-        table, index = _library.Table(), operator.index(section)
-        is_there = 0 <= index < _END and self._call("elfmap_table", index, table, of=(self._numbers,))
+        table = _library.Table()
+        index = operator.index(section)
+        is_there = 0 <= index < _END and self._call(
+            "elfmap_table", index, table, of=(self._numbers,)
+        )
         return table if is_there and table.sh_type in types else None
 
     def _entries(
@@ -587,7 +621,8 @@ class File:
         return self._view[start : start + size]
 
 
-# A function called `_fields` would make the module a named tuple for `help`, which then shows all private names.
+# A function called `_fields` would make the module a named tuple for `help`, which then shows all
+# private names.
 def _values(struct: ctypes.Structure) -> list[Any]:
     return [getattr(struct, name) for name, _ in struct._fields_]
 
@@ -640,7 +675,9 @@ def refused_tables(data: Bytes) -> list[tuple[int, int, int]]:
     symbols in hash tables take memory too: a few bytes for each place where one begins.
     """
     lines = _done(*_said("elfmap_refused_tables", *_bytes_of(data))).splitlines()
-    return [(int(section), int(rule), int(at)) for _, section, rule, at in (it.split() for it in lines)]
+    return [
+        (int(section), int(rule), int(at)) for _, section, rule, at in (it.split() for it in lines)
+    ]
 
 
 def rewrite(data: Bytes) -> bytes:
@@ -665,7 +702,8 @@ def link(
     TooLong; and OverflowError where `base` or `page` is not from 0 to 2^64 - 1. The bytes
     of the files are copied, for the time of the call.
     """
-    contents, start = _views_of(files), _text(entry, "entry")
+    contents = _views_of(files)
+    start = _text(entry, "entry")
     words = (*_linked(contents, base, page), *start, *_text(rules, "rules"))
     return _done(*_said("elfmap_link", *words), contents, start[0])
 
@@ -683,7 +721,9 @@ def map(files: Iterable[Bytes], rules: Text, *, base: int = 0x400000, page: int 
 def _view_of(data: Bytes) -> memoryview:
     """The bytes that are in one piece, whatever numbers they are taken for."""
     if isinstance(data, (str, os.PathLike)):
-        raise TypeError("the bytes of a file are wanted, and no path: pass those of Path.read_bytes()")
+        raise TypeError(
+            "the bytes of a file are wanted, and no path: pass those of Path.read_bytes()"
+        )
     try:
         return pickle.PickleBuffer(data).raw().toreadonly()
     except BufferError:
@@ -721,16 +761,19 @@ def _number(value: int, what: str) -> int:
 
 def _linked(contents: list[memoryview], base: int, page: int) -> tuple[Any, ...]:
     options = _library.LinkOptions(_number(base, "base"), _number(page, "page"), 1)
-    places, start = (_library.Extent * len(contents))(), 0
+    places = (_library.Extent * len(contents))()
+    start = 0
     for place, content in zip(places, contents):
-        place.start, place.len = start, len(content)
+        place.start = start
+        place.len = len(content)
         start += len(content)
     joined = b"".join(contents)
     return joined, len(joined), places, len(contents), options
 
 
 def _views_of(files: Iterable[Bytes]) -> list[memoryview]:
-    """The bytes of each file. Those of one file are no files: each of them would be taken for one."""
+    """The bytes of each file. Those of one file are no files: each of them would be taken for
+    one."""
     if isinstance(files, (str, os.PathLike)) or _has_bytes(files):
         raise TypeError("the bytes of several files are wanted: pass [data] for those of one")
     return [_view_of(it) for it in files]
@@ -746,7 +789,8 @@ def _has_bytes(it: object) -> bool:
 
 def _said(name: str, *words: Any) -> tuple[int, _library.Outcome, bytes]:
     """All that an engine says, asked for twice: how long it is, and then for itself."""
-    call, outcome = getattr(_library.library(), name), _library.Outcome()
+    call = getattr(_library.library(), name)
+    outcome = _library.Outcome()
     room = ctypes.create_string_buffer(1)
     status = call(*words, room, 0, outcome)
     if status == _library.SMALL_ROOM:
@@ -755,14 +799,23 @@ def _said(name: str, *words: Any) -> tuple[int, _library.Outcome, bytes]:
     return status, outcome, room.raw[: outcome.length]
 
 
-def _done(status: int, outcome: _library.Outcome, said: bytes, contents: Sequence[memoryview] = (), entry: bytes = b"") -> bytes:
+def _done(
+    status: int,
+    outcome: _library.Outcome,
+    said: bytes,
+    contents: Sequence[memoryview] = (),
+    entry: bytes = b"",
+) -> bytes:
     if status != _library.DONE:
         raise _failure(status, outcome, contents, entry)
     return said
 
 
-def _failure(status: int, outcome: _library.Outcome, contents: Sequence[memoryview] = (), entry: bytes = b"") -> Exception:
-    """What a status says, with the numbers of its outcome, and the name of the symbol in these files."""
+def _failure(
+    status: int, outcome: _library.Outcome, contents: Sequence[memoryview] = (), entry: bytes = b""
+) -> Exception:
+    """What a status says, with the numbers of its outcome, and the name of the symbol in these
+    files."""
     if status == _library.REFUSED:
         return Refused(outcome.rule, outcome.at, outcome.file)
     if status == _library.NOT_LINKED:
@@ -775,11 +828,17 @@ def _failure(status: int, outcome: _library.Outcome, contents: Sequence[memoryvi
     return MemoryError()
 
 
-def _symbol_of(rule: int, file: int, index: int, entry: int, contents: Sequence[memoryview], start: bytes) -> Optional[bytes]:
+def _symbol_of(
+    rule: int, file: int, index: int, entry: int, contents: Sequence[memoryview], start: bytes
+) -> Optional[bytes]:
     """The name of the symbol that a rule of the link is about."""
     # What it needs is not imported with the package.
     from elfmap._link_words import NO_ENTRY, refused_symbol
 
     if rule == NO_ENTRY:
         return start
-    return refused_symbol(contents[file].tobytes(), rule, index, entry) if file < len(contents) else None
+    return (
+        refused_symbol(contents[file].tobytes(), rule, index, entry)
+        if file < len(contents)
+        else None
+    )

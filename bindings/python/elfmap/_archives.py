@@ -19,7 +19,8 @@ from typing import NamedTuple, Optional
 
 from elfmap._sources import Source, Unreadable, opened
 
-MAGIC, THIN_MAGIC = b"!<arch>\n", b"!<thin>\n"
+MAGIC = b"!<arch>\n"
+THIN_MAGIC = b"!<thin>\n"
 _HEADER = 60
 _LONG_NAME = re.compile(rb"/(\d+)(?::(\d+))?$")
 _BSD_NAME = re.compile(rb"#1/(\d+)$")
@@ -82,14 +83,20 @@ class _Archive:
         return header[:16].rstrip(b" "), int(size)
 
     def _member(self, name: bytes, at: int, size: int) -> Member:
-        start, long_name, bsd_name = at + _HEADER, _LONG_NAME.match(name), _BSD_NAME.match(name)
+        start = at + _HEADER
+        long_name = _LONG_NAME.match(name)
+        bsd_name = _BSD_NAME.match(name)
         if bsd_name and not self.is_thin:
             length = int(bsd_name[1])
             if length > size:
                 raise Damaged(at, "the name is longer than the member")
             own = self.source[start : start + length].rstrip(b"\0")
             return Member(own, at, start + length, size - length)
-        own = self._long_name(at, int(long_name[1])) if long_name else name[: -name.endswith(b"/") or None]
+        own = (
+            self._long_name(at, int(long_name[1]))
+            if long_name
+            else name[: -name.endswith(b"/") or None]
+        )
         if not self.is_thin:
             return Member(own, at, start, size)
         origin = int(long_name[2]) if long_name and long_name[2] else None
@@ -99,7 +106,9 @@ class _Archive:
         start, size = self._names or (0, 0)
         if position >= size:
             raise Damaged(at, "there is no such long name")
-        name = self.source[start + position : start + min(size, position + 4096)].partition(b"\n")[0]
+        name = self.source[start + position : start + min(size, position + 4096)].partition(b"\n")[
+            0
+        ]
         return name[:-1] if name.endswith(b"/") else name
 
 
@@ -137,7 +146,9 @@ class Contents:
     def opened(self, archive: bytes, source: Source, member: Member) -> Iterator[Content]:
         name = printed(archive, member)
         if member.path is None:
-            yield Content(name, archive, Source(source.handle, source.start + member.start, member.size))
+            yield Content(
+                name, archive, Source(source.handle, source.start + member.start, member.size)
+            )
             return
         if not self._follows_all and not _is_below(member.path, archive):
             raise Unreadable("it is outside of the archive's directory; --follow-thin reads it")
@@ -152,7 +163,8 @@ class Contents:
     def _at(self, source: Source, path: bytes, origin: int) -> Member:
         """The member whose header is at the origin."""
         if self._path != path:
-            self._path, self._members = path, {}
+            self._path = path
+            self._members = {}
             self._members.update((it.header, it) for it in members(source, path))
         found = self._members.get(origin)
         if not found or found.origin is not None:

@@ -32,13 +32,15 @@ _PROGBITS = 1
 # Tables of so many bytes are checked at once; a larger one by itself.
 _MOST_AT_ONCE = 1 << 24
 # How much room there is for each file. What is above the most is given back after one.
-_LEAST_EXTENTS, _MOST_EXTENTS = 256, 1 << 16
+_LEAST_EXTENTS = 256
+_MOST_EXTENTS = 1 << 16
 _LEAST_TEXT = 1 << 16
 TOO_LONG_AS_OBJECT = 0
 
 
 class Fault(NamedTuple):
-    """A rule broken at an offset: of the table in a section, or of the file; or a rule of the link."""
+    """A rule broken at an offset: of the table in a section, or of the file; or a rule of the
+    link."""
 
     rule: int
     at: int
@@ -83,7 +85,8 @@ def batches(whole: Batch, most: int) -> Iterator[Batch]:
     for it in whole.shown:
         if shown and size + it.size > limit:
             yield needs.batch(shown)
-            shown, size = [], 0
+            shown = []
+            size = 0
         shown.append(it)
         size += it.size
     yield needs.batch(shown)
@@ -101,7 +104,8 @@ class _Needs:
 
     def batch(self, shown: list[Table]) -> Batch:
         """These tables, those that they link to and so on, and the index tables of symbols."""
-        sections, found = self._whole.sections, set[int]()
+        sections = self._whole.sections
+        found = set[int]()
         waiting = [it.section for it in shown]
         while waiting:
             index = waiting.pop()
@@ -110,7 +114,9 @@ class _Needs:
                 waiting += [sections[index].link, *self._index_tables.get(index, ())]
         needed = [it for it in self._whole.needed if it.section in found]
         # A string table keeps its type: it may be that of section names.
-        return Batch(shown, needed, [it for it in self._whole.shown if it.section not in found], sections)
+        return Batch(
+            shown, needed, [it for it in self._whole.shown if it.section not in found], sections
+        )
 
 
 class Checks:
@@ -148,7 +154,9 @@ class Checks:
         """What each byte of the file belongs to; or the rule of images that it breaks."""
         size = min(len(source), LONGEST)
         self._load(source, size)
-        count, fault, wanted = ctypes.c_uint64(), _library.Fault(), _LEAST_EXTENTS
+        count = ctypes.c_uint64()
+        fault = _library.Fault()
+        wanted = _LEAST_EXTENTS
         while True:
             room = (_library.Part * wanted)()
             if self._library.elfmap_parts(self._room.address, size, room, wanted, count, fault):
@@ -174,11 +182,14 @@ class Checks:
             source.read_into(self._room.view[start:end], start)
 
     def _read_headers(self, source: Source, size: int) -> None:
-        header, file = _library.Header(), _library.Numbers()
+        header = _library.Header()
+        file = _library.Numbers()
         name_table = _library.Section()
         bytes_ = self._room.address, size
         self._library.elfmap_header(*bytes_, header)
-        self._read(source, size, header.e_shoff, 64 * max(header.e_shnum, 1) if header.e_shoff else 0)
+        self._read(
+            source, size, header.e_shoff, 64 * max(header.e_shnum, 1) if header.e_shoff else 0
+        )
         if not self._library.elfmap_file(*bytes_, file):
             return
         if file.sections > header.e_shnum:
@@ -192,7 +203,11 @@ class Checks:
         """The section headers that the rules of tables look at."""
         file = self._file(size)
         record = struct.Struct(f"{_order(file)}4xI16x2QI20x")
-        table = self._room.view[file.e_shoff : file.e_shoff + 64 * file.sections] if file.e_shoff else b""
+        table = (
+            self._room.view[file.e_shoff : file.e_shoff + 64 * file.sections]
+            if file.e_shoff
+            else b""
+        )
         return [Table(index, *fields) for index, fields in enumerate(record.iter_unpack(table))]
 
     def _file(self, size: int) -> _library.Numbers:
@@ -207,7 +222,9 @@ class Checks:
         self._is_masked = bool(batch.others)
         file = self._file(size)
         for it in batch.others:
-            struct.pack_into(f"{_order(file)}I", self._room.view, file.e_shoff + 64 * it.section + 4, _PROGBITS)
+            struct.pack_into(
+                f"{_order(file)}I", self._room.view, file.e_shoff + 64 * it.section + 4, _PROGBITS
+            )
         for it in batch.needed:
             self._read(source, size, it.start, it.size)
 
@@ -217,7 +234,9 @@ class Checks:
         if len(self._extents) > _MOST_EXTENTS:
             self._extents = (_library.Extent * _LEAST_EXTENTS)()
         fault = _library.Fault()
-        while not self._library.elfmap_verdict_in(self._room.address, size, self._extents, len(self._extents), fault):
+        while not self._library.elfmap_verdict_in(
+            self._room.address, size, self._extents, len(self._extents), fault
+        ):
             if fault.rule != _library.SHORT_ROOM:
                 return Fault(fault.rule, fault.at)
             self._extents = (_library.Extent * fault.at)()
@@ -233,7 +252,10 @@ class Checks:
                 if section in own:
                     groups.setdefault((rule, at), []).append(section)
         words = Words(source) if groups else None
-        return [Fault(rule, at, _owner(words, it) if words else it[0]) for (rule, at), it in groups.items()]
+        return [
+            Fault(rule, at, _owner(words, it) if words else it[0])
+            for (rule, at), it in groups.items()
+        ]
 
     def _refused(self, size: int) -> Iterator[tuple[int, int, int]]:
         """The tables that break a rule: a section, the rule and the offset."""
@@ -251,11 +273,14 @@ class Checks:
     def _say(self, size: int, outcome: _library.Outcome) -> int:
         with memoryview(self._text) as text:
             room = _library.address_of(text), len(text)
-            return int(self._library.elfmap_refused_tables(self._room.address, size, *room, outcome))
+            return int(
+                self._library.elfmap_refused_tables(self._room.address, size, *room, outcome)
+            )
 
     def _object_fault(self, size: int) -> Optional[Fault]:
         """Why the file is read as no object, by the engine of `elfmap rewrite`."""
-        outcome, nothing = _library.Outcome(), ctypes.create_string_buffer(1)
+        outcome = _library.Outcome()
+        nothing = ctypes.create_string_buffer(1)
         status = self._library.elfmap_rewrite(self._room.address, size, nothing, 0, outcome)
         if status == _library.REFUSED:
             return Fault(outcome.rule, outcome.at)
@@ -275,10 +300,14 @@ class Checks:
         Until then it looks at no content that is not read, and it makes no output. The
         lines of `elfmap map` could be much longer than a file whose names share bytes.
         """
-        outcome, output = _library.Outcome(), ctypes.create_string_buffer(1)
-        file, options = (_library.Extent * 1)(_library.Extent(0, size)), _library.LinkOptions(0, 1, 0)
+        outcome = _library.Outcome()
+        output = ctypes.create_string_buffer(1)
+        file = (_library.Extent * 1)(_library.Extent(0, size))
+        options = _library.LinkOptions(0, 1, 0)
         entry = rules = _library.nowhere, 0
-        status = self._library.elfmap_link(self._room.address, size, file, 1, options, *entry, *rules, output, 0, outcome)
+        status = self._library.elfmap_link(
+            self._room.address, size, file, 1, options, *entry, *rules, output, 0, outcome
+        )
         if status == _library.NO_MEMORY:
             raise Unreadable("there is no memory for its tables")
         if status != _library.NOT_LINKED or outcome.rule not in OF_ONE_FILE:

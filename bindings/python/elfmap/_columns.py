@@ -15,7 +15,8 @@ else:
 
 
 class Field(NamedTuple):
-    """A field of an entry: its name, its type as a letter of the module array, and where it begins."""
+    """A field of an entry: its name, its type as a letter of the module array, and where it
+    begins."""
 
     name: str
     kind: str
@@ -23,7 +24,8 @@ class Field(NamedTuple):
 
 
 class Layout(NamedTuple):
-    """The entries of a table: how many bytes one has, its fields, the halves of its r_info, and what it has not, which is 0."""
+    """The entries of a table: how many bytes one has, its fields, the halves of its r_info, and
+    what it has not, which is 0."""
 
     size: int
     fields: tuple[Field, ...]

@@ -1,4 +1,5 @@
-"""What the commands of the package share: how they read their words, their statuses, and how they end."""
+"""What the commands of the package share: how they read their words, their statuses, and how they
+end."""
 
 from __future__ import annotations
 
@@ -17,7 +18,8 @@ DONE, FOUND, USAGE, UNREADABLE = range(4)
 
 
 class Parser(argparse.ArgumentParser):
-    """Reads the words of a command. A usage error has its status also where standard error is closed."""
+    """Reads the words of a command. A usage error has its status also where standard error is
+    closed."""
 
     def error(self, message: str) -> NoReturn:
         _write(self.format_usage().encode("utf-8", "backslashreplace"))
@@ -25,7 +27,8 @@ class Parser(argparse.ArgumentParser):
         sys.exit(USAGE)
 
     def in_any_order(self, words: Optional[Sequence[str]], operands: str) -> argparse.Namespace:
-        """Reads words among which options may be anywhere; after `--` there are none. `operands` names the others."""
+        """Reads words among which options may be anywhere; after `--` there are none. `operands`
+        names the others."""
         every = list(sys.argv[1:] if words is None else words)
         end = every.index("--") if "--" in every else len(every)
         found = self.parse_intermixed_args(every[:end])
@@ -81,7 +84,8 @@ def _status(program: str, main: Callable[[], int]) -> int:
 
 
 def _drop_unwritten(stream: TextIO, number: int) -> None:
-    """Drops what can't be written: at the end of Python it would fail once more, and change the status."""
+    """Drops what can't be written: at the end of Python it would fail once more, and change the
+    status."""
     try:
         stream.flush()
     except OSError:
@@ -97,7 +101,8 @@ def _ended(main: Callable[[], int]) -> int:
 
 
 def _occupy_closed() -> None:
-    """Gives the numbers of closed standard streams away, so that no file that is opened later has one of them.
+    """Gives the numbers of closed standard streams away, so that no file that is opened later has
+    one of them.
 
     What is written to standard output then fails, and what is written to standard error is lost.
     """

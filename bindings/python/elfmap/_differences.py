@@ -16,12 +16,28 @@ from elfmap import Bytes, File, Relocation, Section, Symbol
 from elfmap._names import machine_words, relocation_types, section_type
 from elfmap._words import LONGEST_LETTER, MOST_LETTERS, printable
 
-_NULL, _SYMTAB, _RELA, _NOBITS, _REL, _GROUP, _SYMTAB_SHNDX = 0, 2, 4, 8, 9, 17, 18
-_INFO_LINK, _IN_INDEX_TABLE = 0x40, 0xFFFF
+_NULL = 0
+_SYMTAB = 2
+_RELA = 4
+_NOBITS = 8
+_REL = 9
+_GROUP = 17
+_SYMTAB_SHNDX = 18
+_INFO_LINK = 0x40
+_IN_INDEX_TABLE = 0xFFFF
 _STT_SECTION = 3
 _PLACES = {0: "undefined", 0xFFF1: "absolute", 0xFFF2: "common"}
 _BINDINGS = {0: "LOCAL", 1: "GLOBAL", 2: "WEAK"}
-_TYPES = {0: "NOTYPE", 1: "OBJECT", 2: "FUNC", 3: "SECTION", 4: "FILE", 5: "COMMON", 6: "TLS", 10: "GNU_IFUNC"}
+_TYPES = {
+    0: "NOTYPE",
+    1: "OBJECT",
+    2: "FUNC",
+    3: "SECTION",
+    4: "FILE",
+    5: "COMMON",
+    6: "TLS",
+    10: "GNU_IFUNC",
+}
 _STEP = 1 << 16
 # A longer name is not copied, and is compared by blocks of so many bytes.
 _BLOCK = 256
@@ -39,12 +55,15 @@ class Sides(NamedTuple):
 
 
 class LongName:
-    """A name in its string table: a file of 1 MB may have thousands that share bytes, of half a MB each. `Names` makes one of equal ones."""
+    """A name in its string table: a file of 1 MB may have thousands that share bytes, of half a MB
+    each. `Names` makes one of equal ones."""
 
     __slots__ = ("_table", "_start", "_end")
 
     def __init__(self, table: bytes, start: int, end: int) -> None:
-        self._table, self._start, self._end = table, start, end
+        self._table = table
+        self._start = start
+        self._end = end
 
     def front(self, size: int) -> bytes:
         return self._table[self._start : min(self._start + size, self._end)]
@@ -69,16 +88,17 @@ class Signed(NamedTuple):
 Name = Union[Text, OfSection, Signed]
 # Of a section or a symbol its name, and how many of this name are before it.
 Label = tuple[Name, int]
-# Where something is: a section, none, or the reserved index of a symbol. Places and labels are compared, and not their words: long names
-# are cut there.
+# Where something is: a section, none, or the reserved index of a symbol. Places and labels are
+# compared, and not their words: long names are cut there.
 Place = Union[Label, None, int]
 
 
 class Names:
     """The names of string tables. Equal ones are one object.
 
-    A long name is a front and, after it, whole blocks. Those from one block to the end of the name have a number, which is found by that
-    block and the number of those after it. So names that share bytes share numbers, and no name is compared with another one.
+    A long name is a front and, after it, whole blocks. Those from one block to the end of the name
+    have a number, which is found by that block and the number of those after it. So names that
+    share bytes share numbers, and no name is compared with another one.
     """
 
     def __init__(self) -> None:
@@ -86,13 +106,16 @@ class Names:
         self._numbers: dict[tuple[int, bytes], int] = {}
 
     def of(self, table: bytes, offsets: Iterable[int]) -> dict[int, Text]:
-        """The names at offsets of a table. In ascending order, so that the end of each is searched once."""
+        """The names at offsets of a table. In ascending order, so that the end of each is searched
+        once."""
         names: dict[int, Text] = {}
-        end, numbers = -1, [0]
+        end = -1
+        numbers = [0]
         for offset in sorted(set(offsets)):
             if offset > end:
                 found = table.find(b"\0", offset)
-                end, numbers = found if found >= 0 else len(table), [0]
+                end = found if found >= 0 else len(table)
+                numbers = [0]
             names[offset] = self._name(table, offset, end, numbers)
         return names
 
@@ -119,7 +142,9 @@ def name_words(name: Name) -> str:
 
 def label_words(label: Label) -> str:
     name, position = label
-    return (name_words(name) or "(no name)") + (f" (number {position + 1} of this name)" if position else "")
+    return (name_words(name) or "(no name)") + (
+        f" (number {position + 1} of this name)" if position else ""
+    )
 
 
 def place_words(place: Place) -> str:
@@ -139,14 +164,21 @@ def labelled(names: Iterable[Name]) -> list[Label]:
 
 def sections_of(file: File, data: Bytes, names: Names) -> tuple[list[Section], list[Text]]:
     """All sections at once, without their names, and the names: the file is sound."""
-    header, view = file.header, memoryview(data)
+    header = file.header
+    view = memoryview(data)
     order = ">" if header.e_ident[5] == 2 else "<"
     table = view[header.e_shoff : header.e_shoff + 64 * len(file.sections)]
     rows = struct.iter_unpack(f"{order}2I4Q2I2Q", table) if header.e_shoff else iter(())
     found = []
     for row in rows:
-        kind, start, size = row[1], row[4], row[5]
-        found.append(Section._make([*row, b"", None if kind in (_NULL, _NOBITS) else view[start : start + size]]))
+        kind = row[1]
+        start = row[4]
+        size = row[5]
+        found.append(
+            Section._make(
+                [*row, b"", None if kind in (_NULL, _NOBITS) else view[start : start + size]]
+            )
+        )
     own = found[0].sh_link if header.e_shstrndx == _IN_INDEX_TABLE else header.e_shstrndx
     at = names.of(bytes(found[own].content or b"") if own else b"", (it.sh_name for it in found))
     # In an entry of no section sh_name may be any number.
@@ -176,16 +208,25 @@ class Canonical:
         strings = self._content(self.sections[self._table].sh_link) if self._table else b""
         at = names.of(strings, (it.st_name for it in self.symbols))
         own = [self._symbol_name(it, at[it.st_name]) for it in self.symbols]
-        self.section_labels = labelled(self._section_name(k, own) for k in range(len(self.sections)))
+        self.section_labels = labelled(
+            self._section_name(k, own) for k in range(len(self.sections))
+        )
         self.symbol_labels = labelled(own)
 
     def _content(self, index: int) -> bytes:
         return bytes(self.sections[index].content or b"")
 
     def _read_symbols(self) -> Iterator[Symbol]:
-        """All symbols at once, without their names: `elfmap rewrite` wrote the table, so that each of its fields is sound."""
-        index_table = next((k for k, it in enumerate(self.sections) if it.sh_type == _SYMTAB_SHNDX), 0)
-        words = [it for (it,) in struct.iter_unpack(f"{self.order}I", self._content(index_table))] if index_table else []
+        """All symbols at once, without their names: `elfmap rewrite` wrote the table, so that each
+        of its fields is sound."""
+        index_table = next(
+            (k for k, it in enumerate(self.sections) if it.sh_type == _SYMTAB_SHNDX), 0
+        )
+        words = (
+            [it for (it,) in struct.iter_unpack(f"{self.order}I", self._content(index_table))]
+            if index_table
+            else []
+        )
         rows = struct.iter_unpack(f"{self.order}IBBHQQ", self._content(self._table))
         for k, (name, info, other, shndx, value, size) in enumerate(rows):
             section = words[k] if shndx == _IN_INDEX_TABLE else shndx
@@ -194,8 +235,12 @@ class Canonical:
     def relocations(self, index: int) -> Iterator[Relocation]:
         """Those of a section, in the same way."""
         has_addends = self.sections[index].sh_type == _RELA
-        for row in struct.iter_unpack(f"{self.order}QQ{'q' if has_addends else ''}", self._content(index)):
-            yield Relocation(row[0], row[2] if has_addends else 0, row[1] >> 32, row[1] & 0xFFFFFFFF)
+        for row in struct.iter_unpack(
+            f"{self.order}QQ{'q' if has_addends else ''}", self._content(index)
+        ):
+            yield Relocation(
+                row[0], row[2] if has_addends else 0, row[1] >> 32, row[1] & 0xFFFFFFFF
+            )
 
     def place(self, it: Symbol) -> Place:
         """Where a symbol is defined."""
@@ -207,30 +252,52 @@ class Canonical:
 
     def members(self, index: int) -> tuple[int, dict[Place, int]]:
         """Of a group its flags and its members."""
-        flags, *members = (it for (it,) in struct.iter_unpack(f"{self.order}I", self._content(index)))
+        flags, *members = (
+            it for (it,) in struct.iter_unpack(f"{self.order}I", self._content(index))
+        )
         return flags, {self.section(it): it for it in members}
 
     def _section_name(self, index: int, symbols: Sequence[Union[Text, OfSection]]) -> Name:
         """The name, and of a group also that of its signature."""
         it = self.sections[index]
-        return Signed(self._names[index], symbols[it.sh_info]) if it.sh_type == _GROUP else self._names[index]
+        return (
+            Signed(self._names[index], symbols[it.sh_info])
+            if it.sh_type == _GROUP
+            else self._names[index]
+        )
 
     def _symbol_name(self, it: Symbol, name: Text) -> Union[Text, OfSection]:
         """The name, or of a symbol of a section that section's."""
-        is_of_section = not name and it.symbol_type == _STT_SECTION and it.section < len(self.sections)
+        is_of_section = (
+            not name and it.symbol_type == _STT_SECTION and it.section < len(self.sections)
+        )
         return OfSection(self._names[it.section]) if is_of_section else name
 
     def own_sections(self) -> dict[Label, int]:
         """The sections of the object. Its symbol table and its names are compared by names."""
-        tables = {0, self._table, self.sections[self._table].sh_link if self._table else 0, self.file.header.e_shstrndx}
+        tables = {
+            0,
+            self._table,
+            self.sections[self._table].sh_link if self._table else 0,
+            self.file.header.e_shstrndx,
+        }
         if self.file.header.e_shstrndx == _IN_INDEX_TABLE:
             tables.add(self.sections[0].sh_link)
-        kept = (k for k, it in enumerate(self.sections) if it.sh_type not in (_NULL, _SYMTAB_SHNDX) and k not in tables)
+        kept = (
+            k
+            for k, it in enumerate(self.sections)
+            if it.sh_type not in (_NULL, _SYMTAB_SHNDX) and k not in tables
+        )
         return {self.section_labels[k]: k for k in kept}
 
     def relocation(self, it: Relocation) -> tuple[int, int, int, Optional[Label]]:
         """What is compared of a relocation, beside its section's target."""
-        return it.relocation_type, it.r_offset, it.r_addend, self.symbol_labels[it.symbol] if it.symbol else None
+        return (
+            it.relocation_type,
+            it.r_offset,
+            it.r_addend,
+            self.symbol_labels[it.symbol] if it.symbol else None,
+        )
 
     def relocation_words(self, it: Relocation, target: int) -> str:
         label = self.relocation(it)[-1]
@@ -238,7 +305,9 @@ class Canonical:
         # A symbol of a section has that one's name, after the word "of".
         name = name.removeprefix("of ") if label and isinstance(label[0], OfSection) else name
         place = f"{it.r_offset:#x} of {place_words(self.section(target))}"
-        kind = relocation_types(self.machine).get(it.relocation_type) or f"type {it.relocation_type}"
+        kind = (
+            relocation_types(self.machine).get(it.relocation_type) or f"type {it.relocation_type}"
+        )
         return f"{kind} at {place} to {name} {it.r_addend:+#x}"
 
 
@@ -246,7 +315,8 @@ class Comparison:
     """Two objects beside each other."""
 
     def __init__(self, sides: Sides, one: Bytes, other: Bytes) -> None:
-        self._sides, names = sides, Names()
+        self._sides = sides
+        names = Names()
         self._one, self._other = (Canonical(File(it), it, names) for it in (one, other))
 
     def differences(self) -> Iterator[str]:
@@ -262,10 +332,13 @@ class Comparison:
         ):
             pair = next((it for it in zip(one, other) if it[0] != it[1]), None)
             if pair:
-                yield f"the order of {what}s: " + self._sides.both("the first one that differs", *map(label_words, pair))
+                yield f"the order of {what}s: " + self._sides.both(
+                    "the first one that differs", *map(label_words, pair)
+                )
 
     def _sections(self) -> Iterator[str]:
-        one, other = self._one.own_sections(), self._other.own_sections()
+        one = self._one.own_sections()
+        other = self._other.own_sections()
         yield from only_in(self._sides, "section", one, other, label_words)
         for label, index in one.items():
             if label in other:
@@ -273,13 +346,18 @@ class Comparison:
                 yield from (f"{name}: {it}" for it in self._section(index, other[label]))
 
     def _section(self, index: int, other_index: int) -> Iterator[str]:
-        one, other = self._one.sections[index], self._other.sections[other_index]
+        one = self._one.sections[index]
+        other = self._other.sections[other_index]
         yield from section_fields(self._sides, one, other, self._one.machine)
-        yield from self._places("sh_link", self._one.section(one.sh_link), self._other.section(other.sh_link))
+        yield from self._places(
+            "sh_link", self._one.section(one.sh_link), self._other.section(other.sh_link)
+        )
         if one.sh_type != other.sh_type or one.content is None or other.content is None:
             return
         if one.sh_type in (_REL, _RELA):
-            yield from self._places("its target", self._one.section(one.sh_info), self._other.section(other.sh_info))
+            yield from self._places(
+                "its target", self._one.section(one.sh_info), self._other.section(other.sh_info)
+            )
             yield from self._relocations(index, other_index)
         elif one.sh_type == _GROUP:
             yield from self._group(index, other_index)
@@ -289,7 +367,9 @@ class Comparison:
 
     def _info(self, one: Section, other: Section) -> Iterator[str]:
         if one.sh_flags & _INFO_LINK:
-            yield from self._places("sh_info", self._one.section(one.sh_info), self._other.section(other.sh_info))
+            yield from self._places(
+                "sh_info", self._one.section(one.sh_info), self._other.section(other.sh_info)
+            )
         elif one.sh_info != other.sh_info:
             yield self._sides.both("sh_info", one.sh_info, other.sh_info)
 
@@ -298,16 +378,21 @@ class Comparison:
             yield self._sides.both(what, place_words(one), place_words(other))
 
     def _group(self, index: int, other_index: int) -> Iterator[str]:
-        (flags, members), (other_flags, other_members) = self._one.members(index), self._other.members(other_index)
+        (flags, members) = self._one.members(index)
+        (other_flags, other_members) = self._other.members(other_index)
         yield from only_in(self._sides, "member flags", {flags: 0}, {other_flags: 0}, hex)
         yield from only_in(self._sides, "member", members, other_members, place_words)
 
     def _relocations(self, index: int, other_index: int) -> Iterator[str]:
         """The first entry that differs: the entries after it are often the same, moved."""
-        contents = [bytes(it.sections[k].content or b"") for it, k in ((self._one, index), (self._other, other_index))]
+        contents = [
+            bytes(it.sections[k].content or b"")
+            for it, k in ((self._one, index), (self._other, other_index))
+        ]
         if contents[0] == contents[1] and self._one.symbol_labels == self._other.symbol_labels:
             return
-        one, other = self._one.relocations(index), self._other.relocations(other_index)
+        one = self._one.relocations(index)
+        other = self._other.relocations(other_index)
         targets = self._one.sections[index].sh_info, self._other.sections[other_index].sh_info
         for position, (ours, theirs) in enumerate(zip_longest(one, other)):
             if ours and theirs and self._one.relocation(ours) == self._other.relocation(theirs):
@@ -317,7 +402,10 @@ class Comparison:
             if ours and theirs:
                 yield self._sides.both(f"relocation {position}", first, second)
             else:
-                yield f"relocation {position} is only in {self._sides.first if ours else self._sides.second}: {first or second}"
+                yield (
+                    f"relocation {position} is only in"
+                    f" {self._sides.first if ours else self._sides.second}: {first or second}"
+                )
             return
 
     def _symbols(self) -> Iterator[str]:
@@ -326,10 +414,15 @@ class Comparison:
         yield from only_in(self._sides, "symbol", one, other, label_words)
         for label, index in one.items():
             position = other.get(label)
-            if position is None or self._is_same(self._one.symbols[index], self._other.symbols[position]):
+            if position is None or self._is_same(
+                self._one.symbols[index], self._other.symbols[position]
+            ):
                 continue
             name = f"symbol {label_words(label)}"
-            yield from (f"{name}: {it}" for it in self._symbol(self._one.symbols[index], self._other.symbols[position]))
+            yield from (
+                f"{name}: {it}"
+                for it in self._symbol(self._one.symbols[index], self._other.symbols[position])
+            )
 
     def _is_same(self, one: Symbol, other: Symbol) -> bool:
         """Of most symbols nothing differs, and nothing is put into words."""
@@ -340,8 +433,16 @@ class Comparison:
         for what, ours, theirs in (
             ("its value", hex(one.st_value), hex(other.st_value)),
             ("its size", one.st_size, other.st_size),
-            ("its binding", _BINDINGS.get(one.binding, one.binding), _BINDINGS.get(other.binding, other.binding)),
-            ("its type", _TYPES.get(one.symbol_type, one.symbol_type), _TYPES.get(other.symbol_type, other.symbol_type)),
+            (
+                "its binding",
+                _BINDINGS.get(one.binding, one.binding),
+                _BINDINGS.get(other.binding, other.binding),
+            ),
+            (
+                "its type",
+                _TYPES.get(one.symbol_type, one.symbol_type),
+                _TYPES.get(other.symbol_type, other.symbol_type),
+            ),
             ("st_other", one.st_other, other.st_other),
         ):
             if ours != theirs:
@@ -349,13 +450,16 @@ class Comparison:
         yield from self._places("its section", self._one.place(one), self._other.place(other))
 
 
-def only_in(sides: Sides, what: str, one: dict[Key, int], other: dict[Key, int], words: Callable[[Key], str]) -> Iterator[str]:
+def only_in(
+    sides: Sides, what: str, one: dict[Key, int], other: dict[Key, int], words: Callable[[Key], str]
+) -> Iterator[str]:
     for side, own, theirs in ((sides.first, one, other), (sides.second, other, one)):
         yield from (f"{what} {words(it)} is only in {side}" for it in own if it not in theirs)
 
 
 def header_differences(sides: Sides, one: File, other: File) -> Iterator[str]:
-    ours, theirs = one.header, other.header
+    ours = one.header
+    theirs = other.header
     orders = {1: "little", 2: "big"}
     for what, first, second in (
         ("the byte order", orders.get(ours.e_ident[5]), orders.get(theirs.e_ident[5])),
@@ -401,14 +505,23 @@ def object_differences(sides: Sides, one: Bytes, other: Bytes) -> Iterator[str]:
             count += 1
             yield it
     if not count:
-        yield f"the canonical files differ at offset {first_difference(memoryview(one), memoryview(other)):#x}"
+        yield (
+            "the canonical files differ at offset"
+            f" {first_difference(memoryview(one), memoryview(other)):#x}"
+        )
 
 
 def image_differences(sides: Sides, one: Bytes, other: Bytes) -> Iterator[str]:
     """What differs between two programs or libraries: at least something."""
-    ours, theirs = File(one), File(other)
+    ours = File(one)
+    theirs = File(other)
     names = Names()
-    sections = _section_differences(sides, ours.header.e_machine, sections_of(ours, one, names), sections_of(theirs, other, names))
+    sections = _section_differences(
+        sides,
+        ours.header.e_machine,
+        sections_of(ours, one, names),
+        sections_of(theirs, other, names),
+    )
     found = [*header_differences(sides, ours, theirs), *sections]
     found += _segment_differences(sides, ours, theirs)
     at = first_difference(memoryview(one), memoryview(other))
@@ -416,16 +529,21 @@ def image_differences(sides: Sides, one: Bytes, other: Bytes) -> Iterator[str]:
 
 
 def _section_differences(
-    sides: Sides, machine: int, one: tuple[list[Section], list[Text]], other: tuple[list[Section], list[Text]]
+    sides: Sides,
+    machine: int,
+    one: tuple[list[Section], list[Text]],
+    other: tuple[list[Section], list[Text]],
 ) -> Iterator[str]:
-    (ours, own), (theirs, others) = one, other
+    (ours, own) = one
+    (theirs, others) = other
     first = {label: k for k, label in enumerate(labelled(own)) if k}
     second = {label: k for k, label in enumerate(labelled(others)) if k}
     yield from only_in(sides, "section", first, second, label_words)
     for label, index in first.items():
         if label not in second:
             continue
-        section, same = ours[index], theirs[second[label]]
+        section = ours[index]
+        same = theirs[second[label]]
         found = list(section_fields(sides, section, same, machine))
         if section.content is not None and same.content is not None:
             found += content_difference(sides, section.content, same.content)
@@ -439,4 +557,8 @@ def _segment_differences(sides: Sides, one: File, other: File) -> Iterator[str]:
     for index, (ours, theirs) in enumerate(zip(one.segments, other.segments)):
         for field in ours._fields[:-1]:
             if getattr(ours, field) != getattr(theirs, field):
-                yield sides.both(f"program header {index}: {field}", hex(getattr(ours, field)), hex(getattr(theirs, field)))
+                yield sides.both(
+                    f"program header {index}: {field}",
+                    hex(getattr(ours, field)),
+                    hex(getattr(theirs, field)),
+                )

@@ -39,7 +39,15 @@ class Rule(NamedTuple):
     @property
     def place(self) -> str:
         """Where docs/RULES.md has it."""
-        kind = "link" if self.is_of_link else "image" if self.number < 40 else "table" if self.number < 70 else "object"
+        kind = (
+            "link"
+            if self.is_of_link
+            else "image"
+            if self.number < 40
+            else "table"
+            if self.number < 70
+            else "object"
+        )
         return f"docs/RULES.md#{kind}-{self.number}"
 
     @property
@@ -128,7 +136,9 @@ class Globs:
 
     def match(self, path: bytes) -> bool:
         name = path.rstrip(b"/").rpartition(b"/")[2]
-        return bool((self._whole and self._whole.match(path)) or (self._names and self._names.match(name)))
+        return bool(
+            (self._whole and self._whole.match(path)) or (self._names and self._names.match(name))
+        )
 
 
 def _pattern(globs: Sequence[bytes]) -> Optional[re.Pattern[bytes]]:
@@ -213,5 +223,8 @@ class Baseline:
 
 
 def baseline_text(findings: Iterable[Finding]) -> bytes:
-    entries = [{"path": path, "rule": rule, "sections": list(sections)} for path, rule, sections in map(known, findings)]
+    entries = [
+        {"path": path, "rule": rule, "sections": list(sections)}
+        for path, rule, sections in map(known, findings)
+    ]
     return json.dumps({"version": 1, "findings": entries}, indent=1).encode("ascii") + b"\n"

@@ -36,7 +36,10 @@ def summary_words(report: Report) -> str:
         f"{it['class_32']} of class 32" if it["class_32"] else "",
         f"{it['not_regular']} not regular" if it["not_regular"] else "",
     ]
-    words = f"{counted(it['findings'], 'finding')} in {it['files_with_findings']} of {counted(it['checked'], 'ELF file')}"
+    words = (
+        f"{counted(it['findings'], 'finding')} in {it['files_with_findings']} of"
+        f" {counted(it['checked'], 'ELF file')}"
+    )
     words += f", {it['suppressed']} suppressed" if it["suppressed"] else ""
     words += f"; skipped: {', '.join(filter(None, skipped))}" if any(skipped) else ""
     return words + (f"; {it['unreadable']} unreadable" if it["unreadable"] else "")
@@ -93,8 +96,11 @@ def _command(level: str, path: bytes, title: str, message: str) -> bytes:
     def escaped(words: str, more: str = "") -> str:
         return "".join(f"%{ord(it):02X}" if it in "%\r\n" + more else it for it in words)
 
-    # Those signs are escaped as the file's own, so that it is found. Others that can't be printed are not.
-    file = printable(escaped(path.decode("utf-8", "surrogateescape"), ":,").encode("utf-8", "surrogateescape"))
+    # Those signs are escaped as the file's own, so that it is found. Others that can't be printed
+    # are not.
+    file = printable(
+        escaped(path.decode("utf-8", "surrogateescape"), ":,").encode("utf-8", "surrogateescape")
+    )
     words = f"file={file},title={escaped(title, ':,')}::{escaped(message)}"
     return _encoded(f"::{level} {words}")
 
@@ -105,7 +111,11 @@ def _command(level: str, path: bytes, title: str, message: str) -> bytes:
 def sarif(report: Report, end: bytes) -> Iterator[bytes]:
     rules = sorted({(it.rule, it.name) for it in report.findings})
     positions = {rule: position for position, (rule, _) in enumerate(rules)}
-    driver = {"name": "elfmap-lint", "version": __version__, "rules": [_sarif_rule(rule, name) for rule, name in rules]}
+    driver = {
+        "name": "elfmap-lint",
+        "version": __version__,
+        "rules": [_sarif_rule(rule, name) for rule, name in rules],
+    }
     fingerprints = _fingerprints(report.findings)
     run = {
         "tool": {"driver": driver},
@@ -115,11 +125,15 @@ def sarif(report: Report, end: bytes) -> Iterator[bytes]:
                 "toolExecutionNotifications": [_notification(it) for it in report.unreadable],
             }
         ],
-        "results": [_sarif_result(it, positions[it.rule], next(fingerprints)) for it in report.findings],
+        "results": [
+            _sarif_result(it, positions[it.rule], next(fingerprints)) for it in report.findings
+        ],
         "properties": report.summary(),
     }
     schema = "https://json.schemastore.org/sarif-2.1.0.json"
-    yield json.dumps({"$schema": schema, "version": "2.1.0", "runs": [run]}, indent=1).encode("ascii")
+    yield json.dumps({"$schema": schema, "version": "2.1.0", "runs": [run]}, indent=1).encode(
+        "ascii"
+    )
     yield b"\n"
 
 
@@ -138,7 +152,8 @@ def _sarif_rule(rule: Rule, name: str) -> dict[str, Any]:
 
 
 def _fingerprints(findings: Iterable[Finding]) -> Iterator[str]:
-    """Of each finding what stays the same where its file is built again, and differs from that of any other one."""
+    """Of each finding what stays the same where its file is built again, and differs from that of
+    any other one."""
     seen = Counter[Known]()
     for it in findings:
         own = known(it)
@@ -147,7 +162,10 @@ def _fingerprints(findings: Iterable[Finding]) -> Iterator[str]:
 
 
 def _sarif_result(it: Finding, position: int, fingerprint: str) -> dict[str, Any]:
-    region = {"byteOffset": it.start + it.offset, **({} if it.rule == _TOO_SHORT else {"byteLength": 1})}
+    region = {
+        "byteOffset": it.start + it.offset,
+        **({} if it.rule == _TOO_SHORT else {"byteLength": 1}),
+    }
     location: dict[str, Any] = {"physicalLocation": {**_artifact(it.file), "region": region}}
     # The schema asks for locations that differ; the names of sections need not.
     names = [{"name": name, "kind": "section"} for name in dict.fromkeys(it.sections)]
@@ -212,6 +230,12 @@ def _xml(words: str) -> str:
     return words
 
 
-FORMATS: dict[str, Format] = {"text": text, "jsonl": jsonl, "sarif": sarif, "junit": junit, "github": github}
+FORMATS: dict[str, Format] = {
+    "text": text,
+    "jsonl": jsonl,
+    "sarif": sarif,
+    "junit": junit,
+    "github": github,
+}
 # Those of one record a line, or a zero byte.
 OF_RECORDS = ("text", "jsonl", "github")

@@ -12,9 +12,15 @@ from elfmap._link_words import UNDEFINED_NAME, Linked
 from elfmap._names import machine_words, relocation_types, section_type
 from elfmap._words import SECTION, Words, one_line
 
-TOO_SHORT, WRONG_MAGIC, WRONG_CLASS, NOT_NULL, NOT_RELOCATABLE = 2, 3, 4, 13, 70
+TOO_SHORT = 2
+WRONG_MAGIC = 3
+WRONG_CLASS = 4
+NOT_NULL = 13
+NOT_RELOCATABLE = 70
 _OF_SECTION_TABLE = (12, NOT_NULL, 15)
-_KEPT_LINK, _KEPT_INFO, NO_RULE = 78, 79, 12
+_KEPT_LINK = 78
+_KEPT_INFO = 79
+NO_RULE = 12
 _ADDRSIG = "LLVM_ADDRSIG"
 # What has another meaning within $'..'.
 _QUOTED = re.compile(rb"[\\']")
@@ -31,17 +37,26 @@ _MAGICS = {
     b"\xfd7zXZ": "it is compressed by xz: decompress it first",
     b"\x28\xb5\x2f\xfd": "it is compressed by zstd: decompress it first",
 }
-_FILE_TYPES = {0: "of no type", 2: "an executable", 3: "a shared object or a position-independent executable", 4: "a core file"}
+_FILE_TYPES = {
+    0: "of no type",
+    2: "an executable",
+    3: "a shared object or a position-independent executable",
+    4: "a core file",
+}
 # Names that compilers refer to by themselves, and the option without which they do.
 _NAMES = {
-    "_GLOBAL_OFFSET_TABLE_": "the code is compiled for a global offset table: compile it with -fno-pic",
+    "_GLOBAL_OFFSET_TABLE_": (
+        "the code is compiled for a global offset table: compile it with -fno-pic"
+    ),
     "__stack_chk_fail": "the code checks its stack: compile it with -fno-stack-protector",
     "__tls_get_addr": "the code has thread-local variables, which elfmap does not link",
     "_Unwind_Resume": "the code unwinds its stack: compile it with -fno-exceptions",
 }
 
 
-def hints(words: Words, path: str, rule: int, at: int, table: Optional[int] = None) -> Iterator[str]:
+def hints(
+    words: Words, path: str, rule: int, at: int, table: Optional[int] = None
+) -> Iterator[str]:
     """Of a rule of files that is broken at an offset. The path is that for a command."""
     if rule in (TOO_SHORT, WRONG_MAGIC):
         yield from _foreign(words)
@@ -50,7 +65,10 @@ def hints(words: Words, path: str, rule: int, at: int, table: Optional[int] = No
     elif rule in _OF_SECTION_TABLE:
         yield from _astray(words)
     elif rule == NOT_RELOCATABLE:
-        yield f"the file is {_FILE_TYPES.get(words.number(16, 2), 'of another type')}: an object is what cc -c writes"
+        yield (
+            f"the file is {_FILE_TYPES.get(words.number(16, 2), 'of another type')}: an object is"
+            " what cc -c writes"
+        )
     elif rule in (_KEPT_LINK, _KEPT_INFO):
         yield from _address_significance(words, path, at)
 
@@ -61,23 +79,35 @@ def _foreign(words: Words) -> Iterator[str]:
 
 def _astray(words: Words) -> Iterator[str]:
     """`e_shoff` leads elsewhere, or the file was cut short."""
-    count, size = words.number(60, 2), len(words.data)
+    count = words.number(60, 2)
+    size = len(words.data)
     fits = _table_at_end(words, count)
     end = words.table + 64 * max(count, 1)
     if fits:
-        yield f"e_shoff, which is {words.table:#x}, points astray: a table of {count} section headers is at {fits:#x}"
+        yield (
+            f"e_shoff, which is {words.table:#x}, points astray: a table of {count} section headers"
+            f" is at {fits:#x}"
+        )
     elif end > size:
-        yield f"the file was cut short: its section header table ends at {end:#x}, and the file at {size:#x}"
+        yield (
+            f"the file was cut short: its section header table ends at {end:#x}, and the file at"
+            f" {size:#x}"
+        )
     elif _fields_that_are_set(words) > 1:
-        yield f"e_shoff, which is {words.table:#x}, points astray: what is there looks like no section header 0"
+        yield (
+            f"e_shoff, which is {words.table:#x}, points astray: what is there looks like no"
+            " section header 0"
+        )
 
 
 def _table_at_end(words: Words, count: int) -> int:
-    """Where a table begins that ends with the file, as most writers place it; 0 if there is none."""
+    """Where a table begins that ends with the file, as most writers place it; 0 if there is
+    none."""
     start = (len(words.data) - 64 * count) // 8 * 8
     if count < 2 or start < 64 or start == words.table:
         return 0
-    first, second = words.data[start : start + 64], words.data[start + 64 : start + 128]
+    first = words.data[start : start + 64]
+    second = words.data[start + 64 : start + 128]
     return start if not any(first) and any(second[4:8]) else 0
 
 
@@ -89,7 +119,10 @@ def _fields_that_are_set(words: Words) -> int:
 
 def _address_significance(words: Words, path: str, at: int) -> Iterator[str]:
     index = (at - words.table) // 64
-    if section_type(words.section(index, "sh_type")) == _ADDRSIG or words.section_name(index) == ".llvm_addrsig":
+    if (
+        section_type(words.section(index, "sh_type")) == _ADDRSIG
+        or words.section_name(index) == ".llvm_addrsig"
+    ):
         strip = f"objcopy --remove-section=.llvm_addrsig {_shell_word(os.fsencode(path))}"
         yield f"clang wrote .llvm_addrsig: compile with -fno-addrsig, or strip it: {strip}"
 
@@ -102,7 +135,9 @@ def _shell_word(path: bytes) -> str:
     return f"$'{one_line(quoted).decode()}'"
 
 
-def link_hints(files: Sequence[Linked], rule: int, file: int, index: int, entry: int) -> Iterator[str]:
+def link_hints(
+    files: Sequence[Linked], rule: int, file: int, index: int, entry: int
+) -> Iterator[str]:
     """Of a rule of the link."""
     if file >= len(files):
         return
@@ -123,8 +158,16 @@ def _unknown_relocation(file: Linked, index: int, entry: int) -> Iterator[str]:
     number = file.words.number(at + 8, 8) & 0xFFFFFFFF
     name = relocation_types(file.words.machine).get(number, "")
     if "GOT" in name:
-        yield f"{name} is by a global offset table, which elfmap does not make: compile with -fno-pic"
+        yield (
+            f"{name} is by a global offset table, which elfmap does not make: compile with -fno-pic"
+        )
     elif name == "R_X86_64_PLT32":
-        yield f"{name} is a call, which needs no table here: the rule file needs the line `{number} pc 4 signed`"
+        yield (
+            f"{name} is a call, which needs no table here: the rule file needs the line"
+            f" `{number} pc 4 signed`"
+        )
     elif name:
-        yield f"the rule file has no line for type {number}, {name} of machine {machine_words(file.words.machine)}"
+        yield (
+            f"the rule file has no line for type {number}, {name} of machine"
+            f" {machine_words(file.words.machine)}"
+        )

@@ -23,8 +23,9 @@ _TOO_LONG = (
 
 
 class Depth(NamedTuple):
-    """How much of a file is checked, and what is reported: of each name in a sentence at most so many letters,
-    and of sections also their names by themselves. Whether a file that is named may be no ELF file.
+    """How much of a file is checked, and what is reported: of each name in a sentence at most so
+    many letters, and of sections also their names by themselves. Whether a file that is named may
+    be no ELF file.
     """
 
     tables: bool = False
@@ -77,7 +78,9 @@ class Inspector:
             self._image(Content(path, path, source))
             return
         for member in members(source, path):
-            with self._guarded(printed(path, member)), self._contents.opened(path, source, member) as it:
+            with self._guarded(printed(path, member)), self._contents.opened(
+                path, source, member
+            ) as it:
                 self._image(it)
 
     def _image(self, it: Content) -> None:
@@ -96,7 +99,9 @@ class Inspector:
             self._report.names.append(it.path)
         words = Words(it.source, self._depth.most_letters) if faults else None
         if words:
-            self._report.findings += [_finding(it, words, fault, self._depth.names_sections) for fault in faults]
+            self._report.findings += [
+                _finding(it, words, fault, self._depth.names_sections) for fault in faults
+            ]
 
 
 def _finding(content: Content, words: Words, fault: Fault, names_sections: bool) -> Finding:
@@ -109,4 +114,6 @@ def _finding(content: Content, words: Words, fault: Fault, names_sections: bool)
     else:
         told = explain(words, fault.rule, fault.at, fault.table)
     sections = tuple(map(words.section_name, told.sections)) if names_sections else ()
-    return Finding(path, fault.at, rule, rule.table[rule.number][0], told.message, sections, file, source.start)
+    return Finding(
+        path, fault.at, rule, rule.table[rule.number][0], told.message, sections, file, source.start
+    )

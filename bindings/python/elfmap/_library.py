@@ -3,8 +3,18 @@
 import ctypes
 import functools
 import tempfile
-from ctypes import POINTER, Structure, c_bool, c_size_t, c_void_p
-from ctypes import c_int64, c_uint8, c_uint16, c_uint32, c_uint64
+from ctypes import (
+    POINTER,
+    Structure,
+    c_bool,
+    c_size_t,
+    c_void_p,
+    c_int64,
+    c_uint8,
+    c_uint16,
+    c_uint32,
+    c_uint64,
+)
 from pathlib import Path
 
 SHORT_ROOM = 0

@@ -16,23 +16,46 @@ from typing import Optional
 
 from elfmap._names import machine_words
 from elfmap._rules import LINK_RULES
-from elfmap._words import LONGEST_NAME, NULL, RELA, SECTION, SYMTAB, Told, Words, entry_words, printable, reason
+from elfmap._words import (
+    LONGEST_NAME,
+    NULL,
+    RELA,
+    SECTION,
+    SYMTAB,
+    Told,
+    Words,
+    entry_words,
+    printable,
+    reason,
+)
 
-_GLOBAL, _UNDEFINED, _COMMON = 1, 0, 0xFFF2
-_HEADER_SIZE, _SYMBOL_SIZE = 64, 24
-_SYMBOLS_AT_ONCE, _BYTES_AT_ONCE = 1 << 14, 1 << 20
+_GLOBAL = 1
+_UNDEFINED = 0
+_COMMON = 0xFFF2
+_HEADER_SIZE = 64
+_SYMBOL_SIZE = 24
+_SYMBOLS_AT_ONCE = 1 << 14
+_BYTES_AT_ONCE = 1 << 20
 # A name is looked for at so many places of the string table.
 _MOST_OFFSETS = 1 << 20
 # The rules by what their positions are of.
-_OF_OPTIONS, _OF_SECTIONS = (1, 10, 11), (3, 4, 5)
-_MISMATCH, _EMPTY_SIGNATURE, _BAD_COMMON, _TWO_DEFINITIONS, UNDEFINED_NAME, NO_ENTRY = 2, 5, 7, 8, 9, 10
-_OF_SYMBOLS, _OF_RELOCATIONS = range(6, 10), range(12, 17)
+_OF_OPTIONS = (1, 10, 11)
+_OF_SECTIONS = (3, 4, 5)
+_MISMATCH = 2
+_EMPTY_SIGNATURE = 5
+_BAD_COMMON = 7
+_TWO_DEFINITIONS = 8
+UNDEFINED_NAME = 9
+NO_ENTRY = 10
+_OF_SYMBOLS = range(6, 10)
+_OF_RELOCATIONS = range(12, 17)
 # The rules that a file keeps or breaks whatever the options and the other files are.
 OF_ONE_FILE = range(3, 8)
 
 
 class Linked:
-    """A file of a link: its path as it is and as it is printed, its bytes in words, and what is looked up in it."""
+    """A file of a link: its path as it is and as it is printed, its bytes in words, and what is
+    looked up in it."""
 
     def __init__(self, path: str, words: Words) -> None:
         self.file = os.fsencode(path)
@@ -58,7 +81,8 @@ class Linked:
         return self._kept[position] if position < len(self._kept) else self.words.count
 
     def _place(self, rule: int) -> tuple[int, int, int]:
-        """Of the section headers or symbols that a rule is about where they begin, their size, and how many there are."""
+        """Of the section headers or symbols that a rule is about where they begin, their size, and
+        how many there are."""
         words = self.words
         if rule in _OF_SECTIONS:
             return words.table, _HEADER_SIZE, words.count
@@ -66,7 +90,8 @@ class Linked:
         return start, _SYMBOL_SIZE, (end - start) // _SYMBOL_SIZE
 
     def offset(self, rule: int, position: int) -> int:
-        """Where in the file a rule is broken: the field of the section header, or the entry of the symbol."""
+        """Where in the file a rule is broken: the field of the section header, or the entry of the
+        symbol."""
         start, size, _ = self._place(rule)
         if rule in _OF_SECTIONS:
             field, _ = SECTION["sh_info" if rule == _EMPTY_SIGNATURE else "sh_flags"]
@@ -81,12 +106,16 @@ class Linked:
 
     def raw_name(self, position: int, most: int = LONGEST_NAME) -> bytes:
         """The name of the symbol at a position, or so many bytes of it."""
-        return self.words.name(self._strings, self.words.symbol(self.symbols, position + 1, "st_name"), most)
+        return self.words.name(
+            self._strings, self.words.symbol(self.symbols, position + 1, "st_name"), most
+        )
 
     def first_definition(self, name: bytes) -> Optional[int]:
         """The first symbol that is a global definition of a name."""
         offsets = set(islice(self._offsets_of(name), _MOST_OFFSETS)) if name else set()
-        return next((index for index, offset in self._global_definitions() if offset in offsets), None)
+        return next(
+            (index for index, offset in self._global_definitions() if offset in offsets), None
+        )
 
     @cached_property
     def _strings(self) -> int:
@@ -105,13 +134,16 @@ class Linked:
 
     def _global_definitions(self) -> Iterator[tuple[int, int]]:
         """Their indexes, and the offsets of their names."""
-        words, record = self.words, struct.Struct(f"{self.words.order}IBxH16x")
+        words = self.words
+        record = struct.Struct(f"{self.words.order}IBxH16x")
         start, end = words.content(self.symbols)
         step = _SYMBOL_SIZE * _SYMBOLS_AT_ONCE
         for at in range(start, min(end, len(words.data)), step):
             block = words.data[at : min(at + step, end)]
             whole = block[: len(block) // _SYMBOL_SIZE * _SYMBOL_SIZE]
-            for index, (name, info, section) in enumerate(record.iter_unpack(whole), (at - start) // _SYMBOL_SIZE):
+            for index, (name, info, section) in enumerate(
+                record.iter_unpack(whole), (at - start) // _SYMBOL_SIZE
+            ):
                 if index and info >> 4 == _GLOBAL and section not in (_UNDEFINED, _COMMON):
                     yield index, name
 
@@ -123,18 +155,31 @@ class Linked:
     def machine_words(self) -> str:
         order = "big" if self.words.order == ">" else "little"
         flags = self.words.number(48, 4)
-        return f"{self.path} has order {order}, machine {machine_words(self.words.machine)}, flags {flags:#x}"
+        return (
+            f"{self.path} has order {order}, machine {machine_words(self.words.machine)}, flags"
+            f" {flags:#x}"
+        )
 
     def own_words(self, rule: int, index: int) -> str:
-        """The section or symbol of this index, and what of it a rule looks at that needs no other file."""
-        return self._section_words(rule, index) if rule in _OF_SECTIONS else self._symbol_words(rule, index)
+        """The section or symbol of this index, and what of it a rule looks at that needs no other
+        file."""
+        return (
+            self._section_words(rule, index)
+            if rule in _OF_SECTIONS
+            else self._symbol_words(rule, index)
+        )
 
     def _section_words(self, rule: int, index: int) -> str:
         words = self.words
         if rule == _EMPTY_SIGNATURE:
-            signature = words.symbol_words(words.section(index, "sh_link"), words.section(index, "sh_info"))
+            signature = words.symbol_words(
+                words.section(index, "sh_link"), words.section(index, "sh_info")
+            )
             return f"{words.section_words(index)}: signed by {signature}"
-        return f"{words.section_words(index)}: sh_flags, which is {words.section(index, 'sh_flags'):#x}"
+        return (
+            f"{words.section_words(index)}: sh_flags, which is"
+            f" {words.section(index, 'sh_flags'):#x}"
+        )
 
     def _symbol_words(self, rule: int, index: int) -> str:
         words = self.words
@@ -154,13 +199,19 @@ class Linked:
         return start + size * entry if start + size * (entry + 1) <= end else -1
 
     def relocation_words(self, position: int, entry: int) -> str:
-        index, at = self.section(position), self.relocation(position, entry)
-        own = entry_words(self.words, index, at) if at >= 0 else f"relocation {entry}, which isn't there"
+        index = self.section(position)
+        at = self.relocation(position, entry)
+        own = (
+            entry_words(self.words, index, at)
+            if at >= 0
+            else f"relocation {entry}, which isn't there"
+        )
         return f"{self.path}, {self.words.section_words(index)}: {own}"
 
 
 def refused_symbol(data: bytes, rule: int, index: int, entry: int) -> Optional[bytes]:
-    """The whole name of the symbol of a file that a rule of the link is about; None if there is none."""
+    """The whole name of the symbol of a file that a rule of the link is about; None if there is
+    none."""
     file = Linked("", Words(data))
     if rule in _OF_SYMBOLS:
         return file.raw_name(index, len(data))
@@ -171,7 +222,8 @@ def refused_symbol(data: bytes, rule: int, index: int, entry: int) -> Optional[b
 
 def explain_alone(file: Linked, rule: int, at: int) -> Told:
     """Why a file breaks a rule of the link by itself, at an offset of it."""
-    words, index = file.words, file.index_at(rule, at)
+    words = file.words
+    index = file.index_at(rule, at)
     section = index if rule in _OF_SECTIONS else file.symbols
     message = f"{file.own_words(rule, index)}; {reason(rule, LINK_RULES)}; {LINK_RULES[rule][2]}"
     return Told(message, [section])
@@ -189,16 +241,22 @@ def link_words(files: Sequence[Linked], rule: int, file: int, index: int, entry:
         return f"{it.path}, {it.own_words(rule, own)}"
     if rule == _TWO_DEFINITIONS:
         return _two_definitions(files, file, index)
-    return it.undefined_words(index) if rule == UNDEFINED_NAME else it.relocation_words(index, entry)
+    return (
+        it.undefined_words(index) if rule == UNDEFINED_NAME else it.relocation_words(index, entry)
+    )
 
 
 def _two_definitions(files: Sequence[Linked], file: int, index: int) -> str:
     """Both definitions of a name, of which the given one is the second."""
-    name, symbol = files[file].raw_name(index), index + 1
+    name = files[file].raw_name(index)
+    symbol = index + 1
     before = "an earlier file has it"
     for position, it in enumerate(files[: file + 1]):
         other = it.first_definition(name)
         if other is not None and (position, other) < (file, symbol):
             before = f"{it.path} has it at symbol {other}"
             break
-    return f"two definitions of {files[file].symbol_name(index)}, the second one at symbol {symbol} of {files[file].path}; {before}"
+    return (
+        f"two definitions of {files[file].symbol_name(index)}, the second one at symbol {symbol} of"
+        f" {files[file].path}; {before}"
+    )

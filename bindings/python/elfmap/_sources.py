@@ -18,7 +18,9 @@ from elfmap import _library
 # The longest file that keeps rule 1, and one byte more.
 LONGEST = 2**30 + 1
 # How much is read at once, and how much of it is held.
-_HEAD, _BLOCK, _MOST_BLOCKS = 512, 1 << 16, 16
+_HEAD = 512
+_BLOCK = 1 << 16
+_MOST_BLOCKS = 16
 _NORESERVE = getattr(mmap, "MAP_NORESERVE", 0x4000)
 _LEAST_ROOM = 1 << 20
 
@@ -119,7 +121,8 @@ def standard_input() -> Source:
 
 def whole(reader: int) -> Source:
     """All that can be read from an open file, in memory."""
-    handle, size = os.memfd_create("what was read"), 0
+    handle = os.memfd_create("what was read")
+    size = 0
     while size < LONGEST:
         try:
             content = os.read(reader, min(1 << 20, LONGEST - size))

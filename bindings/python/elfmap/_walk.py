@@ -25,8 +25,13 @@ class Found(NamedTuple):
 
 
 def reason_of_foreign(size: int) -> str:
-    """Why a file of so many bytes, which does not begin as an ELF file or an archive, is not checked."""
-    return "it is neither an ELF file nor an archive; --skip skips it" if size else "it is empty; --skip skips it"
+    """Why a file of so many bytes, which does not begin as an ELF file or an archive, is not
+    checked."""
+    return (
+        "it is neither an ELF file nor an archive; --skip skips it"
+        if size
+        else "it is empty; --skip skips it"
+    )
 
 
 class Walk:
@@ -38,7 +43,9 @@ class Walk:
     Unless those are skipped, one that is too short for an ELF file is unreadable.
     """
 
-    def __init__(self, names: Iterable[bytes], excluded: Globs, report: Report, skips_named: bool = True) -> None:
+    def __init__(
+        self, names: Iterable[bytes], excluded: Globs, report: Report, skips_named: bool = True
+    ) -> None:
         self._names = names
         self._skips_named = skips_named
         self._excluded = excluded
@@ -117,7 +124,8 @@ class Walk:
             yield Found(entry.path, found.st_size)
 
     def _remember(self, path: bytes, found: os.stat_result) -> None:
-        key, file = _identity(found), Found(path, found.st_size)
+        key = _identity(found)
+        file = Found(path, found.st_size)
         first = min(file, self._once.get(key, file))
         # It is a named one also by another path, which only a folder has.
         self._once[key] = Found(Named(first.path), first.size) if key in self._named else first
@@ -140,6 +148,7 @@ def chunks(found: Iterable[Found], most_files: int, most_bytes: int) -> Iterator
         size += it.size
         if len(paths) >= most_files or size >= most_bytes:
             yield paths
-            paths, size = [], 0
+            paths = []
+            size = 0
     if paths:
         yield paths

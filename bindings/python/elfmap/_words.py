@@ -60,13 +60,61 @@ DYNAMIC = _layout(_library.Dynamic)
 NOTE: Layout = {"namesz": (0, 4), "descsz": (4, 4), "type": (8, 4)}
 _IN_HEX = "flags addr off align entry value st_info r_info filesz memsz shndx".split()
 
-NULL, SYMTAB, STRTAB, RELA, HASH, DYNAMIC_SECTION, NOTE_SECTION = 0, 2, 3, 4, 5, 6, 7
-NOBITS, REL, DYNSYM, GROUP, SYMTAB_SHNDX, XINDEX = 8, 9, 11, 17, 18, 0xFFFF
-ENTRY_SIZES = {SYMTAB: 24, DYNSYM: 24, RELA: 24, REL: 16, DYNAMIC_SECTION: 16, GROUP: 4, SYMTAB_SHNDX: 4, HASH: 4}
+NULL = 0
+SYMTAB = 2
+STRTAB = 3
+RELA = 4
+HASH = 5
+DYNAMIC_SECTION = 6
+NOTE_SECTION = 7
+NOBITS = 8
+REL = 9
+DYNSYM = 11
+GROUP = 17
+SYMTAB_SHNDX = 18
+XINDEX = 0xFFFF
+ENTRY_SIZES = {
+    SYMTAB: 24,
+    DYNSYM: 24,
+    RELA: 24,
+    REL: 16,
+    DYNAMIC_SECTION: 16,
+    GROUP: 4,
+    SYMTAB_SHNDX: 4,
+    HASH: 4,
+}
 # Where a rule's offset is. Any other rule's may be in each of these.
 PARTS = {
     "header": {*range(3, 13), 15, 16, 18, 19, 21, 70, 71},
-    "section": {13, 14, 17, 20, 22, 23, 24, 30, 32, 40, 42, 43, 44, 46, 49, 50, 53, 55, 57, 63, 65, 72, 73, 74, 76, 78, 79},
+    "section": {
+        13,
+        14,
+        17,
+        20,
+        22,
+        23,
+        24,
+        30,
+        32,
+        40,
+        42,
+        43,
+        44,
+        46,
+        49,
+        50,
+        53,
+        55,
+        57,
+        63,
+        65,
+        72,
+        73,
+        74,
+        76,
+        78,
+        79,
+    },
     "segment": {25, 26, 27, 28, 29},
     "content": {31, 41, 47, 48, 51, 52, 54, 56, 58, 59, 60, 61, 62, 64, 66, 67, 68, 69, 75, 77},
 }
@@ -74,9 +122,11 @@ SHARED_BYTE = 33
 # So many parts that share a byte are named.
 MOST_OWNERS = 16
 _HEADERS_AT_ONCE = 1024
-# So many letters of a name are in a sentence of a text, and so many bytes of it in JSON: names may share bytes, so that a short file has
-# many long ones. A letter has at most so many bytes.
-MOST_LETTERS, LONGEST_NAME, LONGEST_LETTER = 200, 4096, 4
+# So many letters of a name are in a sentence of a text, and so many bytes of it in JSON: names may
+# share bytes, so that a short file has many long ones. A letter has at most so many bytes.
+MOST_LETTERS = 200
+LONGEST_NAME = 4096
+LONGEST_LETTER = 4
 # What is escaped in a path: no byte of a letter of ASCII that can be printed.
 _ESCAPED_BYTE = re.compile(rb"\\x([01][0-9a-f]|7f|[89a-f][0-9a-f])")
 # Notes have no index: more than these are not counted.
@@ -103,7 +153,9 @@ class Words:
         counted = self.number(60, 2) or self.number(self.table + 32, 8)
         self.count = min(counted, len(data) // 64) if self.table else 0
         self.names = self.section(0, "sh_link") if names == XINDEX else names
-        self.segments = min(self.section(0, "sh_info") if segments == XINDEX else segments, len(data) // 56)
+        self.segments = min(
+            self.section(0, "sh_info") if segments == XINDEX else segments, len(data) // 56
+        )
         self._index_tables: Optional[dict[int, int]] = None
 
     def number(self, at: int, width: int) -> int:
@@ -117,7 +169,8 @@ class Words:
 
     def content(self, index: int) -> tuple[int, int]:
         """Where the content of a section begins and ends, if it has bytes in the file."""
-        start, kind = self.section(index, "sh_offset"), self.section(index, "sh_type")
+        start = self.section(index, "sh_offset")
+        kind = self.section(index, "sh_type")
         return start, start + (0 if kind in (NULL, NOBITS) else self.section(index, "sh_size"))
 
     def headers(self) -> Iterator[tuple[int, ...]]:
@@ -126,12 +179,16 @@ class Words:
         for first in range(0, self.count, _HEADERS_AT_ONCE):
             start = self.table + 64 * first
             block = self.data[start : start + 64 * min(_HEADERS_AT_ONCE, self.count - first)]
-            for index, fields in enumerate(record.iter_unpack(block[: len(block) // 64 * 64]), first):
+            for index, fields in enumerate(
+                record.iter_unpack(block[: len(block) // 64 * 64]), first
+            ):
                 yield (index, *fields)
 
     def holding(self, at: int, near: Iterable[int] = ()) -> list[int]:
         """The sections whose content has an offset; those nearby are looked at first."""
-        found = [it for it in dict.fromkeys(near) if self.content(it)[0] <= at < self.content(it)[1]]
+        found = [
+            it for it in dict.fromkeys(near) if self.content(it)[0] <= at < self.content(it)[1]
+        ]
         position = 0 if found else bisect.bisect_left(self._contents, (at + 1,))
         while position and self._ends[position - 1] > at:
             position -= 1
@@ -142,12 +199,18 @@ class Words:
     @cached_property
     def _contents(self) -> list[tuple[int, ...]]:
         """Where the contents of sections begin and end, and their indexes, in ascending order."""
-        all_ = ((start, start + size, index, kind) for index, _, kind, _, _, start, size, *_ in self.headers())
-        return sorted(it[:3] for it in all_ if it[2] and it[0] < it[1] and it[3] not in (NULL, NOBITS))
+        all_ = (
+            (start, start + size, index, kind)
+            for index, _, kind, _, _, start, size, *_ in self.headers()
+        )
+        return sorted(
+            it[:3] for it in all_ if it[2] and it[0] < it[1] and it[3] not in (NULL, NOBITS)
+        )
 
     @cached_property
     def _ends(self) -> list[int]:
-        """The highest end of a content and all before it: where they overlap it may be that of an earlier one."""
+        """The highest end of a content and all before it: where they overlap it may be that of an
+        earlier one."""
         return list(itertools.accumulate((end for _, end, _ in self._contents), max))
 
     def index_table(self, symbols: int) -> int:
@@ -170,11 +233,17 @@ class Words:
         """The name at an offset of a string table, or so many bytes of it."""
         start, end = self.content(table)
         is_there = 0 < table < self.count and start + at < end
-        return self.data[start + at : min(end, start + at + most)].partition(b"\0")[0] if is_there else b""
+        return (
+            self.data[start + at : min(end, start + at + most)].partition(b"\0")[0]
+            if is_there
+            else b""
+        )
 
     def string(self, table: int, at: int) -> str:
         """That name in a sentence, in letters that can be printed."""
-        return printable(self.name(table, at, min(LONGEST_NAME, LONGEST_LETTER * (self._most + 1))), self._most)
+        return printable(
+            self.name(table, at, min(LONGEST_NAME, LONGEST_LETTER * (self._most + 1))), self._most
+        )
 
     def section_string(self, index: int) -> str:
         """The name of a section in a sentence."""
@@ -182,7 +251,9 @@ class Words:
 
     def section_name(self, index: int) -> str:
         """The name of a section in JSON, or what it is called without one."""
-        return printable(self.name(self.names, self.section(index, "sh_name"))) or f"section {index}"
+        return (
+            printable(self.name(self.names, self.section(index, "sh_name"))) or f"section {index}"
+        )
 
     def symbol(self, table: int, index: int, field: str) -> int:
         """A field of a symbol, 0 where there is none."""
@@ -200,7 +271,10 @@ class Words:
     def typed_words(self, index: int) -> str:
         if index >= self.count:
             return self.section_words(index)
-        return f"{self.section_words(index)} of type {section_type(self.section(index, 'sh_type'), self.machine)}"
+        return (
+            f"{self.section_words(index)} of type"
+            f" {section_type(self.section(index, 'sh_type'), self.machine)}"
+        )
 
     def symbol_name(self, table: int, index: int) -> str:
         name = self.string(self.section(table, "sh_link"), self.symbol(table, index, "st_name"))
@@ -211,14 +285,21 @@ class Words:
     def symbol_words(self, table: int, index: int) -> str:
         start, end = self.content(table)
         is_there = start + 24 * index + 24 <= end
-        return f"symbol {index} {self.symbol_name(table, index)}" if is_there else f"symbol {index}, which isn't there"
+        return (
+            f"symbol {index} {self.symbol_name(table, index)}"
+            if is_there
+            else f"symbol {index}, which isn't there"
+        )
 
     def field_words(self, record: Layout, start: int, at: int) -> str:
         """The field of a record that holds an offset, and its value."""
         for name, (begins, width) in record.items():
             if begins <= at - start < begins + width:
                 if name.startswith("the "):
-                    return f"{name}, which is {self.data[start + begins : start + begins + width].hex(' ')}"
+                    return (
+                        f"{name}, which is"
+                        f" {self.data[start + begins : start + begins + width].hex(' ')}"
+                    )
                 value = self.number(start + begins, width)
                 is_hex = any(it in name for it in _IN_HEX) and value > 9
                 return f"{name}, which is {hex(value) if is_hex else value}"
@@ -227,9 +308,13 @@ class Words:
     def header_words(self, index: int) -> str:
         """What a section header is about: its section, and those that it names."""
         kind, link, info = (self.section(index, it) for it in ("sh_type", "sh_link", "sh_info"))
-        words = [f"the section header of {self.typed_words(index)}" if index else "section header 0"]
+        words = [
+            f"the section header of {self.typed_words(index)}" if index else "section header 0"
+        ]
         words += [f"its link is {self.typed_words(link)}"] if link and kind != NULL else []
-        words += [f"it relocates {self.section_words(info)}"] if kind in (REL, RELA) and info else []
+        words += (
+            [f"it relocates {self.section_words(info)}"] if kind in (REL, RELA) and info else []
+        )
         words += [f"signed by {self.symbol_words(link, info)}"] if kind == GROUP else []
         return "; ".join(words)
 
@@ -249,12 +334,17 @@ class Words:
         table = self.number(32, 8)
         if table and table <= at < table + 56 * self.segments:
             index = (at - table) // 56
-            yield Place("segment", None, f"program header {index}: {self.field_words(SEGMENT, table + 56 * index, at)}")
+            yield Place(
+                "segment",
+                None,
+                f"program header {index}: {self.field_words(SEGMENT, table + 56 * index, at)}",
+            )
         for index in self.holding(at, near):
             yield Place("content", index, self.content_words(index, at))
 
     def owners(self, at: int) -> Iterator[tuple[Optional[int], str, int, int]]:
-        """The parts that a byte belongs to: of which section, or else in words, and from where to where."""
+        """The parts that a byte belongs to: of which section, or else in words, and from where to
+        where."""
         table = self.number(32, 8)
         parts = [
             ("the ELF header", 0, 64),
@@ -269,7 +359,8 @@ class Words:
 
 
 def printable(name: bytes, most: Optional[int] = None) -> str:
-    """A name in letters that can be printed, or its first ones, and … for the rest. A byte that is no UTF-8 is a letter too."""
+    """A name in letters that can be printed, or its first ones, and … for the rest. A byte that is
+    no UTF-8 is a letter too."""
     letters = name.decode("utf-8", "surrogateescape")
     # Letters are cut, and then escaped: no escape is cut in two.
     front = letters[:most]
@@ -285,7 +376,8 @@ def _escape(letter: str) -> str:
 
 
 def one_line(path: bytes) -> bytes:
-    """A path in letters that can be printed. Of any other letter, and of what is no UTF-8, each byte is escaped as `\\xNN`."""
+    """A path in letters that can be printed. Of any other letter, and of what is no UTF-8, each
+    byte is escaped as `\\xNN`."""
     letters = path.decode("utf-8", "surrogateescape")
     return path if letters.isprintable() else "".join(map(_in_bytes, letters)).encode("utf-8")
 
@@ -303,7 +395,9 @@ def _in_bytes(letter: str) -> str:
 
 def entry_words(file: Words, index: int, at: int) -> str:
     """The entry of the table in a section that holds an offset."""
-    kind, (start, end), link = file.section(index, "sh_type"), file.content(index), file.section(index, "sh_link")
+    kind = file.section(index, "sh_type")
+    (start, end) = file.content(index)
+    link = file.section(index, "sh_link")
     size = ENTRY_SIZES.get(kind, 1)
     position = (at - start) // size
     begins = start + position * size
@@ -311,11 +405,18 @@ def entry_words(file: Words, index: int, at: int) -> str:
         return _symbol_entry(file, index, position, at)
     if kind in (RELA, REL):
         info = file.number(begins + 8, 8)
-        place = f"{file.number(begins, 8):#x} of {file.section_words(file.section(index, 'sh_info'))}"
+        place = (
+            f"{file.number(begins, 8):#x} of {file.section_words(file.section(index, 'sh_info'))}"
+        )
         typed = f"of type {relocation_type(info & 0xFFFFFFFF, file.machine)}"
-        return f"relocation {position}, of {file.symbol_words(link, info >> 32)}, at {place}, {typed}"
+        return (
+            f"relocation {position}, of {file.symbol_words(link, info >> 32)}, at {place}, {typed}"
+        )
     if kind == DYNAMIC_SECTION:
-        return f"entry {position}, of tag {file.number(begins, 8)}: {file.field_words(DYNAMIC, begins, at)}"
+        return (
+            f"entry {position}, of tag {file.number(begins, 8)}:"
+            f" {file.field_words(DYNAMIC, begins, at)}"
+        )
     if kind == NOTE_SECTION:
         return _note_words(file, start, end, at)
     if kind in (GROUP, SYMTAB_SHNDX, HASH):
@@ -332,10 +433,17 @@ def _symbol_entry(file: Words, index: int, position: int, at: int) -> str:
 
 def _word_entry(file: Words, index: int, position: int, value: int) -> str:
     """A word of a group, an index table or a hash table."""
-    kind, link = file.section(index, "sh_type"), file.section(index, "sh_link")
+    kind = file.section(index, "sh_type")
+    link = file.section(index, "sh_link")
     if kind == GROUP:
-        signature = f"of the group that {file.symbol_words(link, file.section(index, 'sh_info'))} signs"
-        return f"the member {file.section_words(value)} {signature}" if position else f"the flags, {value}, {signature}"
+        signature = (
+            f"of the group that {file.symbol_words(link, file.section(index, 'sh_info'))} signs"
+        )
+        return (
+            f"the member {file.section_words(value)} {signature}"
+            if position
+            else f"the flags, {value}, {signature}"
+        )
     if kind == SYMTAB_SHNDX:
         return f"the word of {file.symbol_words(link, position)}: {value}"
     buckets = file.number(file.content(index)[0], 4)
@@ -362,7 +470,8 @@ def _note_words(file: Words, start: int, end: int, at: int) -> str:
 
 
 def reason(rule: int, rules: dict[int, tuple[str, str, str]] = RULES) -> str:
-    """What a rule refuses, of files if no other rules are given, without the words that begin each sentence."""
+    """What a rule refuses, of files if no other rules are given, without the words that begin each
+    sentence."""
     return rules[rule][1].partition(" because ")[2]
 
 
@@ -392,7 +501,11 @@ def found_at(file: Words, rule: int, at: int, table: Optional[int] = None) -> li
         return [Place("end", None, f"the file ends there, with {len(file.data)} bytes")]
     found = list(file.places(at, file.related(table) if table is not None else ()))
     wanted = [kind for kind, rules in PARTS.items() if rule in rules] or list(PARTS)
-    return [it for it in found if it.kind in wanted] or found or [Place("gap", None, "in no part of the file")]
+    return (
+        [it for it in found if it.kind in wanted]
+        or found
+        or [Place("gap", None, "in no part of the file")]
+    )
 
 
 def _shared_byte(file: Words, at: int) -> Told:

@@ -38,7 +38,8 @@ def archive() -> Path:
 
 
 def ready() -> Optional[Path]:
-    """The shared library that is built: in the named folder, or else in the package or the release."""
+    """The shared library that is built: in the named folder, or else in the package or the
+    release."""
     folder = named_folder()
     folders = [folder] if folder else [PACKAGE, REPOSITORY / "lib"]
     paths = [folder / name for folder in folders for name in (NAME, SHARED)]

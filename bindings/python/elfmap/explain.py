@@ -49,15 +49,24 @@ PROGRAM = "elfmap-explain"
 WIDTH = 130
 _REFUSAL = re.compile(rb"(?:file (\d+) )?refused((?: \d+){2,4})$")
 _FINDING = re.compile(
-    rb"(?P<path>.*?): offset 0x(?P<offset>[0-9a-f]{1,16}): (?P<name>[A-Z_0-9]+) \((?P<link>link )?(?P<rule>\d{1,3})\): ", re.S
+    (
+        rb"(?P<path>.*?): offset 0x(?P<offset>[0-9a-f]{1,16}): (?P<name>[A-Z_0-9]+) \((?P<link>link"
+        rb" )?(?P<rule>\d{1,3})\): "
+    ),
+    re.S,
 )
 _LINK_RULE = re.compile(r"link-([0-9]{1,3})")
-_FIRST_WORD, _WORD = re.compile(r"file|refused"), re.compile(r"refused|\d+")
+_FIRST_WORD = re.compile(r"file|refused")
+_WORD = re.compile(r"refused|\d+")
 # So many files are held open.
 _MOST_OPEN = 16
 _LONGEST_RECORD = 1 << 20
-_TOO_LONG = "the file is refused because the canonical layout of its object is longer than 2^30 bytes"
-_CHECKED = "checked here by the rules of images and tables, and relocatable files by those of objects: "
+_TOO_LONG = (
+    "the file is refused because the canonical layout of its object is longer than 2^30 bytes"
+)
+_CHECKED = (
+    "checked here by the rules of images and tables, and relocatable files by those of objects: "
+)
 _RELOCATABLE = 1
 
 
@@ -117,7 +126,11 @@ class Files:
             self._members = archive, *_members_of(source, archive)
         _, named, others = self._members
         # Of a member in another archive the path goes on.
-        mine = [named[path]] if path in named else [it for it in others if path.startswith(printed(archive, it)[:-1] + b"(")]
+        mine = (
+            [named[path]]
+            if path in named
+            else [it for it in others if path.startswith(printed(archive, it)[:-1] + b"(")]
+        )
         contents = Contents()
         for it in mine:
             content = stack.enter_context(contents.opened(archive, source, it))
@@ -127,7 +140,8 @@ class Files:
 
 
 def _members_of(source: Source, path: bytes) -> tuple[dict[bytes, Member], list[Member]]:
-    """The members of an archive by their paths, of several of one path the first; and those in other archives."""
+    """The members of an archive by their paths, of several of one path the first; and those in
+    other archives."""
     named: dict[bytes, Member] = {}
     others = []
     with suppress(Unreadable):
@@ -155,7 +169,9 @@ class Explainer:
     def __init__(self, named: Sequence[Linked], files: Files) -> None:
         self._named = named
         self._files = files
-        self._filled = textwrap.TextWrapper(WIDTH, subsequent_indent="  ", break_long_words=False, break_on_hyphens=False)
+        self._filled = textwrap.TextWrapper(
+            WIDTH, subsequent_indent="  ", break_long_words=False, break_on_hyphens=False
+        )
         self.count = 0
         self.lost = False
 
@@ -168,9 +184,12 @@ class Explainer:
         if head:
             out.write((self._filled.fill(head) + "\n").encode("utf-8", "backslashreplace"))
         for line in lines:
-            before, found = self.count, self.explain(line)
+            before = self.count
+            found = self.explain(line)
             if found:
-                out.write((f"\n{found}" if before or head else found).encode("utf-8", "backslashreplace"))
+                out.write(
+                    (f"\n{found}" if before or head else found).encode("utf-8", "backslashreplace")
+                )
                 out.flush()
 
     def explain(self, line: bytes) -> str:
@@ -186,14 +205,16 @@ class Explainer:
             return ""
         self.count += 1
         lead = (
-            f"{printable(finding.path)}: offset {finding.offset:#x}: {finding.name} ({finding.rule.words})"
+            f"{printable(finding.path)}: offset {finding.offset:#x}:"
+            f" {finding.name} ({finding.rule.words})"
             if finding
             else printable(line.strip())
         )
         return "\n".join(self._filled.fill(it) for it in (lead, *found)) + "\n"
 
     def refusals(self) -> Iterator[bytes]:
-        """Why the given files are refused, their tables, and what is no object, in the lines of the program."""
+        """Why the given files are refused, their tables, and what is no object, in the lines of the
+        program."""
         checks = {it: Checks(tables=True, objects=it) for it in (False, True)}
         for position, file in enumerate(self._named):
             source = file.words.data
@@ -218,7 +239,9 @@ class Explainer:
             yield f"there is no file {position}"
             return
         file = self._named[position]
-        yield from self._of_file(file.path, file.words, file.file, rule, at, table[0] if table else None)
+        yield from self._of_file(
+            file.path, file.words, file.file, rule, at, table[0] if table else None
+        )
 
     def _finding(self, it: Finding) -> Iterator[str]:
         try:
@@ -232,7 +255,9 @@ class Explainer:
             self.lost = True
             yield f"{printable(it.path)} can't be read: {fault.reason}"
 
-    def _of_file(self, path: str, words: Words, file: bytes, rule: int, at: int, table: Optional[int]) -> Iterator[str]:
+    def _of_file(
+        self, path: str, words: Words, file: bytes, rule: int, at: int, table: Optional[int]
+    ) -> Iterator[str]:
         if rule not in RULES:
             yield _TOO_LONG if rule == 0 else f"there is no rule {rule}"
             return
@@ -279,8 +304,17 @@ def finding_in(line: bytes) -> Optional[Finding]:
         return None
     try:
         it = json.loads(line)
-        path = bytes.fromhex(it["path_hex"]) if "path_hex" in it else it["path"].encode("utf-8", "surrogateescape")
-        return Finding(path, _number(it["offset"]), _rule(it["rule"]), printable(str(it["name"]).encode("utf-8", "replace")))
+        path = (
+            bytes.fromhex(it["path_hex"])
+            if "path_hex" in it
+            else it["path"].encode("utf-8", "surrogateescape")
+        )
+        return Finding(
+            path,
+            _number(it["offset"]),
+            _rule(it["rule"]),
+            printable(str(it["name"]).encode("utf-8", "replace")),
+        )
     except (ValueError, KeyError, TypeError, AttributeError, RecursionError):
         return None
 
@@ -300,7 +334,11 @@ def named_file(path: str, stack: ExitStack) -> Linked:
     """A FILE of the command line. One that is not regular, as a pipe, is read into memory."""
     try:
         is_regular = stat.S_ISREG(os.stat(path).st_mode)
-        source = stack.enter_context(opened(os.fsencode(path))) if is_regular else _read_whole(path, stack)
+        source = (
+            stack.enter_context(opened(os.fsencode(path)))
+            if is_regular
+            else _read_whole(path, stack)
+        )
     except (OSError, ValueError, Unreadable) as fault:
         reason = reason_of(fault) if isinstance(fault, OSError) else str(fault)
         raise Unreadable(f"{one_line(os.fsencode(path)).decode()}: {reason}") from None
@@ -321,12 +359,14 @@ def input_mode() -> int:
 
 
 def is_sent(mode: int) -> bool:
-    """Whether somebody sends lines: a pipe, a socket or a file has some, and a terminal or another device only if it is asked for them."""
+    """Whether somebody sends lines: a pipe, a socket or a file has some, and a terminal or another
+    device only if it is asked for them."""
     return stat.S_ISFIFO(mode) or stat.S_ISSOCK(mode) or stat.S_ISREG(mode)
 
 
 def records(end: bytes) -> Iterator[bytes]:
-    """What comes from standard input, cut where a record ends. No finding is longer than the most."""
+    """What comes from standard input, cut where a record ends. No finding is longer than the
+    most."""
     rest = b""
     while True:
         content = os.read(0, 1 << 16)
@@ -341,24 +381,37 @@ def records(end: bytes) -> Iterator[bytes]:
 def _parser() -> Parser:
     parser = Parser(
         prog=PROGRAM,
-        description="Explains in words why elfmap refuses a file. Lines come from standard input: what elfmap printed of FILE..., "
-        "or findings of elfmap-lint (text or jsonl), which name their files. If no line is a refusal, each FILE is checked here.",
+        description=(
+            "Explains in words why elfmap refuses a file. Lines come from standard input: what"
+            " elfmap printed of FILE..., or findings of elfmap-lint (text or jsonl), which name"
+            " their files. If no line is a refusal, each FILE is checked here."
+        ),
         epilog="Status: 0 explained, 2 usage, 3 a file can't be read.",
     )
     parser.add_argument("--version", action="version", version=f"%(prog)s {__version__}")
-    parser.add_argument("-0", dest="zero", action="store_true", help="lines end with a zero byte, as elfmap-lint -0 prints them")
+    parser.add_argument(
+        "-0",
+        dest="zero",
+        action="store_true",
+        help="lines end with a zero byte, as elfmap-lint -0 prints them",
+    )
     parser.add_argument(
         "words",
         metavar="[LINE] FILE",
         nargs="*",
-        help="one line of elfmap, as words, and then the files; with - among files, lines of standard input are read also from a terminal",
+        help=(
+            "one line of elfmap, as words, and then the files; with - among files, lines of"
+            " standard input are read also from a terminal"
+        ),
     )
     return parser
 
 
 def _line_of(words: list[str]) -> int:
     """How many of the words are a line of elfmap."""
-    are_of_line = (re.fullmatch(_WORD if it else _FIRST_WORD, word) for it, word in enumerate(words))
+    are_of_line = (
+        re.fullmatch(_WORD if it else _FIRST_WORD, word) for it, word in enumerate(words)
+    )
     return next((it for it, is_own in enumerate(are_of_line) if not is_own), len(words))
 
 
@@ -366,9 +419,17 @@ def main(words: Optional[Sequence[str]] = None) -> int:
     """Runs the program, and returns its status."""
     options = _parser().in_any_order(words, "words")
     count = _line_of(options.words)
-    paths, line = options.words[count:], " ".join(options.words[:count]).encode()
+    paths = options.words[count:]
+    line = " ".join(options.words[:count]).encode()
     if count and not (paths and _REFUSAL.match(line)):
-        complain(PROGRAM, b"`%s` is no line of elfmap; see --help" % line if paths else b"FILE is missing; see --help")
+        complain(
+            PROGRAM,
+            (
+                b"`%s` is no line of elfmap; see --help" % line
+                if paths
+                else b"FILE is missing; see --help"
+            ),
+        )
         return USAGE
     is_asked = not count and "-" in paths
     paths = [it for it in paths if it != "-"] if is_asked else paths

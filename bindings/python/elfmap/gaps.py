@@ -46,7 +46,10 @@ class Gap(NamedTuple):
     def line(self) -> bytes:
         end = self.start - self.less
         words = f"between {self.before} and {self.after}" if self.after else f"after {self.before}"
-        words = f": [{self.start:#x}, {end:#x}) {words}, {'zeros' if self.is_zeros else 'not only zeros'}\n"
+        words = (
+            f": [{self.start:#x}, {end:#x}) {words},"
+            f" {'zeros' if self.is_zeros else 'not only zeros'}\n"
+        )
         return b"%d " % -self.less + one_line(self.path) + words.encode("utf-8", "backslashreplace")
 
 
@@ -62,9 +65,16 @@ class Finder(Inspector):
     def _elf(self, it: Content) -> None:
         parts, fault = self._checks.parts(it.source)
         if fault:
-            raise Unreadable(f"offset {fault.at:#x}: {RULES[fault.rule][0]} ({fault.rule}); elfmap-lint says more")
+            raise Unreadable(
+                f"offset {fault.at:#x}: {RULES[fault.rule][0]} ({fault.rule}); elfmap-lint says"
+                " more"
+            )
         words = Words(it.source)
-        own = [_gap(it, words, parts, position) for position, part in enumerate(parts) if part.owner == _GAP]
+        own = [
+            _gap(it, words, parts, position)
+            for position, part in enumerate(parts)
+            if part.owner == _GAP
+        ]
         self.count += len(own)
         self.bytes -= sum(gap.less for gap in own)
         self.longest = heapq.nsmallest(self._most, [*self.longest, *own])
@@ -90,21 +100,35 @@ def _blocks(source: Source, start: int, length: int) -> Iterator[bytes]:
 def _parser() -> Parser:
     parser = Parser(
         prog=PROGRAM,
-        description="Lists the longest gaps of ELF-64 files: bytes that are in no header, no table and no section.",
+        description=(
+            "Lists the longest gaps of ELF-64 files: bytes that are in no header, no table and no"
+            " section."
+        ),
         epilog="Status: 0 done, 2 usage, 3 something can't be read or is refused.",
     )
     add = parser.add_argument
     add("--version", action="version", version=f"%(prog)s {__version__}")
     add("paths", metavar="PATH", nargs="*", help="a file, a directory, or an archive")
-    add("--exclude", metavar="GLOB", action="append", default=[], help="skip files and directories of such names")
+    add(
+        "--exclude",
+        metavar="GLOB",
+        action="append",
+        default=[],
+        help="skip files and directories of such names",
+    )
     add("--most", metavar="N", type=int, default=_MOST, help=f"print N gaps (default: {_MOST})")
     return parser
 
 
 def _summary(finder: Finder, report: Report) -> str:
-    gaps, files = counted(finder.count, "gap"), counted(report.checked, "ELF file")
+    gaps = counted(finder.count, "gap")
+    files = counted(report.checked, "ELF file")
     words = f"{gaps} of {counted(finder.bytes, 'byte')} in {files}"
-    skipped = [f"{count} {what}" for count, what in ((report.no_elf, "not ELF"), (report.class_32, "of class 32")) if count]
+    skipped = [
+        f"{count} {what}"
+        for count, what in ((report.no_elf, "not ELF"), (report.class_32, "of class 32"))
+        if count
+    ]
     return words + (f"; skipped: {', '.join(skipped)}" if skipped else "")
 
 
@@ -112,9 +136,13 @@ def main(words: Optional[Sequence[str]] = None) -> int:
     """Runs the program, and returns its status."""
     options = _parser().in_any_order(words, "paths")
     if options.most < 0 or not options.paths:
-        complain(PROGRAM, b"--most needs a number from 0 on" if options.paths else b"PATH is missing; see --help")
+        complain(
+            PROGRAM,
+            b"--most needs a number from 0 on" if options.paths else b"PATH is missing; see --help",
+        )
         return USAGE
-    finder, report = Finder(options.most), Report()
+    finder = Finder(options.most)
+    report = Report()
     for found in Walk([os.fsencode(it) for it in options.paths], Globs(options.exclude), report):
         report.add(finder.files([found.path]))
     report.sort()

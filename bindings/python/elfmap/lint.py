@@ -31,9 +31,11 @@ from elfmap._workers import Pool, Work
 
 PROGRAM = "elfmap-lint"
 FORMATS = ("text", "jsonl", "sarif", "junit", "github")
-_OF_ONE_DOCUMENT, _OF_JSON = ("sarif", "junit"), ("jsonl", "sarif")
+_OF_ONE_DOCUMENT = ("sarif", "junit")
+_OF_JSON = ("jsonl", "sarif")
 # What a process is given at once: enough to do for a millisecond or more.
-_MOST_FILES, _MOST_BYTES = 64, 16 << 20
+_MOST_FILES = 64
+_MOST_BYTES = 16 << 20
 _STANDARD_INPUT = b"-"
 
 
@@ -41,12 +43,24 @@ def _parser() -> Parser:
     parser = Parser(
         prog=PROGRAM,
         description="Checks all ELF-64 files of files, directories and .a archives.",
-        epilog="Status: 0 clean, 1 findings, 2 usage, 3 something can't be read, or a PATH is no ELF file.",
+        epilog=(
+            "Status: 0 clean, 1 findings, 2 usage, 3 something can't be read, or a PATH is no ELF"
+            " file."
+        ),
     )
     add = parser.add_argument
     add("--version", action="version", version=f"%(prog)s {__version__}")
-    add("paths", metavar="PATH", nargs="*", help="a file, a directory, an archive, or - for standard input")
-    add("--files0-from", metavar="FILE", help="read more PATHs from FILE, each ended by a zero byte; - is standard input")
+    add(
+        "paths",
+        metavar="PATH",
+        nargs="*",
+        help="a file, a directory, an archive, or - for standard input",
+    )
+    add(
+        "--files0-from",
+        metavar="FILE",
+        help="read more PATHs from FILE, each ended by a zero byte; - is standard input",
+    )
     add(
         "--exclude",
         metavar="GLOB",
@@ -54,11 +68,34 @@ def _parser() -> Parser:
         default=[],
         help="skip files and directories of such names; with a / GLOB is of the whole path",
     )
-    add("--follow-thin", action="store_true", help="read the members of a thin archive also outside of its directory")
-    add("--skip", action="store_true", help="skip a PATH that is empty or no ELF file too, as files of directories are skipped")
-    add("--class32", choices=("skip", "fail"), default="skip", help="skip files of class 32, or report them (default: skip)")
-    add("--tables", action="store_true", help="check the tables too: symbols, relocations, groups, notes, dynamic arrays, hash tables")
-    add("--object", action="store_true", help="check what `elfmap rewrite` and `link` need of an object by itself")
+    add(
+        "--follow-thin",
+        action="store_true",
+        help="read the members of a thin archive also outside of its directory",
+    )
+    add(
+        "--skip",
+        action="store_true",
+        help="skip a PATH that is empty or no ELF file too, as files of directories are skipped",
+    )
+    add(
+        "--class32",
+        choices=("skip", "fail"),
+        default="skip",
+        help="skip files of class 32, or report them (default: skip)",
+    )
+    add(
+        "--tables",
+        action="store_true",
+        help=(
+            "check the tables too: symbols, relocations, groups, notes, dynamic arrays, hash tables"
+        ),
+    )
+    add(
+        "--object",
+        action="store_true",
+        help="check what `elfmap rewrite` and `link` need of an object by itself",
+    )
     add(
         "--ignore",
         metavar="RULE[:GLOB]",
@@ -67,11 +104,27 @@ def _parser() -> Parser:
         help="suppress this rule (33, SHARED_BYTE, link-3), or only where the path matches",
     )
     add("--baseline", metavar="FILE", help="suppress the findings that FILE lists")
-    add("--write-baseline", metavar="FILE", help="write the findings to FILE, and suppress all of them")
+    add(
+        "--write-baseline",
+        metavar="FILE",
+        help="write the findings to FILE, and suppress all of them",
+    )
     add("--format", choices=FORMATS, default="text", help="default: text")
-    add("-0", dest="zero", action="store_true", help="end each record with a zero byte, and print paths as they are")
+    add(
+        "-0",
+        dest="zero",
+        action="store_true",
+        help="end each record with a zero byte, and print paths as they are",
+    )
     add("-o", dest="output", metavar="FILE", help="write to FILE, completely or not at all")
-    add("-j", dest="jobs", metavar="N", type=int, default=0, help="use N processes (default: one for each processor)")
+    add(
+        "-j",
+        dest="jobs",
+        metavar="N",
+        type=int,
+        default=0,
+        help="use N processes (default: one for each processor)",
+    )
     add("--fail-on-empty", action="store_true", help="end with status 1 if no ELF file was checked")
     return parser
 
@@ -92,7 +145,9 @@ class Progress:
             self._bar.set_postfix_str(f"{len(report.findings)} findings", refresh=False)
             self._bar.update(report.checked - self._bar.n)
         else:
-            sys.stderr.write(f"\r{report.checked} files checked, {len(report.findings)} findings\x1b[K")
+            sys.stderr.write(
+                f"\r{report.checked} files checked, {len(report.findings)} findings\x1b[K"
+            )
             sys.stderr.flush()
 
     def end(self) -> None:
@@ -150,7 +205,8 @@ class Run:
 
     def _check_all(self, tasks: Iterator[list[bytes]]) -> None:
         """In this process where there is little to do, or else in several."""
-        first, second = next(tasks, None), next(tasks, None)
+        first = next(tasks, None)
+        second = next(tasks, None)
         some = [it for it in (first, second) if it is not None]
         every = chain(some, tasks)
         if self._jobs == 1 or len(some) < 2:
@@ -161,11 +217,21 @@ class Run:
             Pool(self._work, self._jobs, self._add).run(every)
 
     def _tools(self) -> Inspector:
-        it, format = self._options, self._options.format
+        it = self._options
+        format = self._options.format
         letters = LONGEST_NAME if format in _OF_JSON else MOST_LETTERS
         # A baseline has them too.
         names_sections = format in _OF_JSON or bool(it.baseline or it.write_baseline)
-        depth = Depth(it.tables, it.object, it.class32 == "fail", format == "junit", it.follow_thin, letters, names_sections, it.skip)
+        depth = Depth(
+            it.tables,
+            it.object,
+            it.class32 == "fail",
+            format == "junit",
+            it.follow_thin,
+            letters,
+            names_sections,
+            it.skip,
+        )
         return Inspector(depth)
 
     def _work(self) -> Work:
@@ -192,13 +258,16 @@ class Run:
         return names[:-1] if not names[-1] else names
 
     def _drop_suppressed(self) -> None:
-        report, options = self.report, self._options
+        report = self.report
+        options = self._options
         found = report.findings
         if options.write_baseline:
             with Output(options.write_baseline) as it:
                 it.write(baseline_text(found))
         known = self._baseline
-        report.findings = [it for it in found if not (options.write_baseline or known and known.match(it))]
+        report.findings = [
+            it for it in found if not (options.write_baseline or known and known.match(it))
+        ]
         report.suppressed += len(found) - len(report.findings)
 
     def tell(self) -> None:
@@ -239,7 +308,9 @@ class Output:
             return open(self._path, "wb")
         # The file that a link names is written, not the link.
         self._path = os.path.realpath(self._path)
-        handle, self._made = tempfile.mkstemp(prefix=".elfmap-lint-", dir=os.path.dirname(self._path))
+        handle, self._made = tempfile.mkstemp(
+            prefix=".elfmap-lint-", dir=os.path.dirname(self._path)
+        )
         mask = os.umask(0)
         os.umask(mask)
         os.fchmod(handle, 0o666 & ~mask)

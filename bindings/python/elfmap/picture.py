@@ -30,23 +30,55 @@ from elfmap._sources import LONGEST, Unreadable, opened
 from elfmap._words import one_line, printable
 
 PROGRAM = "elfmap-picture"
-MOST, LARGEST = 300, 150
-ROW, HEAD, LEFT, WIDTH, SHORTEST = 20, 118, 640, 520, 2
-COLUMNS = (("begins at", 96, "end"), ("bytes", 196, "end"), ("owner", 212, "start"), ("name", 330, "start"), ("holds", 520, "start"))
+MOST = 300
+LARGEST = 150
+ROW = 20
+HEAD = 118
+LEFT = 640
+WIDTH = 520
+SHORTEST = 2
+COLUMNS = (
+    ("begins at", 96, "end"),
+    ("bytes", 196, "end"),
+    ("owner", 212, "start"),
+    ("name", 330, "start"),
+    ("holds", 520, "start"),
+)
 
 # What a section holds, by its type; of type PROGBITS and its like, by its flags.
 TYPES = {
-    2: "symbols", 3: "strings", 4: "relocations", 5: "hash table", 6: "dynamic array", 7: "notes", 9: "relocations", 11: "symbols",
-    14: "addresses", 15: "addresses", 17: "group", 18: "indexes",
-}  # fmt: skip
+    2: "symbols",
+    3: "strings",
+    4: "relocations",
+    5: "hash table",
+    6: "dynamic array",
+    7: "notes",
+    9: "relocations",
+    11: "symbols",
+    14: "addresses",
+    15: "addresses",
+    17: "group",
+    18: "indexes",
+}
 COLOURS = {
-    "header and tables": "#4c566a", "code": "#c0504d", "data": "#e0a030", "constants": "#7f9f3f", "symbols and strings": "#4f81bd",
-    "relocations": "#8064a2", "other": "#8aa0a8", "several parts": "#b9c4c9", "gap": "url(#gap)",
-}  # fmt: skip
-FONT = 'font-family="ui-monospace, DejaVu Sans Mono, Menlo, Consolas, monospace" font-size="12" fill="#20262e"'
+    "header and tables": "#4c566a",
+    "code": "#c0504d",
+    "data": "#e0a030",
+    "constants": "#7f9f3f",
+    "symbols and strings": "#4f81bd",
+    "relocations": "#8064a2",
+    "other": "#8aa0a8",
+    "several parts": "#b9c4c9",
+    "gap": "url(#gap)",
+}
+FONT = (
+    'font-family="ui-monospace, DejaVu Sans Mono, Menlo, Consolas, monospace" font-size="12"'
+    ' fill="#20262e"'
+)
 HATCHES = (
-    '<pattern id="gap" width="5" height="5" patternUnits="userSpaceOnUse" patternTransform="rotate(45)">'
-    '<rect width="5" height="5" fill="#fff3d6"/><rect width="2" height="5" fill="#d09a20"/></pattern>'
+    '<pattern id="gap" width="5" height="5" patternUnits="userSpaceOnUse"'
+    ' patternTransform="rotate(45)"><rect width="5" height="5" fill="#fff3d6"/><rect width="2"'
+    ' height="5" fill="#d09a20"/></pattern>'
 )
 FILE_TYPES = {0: "no type", 1: "relocatable", 2: "executable", 3: "shared", 4: "core"}
 
@@ -58,8 +90,21 @@ class NoLines(ValueError):
 class Part:
     """A row of the picture."""
 
-    def __init__(self, start: int, length: int, owner: str, name: str = "", holds: str = "", colour: str = "header and tables") -> None:
-        self.start, self.length, self.owner, self.name, self.holds, self.colour = start, length, owner, name, holds, colour
+    def __init__(
+        self,
+        start: int,
+        length: int,
+        owner: str,
+        name: str = "",
+        holds: str = "",
+        colour: str = "header and tables",
+    ) -> None:
+        self.start = start
+        self.length = length
+        self.owner = owner
+        self.name = name
+        self.holds = holds
+        self.colour = colour
 
 
 # ---- what the lines say
@@ -67,9 +112,17 @@ class Part:
 
 def content(words: list[str]) -> tuple[str, str, str]:
     """What a section's line says of its content: its name, what it holds, and its colour."""
-    kind, flags, name = int(words[2]), int(words[3], 16), words[-1]
+    kind = int(words[2])
+    flags = int(words[3], 16)
+    name = words[-1]
     if kind in TYPES:
-        colour = "relocations" if kind in (4, 9) else "symbols and strings" if kind in (2, 3, 5, 11, 18) else "other"
+        colour = (
+            "relocations"
+            if kind in (4, 9)
+            else "symbols and strings"
+            if kind in (2, 3, 5, 11, 18)
+            else "other"
+        )
         return name, TYPES[kind], colour
     colour = "code" if flags & 4 else "data" if flags & 1 else "constants" if flags & 2 else "other"
     return name, colour, colour
@@ -86,7 +139,8 @@ class Load:
     """A loadable segment, by its line."""
 
     def __init__(self, words: list[str]) -> None:
-        self.owner, self.flags = f"segment {words[1]}", int(words[3], 16)
+        self.owner = f"segment {words[1]}"
+        self.flags = int(words[3], 16)
         self.start, self.address, _, self.length, self.size = (int(it, 16) for it in words[4:9])
 
     def name(self) -> str:
@@ -94,8 +148,17 @@ class Load:
 
     def part(self, start: int, end: int) -> Part:
         kind = "code" if self.flags & 1 else "data" if self.flags & 2 else "constants"
-        letters = "".join(letter for bit, letter in ((4, "R"), (2, "W"), (1, "X")) if self.flags & bit)
-        return Part(start, end - start, self.owner, self.name(), f"{kind if end > start else 'zeros in memory'} {letters}", kind)
+        letters = "".join(
+            letter for bit, letter in ((4, "R"), (2, "W"), (1, "X")) if self.flags & bit
+        )
+        return Part(
+            start,
+            end - start,
+            self.owner,
+            self.name(),
+            f"{kind if end > start else 'zeros in memory'} {letters}",
+            kind,
+        )
 
 
 def among_loads(part: Part, loads: list[Load]) -> Iterator[Part]:
@@ -104,13 +167,26 @@ def among_loads(part: Part, loads: list[Load]) -> Iterator[Part]:
         {
             part.start,
             part.start + part.length,
-            *(edge for it in loads for edge in (it.start, it.start + it.length) if 0 < edge - part.start < part.length),
+            *(
+                edge
+                for it in loads
+                for edge in (it.start, it.start + it.length)
+                if 0 < edge - part.start < part.length
+            ),
         }
     )
     for start, end in zip(edges, edges[1:]):
-        owner = next((it for it in loads if it.start <= start and end <= it.start + it.length), None)
+        owner = next(
+            (it for it in loads if it.start <= start and end <= it.start + it.length), None
+        )
         whole = (start, end - start) == (part.start, part.length)
-        yield owner.part(start, end) if owner else part if whole else Part(start, end - start, "gap", "", "", "gap")
+        yield (
+            owner.part(start, end)
+            if owner
+            else part
+            if whole
+            else Part(start, end - start, "gap", "", "", "gap")
+        )
 
 
 def read(lines: list[str]) -> tuple[list[Part], str]:
@@ -119,25 +195,35 @@ def read(lines: list[str]) -> tuple[list[Part], str]:
     if rows and rows[0][0] == "refused":
         raise NoLines(f"elfmap refuses it: {' '.join(rows[0])}; elfmap-explain says why")
     if not rows or rows[0][0] != "file":
-        raise NoLines(f"these are no lines of `elfmap show`: {' '.join(rows[0])[:80] if rows else 'none'}")
+        raise NoLines(
+            f"these are no lines of `elfmap show`: {' '.join(rows[0])[:80] if rows else 'none'}"
+        )
     sections = {int(it[1]): content(it) for it in rows if it[0] == "section"}
     loads = [Load(it) for it in rows if it[0] == "segment" and it[2] == "1"] if not sections else []
     parts = []
     for words in rows:
         if words[0] != "part":
             continue
-        start, length, owner = int(words[1], 16), int(words[2], 16), words[3]
+        start = int(words[1], 16)
+        length = int(words[2], 16)
+        owner = words[3]
         if owner == "content":
             parts.append(Part(start, length, f"section {words[4]}", *sections[int(words[4])]))
         elif owner == "gap":
-            parts += among_loads(Part(start, length, "gap", "", gap(words[4], length), "gap"), loads)
+            parts += among_loads(
+                Part(start, length, "gap", "", gap(words[4], length), "gap"), loads
+            )
         else:
-            title = {"header": "header", "segments": "program table", "sections": "section table"}[owner]
+            title = {"header": "header", "segments": "program table", "sections": "section table"}[
+                owner
+            ]
             parts.append(Part(start, length, title))
     parts += [it.part(it.start, it.start) for it in loads if not it.length]
     number = int(rows[0][3])
     machine = f"EM_{MACHINES[number]}" if number in MACHINES else f"machine {number}"
-    head = f"{FILE_TYPES.get(int(rows[0][2]), 'type ' + rows[0][2])}, {machine}, {rows[0][1]}-endian"
+    head = (
+        f"{FILE_TYPES.get(int(rows[0][2]), 'type ' + rows[0][2])}, {machine}, {rows[0][1]}-endian"
+    )
     return parts, head
 
 
@@ -147,7 +233,8 @@ def folded(parts: list[Part]) -> list[Part]:
         return parts
     # Of equal ones the first.
     largest = set(sorted(range(len(parts)), key=lambda k: -parts[k].length)[:LARGEST])
-    rows, run = list[Part](), list[Part]()
+    rows = list[Part]()
+    run = list[Part]()
     ends: list[Optional[Part]] = [*parts, None]
     for k, part in enumerate(ends):
         if part and k not in largest and part.owner.split()[0] in ("section", "gap"):
@@ -163,9 +250,22 @@ def folded(parts: list[Part]) -> list[Part]:
 def together(run: list[Part]) -> Part:
     sections = [it for it in run if it.colour != "gap"]
     owner = counted(len(sections), "section") if len(sections) != 1 else sections[0].owner
-    name = "" if not sections else sections[0].name if len(sections) == 1 else f"{sections[0].name} … {sections[-1].name}"
+    name = (
+        ""
+        if not sections
+        else sections[0].name
+        if len(sections) == 1
+        else f"{sections[0].name} … {sections[-1].name}"
+    )
     start = run[0].start
-    return Part(start, run[-1].start + run[-1].length - start, owner, name, counted(len(run) - len(sections), "gap"), "several parts")
+    return Part(
+        start,
+        run[-1].start + run[-1].length - start,
+        owner,
+        name,
+        counted(len(run) - len(sections), "gap"),
+        "several parts",
+    )
 
 
 # ---- the picture
@@ -191,26 +291,48 @@ def bar(part: Part, total: int, y: int, height: int) -> str:
         return ""
     width = max(part.length / total * WIDTH, SHORTEST)
     x = min(LEFT + part.start / total * WIDTH, LEFT + WIDTH - width)
-    words = f"{part.owner} {part.name}: {part.length:,} bytes from 0x{part.start:x}".replace(" :", ":")
+    words = f"{part.owner} {part.name}: {part.length:,} bytes from 0x{part.start:x}".replace(
+        " :", ":"
+    )
     colour = "#d09a20" if part.colour == "gap" and width < 6 else COLOURS[part.colour]
-    return f'<rect x="{x:.2f}" y="{y}" width="{width:.2f}" height="{height}" fill="{colour}"><title>{escape(words)}</title></rect>'
+    return (
+        f'<rect x="{x:.2f}" y="{y}" width="{width:.2f}" height="{height}"'
+        f' fill="{colour}"><title>{escape(words)}</title></rect>'
+    )
 
 
 def row(part: Part, total: int, number: int) -> list[str]:
     y = HEAD + ROW * number
-    shade = [f'<rect x="12" y="{y}" width="{LEFT + WIDTH}" height="{ROW}" fill="#f4f6f7"/>'] if number % 2 else []
-    cells = (f"0x{part.start:x}", f"{part.length:,}", part.owner, cut(part.name, 25), cut(part.holds, 16))
+    shade = (
+        [f'<rect x="12" y="{y}" width="{LEFT + WIDTH}" height="{ROW}" fill="#f4f6f7"/>']
+        if number % 2
+        else []
+    )
+    cells = (
+        f"0x{part.start:x}",
+        f"{part.length:,}",
+        part.owner,
+        cut(part.name, 25),
+        cut(part.holds, 16),
+    )
     more = ' fill="#9a6a00"' if part.colour == "gap" else ""
     return (
-        shade + [text(x, y + 14, it, anchor, more) for it, (_, x, anchor) in zip(cells, COLUMNS) if it] + [bar(part, total, y + 3, ROW - 6)]
+        shade
+        + [text(x, y + 14, it, anchor, more) for it, (_, x, anchor) in zip(cells, COLUMNS) if it]
+        + [bar(part, total, y + 3, ROW - 6)]
     )
 
 
 def legend(parts: list[Part]) -> list[str]:
-    used, x, drawn = {it.colour for it in parts}, 20, []
+    used = {it.colour for it in parts}
+    x = 20
+    drawn = []
     for name, colour in COLOURS.items():
         if name in used:
-            drawn += [f'<rect x="{x}" y="46" width="12" height="12" fill="{colour}"/>', text(x + 17, 56, name)]
+            drawn += [
+                f'<rect x="{x}" y="46" width="12" height="12" fill="{colour}"/>',
+                text(x + 17, 56, name),
+            ]
             x += 34 + 7 * len(name)
     return drawn
 
@@ -220,10 +342,17 @@ def picture(title: str, parts: list[Part], head: str) -> str:
     rows = folded(parts)
     gaps = [it.length for it in parts if it.colour == "gap"]
     bottom = HEAD + ROW * len(rows)
-    across, down = LEFT + WIDTH + 24, bottom + 30
-    counts = f"{total:,} bytes in {counted(len(parts), 'part')}, {sum(gaps):,} of them in {counted(len(gaps), 'gap')}; {head}"
+    across = LEFT + WIDTH + 24
+    down = bottom + 30
+    counts = (
+        f"{total:,} bytes in {counted(len(parts), 'part')}, {sum(gaps):,} of them in"
+        f" {counted(len(gaps), 'gap')}; {head}"
+    )
     lines = [
-        f'<svg xmlns="http://www.w3.org/2000/svg" width="{across}" height="{down}" viewBox="0 0 {across} {down}" {FONT}>',
+        (
+            f'<svg xmlns="http://www.w3.org/2000/svg" width="{across}" height="{down}" viewBox="0 0'
+            f' {across} {down}" {FONT}>'
+        ),
         f"<defs>{HATCHES}</defs>",
         f'<rect width="{across}" height="{down}" fill="#ffffff"/>',
         text(20, 28, cut(title, 60), more=' font-size="16" font-weight="bold"'),
@@ -232,14 +361,26 @@ def picture(title: str, parts: list[Part], head: str) -> str:
         *[text(x, HEAD - 8, it, anchor, ' font-weight="bold"') for it, x, anchor in COLUMNS],
         text(LEFT, HEAD - 8, "0x0"),
         text(LEFT + WIDTH, HEAD - 8, f"0x{total:x}", "end"),
-        f'<rect x="{LEFT - 0.5}" y="{HEAD - 45.5}" width="{WIDTH + 1}" height="21" fill="none" stroke="#8aa0a8"/>',
+        (
+            f'<rect x="{LEFT - 0.5}" y="{HEAD - 45.5}" width="{WIDTH + 1}" height="21" fill="none"'
+            ' stroke="#8aa0a8"/>'
+        ),
         *[bar(it, total, HEAD - 45, 20) for it in rows],
     ]
     for number, part in enumerate(rows):
         lines += row(part, total, number)
-    lines.append(f'<path d="M{LEFT - 0.5} {HEAD - 2}V{bottom + 4}M{LEFT + WIDTH + 0.5} {HEAD - 2}V{bottom + 4}" stroke="#c5ced3"/>')
     lines.append(
-        text(20, bottom + 20, "Bars are drawn to scale; what is too short to be seen is drawn two points wide.", more=' fill="#66727a"')
+        "<path"
+        f' d="M{LEFT - 0.5} {HEAD - 2}V{bottom + 4}M{LEFT + WIDTH + 0.5} {HEAD - 2}V{bottom + 4}"'
+        ' stroke="#c5ced3"/>'
+    )
+    lines.append(
+        text(
+            20,
+            bottom + 20,
+            "Bars are drawn to scale; what is too short to be seen is drawn two points wide.",
+            more=' fill="#66727a"',
+        )
     )
     return "\n".join(it for it in lines if it) + "\n</svg>\n"
 
@@ -251,7 +392,9 @@ def shown(path: str) -> bytes:
     """The lines of `elfmap show` on a file."""
     program = os.environ.get("ELFMAP")
     if program:
-        return subprocess.run([program, "show", "--", path], stdin=subprocess.DEVNULL, stdout=subprocess.PIPE).stdout
+        return subprocess.run(
+            [program, "show", "--", path], stdin=subprocess.DEVNULL, stdout=subprocess.PIPE
+        ).stdout
     with opened(os.fsencode(path)) as source:
         content = bytearray(min(len(source), LONGEST))
         source.read_into(memoryview(content), 0)
@@ -272,15 +415,22 @@ def _parser() -> Parser:
         epilog="Status: 0 drawn, 1 elfmap refuses the file, 2 usage, 3 it can't be read.",
     )
     parser.add_argument("--version", action="version", version=f"%(prog)s {__version__}")
-    parser.add_argument("file", metavar="FILE", help="the file, or - for the lines of `elfmap show` on standard input")
-    parser.add_argument("title", metavar="TITLE", nargs="*", help="the title (the name of the file)")
+    parser.add_argument(
+        "file",
+        metavar="FILE",
+        help="the file, or - for the lines of `elfmap show` on standard input",
+    )
+    parser.add_argument(
+        "title", metavar="TITLE", nargs="*", help="the title (the name of the file)"
+    )
     return parser
 
 
 def main(words: Optional[Sequence[str]] = None) -> int:
     """Runs the program, and returns its status."""
     options = _parser().parse_args(words)
-    file, is_piped = options.file, options.file == "-"
+    file = options.file
+    is_piped = options.file == "-"
     own = b"standard input" if is_piped else os.fsencode(file)
     title = printable(os.fsencode(" ".join(options.title)) or os.path.basename(own))
     try:
@@ -290,7 +440,9 @@ def main(words: Optional[Sequence[str]] = None) -> int:
         complain(PROGRAM, one_line(own) + f": {fault.reason}".encode())
         return UNREADABLE
     except (ValueError, LookupError) as fault:
-        words_of = str(fault) if isinstance(fault, NoLines) else "these are no lines of `elfmap show`"
+        words_of = (
+            str(fault) if isinstance(fault, NoLines) else "these are no lines of `elfmap show`"
+        )
         complain(PROGRAM, one_line(own) + f": {words_of}".encode("utf-8", "backslashreplace"))
         return FOUND
     with open(1, "wb", closefd=False) as out:

@@ -29,7 +29,9 @@ from elfmap._sources import LONGEST, Source, Unreadable, opened, reason_of
 from elfmap._words import Words, explain, one_line, printable
 
 PROGRAM = "elfmap-same"
-_MAGIC, _RELOCATABLE, _CLASS_32 = b"\x7fELF", 1, 1
+_MAGIC = b"\x7fELF"
+_RELOCATABLE = 1
+_CLASS_32 = 1
 _LIMIT = 10
 # A shorter file has no magic number.
 _LEAST = 4
@@ -79,13 +81,17 @@ class Run:
     def __init__(self, options: argparse.Namespace, out: TextIO) -> None:
         self._options = options
         self._out = out
-        self._sides = Sides(printable(os.fsencode(options.first)), printable(os.fsencode(options.second)))
+        self._sides = Sides(
+            printable(os.fsencode(options.first)), printable(os.fsencode(options.second))
+        )
         self.counts = Counts()
 
     # ---- Trees
 
     def compare(self) -> None:
-        pairs = [Pair(b"", os.fsencode(self._options.first), os.fsencode(self._options.second), True)]
+        pairs = [
+            Pair(b"", os.fsencode(self._options.first), os.fsencode(self._options.second), True)
+        ]
         while pairs:
             # Those below a directory come next, in the order of their names.
             pairs += reversed(list(self._paths(pairs.pop())))
@@ -110,8 +116,12 @@ class Run:
         return []
 
     def _folders(self, pair: Pair) -> list[Pair]:
-        first, second = set(os.listdir(pair.first)), set(os.listdir(pair.second))
-        for side, names, folder in ((0, first - second, pair.first), (1, second - first, pair.second)):
+        first = set(os.listdir(pair.first))
+        second = set(os.listdir(pair.second))
+        for side, names, folder in (
+            (0, first - second, pair.first),
+            (1, second - first, pair.second),
+        ):
             for name in sorted(names):
                 self._only_in(side, pair.below(name).name, os.path.join(folder, name))
         return [pair.below(it) for it in sorted(first & second)]
@@ -150,9 +160,15 @@ class Run:
             self.counts.skipped["not ELF"] += 1
             return
         with opened(pair.first) as first, opened(pair.second) as second:
-            self._contents(pair, Content(pair.first, pair.first, first), Content(pair.second, pair.second, second))
+            self._contents(
+                pair,
+                Content(pair.first, pair.first, first),
+                Content(pair.second, pair.second, second),
+            )
 
-    def _contents(self, pair: Pair, first: Content, second: Content, is_member: bool = False) -> None:
+    def _contents(
+        self, pair: Pair, first: Content, second: Content, is_member: bool = False
+    ) -> None:
         kinds = kind_of(first.source), kind_of(second.source)
         if is_member:
             kinds = without_archives(kinds[0]), without_archives(kinds[1])
@@ -173,7 +189,8 @@ class Run:
 
     def _elf(self, name: bytes, first: Content, second: Content, is_image: bool) -> None:
         """Two objects by their canonical layout, or two programs by their bytes."""
-        one, other = self._canonical(first, is_image), self._canonical(second, is_image)
+        one = self._canonical(first, is_image)
+        other = self._canonical(second, is_image)
         if one is None or other is None:
             return
         if one == other:
@@ -193,17 +210,26 @@ class Run:
         except elfmap.Refused as refused:
             told = explain(Words(it.source), refused.rule, refused.offset)
             name = RULES[refused.rule][0]
-            self._lose(it.path, f"offset {refused.offset:#x}: {name} ({refused.rule}): {told.message}")
+            self._lose(
+                it.path, f"offset {refused.offset:#x}: {name} ({refused.rule}): {told.message}"
+            )
         except elfmap.TooLong:
-            self._lose(it.path, "the canonical layout of its object would be longer than 2^30 bytes")
+            self._lose(
+                it.path, "the canonical layout of its object would be longer than 2^30 bytes"
+            )
         return None
 
     def _others(self, name: bytes, first: Source, second: Source) -> None:
-        step, size = 1 << 20, min(len(first), len(second))
+        step = 1 << 20
+        size = min(len(first), len(second))
         for at in range(0, size, step):
-            one, other = first[at : min(at + step, size)], second[at : min(at + step, size)]
+            one = first[at : min(at + step, size)]
+            other = second[at : min(at + step, size)]
             if one != other:
-                place = next((k for k, (a, b) in enumerate(zip(one, other)) if a != b), min(len(one), len(other)))
+                place = next(
+                    (k for k, (a, b) in enumerate(zip(one, other)) if a != b),
+                    min(len(one), len(other)),
+                )
                 self._differ(name, [f"the files differ at offset {at + place:#x}"])
                 return
         if len(first) == len(second):
@@ -215,7 +241,8 @@ class Run:
 
     def _archives(self, pair: Pair, first: Content, second: Content) -> None:
         """The members of the same name, of several the first with the first."""
-        ours, theirs = self._members(first), self._members(second)
+        ours = self._members(first)
+        theirs = self._members(second)
         for side, own, other in ((0, ours, theirs), (1, theirs, ours)):
             for key in (it for it in own if it not in other):
                 self._only(side, member_name(pair.name, key))
@@ -226,14 +253,17 @@ class Run:
             self._differ(pair.name, ["its members are in another order"])
 
     def _members(self, archive: Content) -> dict[tuple[bytes, int], Member]:
-        seen, found = Counter[bytes](), dict[tuple[bytes, int], Member]()
+        seen = Counter[bytes]()
+        found = dict[tuple[bytes, int], Member]()
         with self._guarded(archive.path):
             for it in members(archive.source, archive.file):
                 found[it.name, seen[it.name]] = it
                 seen[it.name] += 1
         return found
 
-    def _member_pair(self, name: bytes, first: Content, second: Content, ours: Member, theirs: Member) -> None:
+    def _member_pair(
+        self, name: bytes, first: Content, second: Content, ours: Member, theirs: Member
+    ) -> None:
         with self._guarded(name):
             with Contents().opened(first.file, first.source, ours) as one:
                 with Contents().opened(second.file, second.source, theirs) as other:
@@ -322,7 +352,10 @@ def member_name(archive: bytes, key: tuple[bytes, int]) -> bytes:
 def _parser() -> Parser:
     parser = Parser(
         prog=PROGRAM,
-        description="Compares two objects, archives of objects, or directories, and prints what differs, by name.",
+        description=(
+            "Compares two objects, archives of objects, or directories, and prints what differs, by"
+            " name."
+        ),
         epilog="Status: 0 the same, 1 different, 2 usage, 3 something can't be read or is refused.",
     )
     add = parser.add_argument
@@ -330,8 +363,21 @@ def _parser() -> Parser:
     add("first", metavar="A", help="a file, an archive, or a directory")
     add("second", metavar="B", help="one to compare with it")
     add("-q", "--quiet", action="store_true", help="print nothing: the status says it")
-    add("--limit", metavar="N", type=int, default=_LIMIT, help=f"print at most N differences of a file, or all with 0 (default: {_LIMIT})")
-    add("--others", action="store_true", help="compare files that are no ELF-64 files too, by their bytes; without it they are skipped")
+    add(
+        "--limit",
+        metavar="N",
+        type=int,
+        default=_LIMIT,
+        help=f"print at most N differences of a file, or all with 0 (default: {_LIMIT})",
+    )
+    add(
+        "--others",
+        action="store_true",
+        help=(
+            "compare files that are no ELF-64 files too, by their bytes; without it they are"
+            " skipped"
+        ),
+    )
     return parser
 
 

@@ -12,7 +12,10 @@ from pathlib import Path
 import elfmap
 
 PACKAGE = Path(__file__).resolve().parents[1]
-ENVIRONMENT = {**os.environ, "PYTHONPATH": os.pathsep.join([str(PACKAGE), os.environ.get("PYTHONPATH", "")])}
+ENVIRONMENT = {
+    **os.environ,
+    "PYTHONPATH": os.pathsep.join([str(PACKAGE), os.environ.get("PYTHONPATH", "")]),
+}
 
 
 class Made:
@@ -22,12 +25,17 @@ class Made:
     that of the module struct.
     """
 
-    FIELDS = dict(name=0, type=4, flags=8, addr=16, offset=24, size=32, link=40, info=44, align=48, entsize=56)
+    FIELDS = dict(
+        name=0, type=4, flags=8, addr=16, offset=24, size=32, link=40, info=44, align=48, entsize=56
+    )
 
     def __init__(self, *sections, order="<"):
         # Where the content of each section begins, by its index.
-        self.order, self.starts = order, [0]
-        names, self.data, rows = b"\0", bytearray(64), [bytes(64)]
+        self.order = order
+        self.starts = [0]
+        names = b"\0"
+        self.data = bytearray(64)
+        rows = [bytes(64)]
         for name, kind, content, fields in sections:
             self.data += bytes(-len(self.data) % 8)
             self.starts.append(len(self.data))
@@ -44,7 +52,9 @@ class Made:
         self.data += b"".join(rows)
         counts = 64, 0, 0, 64, len(rows), len(rows) - 1
         ident = b"\x7fELF\2\1\1" if order == "<" else b"\x7fELF\2\2\1"
-        self.data[:64] = struct.pack(f"{order}16sHHIQQQIHHHHHH", ident, 1, 62, 1, 0, 0, self.table, 0, *counts)
+        self.data[:64] = struct.pack(
+            f"{order}16sHHIQQQIHHHHHH", ident, 1, 62, 1, 0, 0, self.table, 0, *counts
+        )
 
     def row(self, name, kind, offset, size, fields):
         it = dict(flags=0, addr=0, size=size, link=0, info=0, align=1, entsize=0) | fields
@@ -57,7 +67,8 @@ class Made:
 
     def with_field(self, index, field, value):
         """Its bytes, with a field of a section header changed."""
-        data, at = bytearray(self.data), self.at(index, field)
+        data = bytearray(self.data)
+        at = self.at(index, field)
         width = 4 if field in ("name", "type", "link", "info") else 8
         data[at : at + width] = value.to_bytes(width, "little" if self.order == "<" else "big")
         return bytes(data)
@@ -73,7 +84,8 @@ def text(name=b".text", content=b"\x90" * 0x33):
 
 
 def symbols(link, *rows, info=1, order="<"):
-    """A symbol table: of each symbol its st_name, st_info and st_shndx, and its st_value if that is not 0."""
+    """A symbol table: of each symbol its st_name, st_info and st_shndx, and its st_value if that is
+    not 0."""
     entries = ((name, kind, 0, section, *(value or [0]), 0) for name, kind, section, *value in rows)
     content = bytes(24) + b"".join(struct.pack(f"{order}IBBHQQ", *it) for it in entries)
     return b".symtab", 2, content, dict(link=link, info=info, entsize=24)
@@ -88,7 +100,15 @@ GOOD = bytes(Made(text()).data)
 # .text has the bytes from 0x40 to below 0x73, and .data four bytes from 0x72 on.
 SHARING = Made(text(), (b".data", 1, b"\1\2\3\4", {})).with_field(2, "offset", 0x72)
 # Symbol 1 is of section 99, which isn't there (rule 51), and two sections link to the table.
-BROKEN_SYMBOLS = bytes(Made(text(), symbols(3, (1, 0x10, 99)), (b".strtab", 3, b"\0f\0", {}), relocations(2, 1), relocations(2, 1)).data)
+BROKEN_SYMBOLS = bytes(
+    Made(
+        text(),
+        symbols(3, (1, 0x10, 99)),
+        (b".strtab", 3, b"\0f\0", {}),
+        relocations(2, 1),
+        relocations(2, 1),
+    ).data
+)
 CLASS_32 = b"\x7fELF\1\1\1" + bytes(64)
 
 

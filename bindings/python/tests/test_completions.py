@@ -1,4 +1,5 @@
-"""What fish completes of a command: what fits at the place, and nothing else. `tools/test packages` tries bash and zsh too."""
+"""What fish completes of a command: what fits at the place, and nothing else. `tools/test packages`
+tries bash and zsh too."""
 
 import os
 import shutil
@@ -17,8 +18,12 @@ from elfmap_tools import man  # noqa: E402
 # As the program prints it, which the tests of this package don't need.
 HELP = """\
 case "$1" in
-link) printf 'Usage: elfmap link [OPTIONS] FILE...\\n\\nOptions:\\n      --base <B>  the base\\n      --rules <RULES>  the rules\\n' ;;
-*) printf 'Usage: elfmap <COMMAND>\\n\\nCommands:\\n  show  lists tables\\n  link  links\\n\\nOptions:\\n  -h, --help  Print help\\n' ;;
+link)
+    printf 'Usage: elfmap link [OPTIONS] FILE...\\n\\nOptions:\\n'
+    printf '      --base <B>  the base\\n      --rules <RULES>  the rules\\n' ;;
+*)
+    printf 'Usage: elfmap <COMMAND>\\n\\nCommands:\\n  show  lists tables\\n  link  links\\n\\n'
+    printf 'Options:\\n  -h, --help  Print help\\n' ;;
 esac
 """
 FILES = {"file.o", "folder/"}
@@ -29,19 +34,37 @@ class FishTest(FolderCase):
     def setUp(self):
         super().setUp()
         self.put(**{"work/file__o": b"", "work/folder/a__o": b""})
-        scripts = {"elfmap": HELP, **{f"elfmap-{it}": f'exec "{sys.executable}" -m elfmap.{it} "$@"\n' for it in ("lint", "same")}}
+        scripts = {
+            "elfmap": HELP,
+            **{
+                f"elfmap-{it}": f'exec "{sys.executable}" -m elfmap.{it} "$@"\n'
+                for it in ("lint", "same")
+            },
+        }
         for name, script in scripts.items():
             self.put(**{f"bin/{name}": f"#!/bin/sh\n{script}".encode()})
             os.chmod(f"bin/{name}", 0o755)
-            (text,) = (it for place, it in man.completions(name).items() if place.startswith("fish/"))
+            (text,) = (
+                it for place, it in man.completions(name).items() if place.startswith("fish/")
+            )
             Path(f"{name}.fish").write_text(text)
-        self.environment = {**ENVIRONMENT, "PATH": f"{os.path.abspath('bin')}:{os.environ['PATH']}", "HOME": os.getcwd()}
+        self.environment = {
+            **ENVIRONMENT,
+            "PATH": f"{os.path.abspath('bin')}:{os.environ['PATH']}",
+            "HOME": os.getcwd(),
+        }
 
     def completed(self, line):
         """What fish lists for a line, without what is said of each."""
         script = 'for it in ../*.fish; source $it; end; complete -C "$line"'
         words = ["fish", "--no-config", "-c", script]
-        ran = subprocess.run(words, cwd="work", env={**self.environment, "line": line}, capture_output=True, text=True)
+        ran = subprocess.run(
+            words,
+            cwd="work",
+            env={**self.environment, "line": line},
+            capture_output=True,
+            text=True,
+        )
         self.assertEqual((ran.returncode, ran.stderr), (0, ""))
         return {it.partition("\t")[0] for it in ran.stdout.splitlines()}
 

@@ -1,4 +1,5 @@
-"""The edges of all commands: closed standard streams, names that can't be printed, and the order of words."""
+"""The edges of all commands: closed standard streams, names that can't be printed, and the order of
+words."""
 
 import contextlib
 import io
@@ -12,10 +13,22 @@ from unittest import mock
 
 from elfmap import _words, build, lint
 
-from tests.made import ENVIRONMENT, GNU, GOOD, PACKAGE, SHARING, FolderCase, Made, setUpModule, symbols, text  # noqa: F401
+from tests.made import (
+    ENVIRONMENT,
+    GNU,
+    GOOD,
+    PACKAGE,
+    SHARING,
+    FolderCase,
+    Made,
+    setUpModule,
+    symbols,
+    text,
+)  # noqa: F401
 
 COMMANDS = "explain", "gaps", "lint", "picture", "same"
-# Escape, a control character of one letter, a mark that turns the direction of a line, and a byte that is no UTF-8.
+# Escape, a control character of one letter, a mark that turns the direction of a line, and a byte
+# that is no UTF-8.
 NAME = b"\x1b[31m\xc2\x9b1m\xe2\x80\xae\xff"
 # As UTF-8 they are the bytes 1b, c2 9b, e2 80 ae, and ff.
 ESCAPED = r"\x1b[31m\xc2\x9b1m\xe2\x80\xae\xff"
@@ -23,14 +36,25 @@ ESCAPED = r"\x1b[31m\xc2\x9b1m\xe2\x80\xae\xff"
 
 class Case(FolderCase):
     def ran(self, command, *words, streams="", stdin=b""):
-        """The status, standard output and standard error of a command, where the shell says what its streams are."""
-        script = ["sh", "-c", f'"$@" {streams}', "sh", sys.executable, "-m", f"elfmap.{command}", *words]
+        """The status, standard output and standard error of a command, where the shell says what
+        its streams are."""
+        script = [
+            "sh",
+            "-c",
+            f'"$@" {streams}',
+            "sh",
+            sys.executable,
+            "-m",
+            f"elfmap.{command}",
+            *words,
+        ]
         ran = subprocess.run(script, input=stdin, capture_output=True, env=ENVIRONMENT, timeout=60)
         return ran.returncode, ran.stdout, ran.stderr
 
 
 class ClosedTest(Case):
-    """A closed stream changes no status, but where something is to be read from it or written to it."""
+    """A closed stream changes no status, but where something is to be read from it or written to
+    it."""
 
     def setUp(self):
         super().setUp()
@@ -42,11 +66,20 @@ class ClosedTest(Case):
 
     def test_standard_error(self):
         for command in COMMANDS:
-            for words in (self.broken(command), ["none"] * len(self.broken(command)), ["--none"], [], ["--help"], ["--version"]):
+            for words in (
+                self.broken(command),
+                ["none"] * len(self.broken(command)),
+                ["--none"],
+                [],
+                ["--help"],
+                ["--version"],
+            ):
                 with self.subTest(command=command, words=words):
                     status, out, _ = self.ran(command, *words)
                     self.assertEqual(self.ran(command, *words, streams="2>&-"), (status, out, b""))
-                    self.assertEqual(self.ran(command, *words, streams="2> /dev/full"), (status, out, b""))
+                    self.assertEqual(
+                        self.ran(command, *words, streams="2> /dev/full"), (status, out, b"")
+                    )
 
     def test_statuses(self):
         """Those of the README, with standard error closed."""
@@ -74,10 +107,13 @@ class ClosedTest(Case):
             words = ["good.o", "good.o"] if command == "same" else ["good.o"]
             for streams in (">&-", "<&- >&-"):
                 found = self.ran(command, *words, streams=streams)
-                self.assertEqual(found, (3, b"", f"elfmap-{command}: bad file descriptor\n".encode()))
+                self.assertEqual(
+                    found, (3, b"", f"elfmap-{command}: bad file descriptor\n".encode())
+                )
             self.assertEqual(self.ran(command, *words, streams=">&- 2>&-"), (3, b"", b""))
             self.assertEqual(
-                self.ran(command, *words, streams="> /dev/full")[::2], (3, f"elfmap-{command}: no space left on device\n".encode())
+                self.ran(command, *words, streams="> /dev/full")[::2],
+                (3, f"elfmap-{command}: no space left on device\n".encode()),
             )
 
     def test_no_file_gets_the_number_of_a_closed_stream(self):
@@ -85,7 +121,10 @@ class ClosedTest(Case):
         for streams in ("2>&-", "<&- >&- 2>&-"):
             self.assertEqual(self.ran("lint", "-o", "out", "bad.o", "none", streams=streams)[0], 3)
             lines = Path("out").read_text().splitlines()
-            self.assertEqual((lines[0][:14], lines[1:]), ("bad.o: offset ", ["1 finding in 1 of 1 ELF file; 1 unreadable"]))
+            self.assertEqual(
+                (lines[0][:14], lines[1:]),
+                ("bad.o: offset ", ["1 finding in 1 of 1 ELF file; 1 unreadable"]),
+            )
 
     def test_standard_input(self):
         closed = "standard input is closed\n"
@@ -100,17 +139,24 @@ class ClosedTest(Case):
                 status, _, err = self.ran(command, *words, streams="<&-")
                 self.assertEqual((status, err.decode()), (3, f"elfmap-{command}: {said}"))
         status, out, _ = self.ran("lint", "-", "bad.o", streams="<&-")
-        self.assertEqual((status, out.splitlines()[-1]), (3, b"1 finding in 1 of 1 ELF file; 1 unreadable"))
+        self.assertEqual(
+            (status, out.splitlines()[-1]), (3, b"1 finding in 1 of 1 ELF file; 1 unreadable")
+        )
 
     def test_standard_input_that_is_not_read(self):
         for command in COMMANDS:
             words = self.broken(command)
-            self.assertEqual(self.ran(command, *words, streams="<&-"), self.ran(command, *words, streams="< /dev/null"))
+            self.assertEqual(
+                self.ran(command, *words, streams="<&-"),
+                self.ran(command, *words, streams="< /dev/null"),
+            )
 
 
 def unprintable(out):
     """What of an output is no letter that can be printed, and ends no line."""
-    return [it for it in out.decode("utf-8", "surrogateescape") if it != "\n" and not it.isprintable()]
+    return [
+        it for it in out.decode("utf-8", "surrogateescape") if it != "\n" and not it.isprintable()
+    ]
 
 
 class NamesTest(Case):
@@ -121,14 +167,19 @@ class NamesTest(Case):
         made = Made(text(NAME), (NAME + b"2", 1, b"\1\2\3\4", {}))
         self.bad = NAME + b".o"
         Path(os.fsdecode(self.bad)).write_bytes(made.with_field(2, "offset", 0x72))
-        Path(os.fsdecode(NAME + b".a")).write_bytes(GNU.replace(b"good.o/".ljust(16), b"\x1b\x9b\x07.o/".ljust(16)))
+        Path(os.fsdecode(NAME + b".a")).write_bytes(
+            GNU.replace(b"good.o/".ljust(16), b"\x1b\x9b\x07.o/".ljust(16))
+        )
         self.put(good__o=GOOD)
 
     def runs(self):
         """Commands that print such names."""
-        missing, bad, archive = NAME, self.bad, NAME + b".a"
+        missing = NAME
+        bad = self.bad
+        archive = NAME + b".a"
         yield from (
-            ("lint", "--format", it, "--object", bad, missing, archive, ".") for it in ("text", "jsonl", "sarif", "junit", "github")
+            ("lint", "--format", it, "--object", bad, missing, archive, ".")
+            for it in ("text", "jsonl", "sarif", "junit", "github")
         )
         for option in ("--baseline", "--ignore", "--files0-from", "--format", "-j", "--no"):
             yield "lint", option, missing, bad
@@ -141,8 +192,19 @@ class NamesTest(Case):
             ("explain", b"refused", b"33", missing),
             ("explain", "refused", "33", "114", bad),
         )
-        yield from (("gaps", bad), ("gaps", missing), ("gaps", "."), ("gaps", archive), ("gaps", "--most", missing))
-        yield from (("same", bad, missing), ("same", missing, bad), ("same", "good.o", archive), ("same", ".", "good.o"))
+        yield from (
+            ("gaps", bad),
+            ("gaps", missing),
+            ("gaps", "."),
+            ("gaps", archive),
+            ("gaps", "--most", missing),
+        )
+        yield from (
+            ("same", bad, missing),
+            ("same", missing, bad),
+            ("same", "good.o", archive),
+            ("same", ".", "good.o"),
+        )
         yield from (("picture", bad), ("picture", missing), ("picture", "good.o", missing))
 
     def test_nothing_is_obeyed(self):
@@ -150,14 +212,21 @@ class NamesTest(Case):
         for command, *words in self.runs():
             status, out, err = self.ran(command, *words)
             with self.subTest(command=command, words=words):
-                self.assertEqual((unprintable(out), unprintable(err), b"Traceback" in err), ([], [], False))
+                self.assertEqual(
+                    (unprintable(out), unprintable(err), b"Traceback" in err), ([], [], False)
+                )
             seen |= {(command, ESCAPED.encode() in it) for it in (out, err)}
-        self.assertLessEqual({("lint", True), ("explain", True), ("gaps", True), ("same", True), ("picture", True)}, seen)
+        self.assertLessEqual(
+            {("lint", True), ("explain", True), ("gaps", True), ("same", True), ("picture", True)},
+            seen,
+        )
 
     def test_a_path_in_text(self):
         self.assertEqual(_words.one_line(NAME).decode(), ESCAPED)
         for path in (NAME, b"a\\x1b", b"plain", "naïve ✓".encode(), b"\x00\x7f\x80\n"):
-            self.assertEqual(_words.original_path(_words.one_line(path)), path if path != b"a\\x1b" else b"a\x1b")
+            self.assertEqual(
+                _words.original_path(_words.one_line(path)), path if path != b"a\\x1b" else b"a\x1b"
+            )
         status, out, _ = self.ran("lint", self.bad)
         self.assertTrue(out.startswith(f"{ESCAPED}.o: offset 0x72: ".encode()), out)
         self.assertEqual(self.ran("lint", "-0", self.bad)[1].partition(b": ")[0], self.bad)
@@ -170,13 +239,24 @@ class NamesTest(Case):
 
     def test_a_path_for_a_shell(self):
         """What is to be typed names the file: a shell undoes the escapes."""
-        made = Made(text(), symbols(3, (1, 0x10, 1)), (b".strtab", 3, b"\0f\0", {}), (b".llvm_addrsig", 0x6FFF4C03, b"\1", dict(link=2)))
+        made = Made(
+            text(),
+            symbols(3, (1, 0x10, 1)),
+            (b".strtab", 3, b"\0f\0", {}),
+            (b".llvm_addrsig", 0x6FFF4C03, b"\1", dict(link=2)),
+        )
         for path in (NAME, b"a'b\\\n", b"a b", b"a'b"):
             Path(os.fsdecode(path)).write_bytes(made.data)
             out = self.ran("explain", "refused", "78", str(made.at(4, "link")), path)[1].decode()
-            (command,) = [it for it in out.replace("\n  ", " ").splitlines() if it.startswith("likely cause: ")]
+            (command,) = [
+                it
+                for it in out.replace("\n  ", " ").splitlines()
+                if it.startswith("likely cause: ")
+            ]
             word = command.partition("objcopy --remove-section=.llvm_addrsig ")[2]
-            told = subprocess.run(["bash", "-c", f"printf %s {word}"], capture_output=True, check=True).stdout
+            told = subprocess.run(
+                ["bash", "-c", f"printf %s {word}"], capture_output=True, check=True
+            ).stdout
             self.assertEqual((told, unprintable(out.encode())), (path, []))
 
 
@@ -186,15 +266,26 @@ class ExamplesTest(Case):
     def setUp(self):
         super().setUp()
         name = NAME.replace(b"\xff", b"") + b"\xff"
-        self.put(symbols__o=bytes(Made(text(NAME), symbols(3, (1, 0x10, 1)), (b".strtab", 3, b"\0" + name + b"\0", {})).data))
+        self.put(
+            symbols__o=bytes(
+                Made(
+                    text(NAME), symbols(3, (1, 0x10, 1)), (b".strtab", 3, b"\0" + name + b"\0", {})
+                ).data
+            )
+        )
 
     def printed(self, *words):
-        ran = subprocess.run([*words, "symbols.o"], capture_output=True, env=ENVIRONMENT, timeout=60)
+        ran = subprocess.run(
+            [*words, "symbols.o"], capture_output=True, env=ENVIRONMENT, timeout=60
+        )
         self.assertEqual((ran.returncode, ran.stderr), (0, b""))
         return ran.stdout.decode("ascii").splitlines()
 
     def test_python(self):
-        self.assertEqual(self.printed(sys.executable, str(PACKAGE / "examples/symbols.py")), ["0x0 ", f"0x0 {ESCAPED}"])
+        self.assertEqual(
+            self.printed(sys.executable, str(PACKAGE / "examples/symbols.py")),
+            ["0x0 ", f"0x0 {ESCAPED}"],
+        )
 
     @unittest.skipUnless(shutil.which("cc"), "cc is not installed")
     def test_c(self):
@@ -203,8 +294,16 @@ class ExamplesTest(Case):
             archive = build.archive()
         except FileNotFoundError as fault:
             raise unittest.SkipTest(str(fault)) from None
-        for name, lines in (("symbols", ["0x0 ", f"0x0 {ESCAPED}"]), ("sections", ["0x0 ", f"0x33 {ESCAPED}"])):
-            words = ["-std=c99", f"-I{folder}/include", f"{folder}/bindings/c/{name}.c", str(archive)]
+        for name, lines in (
+            ("symbols", ["0x0 ", f"0x0 {ESCAPED}"]),
+            ("sections", ["0x0 ", f"0x33 {ESCAPED}"]),
+        ):
+            words = [
+                "-std=c99",
+                f"-I{folder}/include",
+                f"{folder}/bindings/c/{name}.c",
+                str(archive),
+            ]
             subprocess.run(["cc", *words, "-o", name], check=True)
             self.assertEqual(self.printed(f"./{name}")[:2], lines)
 
@@ -215,10 +314,17 @@ class CallerTest(FolderCase):
     def test_messages(self):
         said = "elfmap-lint: none: no such file or directory\n"
         for stream in io.StringIO(), io.TextIOWrapper(io.BytesIO()):
-            with contextlib.redirect_stderr(stream), open(os.devnull, "wb") as out, mock.patch.object(lint, "Output") as output:
+            with contextlib.redirect_stderr(stream), open(
+                os.devnull, "wb"
+            ) as out, mock.patch.object(lint, "Output") as output:
                 output.return_value.__enter__.return_value = out
                 self.assertEqual(lint.main(["none"]), 3)
-            self.assertEqual(stream.getvalue() if isinstance(stream, io.StringIO) else stream.buffer.getvalue().decode(), said)
+            self.assertEqual(
+                stream.getvalue()
+                if isinstance(stream, io.StringIO)
+                else stream.buffer.getvalue().decode(),
+                said,
+            )
         with mock.patch.object(sys, "stderr", None), self.assertRaises(SystemExit) as raised:
             lint.main(["--none"])
         self.assertEqual(raised.exception.code, 2)
@@ -232,10 +338,16 @@ class OrderTest(Case):
         self.put(good__o=GOOD, bad__o=SHARING)
 
     def test_options_between_paths(self):
-        for command, words in (("lint", ["good.o", "--tables", "bad.o"]), ("gaps", ["good.o", "--most", "1", "bad.o"])):
+        for command, words in (
+            ("lint", ["good.o", "--tables", "bad.o"]),
+            ("gaps", ["good.o", "--most", "1", "bad.o"]),
+        ):
             with self.subTest(command=command):
                 status, out, err = self.ran(command, *words)
-                self.assertEqual((status, b"SHARED_BYTE" in out + err, b"usage" in err), (1 if command == "lint" else 3, True, False))
+                self.assertEqual(
+                    (status, b"SHARED_BYTE" in out + err, b"usage" in err),
+                    (1 if command == "lint" else 3, True, False),
+                )
 
     def test_paths_that_begin_as_options(self):
         self.put(**{"-0": SHARING, "--help": SHARING})

@@ -131,7 +131,8 @@ class ValidatedTest(unittest.TestCase):
         self.assertEqual(broken, set(range(2, 34)), "rule 1 wants a longer file")
 
     def test_a_symbol_without_its_index_word_is_left_out(self):
-        # Of cases/tables.txt, in both byte orders: symbol 2 of 3 is in an index table that is not there.
+        # Of cases/tables.txt, in both byte orders: symbol 2 of 3 is in an index table that is not
+        # there.
         files = [elfmap.parse(it) for it in reference.files() if len(it) == 476]
         broken = [it.symbols(1) for it in files if len([*it.symbols(1)]) < len(it.symbols(1))]
         self.assertEqual([len(it) for it in broken], [3, 3])
@@ -231,10 +232,12 @@ class Index:
 
 
 class ArgumentsTest(unittest.TestCase):
-    """What is no argument of a call is an error, or is not there. It is never taken for another one."""
+    """What is no argument of a call is an error, or is not there. It is never taken for another
+    one."""
 
     NAMES = b"f", b"\xc3\xa9", b"\xff"
-    HASH, SYMBOLS = 2, 3
+    HASH = 2
+    SYMBOLS = 3
     RULES = LinkTest.RULES
     # What a call does with a content, a number, and a name.
     OF_BYTES = {
@@ -266,9 +269,16 @@ class ArgumentsTest(unittest.TestCase):
     def setUpClass(cls):
         strings = b"\0" + b"\0".join(cls.NAMES) + b"\0"
         # Symbols 1 to 3 are a chain in the only bucket.
-        table = (b".hash", 5, struct.pack("<7I", 1, 4, 1, 0, 2, 3, 0), dict(link=cls.SYMBOLS, entsize=4))
+        table = (
+            b".hash",
+            5,
+            struct.pack("<7I", 1, 4, 1, 0, 2, 3, 0),
+            dict(link=cls.SYMBOLS, entsize=4),
+        )
         rows = [(strings.index(b"\0" + it + b"\0") + 1, 0x10, 1) for it in cls.NAMES]
-        cls.content = bytes(Made(text(), table, symbols(4, *rows), (b".strtab", 3, strings, {})).data)
+        cls.content = bytes(
+            Made(text(), table, symbols(4, *rows), (b".strtab", 3, strings, {})).data
+        )
         cls.file = elfmap.parse(cls.content)
         folder = build.REPOSITORY / "crates/example_link"
         cls.objects = [(folder / f"data/{it}.o").read_bytes() for it in ("start", "answer")]
@@ -280,14 +290,29 @@ class ArgumentsTest(unittest.TestCase):
             call(*words, **named)
 
     def test_each_call_is_here(self):
-        of_module = {it for it in elfmap.__all__ if not isinstance(getattr(elfmap, it), (type, str))}
-        of_file = {it for it in vars(elfmap.File) if it[0] != "_" and not isinstance(vars(elfmap.File)[it], property)}
+        of_module = {
+            it for it in elfmap.__all__ if not isinstance(getattr(elfmap, it), (type, str))
+        }
+        of_file = {
+            it
+            for it in vars(elfmap.File)
+            if it[0] != "_" and not isinstance(vars(elfmap.File)[it], property)
+        }
         self.assertEqual(of_module - self.OTHERS, self.OF_BYTES.keys() - {"File", "refused_tables"})
         self.assertEqual(of_file - self.OTHERS, self.OF_SECTIONS.keys())
 
     def test_contents(self):
         for call in self.OF_BYTES.values():
-            for it in "/bin/true", Path("/bin/true"), 5, True, 1.5, None, [5], memoryview(self.content)[::2]:
+            for it in (
+                "/bin/true",
+                Path("/bin/true"),
+                5,
+                True,
+                1.5,
+                None,
+                [5],
+                memoryview(self.content)[::2],
+            ):
                 self.raises(TypeError, call, it)
         with self.assertRaisesRegex(TypeError, "pass those of Path.read_bytes"):
             elfmap.parse(Path("/bin/true"))
@@ -297,15 +322,41 @@ class ArgumentsTest(unittest.TestCase):
         data = self.objects[0]
         with mmap.mmap(-1, 64) as mapped:
             for call in self.OF_FILES.values():
-                for it in data, bytearray(data), memoryview(data), array.array("B", data), mapped, b"", "a.o", Path("a.o"), 5, None:
+                for it in (
+                    data,
+                    bytearray(data),
+                    memoryview(data),
+                    array.array("B", data),
+                    mapped,
+                    b"",
+                    "a.o",
+                    Path("a.o"),
+                    5,
+                    None,
+                ):
                     self.raises(TypeError, call, it, self.RULES)
-        self.assertEqual(elfmap.link(iter(self.objects), self.RULES), elfmap.link(tuple(self.objects), self.RULES))
+        self.assertEqual(
+            elfmap.link(iter(self.objects), self.RULES),
+            elfmap.link(tuple(self.objects), self.RULES),
+        )
 
     def test_numbers_of_sections_and_addresses(self):
-        self.assertEqual(([*map(len, map(self.file.symbols, (3, Index(3), True)))], self.file.find(Index(2), b"f")), ([4, 4, 0], 1))
+        self.assertEqual(
+            (
+                [*map(len, map(self.file.symbols, (3, Index(3), True)))],
+                self.file.find(Index(2), b"f"),
+            ),
+            ([4, 4, 0], 1),
+        )
         self.assertEqual(self.executable.load(0x400000), 0xE8)
         for file, own in (self.file, (self.HASH, self.SYMBOLS)), (self.executable, (0x400000,)):
-            for it in -1, 2**64, -(2**64), 2**70, *(it + k * 2**64 for it in own for k in (-1, 1)):
+            for it in (
+                -1,
+                2**64,
+                -(2**64),
+                2**70,
+                *(it + k * 2**64 for it in own for k in (-1, 1)),
+            ):
                 for name, call in self.OF_SECTIONS.items():
                     with self.subTest(call=name, number=it):
                         self.assertFalse(call(file, it))
@@ -314,7 +365,11 @@ class ArgumentsTest(unittest.TestCase):
                 self.raises(TypeError, call, self.file, it)
 
     def test_indices(self):
-        for records in self.file.sections, self.file.symbols(self.SYMBOLS), self.executable.segments:
+        for records in (
+            self.file.sections,
+            self.file.symbols(self.SYMBOLS),
+            self.executable.segments,
+        ):
             count = len(records)
             self.assertEqual((records[-1], records[-count]), (records[count - 1], records[0]))
             for it in count, -count - 1, 2**64, 2**64 + 1, -(2**64) + 1:
@@ -324,7 +379,13 @@ class ArgumentsTest(unittest.TestCase):
 
     def test_names(self):
         for k, name in enumerate(self.NAMES, 1):
-            self.assertEqual([self.file.find(self.HASH, it) for it in (name, name.decode("utf-8", "surrogateescape"))], [k, k])
+            self.assertEqual(
+                [
+                    self.file.find(self.HASH, it)
+                    for it in (name, name.decode("utf-8", "surrogateescape"))
+                ],
+                [k, k],
+            )
         self.assertIsNone(self.file.find(self.HASH, "g"))
         for it in self.NO_TEXTS:
             for section in self.HASH, 0:
@@ -334,18 +395,32 @@ class ArgumentsTest(unittest.TestCase):
             self.raises(TypeError, elfmap.map, self.objects, it)
         linked = elfmap.link(self.objects, self.RULES, entry=b"answer")
         self.assertEqual(elfmap.link(self.objects, self.RULES.encode(), entry="answer"), linked)
-        self.assertEqual(elfmap.map(self.objects, self.RULES.encode()), elfmap.map(self.objects, self.RULES))
+        self.assertEqual(
+            elfmap.map(self.objects, self.RULES.encode()), elfmap.map(self.objects, self.RULES)
+        )
 
     def test_options(self):
         for call in self.OF_FILES.values():
             for option in "base", "page":
-                for it in -1, 2**64, 2**64 + 0x400000, 2**64 + 0x1000, -(2**64) + 0x400000, 2**80:
+                for it in (
+                    -1,
+                    2**64,
+                    2**64 + 0x400000,
+                    2**64 + 0x1000,
+                    -(2**64) + 0x400000,
+                    2**80,
+                ):
                     self.raises(OverflowError, call, self.objects, self.RULES, **{option: it})
                 for it in self.NO_NUMBERS:
                     self.raises(TypeError, call, self.objects, self.RULES, **{option: it})
                 # A number of 64 bits is passed on, and the link does not take it.
-                self.raises(elfmap.NotLinked, call, self.objects, self.RULES, **{option: 2**64 - 1})
-        self.assertEqual(elfmap.link(self.objects, self.RULES, base=Index(0x400000)), elfmap.link(self.objects, self.RULES))
+                self.raises(
+                    elfmap.NotLinked, call, self.objects, self.RULES, **{option: 2**64 - 1}
+                )
+        self.assertEqual(
+            elfmap.link(self.objects, self.RULES, base=Index(0x400000)),
+            elfmap.link(self.objects, self.RULES),
+        )
 
 
 class BytesTest(unittest.TestCase):

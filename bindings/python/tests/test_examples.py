@@ -29,16 +29,30 @@ class Case(unittest.TestCase):
         program.parent.mkdir()
         program.write_text(f'#!/bin/sh\nexec "{sys.executable}" -m elfmap.lint "$@"\n')
         program.chmod(0o755)
-        self.env = {**ENVIRONMENT, "PATH": f"{program.parent}:{os.environ['PATH']}", "HOME": folder.name, "GIT_CONFIG_NOSYSTEM": "1"}
+        self.env = {
+            **ENVIRONMENT,
+            "PATH": f"{program.parent}:{os.environ['PATH']}",
+            "HOME": folder.name,
+            "GIT_CONFIG_NOSYSTEM": "1",
+        }
         for it in ("AUTHOR", "COMMITTER"):
             self.env.update({f"GIT_{it}_NAME": "test", f"GIT_{it}_EMAIL": "test@example.org"})
 
     def run_in(self, folder, *words):
-        ran = subprocess.run(words, cwd=folder, env=self.env, stdin=subprocess.DEVNULL, stdout=subprocess.PIPE, stderr=subprocess.STDOUT)
+        ran = subprocess.run(
+            words,
+            cwd=folder,
+            env=self.env,
+            stdin=subprocess.DEVNULL,
+            stdout=subprocess.PIPE,
+            stderr=subprocess.STDOUT,
+        )
         return ran.returncode, ran.stdout.decode(errors="replace")
 
 
-@unittest.skipUnless(all(map(shutil.which, ("git", "pre-commit"))), "git or pre-commit is not installed")
+@unittest.skipUnless(
+    all(map(shutil.which, ("git", "pre-commit"))), "git or pre-commit is not installed"
+)
 class PreCommitTest(Case):
     def repository(self, name, files):
         """A repository with one commit."""
@@ -51,9 +65,15 @@ class PreCommitTest(Case):
         return folder, self.run_in(folder, "git", "rev-parse", "HEAD")[1].strip()
 
     def test_the_hook(self):
-        hook, commit = self.repository("hook", {".pre-commit-hooks.yaml": (EXAMPLES / "pre-commit-hooks.yaml").read_bytes()})
+        hook, commit = self.repository(
+            "hook", {".pre-commit-hooks.yaml": (EXAMPLES / "pre-commit-hooks.yaml").read_bytes()}
+        )
         config = f"repos:\n- repo: {hook}\n  rev: {commit}\n  hooks:\n  - id: elfmap-lint\n"
-        files = {".pre-commit-config.yaml": config.encode(), "good.o": GOOD, "text": b"no ELF file\n"}
+        files = {
+            ".pre-commit-config.yaml": config.encode(),
+            "good.o": GOOD,
+            "text": b"no ELF file\n",
+        }
         folder, _ = self.repository("project", files)
         status, out = self.run_in(folder, "pre-commit", "run", "--all-files")
         self.assertEqual(status, 0, out)
@@ -76,7 +96,8 @@ class WorkflowTest(Case):
         folder.mkdir()
         (folder / "Makefile").write_text(MAKEFILE)
         (folder / "made.o").write_bytes(content)
-        # The workflow for GitHub names the command of a release; here it is the one that the tests have.
+        # The workflow for GitHub names the command of a release; here it is the one that the tests
+        # have.
         steps = [it.replace("elfmap/bin/elfmap-lint", "elfmap-lint") for it in steps]
         return self.run_in(folder, "bash", "-e", "-c", "\n".join(steps))
 

@@ -20,8 +20,22 @@ from unittest import mock
 from elfmap import _hints, _names, _rules, _words, build, explain
 from elfmap._link_words import Linked, link_words
 
-from tests.made import BROKEN_SYMBOLS, ENVIRONMENT, GNU, GOOD, LONG, SHARING, FolderCase
-from tests.made import Made, archive_member, relocations, setUpModule, symbols, text, thin  # noqa: F401
+from tests.made import (
+    BROKEN_SYMBOLS,
+    ENVIRONMENT,
+    GNU,
+    GOOD,
+    LONG,
+    SHARING,
+    FolderCase,
+    Made,
+    archive_member,
+    relocations,
+    setUpModule,
+    symbols,
+    text,
+    thin,
+)
 
 sys.path.insert(0, str(build.REPOSITORY / "tools" / "lib"))
 from elfmap_tools.cases import cases_of  # noqa: E402
@@ -63,18 +77,28 @@ class RuleTest(Case):
             seen.add((kind, int(number)))
             with self.subTest(kind=kind, rule=number):
                 self.one_rule(case, kind, int(number), words.split("|"))
-        self.assertEqual(seen, {(self.kind(it), it) for it in _rules.RULES} | {("link", it) for it in _rules.LINK_RULES})
+        self.assertEqual(
+            seen,
+            {(self.kind(it), it) for it in _rules.RULES}
+            | {("link", it) for it in _rules.LINK_RULES},
+        )
 
     def kind(self, rule):
         return "image" if rule < 40 else "table" if rule < 70 else "object"
 
     def one_rule(self, case, kind, number, wanted):
-        pattern = rf"refused {number}( \d+){{3}}" if kind == "link" else rf"refused (\d+ )?{number} \d+"
+        pattern = (
+            rf"refused {number}( \d+){{3}}" if kind == "link" else rf"refused (\d+ )?{number} \d+"
+        )
         lines = (case.out + case.err).decode().splitlines()
         line = next(it for it in lines if re.fullmatch(pattern, it))
         with tempfile.TemporaryDirectory(dir=".") as room:
             case.put_needs(room)
-            names = [f"{room}/{it.partition('=')[0]}" for it in case.needs if not it.startswith("list.rules")]
+            names = [
+                f"{room}/{it.partition('=')[0]}"
+                for it in case.needs
+                if not it.startswith("list.rules")
+            ]
             found = explained(line, names).replace(f"{room}/", "")
         name = (_rules.LINK_RULES if kind == "link" else _rules.RULES)[number][0]
         for it in (f"{name}: ", f"docs/RULES.md#{kind}-{number}", *wanted):
@@ -104,7 +128,10 @@ class LineTest(Case):
             "bad.o, offset 114 (0x72): the content of section 1 .text [0x40, 0x73): byte 50: 0x90\n"
             "bad.o, offset 114 (0x72): the content of section 2 .data [0x72, 0x76): byte 0: 0x90\n"
         )
-        for words, stdin in ((["refused", "33", "114", "bad.o"], b""), (["bad.o"], b"ok 1 2 3\nrefused 33 114\n")):
+        for words, stdin in (
+            (["refused", "33", "114", "bad.o"], b""),
+            (["bad.o"], b"ok 1 2 3\nrefused 33 114\n"),
+        ):
             status, out, _ = self.explain(*words, stdin=stdin)
             self.assertEqual((status, out[: len(expected)]), (0, expected))
 
@@ -115,11 +142,17 @@ class LineTest(Case):
             named = [explain.named_file(it, stack) for it in ("good.o", "bad.o", "tables.o")]
             lines = list(explain.Explainer(named, stack.enter_context(explain.Files())).refusals())
         self.assertEqual(lines, [b"file 1 refused 33 114", b"file 2 refused 2 51 150"])
-        self.assertIn("the table in section 2 .symtab", explained(lines[1].decode(), ["good.o", "bad.o", "tables.o"]))
+        self.assertIn(
+            "the table in section 2 .symtab",
+            explained(lines[1].decode(), ["good.o", "bad.o", "tables.o"]),
+        )
 
     def test_an_empty_line_is_between_explanations(self):
         out = self.explain("bad.o", stdin=b"refused 33 114\nok 1 2 3\nrefused 33 115\n")[1]
-        self.assertEqual([it.partition("\n")[0] for it in out.split("\n\n")], ["refused 33 114", "refused 33 115"])
+        self.assertEqual(
+            [it.partition("\n")[0] for it in out.split("\n\n")],
+            ["refused 33 114", "refused 33 115"],
+        )
 
     def test_a_file_that_shrinks(self):
         """On a terminal: it is told, the others are checked, and the status is 3."""
@@ -129,28 +162,46 @@ class LineTest(Case):
             explainer = explain.Explainer(named, stack.enter_context(explain.Files()))
             with mock.patch.object(explain, "complain") as said:
                 self.assertEqual(list(explainer.refusals()), [b"file 1 refused 33 114"])
-        said.assert_called_once_with("elfmap-explain", b"good.o: it became shorter while it was read")
+        said.assert_called_once_with(
+            "elfmap-explain", b"good.o: it became shorter while it was read"
+        )
         self.assertTrue(explainer.lost)
 
     def test_many_sections_that_share_a_byte(self):
         made = Made(*((b".data", 1, b"\1", {}) for _ in range(100)))
         content = bytearray(made.data)
         for index in range(1, 101):
-            content[made.at(index, "offset") : made.at(index, "offset") + 8] = (64).to_bytes(8, "little")
+            content[made.at(index, "offset") : made.at(index, "offset") + 8] = (64).to_bytes(
+                8, "little"
+            )
         self.put(many__o=bytes(content))
         found = explained("refused 33 64", ["many.o"])
-        self.assertEqual((found.count(".data [0x40, 0x41)"), "many.o, offset 64 (0x40): 84 more sections" in found), (16, True), found)
+        self.assertEqual(
+            (
+                found.count(".data [0x40, 0x41)"),
+                "many.o, offset 64 (0x40): 84 more sections" in found,
+            ),
+            (16, True),
+            found,
+        )
 
     def place(self, made, at):
         """What is said of an offset."""
         self.put(made__o=bytes(made.data))
         return re.search(
-            r"offset \d+ \(0x[0-9a-f]+\): (?:the content of .*?\): )?(.*?) what to do", explained(f"refused 33 {at}", ["made.o"])
+            r"offset \d+ \(0x[0-9a-f]+\): (?:the content of .*?\): )?(.*?) what to do",
+            explained(f"refused 33 {at}", ["made.o"]),
         )[1]
 
     def test_the_parts_of_notes(self):
         """Names and descriptors are padded to four bytes; each note has 12 bytes before them."""
-        notes = struct.pack("<3I", 4, 5, 1) + b"abc\0" + b"12345\0\0\0" + struct.pack("<3I", 2, 0, 3) + b"d\0\0\0"
+        notes = (
+            struct.pack("<3I", 4, 5, 1)
+            + b"abc\0"
+            + b"12345\0\0\0"
+            + struct.pack("<3I", 2, 0, 3)
+            + b"d\0\0\0"
+        )
         made = Made(text(), (b".note", 7, notes, {}))
         start = made.starts[2]
         for at, words in (
@@ -184,18 +235,36 @@ class LineTest(Case):
             self.assertEqual(self.place(made, start + 4 * at), words)
 
     def test_the_entries_of_a_dynamic_array(self):
-        made = Made(text(), (b".dynamic", 6, struct.pack("<4Q", 1, 7, 0, 0), dict(link=3, entsize=16)), (b".dynstr", 3, b"\0", {}))
+        made = Made(
+            text(),
+            (b".dynamic", 6, struct.pack("<4Q", 1, 7, 0, 0), dict(link=3, entsize=16)),
+            (b".dynstr", 3, b"\0", {}),
+        )
         self.assertEqual(self.place(made, made.starts[2]), "entry 0, of tag 1: d_tag, which is 1")
-        self.assertEqual(self.place(made, made.starts[2] + 8), "entry 0, of tag 1: d_un, which is 7")
+        self.assertEqual(
+            self.place(made, made.starts[2] + 8), "entry 0, of tag 1: d_un, which is 7"
+        )
 
     def test_symbols_of_no_section(self):
-        made = Made(text(), symbols(3, (1, 0x10, 0xFFF1), (1, 0x10, 1)), (b".strtab", 3, b"\0f\0", {}))
-        self.assertEqual(self.place(made, made.starts[2] + 24 + 8), "symbol 1 f: st_value, which is 0")
-        self.assertEqual(self.place(made, made.starts[2] + 48 + 8), "symbol 2 f, defined in section 1 .text: st_value, which is 0")
+        made = Made(
+            text(), symbols(3, (1, 0x10, 0xFFF1), (1, 0x10, 1)), (b".strtab", 3, b"\0f\0", {})
+        )
+        self.assertEqual(
+            self.place(made, made.starts[2] + 24 + 8), "symbol 1 f: st_value, which is 0"
+        )
+        self.assertEqual(
+            self.place(made, made.starts[2] + 48 + 8),
+            "symbol 2 f, defined in section 1 .text: st_value, which is 0",
+        )
 
     def test_the_relocations_of_each_type(self):
         """Without addends an entry has 16 bytes."""
-        rows = (b".rel.text", 9, struct.pack("<4Q", 0, 1 << 32 | 2, 8, 1 << 32 | 2), dict(link=2, info=1, entsize=16))
+        rows = (
+            b".rel.text",
+            9,
+            struct.pack("<4Q", 0, 1 << 32 | 2, 8, 1 << 32 | 2),
+            dict(link=2, info=1, entsize=16),
+        )
         made = Made(text(), symbols(3, (1, 0x10, 0)), (b".strtab", 3, b"\0f\0", {}), rows)
         own = "relocation 1, of symbol 1 f, at 0x8 of section 1 .text, of type 2 (R_X86_64_PC32)"
         self.assertEqual(self.place(made, made.starts[4] + 16), own)
@@ -203,7 +272,8 @@ class LineTest(Case):
         self.assertEqual(link_words([linked], 12, 0, 1, 1), f"a.o, section 4 .rel.text: {own}")
 
     def test_the_definition_before(self):
-        """It is global, and neither undefined nor common; its name may lie anywhere in the string table."""
+        """It is global, and neither undefined nor common; its name may lie anywhere in the string
+        table."""
 
         def file(path, *symbol, strings=b"\0main\0"):
             made = Made(text(), symbols(3, symbol), (b".strtab", 3, strings, {}))
@@ -216,13 +286,24 @@ class LineTest(Case):
             ([file("0.o", 1, 0x11, 0xFFF2, 8), file("1.o", 1, 0x10, 1)], "1.o has it at symbol 1"),
             ([file("0.o", 1, 0x20, 1), file("1.o", 1, 0x10, 1)], "1.o has it at symbol 1"),
             ([file("0.o", 1, 0x10, 0), file("1.o", 1, 0x10, 1)], "1.o has it at symbol 1"),
-            ([file("0.o", at, 0x10, 1, strings=far), file("1.o", 1, 0x10, 1)], "0.o has it at symbol 1"),
+            (
+                [file("0.o", at, 0x10, 1, strings=far), file("1.o", 1, 0x10, 1)],
+                "0.o has it at symbol 1",
+            ),
         ):
             found = link_words([*before, last], 8, 2, 0, 0)
-            self.assertEqual(found, f"two definitions of main, the second one at symbol 1 of last.o; {words}")
+            self.assertEqual(
+                found, f"two definitions of main, the second one at symbol 1 of last.o; {words}"
+            )
 
     def test_statuses(self):
-        for words in ("refused 33 114", "refused 33 bad.o", "refused bad.o", "file 1 2 bad.o", "refused 1 2 3 4 5 bad.o"):
+        for words in (
+            "refused 33 114",
+            "refused 33 bad.o",
+            "refused bad.o",
+            "file 1 2 bad.o",
+            "refused 1 2 3 4 5 bad.o",
+        ):
             self.assertEqual(self.explain(*words.split())[0], 2, words)
         self.assertEqual(self.explain("--none")[0], 2)
         self.assertEqual(self.explain("refused", "33", "114", "none")[0], 3)
@@ -239,7 +320,15 @@ class LineTest(Case):
         self.assertIn("at no one place", self.said("good.o", stdin=b"refused 9 4 0 0"))
 
     def test_rules_and_places_that_are_none(self):
-        for numbers in ("99 0", "0 0", "33 18446744073709551616", "1 99 0", "99 0 0 0", "9 0 99999999999 0", "12 0 99 99"):
+        for numbers in (
+            "99 0",
+            "0 0",
+            "33 18446744073709551616",
+            "1 99 0",
+            "99 0 0 0",
+            "9 0 99999999999 0",
+            "12 0 99 99",
+        ):
             self.assertTrue(self.said("good.o", stdin=b"refused " + numbers.encode()))
 
     def test_a_closed_pipe_ends_it_silently(self):
@@ -248,24 +337,44 @@ class LineTest(Case):
         with tempfile.TemporaryFile() as lines:
             lines.write(b"refused 33 114\n" * 5000)
             lines.seek(0)
-            ran = subprocess.run([*PROGRAM, "bad.o"], stdin=lines, stdout=writing, stderr=subprocess.PIPE, env=ENVIRONMENT)
+            ran = subprocess.run(
+                [*PROGRAM, "bad.o"],
+                stdin=lines,
+                stdout=writing,
+                stderr=subprocess.PIPE,
+                env=ENVIRONMENT,
+            )
         os.close(writing)
         self.assertEqual(ran.stderr, b"")
 
 
 class CheckedTest(Case):
-    """Files that no line refuses are checked here, whatever standard input is; and the output begins with that."""
+    """Files that no line refuses are checked here, whatever standard input is; and the output
+    begins with that."""
 
     FILES = "bad.o", "tables.o", "object.o", "good.o"
-    FOUND = "file 0 refused 33 114 SHARED_BYTE: ", "file 1 refused 2 51 150 ", "file 2 refused 72 276 FOREIGN_SECTION: "
-    HEAD = "checked here by the rules of images and tables, and relocatable files by those of objects: "
+    FOUND = (
+        "file 0 refused 33 114 SHARED_BYTE: ",
+        "file 1 refused 2 51 150 ",
+        "file 2 refused 72 276 FOREIGN_SECTION: ",
+    )
+    HEAD = (
+        "checked here by the rules of images and tables, and relocatable files by those of"
+        " objects: "
+    )
 
     def setUp(self):
         super().setUp()
-        self.put(bad__o=SHARING, tables__o=BROKEN_SYMBOLS, object__o=bytes(Made(text(), (b".lib", 10, b"", {})).data), good__o=GOOD)
+        self.put(
+            bad__o=SHARING,
+            tables__o=BROKEN_SYMBOLS,
+            object__o=bytes(Made(text(), (b".lib", 10, b"", {})).data),
+            good__o=GOOD,
+        )
 
     def ran(self, words, stdin=None, shell=""):
-        """What is said on standard output by a run that succeeds, where the shell says what standard input is."""
+        """What is said on standard output by a run that succeeds, where the shell says what
+        standard input is."""
         command = ["sh", "-c", f'"$@" {shell}', "sh", *PROGRAM, *words]
         ran = subprocess.run(command, stdin=stdin, capture_output=True, env=ENVIRONMENT, timeout=60)
         self.assertEqual((ran.returncode, ran.stderr), (0, b""))
@@ -296,16 +405,24 @@ class CheckedTest(Case):
 
     def test_broken_files(self):
         self.put(lines=b"refused\nok 680 3 0\n")
-        for ways, lead in (self.unread(self.FILES), ""), (self.read(self.FILES), "standard input refuses nothing; "):
+        for ways, lead in (self.unread(self.FILES), ""), (
+            self.read(self.FILES),
+            "standard input refuses nothing; ",
+        ):
             for way, found in ways:
                 with self.subTest(stdin=way):
-                    self.assertTrue(found.startswith(f"{lead}{self.HEAD}{' '.join(self.FILES)} file 0 "), found)
+                    self.assertTrue(
+                        found.startswith(f"{lead}{self.HEAD}{' '.join(self.FILES)} file 0 "), found
+                    )
                     self.assertEqual([it for it in self.FOUND if it not in found], [])
                     self.assertNotIn("no refusal", found)
 
     def test_sound_files(self):
         self.put(lines=b"refused\nok 680 3 0\n")
-        for ways, lead in (self.unread(["good.o"]), ""), (self.read(["good.o"]), "standard input refuses nothing; "):
+        for ways, lead in (self.unread(["good.o"]), ""), (
+            self.read(["good.o"]),
+            "standard input refuses nothing; ",
+        ):
             for way, found in ways:
                 self.assertEqual(found, f"{lead}{self.HEAD}good.o no refusal", way)
 
@@ -325,14 +442,23 @@ class CheckedTest(Case):
     def test_a_file_that_is_standard_input(self):
         for stdin, shell in (None, "< bad.o"), (SHARING, ""):
             with self.subTest(shell=shell):
-                found = self.ran(["/dev/stdin"], shell=shell) if shell else self.said("/dev/stdin", stdin=bytes(stdin))
+                found = (
+                    self.ran(["/dev/stdin"], shell=shell)
+                    if shell
+                    else self.said("/dev/stdin", stdin=bytes(stdin))
+                )
                 self.assertIn("SHARED_BYTE: ", found)
 
     def test_without_files(self):
         """There is nothing to check."""
         self.assertEqual(self.said(stdin=b"ok 680 3 0\n"), "no refusal")
-        closed = subprocess.run(["sh", "-c", '"$@" <&-', "sh", *PROGRAM], capture_output=True, env=ENVIRONMENT)
-        self.assertEqual((closed.returncode, closed.stdout, closed.stderr), (3, b"", b"elfmap-explain: standard input is closed\n"))
+        closed = subprocess.run(
+            ["sh", "-c", '"$@" <&-', "sh", *PROGRAM], capture_output=True, env=ENVIRONMENT
+        )
+        self.assertEqual(
+            (closed.returncode, closed.stdout, closed.stderr),
+            (3, b"", b"elfmap-explain: standard input is closed\n"),
+        )
 
 
 class FindingTest(Case):
@@ -342,13 +468,25 @@ class FindingTest(Case):
 
     def test_text(self):
         found = self.said(stdin=FINDING)
-        self.assertTrue(found.startswith("bad.o: offset 0x72: SHARED_BYTE (33) SHARED_BYTE: the file is refused"), found)
+        self.assertTrue(
+            found.startswith(
+                "bad.o: offset 0x72: SHARED_BYTE (33) SHARED_BYTE: the file is refused"
+            ),
+            found,
+        )
         self.assertIn("the content of section 1 .text [0x40, 0x73)", found)
         self.assertIn("the content of section 2 .data [0x72, 0x76)", found)
 
     def test_jsonl(self):
         os.rename("bad.o", b"\xff.o")
-        line = {"path": "\\xff.o", "path_hex": b"\xff.o".hex(), "offset": 0x72, "rule": 33, "name": "SHARED_BYTE", "message": ""}
+        line = {
+            "path": "\\xff.o",
+            "path_hex": b"\xff.o".hex(),
+            "offset": 0x72,
+            "rule": 33,
+            "name": "SHARED_BYTE",
+            "message": "",
+        }
         more = b'{"summary": {}}\n{"path": 3, "offset": 1, "rule": 1}\n{\n[' + b"[" * 5000 + b"\n"
         found = self.said(stdin=json.dumps(line).encode() + b"\n" + more)
         self.assertIn("section 2 .data", found)
@@ -364,26 +502,42 @@ class FindingTest(Case):
             self.assertIn("section 2 .data", self.said(stdin=FINDING.replace(b"bad.o", told)))
 
     def test_members(self):
-        self.assertIn("section 2 .data", self.said(stdin=FINDING.replace(b"bad.o", b"lib.a(" + LONG + b")")))
+        self.assertIn(
+            "section 2 .data", self.said(stdin=FINDING.replace(b"bad.o", b"lib.a(" + LONG + b")"))
+        )
         self.put(thin__a=thin(b"bad.o"))
-        self.assertIn("section 2 .data", self.said(stdin=FINDING.replace(b"bad.o", b"thin.a(bad.o)")))
+        self.assertIn(
+            "section 2 .data", self.said(stdin=FINDING.replace(b"bad.o", b"thin.a(bad.o)"))
+        )
         for name in (b"lib.a(none)", b"none(lib.a)", b"bad.o(x)", b"lib.a()"):
             status, out, _ = self.explain(stdin=FINDING.replace(b"bad.o", name))
             self.assertEqual((status, "can't be read" in out), (3, True))
 
     def test_members_of_several_archives(self):
-        """Of members of one name the first is meant. A directory may have brackets in its name, an archive may be cut short later on."""
+        """Of members of one name the first is meant. A directory may have brackets in its name, an
+        archive may be cut short later on."""
         many = b"!<arch>\n" + archive_member(b"x.o", SHARING) + archive_member(b"x.o", GOOD)
         self.put(**{"many__a": many, "a(b)/lib__a": GNU, "cut__a": GNU[:-3]})
-        names = b"lib.a(" + LONG + b")", b"many.a(x.o)", b"lib.a(" + LONG + b")", b"a(b)/lib.a(" + LONG + b")", b"cut.a(" + LONG + b")"
-        status, out, err = self.explain(stdin=b"".join(FINDING.replace(b"bad.o", it) + b"\n" for it in names))
+        names = (
+            b"lib.a(" + LONG + b")",
+            b"many.a(x.o)",
+            b"lib.a(" + LONG + b")",
+            b"a(b)/lib.a(" + LONG + b")",
+            b"cut.a(" + LONG + b")",
+        )
+        status, out, err = self.explain(
+            stdin=b"".join(FINDING.replace(b"bad.o", it) + b"\n" for it in names)
+        )
         self.assertEqual((status, err, out.count("section 2 .data [0x72, 0x76)")), (0, "", 5), out)
 
     def test_members_that_a_thin_archive_names_in_another(self):
         front = b"!<thin>\n" + archive_member(b"/", b"lib.a/\n")
         origin = GNU.index(archive_member(b"/0", SHARING, b""))
         self.put(outer__a=front + archive_member(b"/0:%d" % origin, b"", b""))
-        self.assertIn("section 2 .data", self.said(stdin=FINDING.replace(b"bad.o", b"outer.a(lib.a(" + LONG + b"))")))
+        self.assertIn(
+            "section 2 .data",
+            self.said(stdin=FINDING.replace(b"bad.o", b"outer.a(lib.a(" + LONG + b"))")),
+        )
 
     def test_an_object_that_would_be_too_long(self):
         found = self.said(stdin=b"bad.o: offset 0x0: OBJECT_TOO_LONG (0): ")
@@ -408,19 +562,35 @@ class FindingTest(Case):
 
     def test_many_members(self):
         count = 5000
-        self.put(many__a=b"!<arch>\n" + b"".join(archive_member(b"%d.o" % it, SHARING) for it in range(count)))
-        lines = b"".join(FINDING.replace(b"bad.o", b"many.a(%d.o)" % it) + b"\n" for it in range(count))
+        self.put(
+            many__a=b"!<arch>\n"
+            + b"".join(archive_member(b"%d.o" % it, SHARING) for it in range(count))
+        )
+        lines = b"".join(
+            FINDING.replace(b"bad.o", b"many.a(%d.o)" % it) + b"\n" for it in range(count)
+        )
         start = time.monotonic()
         status, out, _ = self.explain(stdin=lines)
         self.assertEqual((status, out.count("section 2 .data")), (0, count))
         self.assertLess(time.monotonic() - start, count / 100)
 
     def test_any_bytes(self):
-        files = (b"", b"\x7fELF", GOOD[:70], b"\x7fELF\2\2" + b"\xff" * 100, BROKEN_SYMBOLS[:-90], bytes(100))
+        files = (
+            b"",
+            b"\x7fELF",
+            GOOD[:70],
+            b"\x7fELF\2\2" + b"\xff" * 100,
+            BROKEN_SYMBOLS[:-90],
+            bytes(100),
+        )
         for number, content in enumerate(files):
             self.put(**{f"{number}__o": content})
             lines = [f"refused {rule} {at}" for rule in _rules.RULES for at in (0, 63, 2**64 - 1)]
-            lines += [f"refused {rule} 0 {it} {it}" for rule in _rules.LINK_RULES for it in (0, 5, 2**40)]
+            lines += [
+                f"refused {rule} 0 {it} {it}"
+                for rule in _rules.LINK_RULES
+                for it in (0, 5, 2**40)
+            ]
             for line in lines:
                 self.assertIn("what to do: ", explained(line, [f"{number}.o"]), line)
 
@@ -437,20 +607,40 @@ class HintTest(Case):
     def test_a_section_table_that_is_elsewhere(self):
         made = Made(text())
         data = made.with_bytes(40, (64).to_bytes(8, "little"))
-        self.assertIn(f"e_shoff, which is 0x40, points astray: a table of 3 section headers is at {made.table:#x}", self.hints(data, 13))
+        self.assertIn(
+            (
+                "e_shoff, which is 0x40, points astray: a table of 3 section headers is at"
+                f" {made.table:#x}"
+            ),
+            self.hints(data, 13),
+        )
         cut = bytes(made.data[:-64])
         self.assertIn("the file was cut short", self.hints(cut, 15))
         # A table of one section header, at the bytes of .text.
         astray = bytearray(data)
         astray[60] = 1
-        self.assertIn("e_shoff, which is 0x40, points astray: what is there looks like no section header 0", self.hints(astray, 13))
+        self.assertIn(
+            "e_shoff, which is 0x40, points astray: what is there looks like no section header 0",
+            self.hints(astray, 13),
+        )
         # One byte of section header 0 was written: it is where it belongs.
         self.assertEqual(self.hints(made.with_bytes(made.table + 4, b"\1"), 13), "")
 
     def test_the_address_significance_table(self):
-        made = Made(text(), symbols(3, (1, 0x10, 1)), (b".strtab", 3, b"\0f\0", {}), (b".llvm_addrsig", 0x6FFF4C03, b"\1", dict(link=2)))
+        made = Made(
+            text(),
+            symbols(3, (1, 0x10, 1)),
+            (b".strtab", 3, b"\0f\0", {}),
+            (b".llvm_addrsig", 0x6FFF4C03, b"\1", dict(link=2)),
+        )
         found = self.hints(made.data, 78, made.table + 4 * 64 + 40)
-        self.assertIn("compile with -fno-addrsig, or strip it: objcopy --remove-section=.llvm_addrsig 'a b.o'", found)
+        self.assertIn(
+            (
+                "compile with -fno-addrsig, or strip it: objcopy --remove-section=.llvm_addrsig 'a"
+                " b.o'"
+            ),
+            found,
+        )
         self.assertEqual(self.hints(made.data, 78, made.table + 64 + 40), "")
 
     def linked(self, machine=62, name=b"_GLOBAL_OFFSET_TABLE_", kind=9):
@@ -463,14 +653,34 @@ class HintTest(Case):
 
     def test_the_global_offset_table(self):
         found = " ".join(_hints.link_hints([self.linked()], 9, 0, 0, 0))
-        self.assertIn("_GLOBAL_OFFSET_TABLE_: the code is compiled for a global offset table: compile it with -fno-pic", found)
+        self.assertIn(
+            (
+                "_GLOBAL_OFFSET_TABLE_: the code is compiled for a global offset table: compile it"
+                " with -fno-pic"
+            ),
+            found,
+        )
         self.assertEqual(list(_hints.link_hints([self.linked(name=b"other")], 9, 0, 0, 0)), [])
 
     def test_relocations_without_a_rule(self):
         for machine, kind, words in (
-            (62, 42, "R_X86_64_REX_GOTPCRELX is by a global offset table, which elfmap does not make: compile with -fno-pic"),
+            (
+                62,
+                42,
+                (
+                    "R_X86_64_REX_GOTPCRELX is by a global offset table, which elfmap does not"
+                    " make: compile with -fno-pic"
+                ),
+            ),
             (62, 4, "the rule file needs the line `4 pc 4 signed`"),
-            (183, 283, "the rule file has no line for type 283, R_AARCH64_CALL26 of machine 183 (EM_AARCH64)"),
+            (
+                183,
+                283,
+                (
+                    "the rule file has no line for type 283, R_AARCH64_CALL26 of machine 183"
+                    " (EM_AARCH64)"
+                ),
+            ),
         ):
             found = " ".join(_hints.link_hints([self.linked(machine, b"f", kind)], 12, 0, 1, 0))
             self.assertIn(words, found)
@@ -484,7 +694,8 @@ class HintTest(Case):
             self.assertIn(words, " ".join(_hints.link_hints([self.linked(name=name)], 9, 0, 0, 0)))
 
     def test_what_other_files_begin_with(self):
-        """By the formats: LLVM's bitcode and its wrapper, Mach-O, gzip (RFC 1952), xz and zstd (RFC 8878). One may be short."""
+        """By the formats: LLVM's bitcode and its wrapper, Mach-O, gzip (RFC 1952), xz and zstd (RFC
+        8878). One may be short."""
         for front, words in (
             (b"!<thin>\n", "it is a thin archive"),
             (b"BC\xc0\xde", "it is LLVM bitcode: compile without -flto"),
@@ -502,7 +713,9 @@ class HintTest(Case):
     def test_other_files(self):
         self.assertIn("it is an archive: elfmap-lint checks its members", self.hints(GNU, 3))
         self.assertIn("-m64", self.hints(b"\x7fELF\1" + bytes(80), 4))
-        self.assertIn("the file is an executable", self.hints(Made(text()).with_bytes(16, b"\2"), 70))
+        self.assertIn(
+            "the file is an executable", self.hints(Made(text()).with_bytes(16, b"\2"), 70)
+        )
 
 
 class KnownNamesTest(unittest.TestCase):
@@ -536,13 +749,17 @@ class NamesTest(unittest.TestCase):
     """The names are those of the C library's header, of which a later one may have more."""
 
     def constants(self, prefix):
-        found = re.findall(rf"^#define\s+({prefix}\w+)\s+(0x[0-9a-fA-F]+|\d+)\b", ELF_H.read_text(), re.M)
+        found = re.findall(
+            rf"^#define\s+({prefix}\w+)\s+(0x[0-9a-fA-F]+|\d+)\b", ELF_H.read_text(), re.M
+        )
         return {name: int(value, 0) for name, value in found}
 
     def test_machines(self):
         known = self.constants("EM_")
         self.assertEqual({f"EM_{it}" for it in _names.MACHINES.values()} - set(known), set())
-        self.assertTrue(all(known[f"EM_{name}"] == number for number, name in _names.MACHINES.items()))
+        self.assertTrue(
+            all(known[f"EM_{name}"] == number for number, name in _names.MACHINES.items())
+        )
 
     def test_section_types(self):
         known = {name.lower(): number for name, number in self.constants("SHT_").items()}

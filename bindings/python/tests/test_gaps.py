@@ -7,19 +7,35 @@ import sys
 import unittest
 from pathlib import Path
 
-from tests.made import CLASS_32, ENVIRONMENT, GOOD, SHARING, FolderCase, Made, archive_member, setUpModule, text  # noqa: F401
+from tests.made import (
+    CLASS_32,
+    ENVIRONMENT,
+    GOOD,
+    SHARING,
+    FolderCase,
+    Made,
+    archive_member,
+    setUpModule,
+    text,
+)  # noqa: F401
 
 PROGRAM = [sys.executable, "-m", "elfmap.gaps"]
-# .text has the bytes from 0x40 to below 0x53, .data those from 0x78 to below 0x80, and the headers begin at 0x98.
+# .text has the bytes from 0x40 to below 0x53, .data those from 0x78 to below 0x80, and the headers
+# begin at 0x98.
 GAPPED = Made(text(), (b".data", 1, bytes(8), {})).with_field(1, "size", 0x13)
-LONG, SHORT = "[0x53, 0x78) between .text and .data, not only zeros", "[0x97, 0x98) between .shstrtab and the section headers, zeros"
+LONG = "[0x53, 0x78) between .text and .data, not only zeros"
+SHORT = "[0x97, 0x98) between .shstrtab and the section headers, zeros"
 
 
 class GapsTest(FolderCase):
     def gaps(self, *words):
         """The status, and the lines on standard output and on standard error."""
-        ran = subprocess.run([*PROGRAM, *words], stdin=subprocess.DEVNULL, capture_output=True, env=ENVIRONMENT)
-        said = (it.decode("utf-8", "surrogateescape").splitlines() for it in (ran.stdout, ran.stderr))
+        ran = subprocess.run(
+            [*PROGRAM, *words], stdin=subprocess.DEVNULL, capture_output=True, env=ENVIRONMENT
+        )
+        said = (
+            it.decode("utf-8", "surrogateescape").splitlines() for it in (ran.stdout, ran.stderr)
+        )
         return ran.returncode, *said
 
     def test_a_file(self):
@@ -30,20 +46,29 @@ class GapsTest(FolderCase):
     def test_the_end_of_a_file(self):
         self.put(a__o=GAPPED + b"\1" * 100)
         end = len(GAPPED) + 100
-        self.assertEqual(self.gaps("a.o")[1][0], f"100 a.o: [{len(GAPPED):#x}, {end:#x}) after the section headers, not only zeros")
+        self.assertEqual(
+            self.gaps("a.o")[1][0],
+            f"100 a.o: [{len(GAPPED):#x}, {end:#x}) after the section headers, not only zeros",
+        )
 
     def test_the_longest(self):
-        lib = b"!<arch>\n" + archive_member(b"m.o", GAPPED) + archive_member(b"text", b"no ELF file")
+        lib = (
+            b"!<arch>\n" + archive_member(b"m.o", GAPPED) + archive_member(b"text", b"no ELF file")
+        )
         self.put(**{"a/b__o": GAPPED, "a/lib__a": lib, "a/a__o": GAPPED, "a/narrow__o": CLASS_32})
         longest = [f"37 {it}: {LONG}" for it in ("a/a.o", "a/b.o", "a/lib.a(m.o)")]
         last = "6 gaps of 114 bytes in 3 ELF files; skipped: 1 not ELF, 1 of class 32"
         self.assertEqual(self.gaps("--most", "3", "a"), (0, [*longest, last], []))
         self.assertEqual(self.gaps("--most", "0", "a"), (0, [last], []))
         self.assertEqual(len(self.gaps("a")[1]), 6 + 1)
-        self.assertEqual(self.gaps("--exclude", "*.a", "--exclude", "narrow*", "a")[1][-1], "4 gaps of 76 bytes in 2 ELF files")
+        self.assertEqual(
+            self.gaps("--exclude", "*.a", "--exclude", "narrow*", "a")[1][-1],
+            "4 gaps of 76 bytes in 2 ELF files",
+        )
 
     def test_a_long_gap(self):
-        """It is longer than what is read at once, and its last byte is the only one that is not zero."""
+        """It is longer than what is read at once, and its last byte is the only one that is not
+        zero."""
         size = (3 << 20) + 5
         for last, words in ((b"\0", "zeros"), (b"\1", "not only zeros")):
             self.put(a__o=GAPPED + bytes(size - 1) + last)
@@ -75,26 +100,45 @@ class GapsTest(FolderCase):
         lines = self.gaps("a.o")[1]
         self.assertEqual(len(lines), 20 + 1)
         # The last one is between the last section and the names.
-        self.assertEqual(lines[:20], [f"7 a.o: [{it + 1:#x}, {it + 8:#x}) between .s and .s, zeros" for it in range(64, 64 + 20 * 8, 8)])
+        self.assertEqual(
+            lines[:20],
+            [
+                f"7 a.o: [{it + 1:#x}, {it + 8:#x}) between .s and .s, zeros"
+                for it in range(64, 64 + 20 * 8, 8)
+            ],
+        )
 
     def test_a_section_without_a_name(self):
         self.put(a__o=Made(text(), (b"", 1, bytes(8), {})).with_field(1, "size", 0x13))
-        self.assertEqual(self.gaps("a.o")[1][0], "37 a.o: [0x53, 0x78) between .text and section 2, not only zeros")
+        self.assertEqual(
+            self.gaps("a.o")[1][0],
+            "37 a.o: [0x53, 0x78) between .text and section 2, not only zeros",
+        )
 
     def test_program_headers(self):
         """They are after a gap of eight bytes, which ends with a byte that is not zero."""
         data = bytearray(Made(text()).with_bytes(16, b"\2"))
         start = len(data) + 8
-        data[32:40], data[54:58] = start.to_bytes(8, "little"), struct.pack("<HH", 56, 1)
-        self.put(run=bytes(data) + bytes(7) + b"\1" + struct.pack("<IIQQQQQQ", 1, 4, 0, 0, 0, 0, 0, 1))
-        lines = [f"8 run: [{len(data):#x}, {start:#x}) between the section headers and the program headers, not only zeros"]
+        data[32:40] = start.to_bytes(8, "little")
+        data[54:58] = struct.pack("<HH", 56, 1)
+        self.put(
+            run=bytes(data) + bytes(7) + b"\1" + struct.pack("<IIQQQQQQ", 1, 4, 0, 0, 0, 0, 0, 1)
+        )
+        lines = [
+            f"8 run: [{len(data):#x}, {start:#x}) between the section headers and the program"
+            " headers, not only zeros"
+        ]
         self.assertEqual(self.gaps("--most", "1", "run")[1][:1], lines)
 
     def test_a_full_device(self):
         self.put(good__o=GOOD)
         with open("/dev/full", "wb") as out:
-            ran = subprocess.run([*PROGRAM, "good.o"], stdout=out, stderr=subprocess.PIPE, env=ENVIRONMENT)
-        self.assertEqual((ran.returncode, ran.stderr), (3, b"elfmap-gaps: no space left on device\n"))
+            ran = subprocess.run(
+                [*PROGRAM, "good.o"], stdout=out, stderr=subprocess.PIPE, env=ENVIRONMENT
+            )
+        self.assertEqual(
+            (ran.returncode, ran.stderr), (3, b"elfmap-gaps: no space left on device\n")
+        )
 
     def test_names_of_any_bytes(self):
         Path(os.fsdecode(b"\xff\n.o")).write_bytes(GAPPED)
@@ -104,7 +148,9 @@ class GapsTest(FolderCase):
         self.put(good__o=GOOD)
         reading, writing = os.pipe()
         os.close(reading)
-        ran = subprocess.run([*PROGRAM, "good.o"], stdout=writing, stderr=subprocess.PIPE, env=ENVIRONMENT)
+        ran = subprocess.run(
+            [*PROGRAM, "good.o"], stdout=writing, stderr=subprocess.PIPE, env=ENVIRONMENT
+        )
         os.close(writing)
         self.assertEqual(ran.stderr, b"")
 

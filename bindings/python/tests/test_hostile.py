@@ -15,15 +15,30 @@ import time
 import unittest
 from pathlib import Path
 
-from tests.made import BSD, ENVIRONMENT, GNU, GOOD, SHARING, FolderCase, Made, relocations, setUpModule, symbols, text, thin  # noqa: F401
+from tests.made import (
+    BSD,
+    ENVIRONMENT,
+    GNU,
+    GOOD,
+    SHARING,
+    FolderCase,
+    Made,
+    relocations,
+    setUpModule,
+    symbols,
+    text,
+    thin,
+)  # noqa: F401
 
-MILLION, FOLDERS = 1_000_000, 10
+MILLION = 1_000_000
+FOLDERS = 10
 LONGEST = 300
 LINT = ["lint", "--tables", "--object"]
 MEMORY = "/dev/shm"
 
 
-# A process begins with the peak memory of the one that starts it, and that of the tests is large. So a small one starts the command.
+# A process begins with the peak memory of the one that starts it, and that of the tests is large.
+# So a small one starts the command.
 START = """
 import os, sys
 words = [sys.executable, *sys.argv[2:]]
@@ -33,16 +48,34 @@ os.write(int(sys.argv[1]), f"{os.waitstatus_to_exitcode(status)} {usage.ru_maxrs
 
 
 def run(*words, limit=LONGEST):
-    """The status, standard output and standard error of a command of the package, and its peak memory in MiB."""
-    with tempfile.TemporaryFile() as out, tempfile.TemporaryFile() as err, tempfile.TemporaryFile() as ended:
-        command = [sys.executable, "-c", START, str(ended.fileno()), "-m", f"elfmap.{words[0]}", *words[1:]]
+    """The status, standard output and standard error of a command of the package, and its peak
+    memory in MiB."""
+    with (
+        tempfile.TemporaryFile() as out,
+        tempfile.TemporaryFile() as err,
+        tempfile.TemporaryFile() as ended,
+    ):
+        command = [
+            sys.executable,
+            "-c",
+            START,
+            str(ended.fileno()),
+            "-m",
+            f"elfmap.{words[0]}",
+            *words[1:],
+        ]
         keep = {"pass_fds": [ended.fileno()], "env": ENVIRONMENT, "start_new_session": True}
-        process = subprocess.Popen(command, stdin=subprocess.DEVNULL, stdout=out, stderr=err, **keep)
+        process = subprocess.Popen(
+            command, stdin=subprocess.DEVNULL, stdout=out, stderr=err, **keep
+        )
         timer = threading.Timer(limit, os.killpg, [process.pid, signal.SIGKILL])
         timer.start()
         process.wait()
         timer.cancel()
-        said = [os.pread(it.fileno(), 1 << 26, 0).decode("utf-8", "surrogateescape") for it in (out, err)]
+        said = [
+            os.pread(it.fileno(), 1 << 26, 0).decode("utf-8", "surrogateescape")
+            for it in (out, err)
+        ]
         status, peak = os.pread(ended.fileno(), 100, 0).split()
         return int(status), *said, int(peak) / 1024
 
@@ -51,7 +84,11 @@ def room_in_memory(files):
     """A folder in memory that takes so many files, if there is one: the disk takes some minutes."""
     with contextlib.suppress(OSError):
         it = os.statvfs(MEMORY)
-        if it.f_favail > files and it.f_bavail * it.f_frsize > 4 << 30 and os.access(MEMORY, os.W_OK):
+        if (
+            it.f_favail > files
+            and it.f_bavail * it.f_frsize > 4 << 30
+            and os.access(MEMORY, os.W_OK)
+        ):
             return MEMORY
     return None
 
@@ -74,20 +111,33 @@ class MillionTest(unittest.TestCase):
         status, out, err, peak = run("lint", room)
         self.assertEqual((status, err), (1, ""))
         self.assertTrue(out.startswith(f"{room}/3/bad.o: offset 0x72: SHARED_BYTE "), out)
-        self.assertEqual(out.splitlines()[1:], [f"1 finding in 1 of 2 ELF files; skipped: {MILLION} not ELF"])
+        self.assertEqual(
+            out.splitlines()[1:], [f"1 finding in 1 of 2 ELF files; skipped: {MILLION} not ELF"]
+        )
         self.assertLess(peak, before[3] + 16)
         status, out, err, _ = run("same", f"{room}/9", f"{room}/9")
-        self.assertEqual((status, out, err), (0, f"1 the same; skipped: {MILLION // FOLDERS} not ELF\n", ""))
+        self.assertEqual(
+            (status, out, err), (0, f"1 the same; skipped: {MILLION // FOLDERS} not ELF\n", "")
+        )
         status, out, err, _ = run("gaps", f"{room}/9")
         self.assertEqual((status, err), (0, ""))
-        self.assertTrue(out.endswith(f" in 1 ELF file; skipped: {MILLION // FOLDERS} not ELF\n"), out)
+        self.assertTrue(
+            out.endswith(f" in 1 ELF file; skipped: {MILLION // FOLDERS} not ELF\n"), out
+        )
 
 
 class TreeTest(FolderCase):
     def tree(self, folder):
         """Good and bad files and archives, and what is no file: the names of the bad ones."""
         os.makedirs(f"{folder}/sub")
-        self.put(**{f"{folder}/lib__a": GNU, f"{folder}/bsd__a": BSD, f"{folder}/sub/good__o": GOOD, f"{folder}/empty": b""})
+        self.put(
+            **{
+                f"{folder}/lib__a": GNU,
+                f"{folder}/bsd__a": BSD,
+                f"{folder}/sub/good__o": GOOD,
+                f"{folder}/empty": b"",
+            }
+        )
         for number in range(40):
             self.put(**{f"{folder}/sub/{number}__o": SHARING})
         os.mkfifo(f"{folder}/pipe")
@@ -97,7 +147,9 @@ class TreeTest(FolderCase):
         os.symlink("a", f"{folder}/b")
         with open(f"{folder}/zeros", "wb") as it:
             it.truncate(1 << 30)
-        members = (f"{folder}/{it}.a(a name of more than sixteen letters.o)" for it in ("lib", "bsd"))
+        members = (
+            f"{folder}/{it}.a(a name of more than sixteen letters.o)" for it in ("lib", "bsd")
+        )
         return sorted([*members, *(f"{folder}/sub/{it}.o" for it in range(40))])
 
     def found(self, out):
@@ -109,7 +161,9 @@ class TreeTest(FolderCase):
             status, out, err, peak = run(*LINT, jobs, "a")
             self.assertEqual((status, err, self.found(out)), (1, "", bad))
             self.assertLess(peak, 200)
-        shutil.copytree("a", "b", symlinks=True, ignore=lambda _, names: {*names} & {"pipe", "zeros"})
+        shutil.copytree(
+            "a", "b", symlinks=True, ignore=lambda _, names: {*names} & {"pipe", "zeros"}
+        )
         status, out, err, peak = run("same", "a", "b")
         # Those that are rejected are not compared.
         self.assertEqual((status, "Traceback" in err, "not compared" in out), (3, False, True))
@@ -121,7 +175,15 @@ class TreeTest(FolderCase):
         """Files and folders vanish, shrink, grow and become something else: what stays is found."""
         bad = self.tree("a/stays")
         Path("a/moves").mkdir()
-        contents = [SHARING, GOOD, GNU, GOOD[:70], b"", GOOD + bytes(1 << 20), bytes(Made(text(), symbols(3, (1, 0x10, 1))).data)]
+        contents = [
+            SHARING,
+            GOOD,
+            GNU,
+            GOOD[:70],
+            b"",
+            GOOD + bytes(1 << 20),
+            bytes(Made(text(), symbols(3, (1, 0x10, 1))).data),
+        ]
         ended = threading.Event()
         thread = threading.Thread(target=self.change, args=(ended, contents))
         thread.start()
@@ -143,7 +205,9 @@ class TreeTest(FolderCase):
         while not ended.is_set():
             path = f"a/moves/{choose.randrange(8)}"
             with contextlib.suppress(OSError):
-                [self.write, self.cut, self.remove, self.folder, self.pipe, self.link][choose.randrange(6)](path, choose, contents)
+                [self.write, self.cut, self.remove, self.folder, self.pipe, self.link][
+                    choose.randrange(6)
+                ](path, choose, contents)
 
     def write(self, path, choose, contents):
         # A FIFO is not waited for.
@@ -186,12 +250,16 @@ class TreeTest(FolderCase):
         self.assertEqual(lines, [])
         found = self.found(out)
         start = GNU.index(SHARING)
-        wanted = {f"cut/gnu-{it:05}.a(a name of more than sixteen letters.o)" for it in range(start + len(SHARING), len(GNU))}
+        wanted = {
+            f"cut/gnu-{it:05}.a(a name of more than sixteen letters.o)"
+            for it in range(start + len(SHARING), len(GNU))
+        }
         self.assertLessEqual(wanted, {*found})
         self.assertIn("cut/bad.o", found)
 
     def test_many_findings_of_a_file(self):
-        """Each of its tables breaks a rule: the time does not grow with the square of their number."""
+        """Each of its tables breaks a rule: the time does not grow with the square of their
+        number."""
         count = 20_000
         made = Made(text(), *(relocations(0) for _ in range(count)))
         self.put(bad__o=bytes(made.data))
@@ -201,7 +269,9 @@ class TreeTest(FolderCase):
         Path("found").write_text(out)
         words = [sys.executable, "-m", "elfmap.explain"]
         with open("found") as it:
-            ran = subprocess.run(words, stdin=it, stdout=subprocess.PIPE, env=ENVIRONMENT, timeout=LONGEST)
+            ran = subprocess.run(
+                words, stdin=it, stdout=subprocess.PIPE, env=ENVIRONMENT, timeout=LONGEST
+            )
         self.assertEqual(ran.stdout.count(b"what to do: "), count)
         self.assertLess(time.monotonic() - begun, count / 100)
 
@@ -239,16 +309,22 @@ class MemoryTest(FolderCase):
         return peak
 
     def test_tables(self):
-        none, one, many = self.peak(0), self.peak(1), self.peak(16)
+        none = self.peak(0)
+        one = self.peak(1)
+        many = self.peak(16)
         self.assertLess(one, none + 3 * self.TABLE / 2**20)
         self.assertLess(many, one + self.TABLE / 2**20)
 
     def test_names_that_share_bytes(self):
-        """Each name of an object is the end of one string: written one after the other they have many GiB."""
-        count, step = 40_000, 16
+        """Each name of an object is the end of one string: written one after the other they have
+        many GiB."""
+        count = 40_000
+        step = 16
         string = random.Random(67).randbytes(count * step).replace(b"\0", b"\1")
         named = symbols(3, *((1 + step * it, 0x10, 1) for it in range(count)))
-        self.put(names__o=bytes(Made(text(), named, (b".strtab", 3, b"\0" + string + b"\0", {})).data))
+        self.put(
+            names__o=bytes(Made(text(), named, (b".strtab", 3, b"\0" + string + b"\0", {})).data)
+        )
         status, out, err, peak = run("lint", "--object", "-j1", "names.o")
         self.assertEqual((status, out, err), (0, "0 findings in 0 of 1 ELF file\n", ""))
         self.assertLess(peak, 200)

@@ -24,12 +24,40 @@ from urllib.parse import unquote_to_bytes
 from xml.etree import ElementTree
 
 import elfmap
-from elfmap import _archives, _checks, _findings, _formats, _library
-from elfmap import _rules, _sources, _walk, _words, _workers, build, lint
+from elfmap import (
+    _archives,
+    _checks,
+    _findings,
+    _formats,
+    _library,
+    _rules,
+    _sources,
+    _walk,
+    _words,
+    _workers,
+    build,
+    lint,
+)
 from elfmap._inspect import Depth, Inspector
 
-from tests.made import BROKEN_SYMBOLS, BSD, CLASS_32, ENVIRONMENT, GNU, GOOD, LONG, SHARING
-from tests.made import FolderCase, Made, archive_member, relocations, setUpModule, symbols, text, thin  # noqa: F401
+from tests.made import (
+    BROKEN_SYMBOLS,
+    BSD,
+    CLASS_32,
+    ENVIRONMENT,
+    GNU,
+    GOOD,
+    LONG,
+    SHARING,
+    FolderCase,
+    Made,
+    archive_member,
+    relocations,
+    setUpModule,
+    symbols,
+    text,
+    thin,
+)
 
 sys.path.insert(0, str(build.REPOSITORY / "tools" / "lib"))
 from elfmap_tools.cases import cases_of  # noqa: E402
@@ -41,7 +69,10 @@ SHARED = (
 )
 # Its canonical layout has a byte at 2^30.
 TOO_LONG_OBJECT = bytes(Made((b".text", 1, b"\x90", dict(align=1 << 30))).data)
-TOO_LONG = b"offset 0x0: OBJECT_TOO_LONG (0): the canonical layout of its object would be longer than 2^30 bytes; split the file"
+TOO_LONG = (
+    b"offset 0x0: OBJECT_TOO_LONG (0): the canonical layout of its object would be longer than 2^30"
+    b" bytes; split the file"
+)
 
 
 class Case(FolderCase):
@@ -90,7 +121,9 @@ class Case(FolderCase):
                 self.assert_sarif_result(it, rules)
 
     def assert_sarif_result(self, it, rules):
-        self.assertLessEqual(set(it), {"ruleId", "ruleIndex", "level", "message", "locations", "partialFingerprints"})
+        self.assertLessEqual(
+            set(it), {"ruleId", "ruleIndex", "level", "message", "locations", "partialFingerprints"}
+        )
         self.assertEqual(rules[it["ruleIndex"]], it["ruleId"])
         self.assertIn(it["level"], ("none", "note", "warning", "error"))
         self.assertTrue(it["message"]["text"])
@@ -113,10 +146,16 @@ class WordsTest(Case):
         made = Made(*data)
         content = bytearray(made.data)
         for index in range(1, 101):
-            content[made.table + 64 * index + 24 : made.table + 64 * index + 32] = (64).to_bytes(8, "little")
+            content[made.table + 64 * index + 24 : made.table + 64 * index + 32] = (64).to_bytes(
+                8, "little"
+            )
         self.put(bad__o=bytes(content))
         line = self.told("bad.o")[0]
-        self.assertEqual((line.count(".data [0x40, 0x41)"), "and of 84 more share byte 0x40; " in line), (16, True), line)
+        self.assertEqual(
+            (line.count(".data [0x40, 0x41)"), "and of 84 more share byte 0x40; " in line),
+            (16, True),
+            line,
+        )
 
     def test_a_byte_of_the_header(self):
         self.put(bad__o=Made(text()).with_field(1, "offset", 0x3F))
@@ -127,14 +166,18 @@ class WordsTest(Case):
         self.put(bad__o=Made(text()).with_field(1, "align", 3))
         at = Made(text()).table + 64 + 48
         words = (
-            f"bad.o: offset {at:#x}: WRONG_SECTION_ALIGNMENT (22): the section header of section 1 .text of type PROGBITS: "
-            "sh_addralign, which is 3; `sh_addralign` is neither 0 nor a power of two; give an alignment that is one"
+            f"bad.o: offset {at:#x}: WRONG_SECTION_ALIGNMENT (22): the section header of section 1"
+            " .text of type PROGBITS: sh_addralign, which is 3; `sh_addralign` is neither 0 nor a"
+            " power of two; give an alignment that is one"
         )
         self.assertEqual(self.told("bad.o")[0], words)
 
     def test_a_file_that_ends_early(self):
         self.put(bad__o=GOOD[:63])
-        words = "bad.o: offset 0x3f: TOO_SHORT (2): the file ends there, with 63 bytes; it is shorter than an ELF header, 64 bytes"
+        words = (
+            "bad.o: offset 0x3f: TOO_SHORT (2): the file ends there, with 63 bytes; it is shorter"
+            " than an ELF header, 64 bytes"
+        )
         self.assertTrue(self.told("bad.o")[0].startswith(words))
 
     def test_a_file_that_is_too_long(self):
@@ -148,23 +191,42 @@ class WordsTest(Case):
         self.assertIn("section 1 \\xff\\n of type PROGBITS", self.told("bad.o")[0])
 
     def test_a_name_across_what_is_read_at_once(self):
-        name, most = b".a_name_of_some_letters", 1 << 16
-        # The name begins 5 bytes before the end of the first 64 KiB: after the header, a content, one of a byte and two empty names.
-        made = Made((b"", 1, bytes(most - 8 - 64), {}), text(name, b"\x90")).with_field(2, "align", 3)
+        name = b".a_name_of_some_letters"
+        most = 1 << 16
+        # The name begins 5 bytes before the end of the first 64 KiB: after the header, a content,
+        # one of a byte and two empty names.
+        made = Made((b"", 1, bytes(most - 8 - 64), {}), text(name, b"\x90")).with_field(
+            2, "align", 3
+        )
         self.assertEqual(made.index(name), most - 5)
         self.put(bad__o=made)
-        self.assertIn("the section header of section 2 .a_name_of_some_letters of type PROGBITS: sh_addralign", self.told("bad.o")[0])
+        self.assertIn(
+            (
+                "the section header of section 2 .a_name_of_some_letters of type PROGBITS:"
+                " sh_addralign"
+            ),
+            self.told("bad.o")[0],
+        )
 
     def test_a_section_without_a_name(self):
         self.put(bad__o=Made(text(b"")).with_field(1, "align", 3))
         line = json.loads(self.told("--format", "jsonl", "bad.o")[0])
-        self.assertEqual((line["sections"], "section 1 (no name) of type PROGBITS" in line["message"]), (["section 1"], True))
+        self.assertEqual(
+            (line["sections"], "section 1 (no name) of type PROGBITS" in line["message"]),
+            (["section 1"], True),
+        )
 
     def test_each_rule_has_a_reason(self):
         self.assertTrue(all(map(_words.reason, _rules.RULES)))
 
     def test_any_bytes_have_words(self):
-        for data in (b"", b"\x7fELF", GOOD[:70], b"\x7fELF\2\2" + b"\xff" * 100, BROKEN_SYMBOLS[:-90]):
+        for data in (
+            b"",
+            b"\x7fELF",
+            GOOD[:70],
+            b"\x7fELF\2\2" + b"\xff" * 100,
+            BROKEN_SYMBOLS[:-90],
+        ):
             for rule in _rules.RULES:
                 for at in (0, 60, len(data), 2**64 - 1):
                     for table in (None, 0, 1, 2**40):
@@ -179,22 +241,32 @@ class DepthTest(Case):
         self.assertEqual(len(lines), 2)
         # Three sections have the content before it: 0x33 bytes from 0x40 on.
         words = (
-            "bad.o: offset 0x96: WRONG_SYMBOL_SECTION (51): the content of section 2 .symtab [0x78, 0xa8): "
-            "symbol 1 f, defined in section 99, which isn't there: st_shndx, which is 0x63; "
+            "bad.o: offset 0x96: WRONG_SYMBOL_SECTION (51): the content of section 2 .symtab [0x78,"
+            " 0xa8): symbol 1 f, defined in section 99, which isn't there: st_shndx, which is"
+            " 0x63; "
         )
         self.assertTrue(lines[0].startswith(words), lines[0])
 
     def test_each_table_with_its_own_fault(self):
-        parts = [text(), symbols(3, (1, 0x10, 1)), (b".strtab", 3, b"\0f\0", {}), relocations(2, 9), relocations(2, 1, 8)]
+        parts = [
+            text(),
+            symbols(3, (1, 0x10, 1)),
+            (b".strtab", 3, b"\0f\0", {}),
+            relocations(2, 9),
+            relocations(2, 1, 8),
+        ]
         self.put(bad__o=bytes(Made(*parts).data))
         lines = self.told("--tables", "bad.o")
-        self.assertEqual([it.split(": ")[2] for it in lines[:-1]], ["WRONG_RELOCATION_SYMBOL (54)"] * 2)
+        self.assertEqual(
+            [it.split(": ")[2] for it in lines[:-1]], ["WRONG_RELOCATION_SYMBOL (54)"] * 2
+        )
         self.assertEqual(lines[-1], "2 findings in 1 of 1 ELF file")
         # As an object the file breaks a rule once.
         self.assertEqual(self.told("--object", "bad.o")[-1], "1 finding in 1 of 1 ELF file")
 
     def test_each_rule_of_tables(self):
-        """The files of cases/explain.txt that break one: what `elfmap show` prints is found, each fault once."""
+        """The files of cases/explain.txt that break one: what `elfmap show` prints is found, each
+        fault once."""
         seen = set()
         for case in cases_of(str(build.REPOSITORY / "cases/explain.txt")):
             kind, number, _ = case.note.split(" ", 2)
@@ -203,7 +275,9 @@ class DepthTest(Case):
             content = bytes(case.files[case.needs[0].partition("=")[2]])
             shown = re.findall(rb"^refused \d+ (\d+) (\d+)$", case.out, re.M)
             self.put(bad__o=content)
-            lines = [json.loads(it) for it in self.told("--tables", "--format", "jsonl", "bad.o")[:-1]]
+            lines = [
+                json.loads(it) for it in self.told("--tables", "--format", "jsonl", "bad.o")[:-1]
+            ]
             with self.subTest(rule=number):
                 self.assertIn(number.encode(), {rule for rule, _ in shown})
                 found = sorted((it["rule"], it["offset"]) for it in lines)
@@ -212,14 +286,43 @@ class DepthTest(Case):
         self.assertEqual(seen, set(range(41, 70)))
 
     def test_relocations_without_addends(self):
-        header = "the section header of section 4 .rel.text of type REL; its link is section 2 .symtab of type SYMTAB"
-        entry = "the content of section 4 .rel.text [0xb0, 0xc0): relocation 0, of symbol 9, which isn't there"
+        header = (
+            "the section header of section 4 .rel.text of type REL; its link is section 2 .symtab"
+            " of type SYMTAB"
+        )
+        entry = (
+            "the content of section 4 .rel.text [0xb0, 0xc0): relocation 0, of symbol 9, which"
+            " isn't there"
+        )
         for info, symbol, words in (
-            (99, 1, f"WRONG_TARGET (53): {header}; it relocates section 99, which isn't there: sh_info, which is 99; "),
-            (1, 9, f"WRONG_RELOCATION_SYMBOL (54): {entry}, at 0x0 of section 1 .text, of type 2 (R_X86_64_PC32); "),
+            (
+                99,
+                1,
+                (
+                    f"WRONG_TARGET (53): {header}; it relocates section 99, which isn't there:"
+                    " sh_info, which is 99; "
+                ),
+            ),
+            (
+                1,
+                9,
+                (
+                    f"WRONG_RELOCATION_SYMBOL (54): {entry}, at 0x0 of section 1 .text, of type 2"
+                    " (R_X86_64_PC32); "
+                ),
+            ),
         ):
-            rows = (b".rel.text", 9, struct.pack("<QQ", 0, symbol << 32 | 2), dict(link=2, info=info, entsize=16))
-            self.put(bad__o=bytes(Made(text(), symbols(3, (1, 0x10, 1)), (b".strtab", 3, b"\0f\0", {}), rows).data))
+            rows = (
+                b".rel.text",
+                9,
+                struct.pack("<QQ", 0, symbol << 32 | 2),
+                dict(link=2, info=info, entsize=16),
+            )
+            self.put(
+                bad__o=bytes(
+                    Made(text(), symbols(3, (1, 0x10, 1)), (b".strtab", 3, b"\0f\0", {}), rows).data
+                )
+            )
             lines = self.told("--tables", "bad.o")
             self.assertEqual((len(lines), words in lines[0]), (2, True), lines)
 
@@ -230,26 +333,39 @@ class DepthTest(Case):
         line = json.loads(self.told("--tables", "--format", "jsonl", "bad.o")[0])
         start = made.starts[3]
         words = (
-            f"the table in section 2 .symtab of type SYMTAB; the content of section 3 .strtab [{start:#x}, {start + 2:#x}): byte 1: 0x66; "
-            "the string table has bytes, and the first or the last one isn't 0; a string table begins and ends with a zero"
+            "the table in section 2 .symtab of type SYMTAB; the content of section 3 .strtab"
+            f" [{start:#x}, {start + 2:#x}): byte 1: 0x66; the string table has bytes, and the"
+            " first or the last one isn't 0; a string table begins and ends with a zero"
         )
-        self.assertEqual((line["rule"], line["offset"], line["sections"]), (41, start + 1, [".symtab", ".strtab"]))
+        self.assertEqual(
+            (line["rule"], line["offset"], line["sections"]),
+            (41, start + 1, [".symtab", ".strtab"]),
+        )
         self.assertEqual(line["message"], words)
 
     def test_a_fault_of_dynamic_symbols_is_theirs(self):
         """A hash table before them has all rules of its symbols."""
         hashes = (b".hash", 5, struct.pack("<5I", 1, 2, 1, 0, 0), dict(link=2, entsize=4))
         names = (b".dynstr", 3, b"\0f\0", {})
-        made = Made(hashes, (b".dynsym", 11, symbols(3, (1, 0x10, 99))[2], dict(link=3, info=1, entsize=24)), names)
+        made = Made(
+            hashes,
+            (b".dynsym", 11, symbols(3, (1, 0x10, 99))[2], dict(link=3, info=1, entsize=24)),
+            names,
+        )
         self.put(bad__o=bytes(made.data))
         line = json.loads(self.told("--tables", "--format", "jsonl", "bad.o")[0])
-        self.assertEqual((line["rule"], line["offset"], line["sections"]), (51, made.starts[2] + 24 + 6, [".dynsym"]))
+        self.assertEqual(
+            (line["rule"], line["offset"], line["sections"]),
+            (51, made.starts[2] + 24 + 6, [".dynsym"]),
+        )
         self.assertTrue(line["message"].startswith("the content of section 2 .dynsym ["))
 
     def test_an_object_that_would_be_too_long(self):
         self.put(bad__o=TOO_LONG_OBJECT)
         self.assertEqual(self.lint("bad.o")[0], 0)
-        self.assertSaid(["--object", "bad.o"], 1, [b"bad.o: " + TOO_LONG, b"1 finding in 1 of 1 ELF file"])
+        self.assertSaid(
+            ["--object", "bad.o"], 1, [b"bad.o: " + TOO_LONG, b"1 finding in 1 of 1 ELF file"]
+        )
         log = json.loads(self.lint("--object", "--format", "sarif", "bad.o")[1])
         self.assert_sarif(log)
         self.assertEqual(log["runs"][0]["results"][0]["ruleId"], "OBJECT_TOO_LONG")
@@ -265,22 +381,39 @@ class DepthTest(Case):
     def test_an_index_table_of_a_long_file(self):
         """Symbol 1 has an index of its own, so its word has to be 0."""
         index_table = (b".symtab_shndx", 18, struct.pack("<2I", 0, 7), dict(link=2, entsize=4))
-        made = Made((b".filler", 1, bytes(1 << 17), {}), symbols(3, (1, 0x10, 1)), (b".strtab", 3, b"\0f\0", {}), index_table)
+        made = Made(
+            (b".filler", 1, bytes(1 << 17), {}),
+            symbols(3, (1, 0x10, 1)),
+            (b".strtab", 3, b"\0f\0", {}),
+            index_table,
+        )
         self.put(bad__o=bytes(made.data))
         for words in (["--tables"], ["--object"]):
             lines = self.told(*words, "bad.o")
-            self.assertTrue(lines[0].startswith(f"bad.o: offset {made.starts[4] + 4:#x}: WRONG_INDEX_WORD (52): "), lines)
+            self.assertTrue(
+                lines[0].startswith(
+                    f"bad.o: offset {made.starts[4] + 4:#x}: WRONG_INDEX_WORD (52): "
+                ),
+                lines,
+            )
 
     def test_more_sections_than_the_header_counts(self):
-        """0xff01 sections: their count, and the index of the names, are in section header 0. The table is after what is read whole."""
-        table, count, last = 1 << 17, 0xFF01, 0xFF00
+        """0xff01 sections: their count, and the index of the names, are in section header 0. The
+        table is after what is read whole."""
+        table = 1 << 17
+        count = 0xFF01
+        last = 0xFF00
         data = bytearray(table + 64 * count)
-        data[:64] = struct.pack("<16sHHIQQQIHHHHHH", b"\x7fELF\2\1\1", 1, 62, 1, 0, 0, table, 0, 64, 0, 0, 64, 0, 0xFFFF)
+        data[:64] = struct.pack(
+            "<16sHHIQQQIHHHHHH", b"\x7fELF\2\1\1", 1, 62, 1, 0, 0, table, 0, 64, 0, 0, 64, 0, 0xFFFF
+        )
         names = b"\0.text\0.shstrtab\0"
         data[64 : 64 + len(names)] = names
 
         def put(index, *fields):
-            data[table + 64 * index : table + 64 * (index + 1)] = struct.pack("<IIQQQQIIQQ", *fields)
+            data[table + 64 * index : table + 64 * (index + 1)] = struct.pack(
+                "<IIQQQQIIQQ", *fields
+            )
 
         put(0, 0, 0, 0, 0, 0, count, last, 0, 0, 0)
         put(last, 7, 3, 0, 0, 64, len(names), 0, 0, 1, 0)
@@ -290,22 +423,36 @@ class DepthTest(Case):
         put(last - 1, 1, 1, 0, 0, 0, 0, 0, 0, 3, 0)
         self.put(many__o=bytes(data))
         at = table + 64 * (last - 1) + 48
-        words = "the section header of section 65279 .text of type PROGBITS: sh_addralign, which is 3; "
-        self.assertTrue(self.told("many.o")[0].startswith(f"many.o: offset {at:#x}: WRONG_SECTION_ALIGNMENT (22): {words}"))
+        words = (
+            "the section header of section 65279 .text of type PROGBITS: sh_addralign, which is 3; "
+        )
+        self.assertTrue(
+            self.told("many.o")[0].startswith(
+                f"many.o: offset {at:#x}: WRONG_SECTION_ALIGNMENT (22): {words}"
+            )
+        )
 
     def test_program_headers_after_what_is_read_whole(self):
         start = 1 << 17
-        header = struct.pack("<16sHHIQQQIHHHHHH", b"\x7fELF\2\1\1", 2, 62, 1, 0, start, 0, 0, 64, 56, 10, 0, 0, 0)
+        header = struct.pack(
+            "<16sHHIQQQIHHHHHH", b"\x7fELF\2\1\1", 2, 62, 1, 0, start, 0, 0, 64, 56, 10, 0, 0, 0
+        )
         rows = b"".join(struct.pack("<IIQQQQQQ", 1, 4, 0, 0, 0, 0, 0, it) for it in [1] * 9 + [3])
         self.put(bad=header.ljust(start, b"\0") + rows)
-        words = f"bad: offset {start + 9 * 56 + 48:#x}: WRONG_SEGMENT_ALIGNMENT (27): program header 9: p_align, which is 3; "
+        words = (
+            f"bad: offset {start + 9 * 56 + 48:#x}: WRONG_SEGMENT_ALIGNMENT (27): program header 9:"
+            " p_align, which is 3; "
+        )
         self.assertTrue(self.told("bad")[0].startswith(words))
 
     def test_what_an_object_needs(self):
         executable = Made(text()).with_bytes(16, b"\2")
         self.put(good__o=GOOD, run=executable)
         self.assertEqual(self.lint(".")[0], 0)
-        words = "./run: offset 0x10: NOT_RELOCATABLE (70): the header: e_type, which is 2; `e_type` isn't REL; "
+        words = (
+            "./run: offset 0x10: NOT_RELOCATABLE (70): the header: e_type, which is 2; `e_type`"
+            " isn't REL; "
+        )
         lines = self.told("--object", ".")
         self.assertTrue(lines[0].startswith(words), lines[0])
         self.assertEqual(len(lines), 2)
@@ -316,7 +463,8 @@ class DepthTest(Case):
 
     def test_what_is_not_read_does_not_matter(self):
         """Each byte that is looked at, in a file that is longer than what is read whole."""
-        made, checks = self.long_file(), _checks.Checks(False, False)
+        made = self.long_file()
+        checks = _checks.Checks(False, False)
         for at in (*range(64), *range(made.names, len(made.data))):
             for value in (0, 1, 0xFF):
                 with self.changed(made.data, at, value) as source:
@@ -324,7 +472,8 @@ class DepthTest(Case):
                     self.assertEqual(found, self.refused(made.data), (at, value))
 
     def test_tables_of_a_long_file(self):
-        made, checks = self.long_file(), _checks.Checks(True, True)
+        made = self.long_file()
+        checks = _checks.Checks(True, True)
         for at in range(len(made.data) - 500, len(made.data)):
             with self.changed(made.data, at, 0xEE) as source:
                 found = {(it.rule, it.at) for it in checks.faults(source) if not it.is_of_link}
@@ -335,10 +484,26 @@ class DepthTest(Case):
 
     def test_tables_some_at_a_time(self):
         """Each table is shown by itself: the faults are the same, whatever byte is changed."""
-        parts = [symbols(3, (1, 0x10, 0xFFFF), (1, 0x20, 1)), (b".strtab", 3, b"\0f\0", {}), relocations(2, 1), relocations(2, 2)]
-        index_table = (b".symtab_shndx", 18, struct.pack("<3I", 0, 0xFF00, 0), dict(link=2, entsize=4))
+        parts = [
+            symbols(3, (1, 0x10, 0xFFFF), (1, 0x20, 1)),
+            (b".strtab", 3, b"\0f\0", {}),
+            relocations(2, 1),
+            relocations(2, 2),
+        ]
+        index_table = (
+            b".symtab_shndx",
+            18,
+            struct.pack("<3I", 0, 0xFF00, 0),
+            dict(link=2, entsize=4),
+        )
         group = (b".group", 17, struct.pack("<2I", 1, 4), dict(link=2, info=1, entsize=4))
-        made = Made(text(), *parts, index_table, group, (b".note", 7, struct.pack("<3I", 4, 0, 1) + b"abc\0", {}))
+        made = Made(
+            text(),
+            *parts,
+            index_table,
+            group,
+            (b".note", 7, struct.pack("<3I", 4, 0, 1) + b"abc\0", {}),
+        )
         checks = _checks.Checks(True, True)
         for at in range(64, len(made.data)):
             for value in (0, 2, 0xEE):
@@ -349,12 +514,15 @@ class DepthTest(Case):
 
     def long_file(self):
         filler = (b".filler", 1, bytes(1 << 17), {})
-        return Made(filler, symbols(3, (1, 0x10, 1)), (b".strtab", 3, b"\0f\0", {}), relocations(2, 1))
+        return Made(
+            filler, symbols(3, (1, 0x10, 1)), (b".strtab", 3, b"\0f\0", {}), relocations(2, 1)
+        )
 
     @contextlib.contextmanager
     def changed(self, data, at, value):
         """A file of the bytes, of which one is another one meanwhile."""
-        before, data[at] = data[at], value
+        before = data[at]
+        data[at] = value
         if not hasattr(self, "file"):
             self.file = tempfile.TemporaryFile(buffering=0)
             self.addCleanup(self.file.close)
@@ -383,7 +551,9 @@ class FormatTest(Case):
     def setUp(self):
         super().setUp()
         os.mkdir("a")
-        self.put(**{"a/bad__o": SHARING, "a/lib__a": GNU, "a/good__o": GOOD, "a/text": b"no ELF file"})
+        self.put(
+            **{"a/bad__o": SHARING, "a/lib__a": GNU, "a/good__o": GOOD, "a/text": b"no ELF file"}
+        )
 
     def test_text(self):
         member = b"a/lib.a(" + LONG + b"): " + SHARED
@@ -391,7 +561,11 @@ class FormatTest(Case):
         self.assertSaid(["a"], 1, [b"a/bad.o: " + SHARED, member, summary])
 
     def test_members_of_an_archive_are_files(self):
-        self.put(two__a=b"!<arch>\n" + archive_member(b"one.o", SHARING) + archive_member(b"other.o", SHARING))
+        self.put(
+            two__a=b"!<arch>\n"
+            + archive_member(b"one.o", SHARING)
+            + archive_member(b"other.o", SHARING)
+        )
         self.assertEqual(self.told("two.a")[-1], "2 findings in 2 of 2 ELF files")
 
     def test_each_format_has_records(self):
@@ -412,17 +586,35 @@ class FormatTest(Case):
 
     def test_jsonl(self):
         lines = [json.loads(it) for it in self.told("--format", "jsonl", "a", "none")]
-        found = {"path": "a/bad.o", "offset": 0x72, "rule": 33, "name": "SHARED_BYTE", "sections": [".text", ".data"]}
+        found = {
+            "path": "a/bad.o",
+            "offset": 0x72,
+            "rule": 33,
+            "name": "SHARED_BYTE",
+            "sections": [".text", ".data"],
+        }
         message = SHARED.decode().partition("(33): ")[2]
         self.assertEqual(lines[0], {**found, "message": message})
         self.assertEqual(lines[2], {"path": "none", "unreadable": "no such file or directory"})
-        counts = dict(checked=4, findings=2, files_with_findings=2, suppressed=0, not_elf=2, class_32=0, not_regular=0, unreadable=1)
+        counts = dict(
+            checked=4,
+            findings=2,
+            files_with_findings=2,
+            suppressed=0,
+            not_elf=2,
+            class_32=0,
+            not_regular=0,
+            unreadable=1,
+        )
         self.assertEqual(lines[3:], [{"summary": counts}])
 
     def test_jsonl_of_a_path_that_is_no_text(self):
         os.rename("a/bad.o", b"a/\xff")
         found = [json.loads(it) for it in self.told("--format", "jsonl", "a")]
-        self.assertEqual([(it["path"], bytes.fromhex(it["path_hex"])) for it in found if "path_hex" in it], [("a/\\xff", b"a/\xff")])
+        self.assertEqual(
+            [(it["path"], bytes.fromhex(it["path_hex"])) for it in found if "path_hex" in it],
+            [("a/\\xff", b"a/\xff")],
+        )
 
     def test_sarif(self):
         os.rename("a/bad.o", b"a/b d\xff%.o")
@@ -438,13 +630,25 @@ class FormatTest(Case):
         # In the archive the member begins behind its header.
         self.assertEqual(places[1]["region"]["byteOffset"], GNU.index(SHARING) + 0x72)
         self.assertFalse(run["invocations"][0]["executionSuccessful"])
-        self.assertIn("none: no such file", run["invocations"][0]["toolExecutionNotifications"][0]["message"]["text"])
+        self.assertIn(
+            "none: no such file",
+            run["invocations"][0]["toolExecutionNotifications"][0]["message"]["text"],
+        )
 
     def test_sarif_of_the_tool(self):
         """Its version, and of each rule where it is described (3.19.13, 3.49.13)."""
-        self.put(**{"a/thread__o": bytes(Made((b".tdata", 1, bytes(4), dict(flags=0x403))).data), "a/tables__o": BROKEN_SYMBOLS})
-        driver = json.loads(self.lint("--tables", "--object", "--format", "sarif", "a")[1])["runs"][0]["tool"]["driver"]
-        self.assertEqual(driver["version"], (build.REPOSITORY / "VERSION").read_text().splitlines()[0])
+        self.put(
+            **{
+                "a/thread__o": bytes(Made((b".tdata", 1, bytes(4), dict(flags=0x403))).data),
+                "a/tables__o": BROKEN_SYMBOLS,
+            }
+        )
+        driver = json.loads(self.lint("--tables", "--object", "--format", "sarif", "a")[1])["runs"][
+            0
+        ]["tool"]["driver"]
+        self.assertEqual(
+            driver["version"], (build.REPOSITORY / "VERSION").read_text().splitlines()[0]
+        )
         places = {it["id"]: it["help"]["text"].rpartition("; see ")[2] for it in driver["rules"]}
         self.assertEqual(
             places,
@@ -455,34 +659,55 @@ class FormatTest(Case):
             },
         )
         pages = (build.REPOSITORY / "docs/RULES.md").read_text(encoding="utf-8")
-        for rule, is_of_link in [*((it, False) for it in _rules.RULES), *((it, True) for it in _rules.LINK_RULES)]:
+        for rule, is_of_link in [
+            *((it, False) for it in _rules.RULES),
+            *((it, True) for it in _rules.LINK_RULES),
+        ]:
             _, _, anchor = _findings.Rule(is_of_link, rule).place.partition("#")
             self.assertIn(f'<a id="{anchor}">', pages)
 
     def fingerprints(self, *words):
-        results = json.loads(self.lint("--tables", "--format", "sarif", *words)[1])["runs"][0]["results"]
+        results = json.loads(self.lint("--tables", "--format", "sarif", *words)[1])["runs"][0][
+            "results"
+        ]
         return [it["partialFingerprints"]["elfmapFinding/v1"] for it in results]
 
     def test_sarif_of_a_file_that_is_built_again(self):
-        """A result is known by its fingerprint (3.27.17): at another offset it is the same one, and no two of a log are."""
+        """A result is known by its fingerprint (3.27.17): at another offset it is the same one, and
+        no two of a log are."""
         before = self.fingerprints("a")
-        moved = Made(text(content=bytes(0x35)), (b".data", 1, bytes(4), {})).with_field(2, "offset", 0x74)
+        moved = Made(text(content=bytes(0x35)), (b".data", 1, bytes(4), {})).with_field(
+            2, "offset", 0x74
+        )
         self.put(**{"a/bad__o": moved})
         self.assertEqual(self.fingerprints("a"), before)
         self.assertEqual(len({*before}), 2)
         # Another path, another section, and another rule.
-        others = [("b/bad__o", moved), ("a/bad__o", SHARING.replace(b".data", b".dato")), ("a/bad__o", GOOD[:63])]
+        others = [
+            ("b/bad__o", moved),
+            ("a/bad__o", SHARING.replace(b".data", b".dato")),
+            ("a/bad__o", GOOD[:63]),
+        ]
         for path, content in others:
             self.put(**{path: content})
             self.assertEqual({*self.fingerprints(path.replace("__", "."))} & {*before}, set())
         rows = [relocations(2, 9), relocations(2, 9)]
-        self.put(twice__o=bytes(Made(text(), symbols(3, (1, 0x10, 1)), (b".strtab", 3, b"\0f\0", {}), *rows).data))
+        self.put(
+            twice__o=bytes(
+                Made(text(), symbols(3, (1, 0x10, 1)), (b".strtab", 3, b"\0f\0", {}), *rows).data
+            )
+        )
         found = self.fingerprints("twice.o")
         self.assertEqual((len(found), len({*found})), (2, 2))
 
     def test_sarif_of_a_run(self):
         """It is successful if each file was read, whatever was found (3.20.14)."""
-        for words, is_successful in ((["a/good.o"], True), (["a/bad.o"], True), (["a/bad.o", "none"], False), (["a/text"], False)):
+        for words, is_successful in (
+            (["a/good.o"], True),
+            (["a/bad.o"], True),
+            (["a/bad.o", "none"], False),
+            (["a/text"], False),
+        ):
             run = json.loads(self.lint("--format", "sarif", *words)[1])["runs"][0]
             self.assertEqual(run["invocations"][0]["executionSuccessful"], is_successful, words)
 
@@ -490,7 +715,10 @@ class FormatTest(Case):
         results = json.loads(self.lint("--format", "sarif", "a")[1])["runs"][0]["results"]
         sections = [{"name": ".text", "kind": "section"}, {"name": ".data", "kind": "section"}]
         member = {"name": f"a/lib.a({LONG.decode()})", "kind": "member"}
-        self.assertEqual([it["locations"][0]["logicalLocations"] for it in results], [sections, [member, *sections]])
+        self.assertEqual(
+            [it["locations"][0]["logicalLocations"] for it in results],
+            [sections, [member, *sections]],
+        )
         self.assertEqual({it["level"] for it in results}, {"error"})
 
     def test_sarif_of_sections_of_one_name(self):
@@ -523,12 +751,27 @@ class FormatTest(Case):
         self.assertEqual(case[0].get("message"), "; ".join(["no such file or directory"] * 2))
 
     def test_junit_of_many_findings(self):
-        """Two relocations of two tables are of symbols that aren't there. What is suppressed has passed."""
-        parts = [text(), symbols(3, (1, 0x10, 1)), (b".strtab", 3, b"\0f\0", {}), relocations(2, 9), relocations(2, 1, 8)]
+        """Two relocations of two tables are of symbols that aren't there. What is suppressed has
+        passed."""
+        parts = [
+            text(),
+            symbols(3, (1, 0x10, 1)),
+            (b".strtab", 3, b"\0f\0", {}),
+            relocations(2, 9),
+            relocations(2, 1, 8),
+        ]
         self.put(**{"a/tables__o": bytes(Made(*parts).data)})
-        suite = ElementTree.fromstring(self.lint("--tables", "--ignore", "33", "--format", "junit", "a")[1])[0]
+        suite = ElementTree.fromstring(
+            self.lint("--tables", "--ignore", "33", "--format", "junit", "a")[1]
+        )[0]
         cases = {it.get("name"): it for it in suite}
-        names = {"a/bad.o", "a/good.o", "a/lib.a(good.o)", f"a/lib.a({LONG.decode()})", "a/tables.o"}
+        names = {
+            "a/bad.o",
+            "a/good.o",
+            "a/lib.a(good.o)",
+            f"a/lib.a({LONG.decode()})",
+            "a/tables.o",
+        }
         self.assertEqual((set(cases), suite.get("tests"), suite.get("failures")), (names, "5", "1"))
         self.assertEqual({name for name, it in cases.items() if len(it)}, {"a/tables.o"})
         lines = cases["a/tables.o"][0].text.splitlines()
@@ -554,13 +797,19 @@ class FormatTest(Case):
         os.rename("a/bad.o", "a/b:,%\n")
         lines = self.told("--format", "github", "a")
         message = f"a/b:,%25\\n: {SHARED.decode()}"
-        self.assertEqual(lines[0], f"::error file=a/b%3A%2C%25%0A,title=SHARED_BYTE (33)::{message}")
+        self.assertEqual(
+            lines[0], f"::error file=a/b%3A%2C%25%0A,title=SHARED_BYTE (33)::{message}"
+        )
 
     def test_github_of_a_member_and_of_what_is_unreadable(self):
         member = f"a/lib.a({LONG.decode()})"
         lines = self.told("--format", "github", "a", "none")
-        self.assertEqual(lines[1], f"::error file=a/lib.a,title=SHARED_BYTE (33)::{member}: {SHARED.decode()}")
-        self.assertEqual(lines[2], "::error file=none,title=unreadable::none: no such file or directory")
+        self.assertEqual(
+            lines[1], f"::error file=a/lib.a,title=SHARED_BYTE (33)::{member}: {SHARED.decode()}"
+        )
+        self.assertEqual(
+            lines[2], "::error file=none,title=unreadable::none: no such file or directory"
+        )
         self.assertEqual(len(lines), 4)
 
     def test_one_document_has_no_records(self):
@@ -592,7 +841,9 @@ class OptionTest(Case):
 
     def test_what_is_named_is_excluded_too(self):
         self.assertEqual(self.paths("--exclude", "b", "a/b/", "a/bad.o"), ["a/bad.o"])
-        self.assertSaid(["--exclude", "*.o", "a/bad.o", "a/b/bad.o"], 0, [b"0 findings in 0 of 0 ELF files"])
+        self.assertSaid(
+            ["--exclude", "*.o", "a/bad.o", "a/b/bad.o"], 0, [b"0 findings in 0 of 0 ELF files"]
+        )
 
     def test_class_32(self):
         self.assertIn("skipped: 1 of class 32", self.told("a")[-1])
@@ -601,7 +852,11 @@ class OptionTest(Case):
 
     def test_ignored(self):
         for rule in ("33", "SHARED_BYTE", "shared_byte", "shared-byte"):
-            self.assertSaid(["--ignore", rule, "a"], 0, [b"0 findings in 0 of 2 ELF files, 2 suppressed; skipped: 1 of class 32"])
+            self.assertSaid(
+                ["--ignore", rule, "a"],
+                0,
+                [b"0 findings in 0 of 2 ELF files, 2 suppressed; skipped: 1 of class 32"],
+            )
         self.assertEqual(self.paths("--ignore", "33:a/b/*", "a"), ["a/bad.o"])
         self.assertEqual(self.paths("--ignore", "22", "a"), ["a/b/bad.o", "a/bad.o"])
         for rule in ("34", "NO_RULE", "", "0", "²"):
@@ -619,29 +874,49 @@ class OptionTest(Case):
 
     def test_the_case_of_globs(self):
         """It is that of names of files, in which it matters."""
-        self.assertEqual(self.paths("--exclude", "*.O", "--exclude", "A/*", "--ignore", "33:BAD.o", "a"), ["a/b/bad.o", "a/bad.o"])
+        self.assertEqual(
+            self.paths("--exclude", "*.O", "--exclude", "A/*", "--ignore", "33:BAD.o", "a"),
+            ["a/b/bad.o", "a/bad.o"],
+        )
         self.assertEqual(self.paths("--exclude", "[A-Z]*.o", "a"), ["a/b/bad.o", "a/bad.o"])
         self.put(**{"a/BAD__O": SHARING})
         self.assertEqual(self.paths("--exclude", "*.O", "a"), ["a/b/bad.o", "a/bad.o"])
 
     def test_a_named_file_that_is_no_elf_file(self):
         """It is an error, and not skipped as one of a directory is, unless that is asked for."""
-        foreign, empty = b"it is neither an ELF file nor an archive; --skip skips it", b"it is empty; --skip skips it"
-        self.put(**{"a/text": b"no ELF file", "a/short": b"\x7fEL", "a/empty": b"", "names": b"a/text\0a/bad.o\0"})
+        foreign = b"it is neither an ELF file nor an archive; --skip skips it"
+        empty = b"it is empty; --skip skips it"
+        self.put(
+            **{
+                "a/text": b"no ELF file",
+                "a/short": b"\x7fEL",
+                "a/empty": b"",
+                "names": b"a/text\0a/bad.o\0",
+            }
+        )
         skipped = b"0 findings in 0 of 0 ELF files; skipped: 1 not ELF\n"
         for name, reason in (("text", foreign), ("short", foreign), ("empty", empty)):
             lost = b"elfmap-lint: a/%s: %s\n" % (name.encode(), reason)
-            self.assertEqual(self.lint(f"a/{name}"), (3, b"0 findings in 0 of 0 ELF files; 1 unreadable\n", lost))
+            self.assertEqual(
+                self.lint(f"a/{name}"), (3, b"0 findings in 0 of 0 ELF files; 1 unreadable\n", lost)
+            )
             self.assertEqual(self.lint("--skip", f"a/{name}"), (0, skipped, b""))
             # It is named, whatever directory has it too.
             self.assertEqual(self.lint("a", f"a/{name}")[::2], (3, lost))
             self.assertEqual(self.lint("-j3", f"a/{name}", "a")[::2], (3, lost))
             self.assertEqual(self.lint("--exclude", name, f"a/{name}")[0], 0)
             content = Path(f"a/{name}").read_bytes()
-            self.assertEqual(self.lint("-", stdin=content)[::2], (3, b"elfmap-lint: -: " + reason + b"\n"))
+            self.assertEqual(
+                self.lint("-", stdin=content)[::2], (3, b"elfmap-lint: -: " + reason + b"\n")
+            )
             self.assertEqual(self.lint("--skip", "-", stdin=content), (0, skipped, b""))
         self.assertEqual(
-            (self.lint("a")[0], self.lint("--files0-from", "names")[0], self.lint("--skip", "--files0-from", "names")[0]), (1, 3, 1)
+            (
+                self.lint("a")[0],
+                self.lint("--files0-from", "names")[0],
+                self.lint("--skip", "--files0-from", "names")[0],
+            ),
+            (1, 3, 1),
         )
         # By one of its hard links, of which the first one is in a directory.
         os.link("a/text", "z")
@@ -655,7 +930,9 @@ class OptionTest(Case):
         member = f"a/lib.a({LONG.decode()})"
         every = ["a/b/bad.o", "a/bad.o", member, "a/x:y.o"]
         self.assertEqual(self.paths("a"), every)
-        self.assertEqual(self.paths("--ignore", "33:a/b/*", "--ignore", "33:a/bad.o", "a"), every[2:])
+        self.assertEqual(
+            self.paths("--ignore", "33:a/b/*", "--ignore", "33:a/bad.o", "a"), every[2:]
+        )
         self.assertEqual(self.paths("--ignore", "33:x:y.o", "a"), every[:3])
         # A member is of its own name, and of that of the archive.
         for glob in ("lib.a", "lib.a(*)", "a/lib.a"):
@@ -666,7 +943,13 @@ class OptionTest(Case):
         self.assertEqual((status, out[:10]), (0, b"0 findings"))
         self.assertEqual(self.paths("--baseline", "known.json", "a"), ["a/bad.o"])
         # The same file, built again: the finding is at another place.
-        self.put(**{"a/b/bad__o": Made(text(content=bytes(0x35)), (b".data", 1, bytes(4), {})).with_field(2, "offset", 0x74)})
+        self.put(
+            **{
+                "a/b/bad__o": Made(
+                    text(content=bytes(0x35)), (b".data", 1, bytes(4), {})
+                ).with_field(2, "offset", 0x74)
+            }
+        )
         self.assertEqual(self.lint("--baseline", "known.json", "a/b")[0], 0)
 
     def test_a_baseline_has_so_many_findings_of_a_path_a_rule_and_sections(self):
@@ -674,9 +957,21 @@ class OptionTest(Case):
         aligned = Made(text())
         # What the first file breaks is known; of the second one each finding is told.
         for one, other, told in (
-            (SHARING, Made(text(), (b".rodata", 1, b"\1\2\3\4", {})).with_field(2, "offset", 0x72), "SHARED_BYTE (33)"),
-            (aligned.with_field(1, "align", 3), Made(text(b".init")).with_field(1, "align", 3), "WRONG_SECTION_ALIGNMENT (22)"),
-            (aligned.with_field(1, "align", 3), Made((b".text", 1, b"", dict(align=2, addr=1))).data, "MISALIGNED_SECTION (23)"),
+            (
+                SHARING,
+                Made(text(), (b".rodata", 1, b"\1\2\3\4", {})).with_field(2, "offset", 0x72),
+                "SHARED_BYTE (33)",
+            ),
+            (
+                aligned.with_field(1, "align", 3),
+                Made(text(b".init")).with_field(1, "align", 3),
+                "WRONG_SECTION_ALIGNMENT (22)",
+            ),
+            (
+                aligned.with_field(1, "align", 3),
+                Made((b".text", 1, b"", dict(align=2, addr=1))).data,
+                "MISALIGNED_SECTION (23)",
+            ),
             (
                 Made(*names, relocations(2, 9)).data,
                 Made(*names, relocations(2, 9), relocations(2, 1, 8)).data,
@@ -685,7 +980,11 @@ class OptionTest(Case):
         ):
             self.put(x__o=bytes(one))
             self.assertEqual(self.lint("--tables", "--write-baseline", "known.json", "x.o")[0], 0)
-            self.assertSaid(["--tables", "--baseline", "known.json", "x.o"], 0, [b"0 findings in 0 of 1 ELF file, 1 suppressed"])
+            self.assertSaid(
+                ["--tables", "--baseline", "known.json", "x.o"],
+                0,
+                [b"0 findings in 0 of 1 ELF file, 1 suppressed"],
+            )
             self.put(x__o=bytes(other))
             lines = self.told("--tables", "--baseline", "known.json", "x.o")
             self.assertEqual((len(lines), f": {told}: " in lines[0]), (2, True), lines)
@@ -697,9 +996,17 @@ class OptionTest(Case):
     def test_a_baseline_is_written_anew(self):
         """It has all that is found, also what the one before had."""
         self.lint("--write-baseline", "known.json", "a/b")
-        status, out, _ = self.lint("--baseline", "known.json", "--write-baseline", "known.json", "a")
-        self.assertEqual((status, out), (0, b"0 findings in 0 of 2 ELF files, 2 suppressed; skipped: 1 of class 32\n"))
-        self.assertEqual([it["path"] for it in json.loads(Path("known.json").read_bytes())["findings"]], ["a/b/bad.o", "a/bad.o"])
+        status, out, _ = self.lint(
+            "--baseline", "known.json", "--write-baseline", "known.json", "a"
+        )
+        self.assertEqual(
+            (status, out),
+            (0, b"0 findings in 0 of 2 ELF files, 2 suppressed; skipped: 1 of class 32\n"),
+        )
+        self.assertEqual(
+            [it["path"] for it in json.loads(Path("known.json").read_bytes())["findings"]],
+            ["a/b/bad.o", "a/bad.o"],
+        )
 
     def test_a_baseline_of_any_path(self):
         os.rename("a/bad.o", b"a/\xff")
@@ -707,7 +1014,15 @@ class OptionTest(Case):
         self.assertEqual(self.lint("--baseline", "known.json", "a")[0], 0)
 
     def test_what_is_no_baseline(self):
-        for content in (b"", b"[]", b"{}", b'{"findings": 3}', b'{"findings": [{}]}', b"[" * 100_000, b"\xff"):
+        for content in (
+            b"",
+            b"[]",
+            b"{}",
+            b'{"findings": 3}',
+            b'{"findings": [{}]}',
+            b"[" * 100_000,
+            b"\xff",
+        ):
             self.put(known=content)
             self.assertEqual(self.lint("--baseline", "known", "a")[0], 2)
         self.assertEqual(self.lint("--baseline", "none", "a")[0], 2)
@@ -725,7 +1040,10 @@ class OptionTest(Case):
         self.addCleanup(os.umask, before)
         self.assertEqual(self.lint("-o", "link", "a")[0], 1)
         self.assertTrue(os.path.islink("link"))
-        self.assertEqual((Path("file").read_bytes(), stat.S_IMODE(os.stat("file").st_mode)), (self.lint("a")[1], 0o640))
+        self.assertEqual(
+            (Path("file").read_bytes(), stat.S_IMODE(os.stat("file").st_mode)),
+            (self.lint("a")[1], 0o640),
+        )
 
     def test_an_output_file_as_a_whole_or_not_at_all(self):
         def cut(report, end):
@@ -766,13 +1084,25 @@ class OptionTest(Case):
         self.assertEqual((ran.returncode, ran.stdout.splitlines()[0]), (1, b"-: " + SHARED))
 
     def test_a_long_pipe_as_standard_input(self):
-        data = b"!<arch>\n" + archive_member(b"long", bytes(3 << 20)) + archive_member(b"bad.o", SHARING)
-        ran = subprocess.run([*PROGRAM, "-"], input=data, stdout=subprocess.PIPE, stderr=subprocess.PIPE, env=ENVIRONMENT)
+        data = (
+            b"!<arch>\n"
+            + archive_member(b"long", bytes(3 << 20))
+            + archive_member(b"bad.o", SHARING)
+        )
+        ran = subprocess.run(
+            [*PROGRAM, "-"],
+            input=data,
+            stdout=subprocess.PIPE,
+            stderr=subprocess.PIPE,
+            env=ENVIRONMENT,
+        )
         lines = [b"-(bad.o): " + SHARED, b"1 finding in 1 of 1 ELF file; skipped: 1 not ELF"]
         self.assertEqual((ran.returncode, ran.stdout.splitlines(), ran.stderr), (1, lines, b""))
 
     def test_a_pipe_as_standard_input(self):
-        ran = subprocess.run([*PROGRAM, "-"], input=SHARING, stdout=subprocess.PIPE, env=ENVIRONMENT)
+        ran = subprocess.run(
+            [*PROGRAM, "-"], input=SHARING, stdout=subprocess.PIPE, env=ENVIRONMENT
+        )
         self.assertEqual((ran.returncode, ran.stdout.splitlines()[0]), (1, b"-: " + SHARED))
 
 
@@ -804,7 +1134,9 @@ class StatusTest(Case):
     def test_progress_is_shown_on_a_terminal_alone(self):
         for is_terminal in (False, True):
             said = io.StringIO()
-            with mock.patch.object(said, "isatty", return_value=is_terminal), mock.patch.object(sys, "stderr", said):
+            with mock.patch.object(said, "isatty", return_value=is_terminal), mock.patch.object(
+                sys, "stderr", said
+            ):
                 progress = lint.Progress()
                 with mock.patch("time.monotonic", return_value=2.0**40):
                     progress.tell(_findings.Report(checked=7))
@@ -816,7 +1148,9 @@ class StatusTest(Case):
         """Where it is installed: a module of this name stands in for it."""
         bar = mock.Mock(n=3)
         said = mock.Mock(isatty=lambda: True)
-        with mock.patch.dict(sys.modules, tqdm=mock.Mock(tqdm=lambda **_: bar)), mock.patch.object(sys, "stderr", said):
+        with mock.patch.dict(sys.modules, tqdm=mock.Mock(tqdm=lambda **_: bar)), mock.patch.object(
+            sys, "stderr", said
+        ):
             progress = lint.Progress()
             with mock.patch("time.monotonic", return_value=2.0**40):
                 progress.tell(_findings.Report(checked=7))
@@ -837,7 +1171,9 @@ class StatusTest(Case):
         self.put(bad__o=SHARING)
         reading, writing = os.pipe()
         os.close(reading)
-        ran = subprocess.run([*PROGRAM, "bad.o"], stdout=writing, stderr=subprocess.PIPE, env=ENVIRONMENT)
+        ran = subprocess.run(
+            [*PROGRAM, "bad.o"], stdout=writing, stderr=subprocess.PIPE, env=ENVIRONMENT
+        )
         os.close(writing)
         self.assertEqual((ran.returncode, ran.stderr), (1, b""))
 
@@ -846,14 +1182,31 @@ class StatusTest(Case):
         self.put(good__o=GOOD)
         broken = mock.Mock(side_effect=OSError(5, "Input/output error"))
         for patch, reason in (
-            (mock.patch.object(_sources, "os", SimpleNamespace(**{**vars(os), "pread": broken})), b"input/output error"),
-            (mock.patch.object(_sources, "os", SimpleNamespace(**{**vars(os), "preadv": broken})), b"input/output error"),
-            (mock.patch("mmap.mmap", side_effect=OSError(12, "Cannot allocate memory")), b"there is no memory for a file of this length"),
-            (mock.patch.object(_checks.Checks, "faults", side_effect=MemoryError), b"there is no memory for it"),
+            (
+                mock.patch.object(_sources, "os", SimpleNamespace(**{**vars(os), "pread": broken})),
+                b"input/output error",
+            ),
+            (
+                mock.patch.object(
+                    _sources, "os", SimpleNamespace(**{**vars(os), "preadv": broken})
+                ),
+                b"input/output error",
+            ),
+            (
+                mock.patch("mmap.mmap", side_effect=OSError(12, "Cannot allocate memory")),
+                b"there is no memory for a file of this length",
+            ),
+            (
+                mock.patch.object(_checks.Checks, "faults", side_effect=MemoryError),
+                b"there is no memory for it",
+            ),
         ):
             with patch:
                 found = self.lint("good.o")
-            lines = b"0 findings in 0 of 0 ELF files; 1 unreadable\n", b"elfmap-lint: good.o: " + reason + b"\n"
+            lines = (
+                b"0 findings in 0 of 0 ELF files; 1 unreadable\n",
+                b"elfmap-lint: good.o: " + reason + b"\n",
+            )
             self.assertEqual(found, (3, *lines))
 
     def test_a_full_device(self):
@@ -912,7 +1265,13 @@ class ArchiveTest(Case):
         self.assertEqual(status, 3)
 
     def test_damaged(self):
-        for place, content in ((48, b"x"), (48, b" " * 10), (48, b"-1"), (58, b"x"), (48, b"9" * 10)):
+        for place, content in (
+            (48, b"x"),
+            (48, b" " * 10),
+            (48, b"-1"),
+            (58, b"x"),
+            (48, b"9" * 10),
+        ):
             data = bytearray(b"!<arch>\n" + archive_member(b"good.o", GOOD))
             data[8 + place : 8 + place + len(content)] = content
             self.assertEqual(self.members(bytes(data)), ([], False))
@@ -920,32 +1279,62 @@ class ArchiveTest(Case):
             data = b"!<arch>\n" + archive_member(name, b"x", b"")
             self.assertEqual(self.members(data), ([], False))
         # The long names end where this one begins.
-        self.assertEqual(self.members(b"!<arch>\n" + archive_member(b"/", b"a.o/\n") + archive_member(b"/5", b"x", b"")), ([], False))
+        self.assertEqual(
+            self.members(
+                b"!<arch>\n" + archive_member(b"/", b"a.o/\n") + archive_member(b"/5", b"x", b"")
+            ),
+            ([], False),
+        )
 
     def test_thin(self):
         os.makedirs("a/b")
-        self.put(**{"a/lib__a": thin(b"b/bad.o", b"good.o", b"none.o"), "a/b/bad__o": SHARING, "a/good__o": GOOD})
+        self.put(
+            **{
+                "a/lib__a": thin(b"b/bad.o", b"good.o", b"none.o"),
+                "a/b/bad__o": SHARING,
+                "a/good__o": GOOD,
+            }
+        )
         status, out, said = self.lint("a/lib.a")
         self.assertEqual(status, 3)
         self.assertEqual(out.splitlines()[0], b"a/lib.a(b/bad.o): " + SHARED)
         self.assertEqual(said, b"elfmap-lint: a/lib.a(none.o): no such file or directory\n")
         found = json.loads(self.lint("--format", "sarif", "a/lib.a")[1])["runs"][0]["results"][0]
-        self.assertEqual(found["locations"][0]["physicalLocation"]["artifactLocation"]["uri"], "a/b/bad.o")
+        self.assertEqual(
+            found["locations"][0]["physicalLocation"]["artifactLocation"]["uri"], "a/b/bad.o"
+        )
 
     def test_a_thin_archive_of_files_elsewhere(self):
         os.makedirs("a")
-        self.put(bad__o=SHARING, **{"a/lib__a": thin(b"../bad.o", os.path.abspath("bad.o").encode(), b"link.o")})
+        self.put(
+            bad__o=SHARING,
+            **{"a/lib__a": thin(b"../bad.o", os.path.abspath("bad.o").encode(), b"link.o")},
+        )
         os.symlink("../bad.o", "a/link.o")
         status, out, said = self.lint("a/lib.a")
-        self.assertEqual((status, said.count(b"it is outside of the archive's directory; --follow-thin reads it")), (3, 3))
+        self.assertEqual(
+            (
+                status,
+                said.count(b"it is outside of the archive's directory; --follow-thin reads it"),
+            ),
+            (3, 3),
+        )
         self.assertNotIn(SHARED, out)
         status, out, said = self.lint("--follow-thin", "a/lib.a")
         self.assertEqual((status, said, out.count(SHARED)), (1, b"", 3))
 
     def test_the_directory_of_a_thin_archive(self):
-        """Another one may have a name that begins as its name does; and a link to it is the same one."""
+        """Another one may have a name that begins as its name does; and a link to it is the same
+        one."""
         good = thin(b"good.o")
-        self.put(**{"a/lib__a": thin(b"../ab/bad.o"), "ab/bad__o": SHARING, "a/good__a": good, "a/good__o": GOOD})
+        self.put(
+            **{
+                "a/lib__a": thin(b"../ab/bad.o"),
+                "ab/bad__o": SHARING,
+                "a/good__a": good,
+                "a/good__o": GOOD,
+            }
+        )
         status, out, said = self.lint("a/lib.a")
         self.assertEqual((status, out), (3, b"0 findings in 0 of 0 ELF files; 1 unreadable\n"))
         self.assertIn(b"a/lib.a(../ab/bad.o): it is outside of the archive's directory", said)
@@ -962,7 +1351,12 @@ class ArchiveTest(Case):
     def test_a_thin_archive_of_members_of_another_one(self):
         origin = GNU.index(archive_member(b"/0", SHARING, b""))
         table = archive_member(b"/", b"inner.a/\n")
-        outer = b"!<thin>\n" + table + archive_member(b"/0:%d" % origin, b"", b"") + archive_member(b"/0:9", b"", b"")
+        outer = (
+            b"!<thin>\n"
+            + table
+            + archive_member(b"/0:%d" % origin, b"", b"")
+            + archive_member(b"/0:9", b"", b"")
+        )
         self.put(inner__a=GNU, outer__a=outer)
         status, out, said = self.lint("outer.a")
         self.assertEqual(out.splitlines()[0], b"outer.a(inner.a(" + LONG + b")): " + SHARED)
@@ -970,10 +1364,19 @@ class ArchiveTest(Case):
 
     def test_a_thin_archive_of_members_of_two_others(self):
         table = archive_member(b"/", b"one.a/\ntwo.a/\n")
-        outer = b"!<thin>\n" + table + b"".join(archive_member(it, b"", b"") for it in (b"/0:8", b"/7:8", b"/0:8"))
-        inner = {name: b"!<arch>\n" + archive_member(*it) for name, it in (("one__a", (b"good.o", GOOD)), ("two__a", (b"bad.o", SHARING)))}
+        outer = (
+            b"!<thin>\n"
+            + table
+            + b"".join(archive_member(it, b"", b"") for it in (b"/0:8", b"/7:8", b"/0:8"))
+        )
+        inner = {
+            name: b"!<arch>\n" + archive_member(*it)
+            for name, it in (("one__a", (b"good.o", GOOD)), ("two__a", (b"bad.o", SHARING)))
+        }
         self.put(outer__a=outer, **inner)
-        self.assertSaid(["outer.a"], 1, [b"outer.a(two.a(bad.o)): " + SHARED, b"1 finding in 1 of 3 ELF files"])
+        self.assertSaid(
+            ["outer.a"], 1, [b"outer.a(two.a(bad.o)): " + SHARED, b"1 finding in 1 of 3 ELF files"]
+        )
 
     def test_a_thin_archive_of_its_own_members(self):
         front = b"!<thin>\n" + archive_member(b"/", b"own.a/\n")
@@ -987,7 +1390,10 @@ class ArchiveTest(Case):
         self.put(**{LONG.decode().replace(".", "__"): SHARING, "good__o": GOOD})
         for words in ("rc", "rcT"):
             subprocess.run(["ar", words, f"{words}.a", LONG, "good.o"], check=True)
-            self.assertEqual(self.lint(f"{words}.a")[1].splitlines()[0], words.encode() + b".a(" + LONG + b"): " + SHARED)
+            self.assertEqual(
+                self.lint(f"{words}.a")[1].splitlines()[0],
+                words.encode() + b".a(" + LONG + b"): " + SHARED,
+            )
         subprocess.run(["ar", "rcT", "outer.a", "rc.a"], check=True)
         self.assertIn(LONG + b")): " + SHARED, self.lint("outer.a")[1])
 
@@ -1029,11 +1435,16 @@ class TreeTest(Case):
             self.assertSaid(words, 1, [b"a/b/bad.o: " + SHARED, summary])
 
     def test_a_gibibyte_of_zeros(self):
-        for name, front in (("zeros", b""), ("long.o", bytes(Made((b".filler", 8, b"", dict(size=2**40))).data))):
+        for name, front in (
+            ("zeros", b""),
+            ("long.o", bytes(Made((b".filler", 8, b"", dict(size=2**40))).data)),
+        ):
             with open(name, "wb") as it:
                 it.write(front)
                 it.truncate(2**30)
-        self.assertSaid(["--tables", "."], 0, [b"0 findings in 0 of 1 ELF file; skipped: 1 not ELF"])
+        self.assertSaid(
+            ["--tables", "."], 0, [b"0 findings in 0 of 1 ELF file; skipped: 1 not ELF"]
+        )
 
     def test_names_of_any_bytes(self):
         for it in range(1, 256):
@@ -1051,13 +1462,18 @@ class TreeTest(Case):
         for path in ("a", "a/bad"):
             self.assertTrue(self.told(path)[0].startswith(words), path)
         self.put(short=b"\x7fEL")
-        self.assertSaid(["--skip", "short"], 0, [b"0 findings in 0 of 0 ELF files; skipped: 1 not ELF"])
+        self.assertSaid(
+            ["--skip", "short"], 0, [b"0 findings in 0 of 0 ELF files; skipped: 1 not ELF"]
+        )
 
     def test_a_file_whose_status_can_not_be_read(self):
         """In a folder that may be listed, and not searched."""
         os.mkdir("a")
-        entry = mock.Mock(path=b"a/x.o", stat=mock.Mock(side_effect=PermissionError(13, "Permission denied")))
-        entries, report = mock.MagicMock(), _findings.Report()
+        entry = mock.Mock(
+            path=b"a/x.o", stat=mock.Mock(side_effect=PermissionError(13, "Permission denied"))
+        )
+        entries = mock.MagicMock()
+        report = _findings.Report()
         entries.__enter__.return_value = [entry]
         with mock.patch("os.scandir", return_value=entries):
             self.assertEqual(list(_walk.Walk([b"a"], _findings.Globs([]), report)), [])
@@ -1084,7 +1500,9 @@ class TreeTest(Case):
         os.makedirs("a/b")
         report = _findings.Report()
         found = iter(_walk.Walk([b"a"], _findings.Globs([]), report))
-        with mock.patch("os.scandir", side_effect=FileNotFoundError(2, "No such file or directory")):
+        with mock.patch(
+            "os.scandir", side_effect=FileNotFoundError(2, "No such file or directory")
+        ):
             self.assertEqual(list(found), [])
         self.assertEqual(report.unreadable, [(b"a", "no such file or directory")])
 
@@ -1108,7 +1526,9 @@ class WorkersTest(Case):
         pool = _workers.Pool(lambda: work, 2, report.add)
         pool.run(iter([[b"a", b"b"], [b"c", b"bad", b"d"], [b"e"]]))
         self.assertEqual(report.checked, 5)
-        self.assertEqual(report.unreadable, [(b"bad", "the process that checked it ended by signal 9")])
+        self.assertEqual(
+            report.unreadable, [(b"bad", "the process that checked it ended by signal 9")]
+        )
 
     def test_a_check_that_fails(self):
         """The file is told, whatever it is that ends the check of it."""
@@ -1120,12 +1540,16 @@ class WorkersTest(Case):
 
         report = _findings.Report()
         with contextlib.redirect_stderr(io.StringIO()):
-            _workers.Pool(lambda: work, 2, report.add).run(iter([[b"a", b"b"], [b"bad", b"d"], [b"e"]]))
+            _workers.Pool(lambda: work, 2, report.add).run(
+                iter([[b"a", b"b"], [b"bad", b"d"], [b"e"]])
+            )
         self.assertEqual(report.checked, 4)
         self.assertEqual(report.unreadable, [(b"bad", "the check of it failed")])
 
     def test_none_is_left(self):
-        _workers.Pool(lambda: lambda paths: _findings.Report(), 3, lambda it: None).run(iter([[b"a"]] * 5))
+        _workers.Pool(lambda: lambda paths: _findings.Report(), 3, lambda it: None).run(
+            iter([[b"a"]] * 5)
+        )
         with self.assertRaises(ChildProcessError):
             os.waitpid(-1, os.WNOHANG)
 

@@ -16,21 +16,37 @@ from xml.etree import ElementTree
 
 from elfmap import _checks, _library, _link_words, _rules, _sources, build, explain
 
-from tests.made import CLASS_32, GOOD, Made, archive_member, setUpModule, symbols, text  # noqa: F401
+from tests.made import (
+    CLASS_32,
+    GOOD,
+    Made,
+    archive_member,
+    setUpModule,
+    symbols,
+    text,
+)  # noqa: F401
 from tests.test_lint import Case
 
 sys.path.insert(0, str(build.REPOSITORY / "tools" / "lib"))
 from elfmap_tools import reference  # noqa: E402
 
-WRITE, ALLOC, LINK_ORDER, IN_GROUP, TLS = 1, 2, 0x80, 0x200, 0x400
-ABS, COMMON = 0xFFF1, 0xFFF2
-NOBITS, GROUP, COMDAT = 8, 17, 1
+WRITE = 1
+ALLOC = 2
+LINK_ORDER = 0x80
+IN_GROUP = 0x200
+TLS = 0x400
+ABS = 0xFFF1
+COMMON = 0xFFF2
+NOBITS = 8
+GROUP = 17
+COMDAT = 1
 STRINGS = (b".strtab", 3, b"\0f\0g\0", {})
 CLEAN = b"0 findings in 0 of 1 ELF file\n"
 
 
 class Broken(NamedTuple):
-    """An object that breaks one rule, and what elfmap-lint says of it: where, of which section, and in words."""
+    """An object that breaks one rule, and what elfmap-lint says of it: where, of which section, and
+    in words."""
 
     made: Made
     offset: int
@@ -44,7 +60,12 @@ def data(name=b".data", kind=1, content=bytes(8), flags=WRITE | ALLOC, **fields)
 
 def group(member, table=1, flags=COMDAT, order="<"):
     """A section group of one member, signed by symbol 1."""
-    return b".group", GROUP, struct.pack(f"{order}2I", flags, member), dict(link=table, info=1, entsize=4)
+    return (
+        b".group",
+        GROUP,
+        struct.pack(f"{order}2I", flags, member),
+        dict(link=table, info=1, entsize=4),
+    )
 
 
 def tls(order):
@@ -56,13 +77,17 @@ def tls(order):
 
 def link_order(order):
     made = Made(text(), data(b".ordered", flags=ALLOC | LINK_ORDER, link=1), order=order)
-    return Broken(made, made.at(2, "flags"), ".ordered", "section 2 .ordered: sh_flags, which is 0x82")
+    return Broken(
+        made, made.at(2, "flags"), ".ordered", "section 2 .ordered: sh_flags, which is 0x82"
+    )
 
 
 def empty_signature(order):
     table = symbols(2, (0, 3, 4), info=2, order=order)
     made = Made(table, STRINGS, group(4, order=order), data(flags=ALLOC | IN_GROUP), order=order)
-    return Broken(made, made.at(3, "info"), ".group", "section 3 .group: signed by symbol 1 of section .data")
+    return Broken(
+        made, made.at(3, "info"), ".group", "section 3 .group: signed by symbol 1 of section .data"
+    )
 
 
 def with_symbol(*symbol, order="<"):
@@ -72,11 +97,17 @@ def with_symbol(*symbol, order="<"):
 
 
 def bad_symbol(order):
-    return Broken(*with_symbol(3, 0xA1, 1, order=order), ".symtab", "symbol 2 g: binding 10, type 1")
+    return Broken(
+        *with_symbol(3, 0xA1, 1, order=order), ".symtab", "symbol 2 g: binding 10, type 1"
+    )
 
 
 def bad_common(order):
-    return Broken(*with_symbol(3, 0x11, COMMON, 12, order=order), ".symtab", "symbol 2 g: binding 1, st_value 12")
+    return Broken(
+        *with_symbol(3, 0x11, COMMON, 12, order=order),
+        ".symtab",
+        "symbol 2 g: binding 1, st_value 12",
+    )
 
 
 BROKEN = {"TLS": (3, tls), "LINK_ORDER": (4, link_order), "EMPTY_SIGNATURE": (5, empty_signature)}
@@ -109,7 +140,10 @@ class RuleTest(ObjectCase):
             for name, (number, make) in BROKEN.items():
                 it = make(order)
                 self.put(bad__o=bytes(it.made.data))
-                line = f"bad.o: offset {it.offset:#x}: {name} (link {number}): {message_of(number, it.words)}"
+                line = (
+                    f"bad.o: offset {it.offset:#x}: {name} (link {number}):"
+                    f" {message_of(number, it.words)}"
+                )
                 lines = [line.encode(), b"1 finding in 1 of 1 ELF file"]
                 with self.subTest(rule=name, order=order):
                     self.assertSaid(["--object", "bad.o"], 1, lines)
@@ -133,12 +167,25 @@ class RuleTest(ObjectCase):
 
     def test_the_first_rule_alone(self):
         table = symbols(2, (0, 0x10, 0))
-        self.put(bad__o=bytes(Made(table, STRINGS, data(flags=ALLOC | LINK_ORDER | TLS), data(flags=ALLOC | TLS)).data))
+        self.put(
+            bad__o=bytes(
+                Made(
+                    table, STRINGS, data(flags=ALLOC | LINK_ORDER | TLS), data(flags=ALLOC | TLS)
+                ).data
+            )
+        )
         lines = self.told("--object", "bad.o")
-        self.assertEqual((len(lines), ": TLS (link 3): section 3 .data: " in lines[0]), (2, True), lines)
+        self.assertEqual(
+            (len(lines), ": TLS (link 3): section 3 .data: " in lines[0]), (2, True), lines
+        )
 
     def test_what_breaks_none(self):
-        groups = [group(4), data(flags=ALLOC | IN_GROUP), group(6), data(flags=ALLOC | TLS | IN_GROUP)]
+        groups = [
+            group(4),
+            data(flags=ALLOC | IN_GROUP),
+            group(6),
+            data(flags=ALLOC | TLS | IN_GROUP),
+        ]
         for name, sections in {
             "no symbols": [text()],
             "an undefined name": [text(), symbols(3, (1, 0x10, 0)), STRINGS],
@@ -148,7 +195,12 @@ class RuleTest(ObjectCase):
             "a local symbol without a name": [text(), symbols(3, (0, 3, 1), info=2), STRINGS],
             "what is not live": [data(flags=TLS | LINK_ORDER)],
             "what is discarded": [symbols(2, (1, 0x12, 4)), STRINGS, *groups],
-            "no COMDAT group": [symbols(2, (0, 3, 4), info=2), STRINGS, group(4, flags=0), data(flags=ALLOC | IN_GROUP)],
+            "no COMDAT group": [
+                symbols(2, (0, 3, 4), info=2),
+                STRINGS,
+                group(4, flags=0),
+                data(flags=ALLOC | IN_GROUP),
+            ],
             "addresses without an end": [data(kind=NOBITS, content=b"", size=2**64 - 1)],
         }.items():
             self.put(good__o=bytes(Made(*sections).data))
@@ -162,7 +214,9 @@ class RuleTest(ObjectCase):
         self.assertEqual((len(lines), ": NOT_RELOCATABLE (70): " in lines[0]), (2, True), lines)
 
     def test_names_of_rules_differ(self):
-        names = [it[0] for it in _rules.RULES.values()] + [_rules.LINK_RULES[it][0] for it in _link_words.OF_ONE_FILE]
+        names = [it[0] for it in _rules.RULES.values()] + [
+            _rules.LINK_RULES[it][0] for it in _link_words.OF_ONE_FILE
+        ]
         self.assertEqual(len(names), len(set(names)))
 
 
@@ -171,8 +225,19 @@ class SuppressedTest(ObjectCase):
         self.put_broken()
         for name, (number, _) in BROKEN.items():
             path = f"{name.lower()}.o"
-            for word in (name, name.lower().replace("_", "-"), f"link-{number}", f"LINK_{number}", f"{name}:*.o", f"link-{number}:{path}"):
-                self.assertSaid(["--object", "--ignore", word, path], 0, [b"0 findings in 0 of 1 ELF file, 1 suppressed"])
+            for word in (
+                name,
+                name.lower().replace("_", "-"),
+                f"link-{number}",
+                f"LINK_{number}",
+                f"{name}:*.o",
+                f"link-{number}:{path}",
+            ):
+                self.assertSaid(
+                    ["--object", "--ignore", word, path],
+                    0,
+                    [b"0 findings in 0 of 1 ELF file, 1 suppressed"],
+                )
             for word in (str(number), f"{name}:*.c", f"link-{number}:none"):
                 self.assertEqual(self.lint("--object", "--ignore", word, path)[0], 1)
 
@@ -183,19 +248,34 @@ class SuppressedTest(ObjectCase):
             self.assertEqual((len(lines), left in lines[0]), (2, True), lines)
 
     def test_rules_of_which_no_finding_is(self):
-        for word in ("link-2", "link-8", "link-0", "link-", "link-03", "link", "link 3", "MISMATCH", "UNDEFINED_NAME"):
+        for word in (
+            "link-2",
+            "link-8",
+            "link-0",
+            "link-",
+            "link-03",
+            "link",
+            "link 3",
+            "MISMATCH",
+            "UNDEFINED_NAME",
+        ):
             self.assertEqual(self.lint("--object", "--ignore", word, ".")[0], 2, word)
 
     def test_a_baseline(self):
         names = self.put_broken()
         status, out, _ = self.lint("--object", "--write-baseline", "known.json", ".")
         self.assertEqual((status, out[:10]), (0, b"0 findings"))
-        self.assertEqual([it["rule"] for it in json.loads(Path("known.json").read_bytes())["findings"]], names)
+        self.assertEqual(
+            [it["rule"] for it in json.loads(Path("known.json").read_bytes())["findings"]], names
+        )
         self.assertEqual(self.lint("--object", "--baseline", "known.json", ".")[0], 0)
         # The same objects, built again: each finding is at another place.
-        image, code = data(b".tdata", flags=WRITE | ALLOC | TLS), text(content=bytes(99))
+        image = data(b".tdata", flags=WRITE | ALLOC | TLS)
+        code = text(content=bytes(99))
         self.put(tls__o=bytes(Made(symbols(2, (1, 0x10, 3), (3, 0x10, 3)), STRINGS, image).data))
-        self.put(bad_symbol__o=bytes(Made(code, symbols(3, (1, 0x12, 1), (3, 0xA1, 1)), STRINGS).data))
+        self.put(
+            bad_symbol__o=bytes(Made(code, symbols(3, (1, 0x12, 1), (3, 0xA1, 1)), STRINGS).data)
+        )
         self.assertEqual(self.lint("--object", "--baseline", "known.json", ".")[0], 0)
 
 
@@ -205,7 +285,10 @@ class FormatTest(ObjectCase):
     def setUp(self):
         super().setUp()
         self.names = self.put_broken()
-        self.put(narrow__o=CLASS_32, lib__a=b"!<arch>\n" + archive_member(b"tls.o", bytes(tls("<").made.data)))
+        self.put(
+            narrow__o=CLASS_32,
+            lib__a=b"!<arch>\n" + archive_member(b"tls.o", bytes(tls("<").made.data)),
+        )
 
     def report(self, format):
         status, out, _ = self.lint("--object", "--class32=fail", "--format", format, ".")
@@ -220,24 +303,43 @@ class FormatTest(ObjectCase):
         self.assertEqual(lines[-1], "7 findings in 7 of 7 ELF files")
 
     def test_jsonl(self):
-        found = {it["path"]: it for it in map(json.loads, self.report("jsonl").splitlines()) if "path" in it}
+        found = {
+            it["path"]: it
+            for it in map(json.loads, self.report("jsonl").splitlines())
+            if "path" in it
+        }
         for name, (number, make) in BROKEN.items():
-            path, it = f"./{name.lower()}.o", make("<")
-            fields = {"path": path, "offset": it.offset, "rule": f"link-{number}", "name": name, "sections": [it.section]}
+            path = f"./{name.lower()}.o"
+            it = make("<")
+            fields = {
+                "path": path,
+                "offset": it.offset,
+                "rule": f"link-{number}",
+                "name": name,
+                "sections": [it.section],
+            }
             self.assertEqual(found[path], {**fields, "message": message_of(number, it.words)})
-        self.assertEqual((found["./narrow.o"]["rule"], found["./lib.a(tls.o)"]["rule"]), (4, "link-3"))
+        self.assertEqual(
+            (found["./narrow.o"]["rule"], found["./lib.a(tls.o)"]["rule"]), (4, "link-3")
+        )
 
     def test_sarif(self):
         log = json.loads(self.report("sarif"))
         self.assert_sarif(log)
         run = log["runs"][0]
         rules = {it["id"]: it["shortDescription"]["text"] for it in run["tool"]["driver"]["rules"]}
-        wanted = {name: f"link rule {number}: {_rules.LINK_RULES[number][1]}" for name, (number, _) in BROKEN.items()}
+        wanted = {
+            name: f"link rule {number}: {_rules.LINK_RULES[number][1]}"
+            for name, (number, _) in BROKEN.items()
+        }
         self.assertEqual(rules, {**wanted, "WRONG_CLASS": f"rule 4: {_rules.RULES[4][1]}"})
         places = {}
         for it in run["results"]:
             physical = it["locations"][0]["physicalLocation"]
-            places[physical["artifactLocation"]["uri"]] = it["ruleId"], physical["region"]["byteOffset"]
+            places[physical["artifactLocation"]["uri"]] = (
+                it["ruleId"],
+                physical["region"]["byteOffset"],
+            )
         for name, (_, make) in BROKEN.items():
             self.assertEqual(places[f"./{name.lower()}.o"], (name, make("<").offset))
         # In the archive the member begins after its header.
@@ -247,13 +349,19 @@ class FormatTest(ObjectCase):
         cases = {it.get("name"): it for it in ElementTree.fromstring(self.report("junit"))[0]}
         for name in self.names:
             failure = cases[f"./{name.lower()}.o"][0]
-            self.assertEqual((failure.tag, failure.get("type"), failure.text), ("failure", name, sentence_of(name)))
+            self.assertEqual(
+                (failure.tag, failure.get("type"), failure.text),
+                ("failure", name, sentence_of(name)),
+            )
 
     def test_github(self):
         lines = self.report("github").decode().splitlines()
         for name, (number, _) in BROKEN.items():
             path = f"./{name.lower()}.o"
-            self.assertIn(f"::error file={path},title={name} (link {number})::{path}: {sentence_of(name)}", lines)
+            self.assertIn(
+                f"::error file={path},title={name} (link {number})::{path}: {sentence_of(name)}",
+                lines,
+            )
 
 
 class ExplainedTest(ObjectCase):
@@ -268,12 +376,17 @@ class ExplainedTest(ObjectCase):
                 it = make(order)
                 self.put(bad__o=bytes(it.made.data))
                 for format in ("text", "jsonl"):
-                    found = self.explained(self.lint("--object", "--format", format, "bad.o")[1].splitlines()[0])
+                    found = self.explained(
+                        self.lint("--object", "--format", format, "bad.o")[1].splitlines()[0]
+                    )
                     _, sentence, advice = _rules.LINK_RULES[number]
                     self.assertEqual(
                         found,
-                        f"bad.o: offset {it.offset:#x}: {name} (link {number}) {name}: {sentence} "
-                        f"bad.o, offset {it.offset} ({it.offset:#x}): {it.words} what to do: {advice} docs/RULES.md#link-{number}",
+                        (
+                            f"bad.o: offset {it.offset:#x}: {name} (link {number}) {name}:"
+                            f" {sentence} bad.o, offset {it.offset} ({it.offset:#x}):"
+                            f" {it.words} what to do: {advice} docs/RULES.md#link-{number}"
+                        ),
                     )
 
     def test_places_that_are_none(self):
@@ -282,12 +395,16 @@ class ExplainedTest(ObjectCase):
             for number in _link_words.OF_ONE_FILE:
                 for at in (0, 1, 2**64 - 1):
                     found = self.explained(f"{path}: offset {at:#x}: X (link {number}): ".encode())
-                    self.assertTrue("isn't there" in found and f"docs/RULES.md#link-{number}" in found, found)
+                    self.assertTrue(
+                        "isn't there" in found and f"docs/RULES.md#link-{number}" in found, found
+                    )
 
     def test_rules_that_are_none(self):
         self.put(good__o=GOOD)
         for number in (0, 2, 8, 9, 12, 99):
-            self.assertIn("by itself", self.explained(f"good.o: offset 0x0: X (link {number}): ".encode()))
+            self.assertIn(
+                "by itself", self.explained(f"good.o: offset 0x0: X (link {number}): ".encode())
+            )
         for rule in ('"link-8"', '"link-x"', '"LINK-3"', '"link-3333"', '"3"', "null"):
             line = f'{{"path": "good.o", "offset": 0, "rule": {rule}, "name": "X"}}'
             self.assertEqual("by itself" in self.explained(line.encode()), rule == '"link-8"')
@@ -320,20 +437,31 @@ class VerdictTest(unittest.TestCase):
             return [(False, int(words[3]), int(words[4]))]
         if words[:1] != ["refused"] or int(words[1]) not in range(3, 8):
             return []
-        file, (rule, _, position, _) = reference.File(content), map(int, words[1:])
+        file = reference.File(content)
+        (rule, _, position, _) = map(int, words[1:])
         if rule <= 5:
-            return [(True, rule, file.section(reference.kept(file)[position]).at("sh_info" if rule == 5 else "sh_flags"))]
+            return [
+                (
+                    True,
+                    rule,
+                    file.section(reference.kept(file)[position]).at(
+                        "sh_info" if rule == 5 else "sh_flags"
+                    ),
+                )
+            ]
         table = next(it for _, it in file.sections() if it.sh_type == reference.SYMTAB)
         return [(True, rule, table.sh_offset + 24 * (position + 1))]
 
     def test_says_what_the_reference_says(self):
         """Of each object that differs from one of these by a byte."""
-        checks, seen = _checks.Checks(False, True), set()
+        checks = _checks.Checks(False, True)
+        seen = set()
         for order, (_, make) in zip("<><><", BROKEN.values()):
             content = make(order).made.data
             for at in range(64, len(content)):
                 for value in (0, 0xEE):
-                    before, content[at] = content[at], value
+                    before = content[at]
+                    content[at] = value
                     found, _ = self.faults(checks, content)
                     self.assertEqual(found, self.expected(bytes(content)), (order, make, at, value))
                     content[at] = before
@@ -341,7 +469,8 @@ class VerdictTest(unittest.TestCase):
         self.assertEqual(seen, set(range(3, 8)))
 
     def test_contents_are_not_read(self):
-        """Of a file that is longer than what is read whole: nothing of a section that holds no table."""
+        """Of a file that is longer than what is read whole: nothing of a section that holds no
+        table."""
         live = ALLOC | IN_GROUP
         for rule, sections in (
             (3, [data(flags=ALLOC | TLS)]),
@@ -354,7 +483,9 @@ class VerdictTest(unittest.TestCase):
                 found, places = self.faults(_checks.Checks(False, True), made.data)
                 self.assertEqual(found, self.expected(bytes(made.data)))
                 self.assertEqual([it[:2] for it in found], [(True, rule)] if rule else [])
-                self.assertEqual([it for it in places if it[0] < made.starts[2]], [(0, _sources.Room.FRONT)])
+                self.assertEqual(
+                    [it for it in places if it[0] < made.starts[2]], [(0, _sources.Room.FRONT)]
+                )
 
     def test_there_is_no_memory(self):
         checks = _checks.Checks(False, True)

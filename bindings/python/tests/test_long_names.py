@@ -1,5 +1,6 @@
-"""The commands on files of long names: a text has the first 200 letters of each name, and JSON has more. And files of 1/4 MB whose names
-share bytes, as many as there may be: a command takes little time and memory beside what the library takes.
+"""The commands on files of long names: a text has the first 200 letters of each name, and JSON has
+more. And files of 1/4 MB whose names share bytes, as many as there may be: a command takes little
+time and memory beside what the library takes.
 """
 
 import contextlib
@@ -19,14 +20,24 @@ from elfmap import _library, build, explain, gaps, lint, same
 from elfmap._differences import Names
 from elfmap._words import printable
 
-from tests.made import ENVIRONMENT, FolderCase, Made, relocations, setUpModule, symbols, text  # noqa: F401
+from tests.made import (
+    ENVIRONMENT,
+    FolderCase,
+    Made,
+    relocations,
+    setUpModule,
+    symbols,
+    text,
+)  # noqa: F401
 from tests.test_hostile import run
 
 sys.path.insert(0, str(build.REPOSITORY / "tools" / "lib"))
 from elfmap_tools.slow_files import MB, Shape  # noqa: E402
 
 MOST = 200
-RELA, HASH, GROUP = 4, 5, 17
+RELA = 4
+HASH = 5
+GROUP = 17
 HALF = MB // 8
 SHAPES = {
     "symbols of one name": Shape(name=HALF, symbols=HALF // 24),
@@ -58,9 +69,12 @@ def broken(data):
 
 def with_size(data, size):
     """The file with another size of its last symbol."""
-    made, table = bytearray(data), int.from_bytes(data[40:48], "little")
+    made = bytearray(data)
+    table = int.from_bytes(data[40:48], "little")
     rows = (data[at : at + 64] for at in range(table, len(data), 64))
-    end = next(sum(int.from_bytes(it[k : k + 8], "little") for k in (24, 32)) for it in rows if it[4] == 2)
+    end = next(
+        sum(int.from_bytes(it[k : k + 8], "little") for k in (24, 32)) for it in rows if it[4] == 2
+    )
     made[end - 8 : end] = size.to_bytes(8, "little")
     return bytes(made)
 
@@ -94,15 +108,30 @@ class CutTest(Case):
             for format in ("jsonl", "sarif"):
                 said = self.said(lint, "--tables", "--format", format, "a.o")
                 records = said.splitlines()[:1] if format == "jsonl" else [said]
-                self.assertIn(json.dumps(f"the section header of section 2 {name} of type RELA")[1:-1], records[0])
-            self.assertEqual(json.loads(self.said(lint, "--tables", "--format", "jsonl", "a.o").splitlines()[0])["sections"], [name])
-            self.assertIn(f"the section header of section 2 {shown(name)} of type RELA", " ".join(self.said(explain, "a.o").split()))
+                self.assertIn(
+                    json.dumps(f"the section header of section 2 {name} of type RELA")[1:-1],
+                    records[0],
+                )
+            self.assertEqual(
+                json.loads(self.said(lint, "--tables", "--format", "jsonl", "a.o").splitlines()[0])[
+                    "sections"
+                ],
+                [name],
+            )
+            self.assertIn(
+                f"the section header of section 2 {shown(name)} of type RELA",
+                " ".join(self.said(explain, "a.o").split()),
+            )
 
     def test_a_baseline_for_each_format(self):
         """The names of sections in it do not depend on the format."""
-        self.put(a__o=bytes(Made(text(), (b"s" * 300, RELA, b"", dict(link=0, info=1, entsize=24))).data))
+        self.put(
+            a__o=bytes(Made(text(), (b"s" * 300, RELA, b"", dict(link=0, info=1, entsize=24))).data)
+        )
         for format in ("text", "jsonl"):
-            self.said(lint, "--tables", "--format", format, "--write-baseline", f"known.{format}", "a.o")
+            self.said(
+                lint, "--tables", "--format", format, "--write-baseline", f"known.{format}", "a.o"
+            )
         self.assertEqual(Path("known.text").read_bytes(), Path("known.jsonl").read_bytes())
         self.assertIn(b"s" * 300, Path("known.text").read_bytes())
 
@@ -111,7 +140,9 @@ class CutTest(Case):
             name = "n" * length
             made = Made(text(), (name.encode(), 1, bytes(8), {}))
             self.put(a__o=made.with_field(2, "offset", 0x72), b__o=made.with_field(1, "size", 0x13))
-            self.assertIn(f"and of {shown(name)} [0x72, 0x7a) share byte 0x72", self.said(lint, "a.o"))
+            self.assertIn(
+                f"and of {shown(name)} [0x72, 0x7a) share byte 0x72", self.said(lint, "a.o")
+            )
             self.assertIn(f"between .text and {shown(name)}, ", self.said(gaps, "b.o"))
 
     def test_names_of_symbols(self):
@@ -120,26 +151,45 @@ class CutTest(Case):
             first, second = (b"n" * (length - 1) + it for it in (b"a", b"b"))
             strings = b".strtab", 3, b"\0" + first + b"\0" + second + b"\0", {}
             for k, size in (("a", 3), ("b", 4)):
-                made = Made(text(), symbols(3, (1, 0x10, 1), (2 + length, 0x10, 1, size)), strings, relocations(2, 2))
+                made = Made(
+                    text(),
+                    symbols(3, (1, 0x10, 1), (2 + length, 0x10, 1, size)),
+                    strings,
+                    relocations(2, 2),
+                )
                 self.put(**{f"{k}__o": bytes(made.data)})
             said = self.said(same, "a.o", "b.o")
-            self.assertEqual(said, f"symbol {shown(second.decode())}: its value is 0x3 in a.o, and 0x4 in b.o\ndifferent\n")
+            self.assertEqual(
+                said,
+                (
+                    f"symbol {shown(second.decode())}: its value is 0x3 in a.o, and 0x4 in"
+                    " b.o\ndifferent\n"
+                ),
+            )
 
     def test_names_of_groups_and_of_symbols_of_sections(self):
         """Both have two names."""
         name = "n" * 300
-        group = (name.encode(), GROUP, (1).to_bytes(4, "little") + (5).to_bytes(4, "little"), dict(link=2, info=2, entsize=4))
+        group = (
+            name.encode(),
+            GROUP,
+            (1).to_bytes(4, "little") + (5).to_bytes(4, "little"),
+            dict(link=2, info=2, entsize=4),
+        )
         strings = b".strtab", 3, b"\0" + name.encode() + b"\0", {}
         member = b".text.f", 1, b"", dict(flags=0x200)
         made = Made(text(), symbols(3, (0, 3, 1), (1, 0x10, 1), info=2), strings, group, member)
-        self.put(a__o=bytes(made.data), b__o=bytes(Made(text(), symbols(3, (1, 0x10, 1)), strings).data))
+        self.put(
+            a__o=bytes(made.data), b__o=bytes(Made(text(), symbols(3, (1, 0x10, 1)), strings).data)
+        )
         said = self.said(same, "a.o", "b.o").splitlines()
         self.assertIn(f"section {shown(name)} [{shown(name)}] is only in a.o", said)
         self.assertIn("symbol of section .text is only in a.o", said)
 
 
 class TwinsTest(Case):
-    """Names that agree in their first 200 letters. Both files have all of them, and what is about the one is about the other."""
+    """Names that agree in their first 200 letters. Both files have all of them, and what is about
+    the one is about the other."""
 
     TWINS, MEMBERS = ([letter * 250 + it for it in (b"a", b"b")] for letter in (b"n", b"m"))
     NAME, MEMBER = (shown(it[0].decode()) for it in (TWINS, MEMBERS))
@@ -156,7 +206,10 @@ class TwinsTest(Case):
             (b".rela", RELA, relocation, dict(link=3, info=target, entsize=24)),
             (b".linked", 1, b"\1", dict(link=link)),
             (b".informed", 1, b"\1", dict(flags=0x40, info=info)),
-            *((b".group", GROUP, it, dict(link=3, info=k, entsize=4)) for k, it in enumerate(grouped, 1)),
+            *(
+                (b".group", GROUP, it, dict(link=3, info=k, entsize=4))
+                for k, it in enumerate(grouped, 1)
+            ),
             *((it, 1, b"\1", dict(flags=0x200)) for it in self.MEMBERS),
         )
         return bytes(made.data)
@@ -172,7 +225,11 @@ class TwinsTest(Case):
             ("info", "section .informed: sh_info"),
             ("section", "symbol answer: its section"),
         ):
-            self.assertSaid(self.twins(), self.twins(**{what: 2}), f"{words} is {self.NAME} in a.o, and {self.NAME} in b.o")
+            self.assertSaid(
+                self.twins(),
+                self.twins(**{what: 2}),
+                f"{words} is {self.NAME} in a.o, and {self.NAME} in b.o",
+            )
 
     def test_a_relocation(self):
         words = f"R_X86_64_PC32 at 0x0 of {self.NAME} to {self.NAME} +0x0"
@@ -181,28 +238,51 @@ class TwinsTest(Case):
 
     def test_members(self):
         """Each is in the other group, or both are in one."""
-        lines = [f"section .group [{self.NAME}]: member {self.MEMBER} is only in {file}.o" for file in "ab"]
+        lines = [
+            f"section .group [{self.NAME}]: member {self.MEMBER} is only in {file}.o"
+            for file in "ab"
+        ]
         self.assertSaid(self.twins(), self.twins(members=[(11,), (10,)]), *lines, *lines)
-        sizes = [f"section .group [{self.NAME}]: its size is {it} in a.o, and 0x8 in b.o" for it in ("0xc", "0x4")]
-        self.assertSaid(self.twins(members=[(10, 11), ()]), self.twins(), sizes[0], lines[0], sizes[1], lines[1])
+        sizes = [
+            f"section .group [{self.NAME}]: its size is {it} in a.o, and 0x8 in b.o"
+            for it in ("0xc", "0x4")
+        ]
+        self.assertSaid(
+            self.twins(members=[(10, 11), ()]), self.twins(), sizes[0], lines[0], sizes[1], lines[1]
+        )
 
 
 class NamesTest(unittest.TestCase):
     def test_equal_names_are_one_object(self):
-        """Of tables whose names have lengths about 256 and its multiples, and differ in one letter or in none."""
-        names, found = Names(), []
+        """Of tables whose names have lengths about 256 and its multiples, and differ in one letter
+        or in none."""
+        names = Names()
+        found = []
         for length in (255, 256, 257, 511, 512, 513, 768, 900):
             for changed in (None, 0, 1, 255, 256, length - 257, length - 256, length - 1):
                 name = bytearray(b"n" * length)
                 if changed is not None:
                     name[changed % length] = ord("m")
                 table = b"\0" + name + b"\0" + name[1:]
-                offsets = [0, 1, 2, 3, abs(length - 256), length, length + 1, length + 2, len(table), len(table) + 1]
+                offsets = [
+                    0,
+                    1,
+                    2,
+                    3,
+                    abs(length - 256),
+                    length,
+                    length + 1,
+                    length + 2,
+                    len(table),
+                    len(table) + 1,
+                ]
                 at = names.of(table, offsets)
                 self.assertEqual(set(at), set(offsets))
                 found += [(table[it:].partition(b"\0")[0], at[it]) for it in offsets]
         for name, it in found:
-            self.assertEqual([name == other for other, _ in found], [it is other for _, other in found])
+            self.assertEqual(
+                [name == other for other, _ in found], [it is other for _, other in found]
+            )
         self.assertEqual({front_of(it) for _, it in found}, {name[:3] for name, _ in found})
 
 
@@ -212,7 +292,13 @@ def front_of(name):
 
 class EscapeTest(Case):
     # Letters that can't be printed, and one that is no escape.
-    ESCAPES = {b"\x80": "\\x80", b"\n": "\\n", "\u200b".encode(): "\\u200b", "\U000e0001".encode(): "\\U000e0001", b"\\": "\\"}
+    ESCAPES = {
+        b"\x80": "\\x80",
+        b"\n": "\\n",
+        "\u200b".encode(): "\\u200b",
+        "\U000e0001".encode(): "\\U000e0001",
+        b"\\": "\\",
+    }
 
     def test_letters_that_are_escaped(self):
         """Each is one of the 200, and none is cut in two."""
@@ -221,11 +307,20 @@ class EscapeTest(Case):
             for before, letters in ((0, 200), (0, 201), (198, 201), (199, 201), (200, 201)):
                 after = letters - before
                 name = b"n" * before + letter * after
-                self.put(a__o=bytes(Made(text(), (name, RELA, b"", dict(link=0, info=1, entsize=24))).data))
+                self.put(
+                    a__o=bytes(
+                        Made(text(), (name, RELA, b"", dict(link=0, info=1, entsize=24))).data
+                    )
+                )
                 words = "n" * before + escape * min(after, MOST - before) + "…" * (letters > MOST)
-                self.assertIn(f"the section header of section 2 {words} of type RELA", self.said(lint, "--tables", "a.o"))
+                self.assertIn(
+                    f"the section header of section 2 {words} of type RELA",
+                    self.said(lint, "--tables", "a.o"),
+                )
                 self.put(a__o=bytes(Made(text(), (name, 1, b"", {})).data))
-                self.assertEqual(self.said(same, "a.o", "b.o"), f"section {words} is only in a.o\ndifferent\n")
+                self.assertEqual(
+                    self.said(same, "a.o", "b.o"), f"section {words} is only in a.o\ndifferent\n"
+                )
 
     def test_nothing_is_kept_of_letters(self):
         """A process prints those of many files, and each may have other ones."""
@@ -240,8 +335,10 @@ class CostTest(Case):
     """What the commands take: of the processor at most a second for a MB in and out."""
 
     def own_seconds(self, module, *words, stdin=b""):
-        """The seconds of the processor that a command takes by itself, without those of the library, and the bytes in and out."""
-        library, spent = _library.library(), [0.0]
+        """The seconds of the processor that a command takes by itself, without those of the
+        library, and the bytes in and out."""
+        library = _library.library()
+        spent = [0.0]
 
         def timed(call):
             def made(*given):
@@ -259,7 +356,11 @@ class CostTest(Case):
             begun = time.process_time()
             said = self.said(module, *words, stdin=stdin)
             took = time.process_time() - begun - spent[0]
-        return took, len(said) + len(stdin) + sum(os.path.getsize(it) for it in words if os.path.isfile(it)), said
+        return (
+            took,
+            len(said) + len(stdin) + sum(os.path.getsize(it) for it in words if os.path.isfile(it)),
+            said,
+        )
 
     def assertQuick(self, what, module, *words, stdin=b""):
         took, moved, said = self.own_seconds(module, *words, stdin=stdin)
@@ -290,21 +391,30 @@ class CostTest(Case):
         self.put(a__o=data, b__o=other)
         said = self.assertQuick("symbols of tails", same, "a.o", "b.o")
         first, second = (shown(it + "n" * (MB // 2 - 1)) for it in "nm")
-        self.assertEqual(said, f"symbol {first} is only in a.o\nsymbol {second} is only in b.o\ndifferent\n")
+        self.assertEqual(
+            said, f"symbol {first} is only in a.o\nsymbol {second} is only in b.o\ndifferent\n"
+        )
 
     def test_memory(self):
-        """Of a process of each command, with 32 MiB and 12 times the file beside what it takes of nothing."""
+        """Of a process of each command, with 32 MiB and 12 times the file beside what it takes of
+        nothing."""
         self.put(empty__o=Shape().file())
         for what, shape in {**SHAPES, **TABLES}.items():
             data = shape.file()
             self.put(a__o=data, b__o=with_size(data, 7), bad__o=broken(data))
             names = ("a.o", "bad.o") if what in SHAPES else ("bad.o",)
-            calls = [(*call, file) for call in (["lint", "-j1", "--tables"], ["gaps"], ["explain"]) for file in names]
+            calls = [
+                (*call, file)
+                for call in (["lint", "-j1", "--tables"], ["gaps"], ["explain"])
+                for file in names
+            ]
             for call in calls + ([("same", "a.o", "b.o")] if what in SHAPES else []):
                 files = sum(it.endswith(".o") for it in call)
                 least = run(*call[: len(call) - files], *["empty.o"] * files)[3]
                 peak = run(*call)[3]
-                self.assertLess(peak, least + 32 + 12 * files * len(data) / 2**20, f"{what}: {' '.join(call)}")
+                self.assertLess(
+                    peak, least + 32 + 12 * files * len(data) / 2**20, f"{what}: {' '.join(call)}"
+                )
 
 
 if __name__ == "__main__":

@@ -1,4 +1,5 @@
-"""What a caller of the package sees beside its answers: pickled records, closed files, constants, columns, help and types."""
+"""What a caller of the package sees beside its answers: pickled records, closed files, constants,
+columns, help and types."""
 
 import copy
 import ctypes
@@ -20,19 +21,37 @@ from unittest import mock
 import elfmap
 from elfmap import _library, build, constants
 
-from tests.made import GOOD, PACKAGE, SHARING, FolderCase, Made, relocations, setUpModule, symbols, text  # noqa: F401
+from tests.made import (
+    GOOD,
+    PACKAGE,
+    SHARING,
+    FolderCase,
+    Made,
+    relocations,
+    setUpModule,
+    symbols,
+    text,
+)  # noqa: F401
 
 sys.path.insert(0, str(build.REPOSITORY / "tools" / "lib"))
 from elfmap_tools import dump as reference  # noqa: E402
 
 ELF_H = Path("/usr/include/elf.h")
-NOTES = struct.pack("<3I", 4, 5, 1) + b"abc\0" + b"12345\0\0\0" + struct.pack("<3I", 2, 0, 3) + b"d\0\0\0"
+NOTES = (
+    struct.pack("<3I", 4, 5, 1)
+    + b"abc\0"
+    + b"12345\0\0\0"
+    + struct.pack("<3I", 2, 0, 3)
+    + b"d\0\0\0"
+)
 NOTED = bytes(Made(text(), (b".note", 7, NOTES, {}), (b".bss", 8, b"", dict(size=9))).data)
 
 
 class PickleTest(unittest.TestCase):
     def setUp(self):
-        self.executable = elfmap.parse((build.REPOSITORY / "crates/example_link/stdout").read_bytes())
+        self.executable = elfmap.parse(
+            (build.REPOSITORY / "crates/example_link/stdout").read_bytes()
+        )
         self.file = elfmap.parse(NOTED)
 
     def copies(self, it):
@@ -42,22 +61,40 @@ class PickleTest(unittest.TestCase):
         yield copy.deepcopy(it)
 
     def test_records(self):
-        every = [self.file.header, self.file.summary, *self.file.sections, *self.file.notes(2), *self.file.parts, *self.executable.segments]
+        every = [
+            self.file.header,
+            self.file.summary,
+            *self.file.sections,
+            *self.file.notes(2),
+            *self.file.parts,
+            *self.executable.segments,
+        ]
         for it in every:
             for other in self.copies(it):
                 self.assertEqual((type(other), other), (type(it), it))
         for other in self.copies(self.file.sections[1]):
-            self.assertEqual((type(other.content), other.content.readonly, bytes(other.content)), (memoryview, True, b"\x90" * 0x33))
+            self.assertEqual(
+                (type(other.content), other.content.readonly, bytes(other.content)),
+                (memoryview, True, b"\x90" * 0x33),
+            )
 
     def test_sequences(self):
-        for it in self.file.sections, self.executable.segments, self.file.notes(2), self.file.notes(1):
+        for it in (
+            self.file.sections,
+            self.executable.segments,
+            self.file.notes(2),
+            self.file.notes(1),
+        ):
             for other in self.copies(it):
                 self.assertEqual(other, [*it])
 
     def test_files(self):
         for other in self.copies(self.file):
-            self.assertEqual((other.summary, [*other.sections]), (self.file.summary, [*self.file.sections]))
-        # It is validated where it is unpickled: with .bss as a section of bytes, these pass the end of the file.
+            self.assertEqual(
+                (other.summary, [*other.sections]), (self.file.summary, [*self.file.sections])
+            )
+        # It is validated where it is unpickled: with .bss as a section of bytes, these pass the end
+        # of the file.
         content = bytearray(NOTED)
         dumped = pickle.dumps(elfmap.parse(content))
         with self.assertRaises(elfmap.Refused):
@@ -76,7 +113,8 @@ class ClosedTest(FolderCase):
 
     def test_what_is_closed(self):
         file = elfmap.parse(NOTED)
-        sections, notes = file.sections, file.notes(2)
+        sections = file.sections
+        notes = file.notes(2)
         content = file.sections[1].content
         file.close()
         for call in (
@@ -106,7 +144,12 @@ class ClosedTest(FolderCase):
         for path in "good.o", b"good.o", Path("good.o"):
             with elfmap.open(path) as file:
                 self.assertEqual((len(file.sections), file.summary.len), (3, len(GOOD)))
-        for path, error in (("none", FileNotFoundError), (".", IsADirectoryError), ("bad.o", elfmap.Refused), ("empty.o", elfmap.Refused)):
+        for path, error in (
+            ("none", FileNotFoundError),
+            (".", IsADirectoryError),
+            ("bad.o", elfmap.Refused),
+            ("empty.o", elfmap.Refused),
+        ):
             self.assertRaises(error, elfmap.open, path)
         for path in 0, None, [b"good.o"], bytearray(b"good.o"):
             self.assertRaises(TypeError, elfmap.open, path)
@@ -127,7 +170,8 @@ class ClosedTest(FolderCase):
 
 
 class NotLinkedTest(unittest.TestCase):
-    """The name of the symbol that a rule of the link is about, which docs/RULES.md gives by its position."""
+    """The name of the symbol that a rule of the link is about, which docs/RULES.md gives by its
+    position."""
 
     RULES = "4 pc 4 signed\n"
 
@@ -158,7 +202,9 @@ class NotLinkedTest(unittest.TestCase):
             with self.subTest(rule=rule):
                 self.assertEqual((found.rule, found.symbol), (rule, symbol))
                 self.assertEqual(pickle.loads(pickle.dumps(found)).symbol, symbol)
-                self.assertEqual(f"symbol {symbol!r}: the link is refused because " in str(found), bool(symbol))
+                self.assertEqual(
+                    f"symbol {symbol!r}: the link is refused because " in str(found), bool(symbol)
+                )
 
     def test_without_a_symbol(self):
         self.assertEqual(elfmap.NotLinked(9, 0, 0, 0).symbol, None)
@@ -166,12 +212,19 @@ class NotLinkedTest(unittest.TestCase):
 
     def test_a_long_name(self):
         name = b"n" * 10_000
-        found = self.refused(bytes(Made(text(), symbols(3, (1, 0x10, 0)), (b".strtab", 3, b"\0" + name + b"\0", {})).data))
+        found = self.refused(
+            bytes(
+                Made(
+                    text(), symbols(3, (1, 0x10, 0)), (b".strtab", 3, b"\0" + name + b"\0", {})
+                ).data
+            )
+        )
         self.assertEqual((found.symbol, str(found).count("n") < 500), (name, True))
 
 
 class ColumnsTest(unittest.TestCase):
-    # The places of the numbers in the lines of the reference implementation, behind the index of the section.
+    # The places of the numbers in the lines of the reference implementation, behind the index of
+    # the section.
     PLACES = {
         "symbol": {"st_value": 0, "st_size": 1, "st_shndx": 3, "st_info": 4, "st_other": 5},
         "relocation": {"r_offset": 0, "r_addend": 1, "symbol": 2, "relocation_type": 3},
@@ -180,7 +233,9 @@ class ColumnsTest(unittest.TestCase):
 
     def test_the_numbers_of_the_reference(self):
         seen = set()
-        for number, content in enumerate(it for it in reference.files() if len(it) <= reference.LONG):
+        for number, content in enumerate(
+            it for it in reference.files() if len(it) <= reference.LONG
+        ):
             lines = [it.split(" ") for it in reference.lines_of(content)]
             broken = {it[1] for it in lines if it[0] == "broken"}
             rows = [it for it in lines if it[0] in self.PLACES and it[1] not in broken]
@@ -197,26 +252,55 @@ class ColumnsTest(unittest.TestCase):
     def test_the_fields(self):
         """Those of the records, but for names and the section of a symbol."""
         for order in "<>":
-            made = Made(text(), symbols(3, (1, 0x10, 1, 7), (3, 0x22, 1), order=order), (b".strtab", 3, b"\0f\0g\0", {}), order=order)
+            made = Made(
+                text(),
+                symbols(3, (1, 0x10, 1, 7), (3, 0x22, 1), order=order),
+                (b".strtab", 3, b"\0f\0g\0", {}),
+                order=order,
+            )
             file = elfmap.parse(made.data)
             found = file.columns(2)
-            self.assertEqual([*found], ["st_name", "st_info", "st_other", "st_shndx", "st_value", "st_size"])
-            self.assertEqual([[*it] for it in found.values()], [[0, 1, 3], [0, 0x10, 0x22], [0, 0, 0], [0, 1, 1], [0, 7, 0], [0, 0, 0]])
-            self.assertEqual((file.columns(1), file.columns(99), file.columns(2**64 + 2), file.columns(-1)), ({}, {}, {}, {}))
+            self.assertEqual(
+                [*found], ["st_name", "st_info", "st_other", "st_shndx", "st_value", "st_size"]
+            )
+            self.assertEqual(
+                [[*it] for it in found.values()],
+                [[0, 1, 3], [0, 0x10, 0x22], [0, 0, 0], [0, 1, 1], [0, 7, 0], [0, 0, 0]],
+            )
+            self.assertEqual(
+                (file.columns(1), file.columns(99), file.columns(2**64 + 2), file.columns(-1)),
+                ({}, {}, {}, {}),
+            )
             self.assertTrue(all(memoryview(it).c_contiguous for it in found.values()))
 
     def test_relocations_without_addends(self):
-        rows = (b".rel.text", 9, struct.pack("<4Q", 8, 1 << 32 | 2, 16, 1 << 32 | 4), dict(link=2, info=1, entsize=16))
-        file = elfmap.parse(Made(text(), symbols(3, (1, 0x10, 0)), (b".strtab", 3, b"\0f\0", {}), rows).data)
+        rows = (
+            b".rel.text",
+            9,
+            struct.pack("<4Q", 8, 1 << 32 | 2, 16, 1 << 32 | 4),
+            dict(link=2, info=1, entsize=16),
+        )
+        file = elfmap.parse(
+            Made(text(), symbols(3, (1, 0x10, 0)), (b".strtab", 3, b"\0f\0", {}), rows).data
+        )
         found = file.columns(4)
-        self.assertEqual([*zip(*(found[it] for it in elfmap.Relocation._fields))], [*map(tuple, file.relocations(4))])
+        self.assertEqual(
+            [*zip(*(found[it] for it in elfmap.Relocation._fields))],
+            [*map(tuple, file.relocations(4))],
+        )
         self.assertEqual([*found["relocation_type"]], [2, 4])
 
     def test_the_time(self):
         """A microsecond for each entry, with all its fields."""
         count = 65_012
-        made = Made(text(), symbols(3, (1, 0x10, 0)), (b".strtab", 3, b"\0f\0", {}), relocations(2, *[1] * count))
-        file, times = elfmap.parse(made.data), []
+        made = Made(
+            text(),
+            symbols(3, (1, 0x10, 0)),
+            (b".strtab", 3, b"\0f\0", {}),
+            relocations(2, *[1] * count),
+        )
+        file = elfmap.parse(made.data)
+        times = []
         for _ in range(3):
             begun = time.perf_counter()
             found = file.columns(4)
@@ -246,10 +330,15 @@ class NotesTest(unittest.TestCase):
         notes = elfmap.parse(NOTED).notes(2)
         first, second = notes
         self.assertEqual((tuple(first), tuple(second)), ((b"abc", 1, b"12345"), (b"d", 3, b"")))
-        self.assertEqual((notes[-1], notes[-2], notes[:1], notes[::-1], notes[5:]), (second, first, [first], [second, first], []))
+        self.assertEqual(
+            (notes[-1], notes[-2], notes[:1], notes[::-1], notes[5:]),
+            (second, first, [first], [second, first], []),
+        )
         for it in 2, -3, 2**64:
             self.assertRaises(IndexError, notes.__getitem__, it)
-        self.assertEqual((len(elfmap.parse(NOTED).notes(1)), bool(notes), first in notes), (0, True, True))
+        self.assertEqual(
+            (len(elfmap.parse(NOTED).notes(1)), bool(notes), first in notes), (0, True, True)
+        )
 
     def test_the_count_is_that_of_the_notes(self):
         """Also in the tables that the reference refuses."""
@@ -268,21 +357,37 @@ class ConstantsTest(unittest.TestCase):
     NAMES = "DT EM ET PF PT SHF SHN SHT STB STT STV".split()
 
     def test_they_are_names_of_the_package(self):
-        own = {name for name, it in vars(constants).items() if isinstance(it, type) and it.__module__ == constants.__name__}
+        own = {
+            name
+            for name, it in vars(constants).items()
+            if isinstance(it, type) and it.__module__ == constants.__name__
+        }
         self.assertEqual(own, {*self.NAMES})
         for it in self.NAMES:
             self.assertIs(getattr(elfmap, it), getattr(constants, it))
 
     def test_fields_are_equal_to_them(self):
         file = elfmap.parse(GOOD)
-        self.assertEqual([it.sh_type for it in file.sections], [elfmap.SHT.NULL, elfmap.SHT.PROGBITS, elfmap.SHT.STRTAB])
-        self.assertEqual((file.header.e_type, file.header.e_machine), (elfmap.ET.REL, elfmap.EM.X86_64))
+        self.assertEqual(
+            [it.sh_type for it in file.sections],
+            [elfmap.SHT.NULL, elfmap.SHT.PROGBITS, elfmap.SHT.STRTAB],
+        )
+        self.assertEqual(
+            (file.header.e_type, file.header.e_machine), (elfmap.ET.REL, elfmap.EM.X86_64)
+        )
 
     @unittest.skipUnless(ELF_H.is_file(), "elf.h is not installed")
     def test_the_header_of_the_c_library(self):
         """A number there is written as such, or as a bit."""
-        found = re.findall(r"^#define\s+([A-Z]+)_(\w+)\s+(?:\((\d+)U? << (\d+)\)|(0x[0-9a-fA-F]+|\d+)\b)", ELF_H.read_text(), re.M)
-        known = {(kind, name): int(number, 0) if number else int(one) << int(bit) for kind, name, one, bit, number in found}
+        found = re.findall(
+            r"^#define\s+([A-Z]+)_(\w+)\s+(?:\((\d+)U? << (\d+)\)|(0x[0-9a-fA-F]+|\d+)\b)",
+            ELF_H.read_text(),
+            re.M,
+        )
+        known = {
+            (kind, name): int(number, 0) if number else int(one) << int(bit)
+            for kind, name, one, bit, number in found
+        }
         for kind in self.NAMES:
             for name, it in getattr(elfmap, kind).__members__.items():
                 self.assertEqual(known[kind, name], it, f"{kind}_{name}")
@@ -292,12 +397,20 @@ class HelpTest(unittest.TestCase):
     def test_it_has_public_names_alone(self):
         shown = pydoc.plain(pydoc.render_doc(elfmap))
         self.assertNotIn("ForwardRef", shown)
-        private = [name for name, it in vars(elfmap).items() if re.match("_[^_]", name) and type(it) is not type(elfmap)]
+        private = [
+            name
+            for name, it in vars(elfmap).items()
+            if re.match("_[^_]", name) and type(it) is not type(elfmap)
+        ]
         self.assertTrue(private)
-        listed = re.findall(r"^ {4,8}(?:class )?(_\w+)\b(?=\(| =|$)", shown.partition("\nCLASSES\n")[2], re.M)
+        listed = re.findall(
+            r"^ {4,8}(?:class )?(_\w+)\b(?=\(| =|$)", shown.partition("\nCLASSES\n")[2], re.M
+        )
         self.assertEqual({*private} & {*listed}, set())
         for it in elfmap.__all__:
-            self.assertRegex(shown, rf"(?m)^    (class )?{it}\b" if it != "__version__" else "(?m)^VERSION$")
+            self.assertRegex(
+                shown, rf"(?m)^    (class )?{it}\b" if it != "__version__" else "(?m)^VERSION$"
+            )
 
 
 SNIPPET = """
@@ -305,8 +418,14 @@ import array, ctypes, mmap, os
 from pathlib import Path
 import elfmap
 
-def said(data: bytes, mapped: mmap.mmap, own: "array.array[int]", raw: "ctypes.Array[ctypes.c_ubyte]") -> int:
-    found = [elfmap.check(data), elfmap.check(bytearray(data)), elfmap.check(memoryview(data)), elfmap.check(mapped)]
+def said(
+    data: bytes,
+    mapped: mmap.mmap,
+    own: "array.array[int]",
+    raw: "ctypes.Array[ctypes.c_ubyte]",
+) -> int:
+    found = [elfmap.check(data), elfmap.check(bytearray(data))]
+    found += [elfmap.check(memoryview(data)), elfmap.check(mapped)]
     found += [elfmap.check(own), elfmap.check(raw)]
     elfmap.link([data, own], "", entry=b"start")
     with elfmap.open(Path("a")) as file:
@@ -334,15 +453,23 @@ class TypesTest(FolderCase):
 
     @unittest.skipUnless(shutil.which("mypy"), "mypy is not installed")
     def test_a_type_checker(self):
-        refused = "".join(f"elfmap.check({it})\n" for it in ('"a.o"', 'Path("a.o")', "5", "[5]", "None"))
+        refused = "".join(
+            f"elfmap.check({it})\n" for it in ('"a.o"', 'Path("a.o")', "5", "[5]", "None")
+        )
         Path("good.py").write_text(SNIPPET)
         Path("bad.py").write_text(f"import elfmap\nfrom pathlib import Path\n{refused}")
         environment = {**os.environ, "MYPYPATH": str(PACKAGE)}
         with tempfile.TemporaryDirectory() as cache:
             words = ["mypy", "--strict", "--python-version", "3.9", "--cache-dir", cache]
-            ran = [subprocess.run([*words, it], capture_output=True, text=True, env=environment) for it in ("good.py", "bad.py")]
+            ran = [
+                subprocess.run([*words, it], capture_output=True, text=True, env=environment)
+                for it in ("good.py", "bad.py")
+            ]
         self.assertEqual((ran[0].returncode, ran[0].stderr), (0, ""), ran[0].stdout)
-        self.assertEqual(re.findall(r"^bad.py:(\d+): error", ran[1].stdout, re.M), [str(it) for it in range(3, 8)])
+        self.assertEqual(
+            re.findall(r"^bad.py:(\d+): error", ran[1].stdout, re.M),
+            [str(it) for it in range(3, 8)],
+        )
 
 
 if __name__ == "__main__":

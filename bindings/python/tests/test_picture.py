@@ -12,7 +12,16 @@ from xml.etree import ElementTree
 
 from elfmap import picture
 
-from tests.made import ENVIRONMENT, GOOD, SHARING, FolderCase, Made, setUpModule, symbols, text  # noqa: F401
+from tests.made import (
+    ENVIRONMENT,
+    GOOD,
+    SHARING,
+    FolderCase,
+    Made,
+    setUpModule,
+    symbols,
+    text,
+)  # noqa: F401
 
 PROGRAM = [sys.executable, "-m", "elfmap.picture"]
 HEADER = "file little 1 62 0x0 0x0\npart 0x0 0x40 header\n"
@@ -21,8 +30,18 @@ HEADER = "file little 1 62 0x0 0x0\npart 0x0 0x40 header\n"
 class Case(FolderCase):
     def draw(self, *words, stdin=b"", **env):
         """The status, the texts of the picture, and what is said on standard error."""
-        ran = subprocess.run([*PROGRAM, *words], input=stdin, capture_output=True, env={**ENVIRONMENT, **env})
-        texts = [it.text for it in ElementTree.fromstring(ran.stdout).iter() if it.tag.endswith("}text")] if ran.stdout else []
+        ran = subprocess.run(
+            [*PROGRAM, *words], input=stdin, capture_output=True, env={**ENVIRONMENT, **env}
+        )
+        texts = (
+            [
+                it.text
+                for it in ElementTree.fromstring(ran.stdout).iter()
+                if it.tag.endswith("}text")
+            ]
+            if ran.stdout
+            else []
+        )
         return ran.returncode, texts, ran.stderr.decode()
 
     def test_a_file(self):
@@ -30,46 +49,91 @@ class Case(FolderCase):
         Path("a<&>.o").write_bytes(made.data)
         status, texts, said = self.draw("a<&>.o")
         self.assertEqual((status, said, texts[0]), (0, "", "a<&>.o"))
-        for it in ("section 1", ".text", "0x40", "51", "section 2", ".symtab", "symbols", "section table"):
+        for it in (
+            "section 1",
+            ".text",
+            "0x40",
+            "51",
+            "section 2",
+            ".symtab",
+            "symbols",
+            "section table",
+        ):
             self.assertIn(it, texts)
         self.assertTrue(any(it.endswith("relocatable, EM_X86_64, little-endian") for it in texts))
 
     def test_the_lines_of_standard_input(self):
         status, texts, _ = self.draw("-", "a", "title", stdin=HEADER.encode())
         self.assertEqual((status, texts[0]), (0, "a title"))
-        self.assertIn("64 bytes in 1 part, 0 of them in 0 gaps; relocatable, EM_X86_64, little-endian", texts)
+        self.assertIn(
+            "64 bytes in 1 part, 0 of them in 0 gaps; relocatable, EM_X86_64, little-endian", texts
+        )
 
     def test_a_path_and_a_section(self):
-        """The title is the name of the file; what a section holds is told by its type, or else by its flags."""
-        sections = [(f".s{it}".encode(), 1, b"\1", dict(flags=flags)) for it, flags in enumerate((6, 3, 2, 0))]
+        """The title is the name of the file; what a section holds is told by its type, or else by
+        its flags."""
+        sections = [
+            (f".s{it}".encode(), 1, b"\1", dict(flags=flags))
+            for it, flags in enumerate((6, 3, 2, 0))
+        ]
         self.put(**{"a/b__o": bytes(Made(*sections).data)})
         texts = self.draw("a/b.o")[1]
         self.assertEqual(texts[0], "b.o")
-        rows = {name: texts[texts.index(name) + 1] for name in (".s0", ".s1", ".s2", ".s3", ".shstrtab")}
-        self.assertEqual(rows, {".s0": "code", ".s1": "data", ".s2": "constants", ".s3": "other", ".shstrtab": "strings"})
+        rows = {
+            name: texts[texts.index(name) + 1] for name in (".s0", ".s1", ".s2", ".s3", ".shstrtab")
+        }
+        self.assertEqual(
+            rows,
+            {
+                ".s0": "code",
+                ".s1": "data",
+                ".s2": "constants",
+                ".s3": "other",
+                ".shstrtab": "strings",
+            },
+        )
 
     def test_types_of_files(self):
-        for number, name in ((0, "no type"), (1, "relocatable"), (2, "executable"), (3, "shared"), (4, "core"), (9, "type 9")):
+        for number, name in (
+            (0, "no type"),
+            (1, "relocatable"),
+            (2, "executable"),
+            (3, "shared"),
+            (4, "core"),
+            (9, "type 9"),
+        ):
             head = picture.read(HEADER.replace("little 1", f"little {number}").splitlines())[1]
             self.assertEqual(head, f"{name}, EM_X86_64, little-endian")
 
     def test_gaps(self):
         """A line has the first 16 bytes alone; the head has how many bytes all gaps have."""
-        gaps = (5, "0000000000"), (16, "00" * 16), (20, "00" * 16), (7, "00112233445566"), (6, "001122334455")
+        gaps = (
+            (5, "0000000000"),
+            (16, "00" * 16),
+            (20, "00" * 16),
+            (7, "00112233445566"),
+            (6, "001122334455"),
+        )
         starts = [64 + sum(size for size, _ in gaps[:it]) for it in range(len(gaps))]
-        lines = HEADER + "".join(f"part {at:#x} {size:#x} gap {front}\n" for at, (size, front) in zip(starts, gaps))
+        lines = HEADER + "".join(
+            f"part {at:#x} {size:#x} gap {front}\n" for at, (size, front) in zip(starts, gaps)
+        )
         texts = self.draw("-", stdin=lines.encode())[1]
-        self.assertIn("118 bytes in 6 parts, 54 of them in 5 gaps; relocatable, EM_X86_64, little-endian", texts)
+        self.assertIn(
+            "118 bytes in 6 parts, 54 of them in 5 gaps; relocatable, EM_X86_64, little-endian",
+            texts,
+        )
         held = [texts[at + 3] for at in (texts.index(hex(start)) for start in starts)]
         self.assertEqual(held, ["zeros", "zeros", "16 zeros, …", "001122334455…", "001122334455"])
 
     def test_segments_of_a_file_without_sections(self):
-        """Two loadable segments of the file, each of which ends one byte before what is after it, and one of memory alone."""
+        """Two loadable segments of the file, each of which ends one byte before what is after it,
+        and one of memory alone."""
         lines = (
-            "file little 2 62 0x400000 0x0\npart 0x0 0x40 header\npart 0x40 0xa8 segments\npart 0xe8 0x118 gap 00\n"
-            "segment 0 1 0x5 0x100 0x400100 0x400100 0x7f 0x7f 0x1000\n"
-            "segment 1 1 0x4 0x180 0x401180 0x401180 0x7f 0x7f 0x1000\n"
-            "segment 2 1 0x6 0x200 0x402200 0x402200 0x0 0x300 0x1000\n"
+            "file little 2 62 0x400000 0x0\npart 0x0 0x40 header\npart 0x40 0xa8 segments\npart"
+            " 0xe8 0x118 gap 00\nsegment 0 1 0x5 0x100 0x400100 0x400100 0x7f 0x7f 0x1000\nsegment"
+            " 1 1 0x4 0x180 0x401180 0x401180 0x7f 0x7f 0x1000\nsegment 2 1 0x6 0x200 0x402200"
+            " 0x402200 0x0 0x300 0x1000\n"
         )
         parts, head = picture.read(lines.splitlines())
         self.assertEqual(head, "executable, EM_X86_64, little-endian")
@@ -87,13 +151,19 @@ class Case(FolderCase):
             ],
         )
         # Of the first one more bytes are in memory than in the file.
-        parts, _ = picture.read(lines.replace("0x400100 0x7f 0x7f", "0x400100 0x7f 0x8f").splitlines())
+        parts, _ = picture.read(
+            lines.replace("0x400100 0x7f 0x7f", "0x400100 0x7f 0x8f").splitlines()
+        )
         self.assertEqual(parts[3].name, "0x400100 to 0x40018f")
 
     def bars(self, lines):
         """Of each row where its bar begins, and how wide it is: the last ones that have a title."""
         parts, head = picture.read(lines.splitlines())
-        drawn = [it for it in ElementTree.fromstring(picture.picture("", parts, head)).iter() if it.tag.endswith("}rect") and len(it)]
+        drawn = [
+            it
+            for it in ElementTree.fromstring(picture.picture("", parts, head)).iter()
+            if it.tag.endswith("}rect") and len(it)
+        ]
         return [(float(it.get("x")), float(it.get("width"))) for it in drawn[len(parts) :]]
 
     def test_bars_are_drawn_to_scale(self):
@@ -103,12 +173,18 @@ class Case(FolderCase):
         self.assertEqual(self.bars(HEADER + short), [(640, 2), (640.03, 519.97), (1158, 2)])
 
     def test_words_that_are_too_long(self):
-        self.assertEqual([picture.cut("abcdefghij", it) for it in (4, 5, 9, 10)], ["a…ij", "ab…ij", "abcd…ghij", "abcdefghij"])
+        self.assertEqual(
+            [picture.cut("abcdefghij", it) for it in (4, 5, 9, 10)],
+            ["a…ij", "ab…ij", "abcd…ghij", "abcdefghij"],
+        )
 
     def test_the_largest_parts(self):
-        """Of 401 parts the largest have rows; all others, which are beside each other, have one together."""
+        """Of 401 parts the largest have rows; all others, which are beside each other, have one
+        together."""
         starts = [64 + sum(range(1, it)) for it in range(1, 402)]
-        lines = HEADER + "".join(f"part {at:#x} {size:#x} gap 00\n" for size, at in zip(range(1, 401), starts))
+        lines = HEADER + "".join(
+            f"part {at:#x} {size:#x} gap 00\n" for size, at in zip(range(1, 401), starts)
+        )
         parts, _ = picture.read(lines.splitlines())
         rows = picture.folded(parts)
         self.assertEqual(sum(it.length for it in rows), starts[-1])
@@ -118,11 +194,18 @@ class Case(FolderCase):
 
     def test_equal_parts(self):
         """Of 400 equal parts the first 150 have rows."""
-        parts = [picture.Part(16 * k, 16, f"section {k}", f".s{k}", "PROGBITS", "data") for k in range(400)]
+        parts = [
+            picture.Part(16 * k, 16, f"section {k}", f".s{k}", "PROGBITS", "data")
+            for k in range(400)
+        ]
         self.assertEqual([it.length for it in picture.folded(parts)], [16] * 150 + [16 * 250])
 
     def test_many_parts(self):
-        lines = HEADER + "".join(f"part {hex(64 + k)} 0x1 gap 00\n" for k in range(1000)) + "part 0x428 0x100 gap 00\n"
+        lines = (
+            HEADER
+            + "".join(f"part {hex(64 + k)} 0x1 gap 00\n" for k in range(1000))
+            + "part 0x428 0x100 gap 00\n"
+        )
         parts, head = picture.read(lines.splitlines())
         self.assertEqual((len(parts), head), (1002, "relocatable, EM_X86_64, little-endian"))
         self.assertLess(picture.picture("many", parts, head).count("<rect"), 3 * picture.MOST)
@@ -133,12 +216,24 @@ class Case(FolderCase):
             status, texts, said = self.draw("bad.o", **program)
             self.assertEqual((status, texts), (1, []))
             self.assertTrue(said.startswith("elfmap-picture: bad.o: "), said)
-        self.assertIn("elfmap refuses it: refused 33 114; elfmap-explain says why", self.draw("bad.o")[2])
+        self.assertIn(
+            "elfmap refuses it: refused 33 114; elfmap-explain says why", self.draw("bad.o")[2]
+        )
 
     def test_what_are_no_lines(self):
-        for lines in (b"", b"\n", b"file\n", b"file little 1\n", b"\xff\n", HEADER.encode() + b"part 0x0 zz content 9\n", b"x" * 100_000):
+        for lines in (
+            b"",
+            b"\n",
+            b"file\n",
+            b"file little 1\n",
+            b"\xff\n",
+            HEADER.encode() + b"part 0x0 zz content 9\n",
+            b"x" * 100_000,
+        ):
             status, texts, said = self.draw("-", stdin=lines)
-            self.assertEqual((status, texts, "lines of `elfmap show`" in said), (1, [], True), lines[:50])
+            self.assertEqual(
+                (status, texts, "lines of `elfmap show`" in said), (1, [], True), lines[:50]
+            )
 
     def test_what_can_not_be_read(self):
         os.mkfifo("pipe")
@@ -150,7 +245,9 @@ class Case(FolderCase):
         Path("good.o").write_bytes(GOOD)
         reading, writing = os.pipe()
         os.close(reading)
-        ran = subprocess.run([*PROGRAM, "good.o"], stdout=writing, stderr=subprocess.PIPE, env=ENVIRONMENT)
+        ran = subprocess.run(
+            [*PROGRAM, "good.o"], stdout=writing, stderr=subprocess.PIPE, env=ENVIRONMENT
+        )
         os.close(writing)
         self.assertEqual(ran.stderr, b"")
 

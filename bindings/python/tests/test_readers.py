@@ -10,7 +10,16 @@ import subprocess
 import unittest
 from pathlib import Path
 
-from tests.made import BROKEN_SYMBOLS, GNU, GOOD, LONG, SHARING, Made, setUpModule, text  # noqa: F401
+from tests.made import (
+    BROKEN_SYMBOLS,
+    GNU,
+    GOOD,
+    LONG,
+    SHARING,
+    Made,
+    setUpModule,
+    text,
+)  # noqa: F401
 from tests.test_lint import Case
 
 DEBIAN_PYTHON = "/usr/bin/python3"
@@ -19,28 +28,36 @@ VALIDATE = """
 import json, sys, jsonschema
 schema, log = (json.load(open(it)) for it in sys.argv[1:])
 jsonschema.Draft4Validator.check_schema(schema)
-for error in jsonschema.Draft4Validator(schema, format_checker=jsonschema.FormatChecker()).iter_errors(log):
+validator = jsonschema.Draft4Validator(schema, format_checker=jsonschema.FormatChecker())
+for error in validator.iter_errors(log):
     print(list(error.absolute_path), error.message[:200])
 """
 READ = """
 import json, sys
 from junitparser import Error, Failure, JUnitXml
 xml = JUnitXml.fromfile(sys.argv[1])
-cases = {case.name: [[type(it).__name__, it.type, it.message] for it in case.result] for suite in xml for case in suite}
-print(json.dumps({"counts": [xml.tests, xml.failures, xml.errors], "suites": [it.name for it in xml], "cases": cases}))
+cases = {}
+for suite in xml:
+    for case in suite:
+        cases[case.name] = [[type(it).__name__, it.type, it.message] for it in case.result]
+counts = [xml.tests, xml.failures, xml.errors]
+print(json.dumps({"counts": counts, "suites": [it.name for it in xml], "cases": cases}))
 """
 
 
 def has(module):
     """Whether Debian's python3 has a module."""
     try:
-        return subprocess.run([DEBIAN_PYTHON, "-c", f"import {module}"], capture_output=True).returncode == 0
+        ran = subprocess.run([DEBIAN_PYTHON, "-c", f"import {module}"], capture_output=True)
+        return ran.returncode == 0
     except OSError:
         return False
 
 
 def read_by(script, *paths):
-    ran = subprocess.run([DEBIAN_PYTHON, "-c", script, *map(str, paths)], capture_output=True, text=True)
+    ran = subprocess.run(
+        [DEBIAN_PYTHON, "-c", script, *map(str, paths)], capture_output=True, text=True
+    )
     assert ran.returncode == 0, ran.stderr
     return ran.stdout
 
@@ -49,8 +66,17 @@ class ReaderTest(Case):
     def setUp(self):
         super().setUp()
         os.mkdir("a")
-        self.put(**{"a/bad__o": SHARING, "a/lib__a": GNU, "a/good__o": GOOD, "a/symbols__o": BROKEN_SYMBOLS})
-        self.put(**{"a/short__o": GOOD[:63], "a/aligned__o": Made(text()).with_field(1, "align", 3)})
+        self.put(
+            **{
+                "a/bad__o": SHARING,
+                "a/lib__a": GNU,
+                "a/good__o": GOOD,
+                "a/symbols__o": BROKEN_SYMBOLS,
+            }
+        )
+        self.put(
+            **{"a/short__o": GOOD[:63], "a/aligned__o": Made(text()).with_field(1, "align", 3)}
+        )
         self.put(**{"a/thread__o": bytes(Made((b".tdata", 1, bytes(4), dict(flags=0x403))).data)})
         Path(os.fsdecode(b"a/\xff<&\"'>\x01%.o")).write_bytes(SHARING)
 
@@ -88,7 +114,8 @@ class JunitTest(ReaderTest):
     def test_findings(self):
         self.assertEqual(self.report("junit", "a", "none"), 3)
         found = json.loads(read_by(READ, "report"))
-        cases, member = found["cases"], f"a/lib.a({LONG.decode()})"
+        cases = found["cases"]
+        member = f"a/lib.a({LONG.decode()})"
         names = {
             "a/aligned.o",
             "a/bad.o",
@@ -104,9 +131,14 @@ class JunitTest(ReaderTest):
         self.assertEqual((set(cases), found["suites"]), (names, ["elfmap-lint"]))
         self.assertEqual(found["counts"], [10, 7, 1])
         ((kind, rule, message),) = cases["a/bad.o"]
-        self.assertEqual((kind, rule, message[:32]), ("Failure", "SHARED_BYTE", "offset 0x72: SHARED_BYTE (33): t"))
+        self.assertEqual(
+            (kind, rule, message[:32]),
+            ("Failure", "SHARED_BYTE", "offset 0x72: SHARED_BYTE (33): t"),
+        )
         ((kind, rule, message),) = cases["a/thread.o"]
-        self.assertEqual((kind, rule, message[-34:]), ("Failure", "TLS", "thread-local storage is not linked"))
+        self.assertEqual(
+            (kind, rule, message[-34:]), ("Failure", "TLS", "thread-local storage is not linked")
+        )
         self.assertEqual((cases["a/good.o"], cases["none"][0][:2]), ([], ["Error", "unreadable"]))
 
     def test_no_findings(self):

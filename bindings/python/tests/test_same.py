@@ -19,16 +19,39 @@ from pathlib import Path
 
 from elfmap import same
 
-from tests.made import CLASS_32, ENVIRONMENT, GNU, GOOD, SHARING, FolderCase, Made
-from tests.made import archive_member, relocations, setUpModule, symbols, text, thin  # noqa: F401
+from tests.made import (
+    CLASS_32,
+    ENVIRONMENT,
+    GNU,
+    GOOD,
+    SHARING,
+    FolderCase,
+    Made,
+    archive_member,
+    relocations,
+    setUpModule,
+    symbols,
+    text,
+    thin,
+)
 
 PROGRAM = [sys.executable, "-m", "elfmap.same"]
 STRINGS = (b".strtab", 3, b"\0answer\0", {})
 
 
-def an_object(*, content=b"\x90" * 0x33, symbol=(1, 0x10, 1), strings=STRINGS, more=(), named=(1,), type=1):
+def an_object(
+    *, content=b"\x90" * 0x33, symbol=(1, 0x10, 1), strings=STRINGS, more=(), named=(1,), type=1
+):
     """An object: .text, a symbol table, its names, relocations of .text, and more sections."""
-    return bytes(Made((b".text", type, content, {}), symbols(3, symbol), strings, relocations(2, *named), *more).data)
+    return bytes(
+        Made(
+            (b".text", type, content, {}),
+            symbols(3, symbol),
+            strings,
+            relocations(2, *named),
+            *more,
+        ).data
+    )
 
 
 def padded(data):
@@ -51,7 +74,9 @@ class Case(FolderCase):
             finally:
                 os.dup2(saved, 1)
                 os.close(saved)
-            lines = os.pread(out.fileno(), 1 << 24, 0).decode("utf-8", "surrogateescape").splitlines()
+            lines = (
+                os.pread(out.fileno(), 1 << 24, 0).decode("utf-8", "surrogateescape").splitlines()
+            )
             return status, lines, said.buffer.getvalue().decode().splitlines()
 
     def assertSame(self, *words, lines):
@@ -78,13 +103,21 @@ class ObjectTest(Case):
         return lines[:-1]
 
     def test_the_same_object(self):
-        self.put(a__o=an_object(), b__o=padded(an_object()), c__o=an_object(strings=(b".strtab", 3, b"\0answer\0unused\0", {})))
+        self.put(
+            a__o=an_object(),
+            b__o=padded(an_object()),
+            c__o=an_object(strings=(b".strtab", 3, b"\0answer\0unused\0", {})),
+        )
         for other in ("a.o", "b.o", "c.o"):
             self.assertSame("a.o", other, lines=["the same"])
 
-    @unittest.skipUnless(all(map(shutil.which, ("cc", "objcopy"))), "cc or objcopy is not installed")
+    @unittest.skipUnless(
+        all(map(shutil.which, ("cc", "objcopy"))), "cc or objcopy is not installed"
+    )
     def test_copies_of_other_tools(self):
-        self.put(a__c=b"int limit; int call(int); int answer(int x) { return x < limit ? call(x) : 42; }")
+        self.put(
+            a__c=b"int limit; int call(int); int answer(int x) { return x < limit ? call(x) : 42; }"
+        )
         subprocess.run(["cc", "-c", "-O1", "a.c", "-o", "a.o"], check=True)
         for tool in filter(shutil.which, ("objcopy", "llvm-objcopy")):
             subprocess.run([tool, "a.o", "copy.o"], check=True)
@@ -95,16 +128,25 @@ class ObjectTest(Case):
 
     def test_a_byte(self):
         changed = an_object(content=b"\x90" * 0x20 + b"\xc3" + b"\x90" * 0x12)
-        self.assertEqual(self.differ(an_object(), changed), ["section .text: offset 0x20 is 0x90 in a.o, and 0xc3 in b.o"])
+        self.assertEqual(
+            self.differ(an_object(), changed),
+            ["section .text: offset 0x20 is 0x90 in a.o, and 0xc3 in b.o"],
+        )
 
     def test_a_length(self):
         found = self.differ(an_object(), an_object(content=b"\x90" * 0x32 + b"\xc3\xc3"))
-        expected = ["section .text: its size is 0x33 in a.o, and 0x34 in b.o", "section .text: offset 0x32 is 0x90 in a.o, and 0xc3 in b.o"]
+        expected = [
+            "section .text: its size is 0x33 in a.o, and 0x34 in b.o",
+            "section .text: offset 0x32 is 0x90 in a.o, and 0xc3 in b.o",
+        ]
         self.assertEqual(found, expected)
 
     def test_a_symbol(self):
         found = self.differ(an_object(), an_object(symbol=(1, 0x20, 0)))
-        expected = ["its binding is GLOBAL in a.o, and WEAK in b.o", "its section is .text in a.o, and undefined in b.o"]
+        expected = [
+            "its binding is GLOBAL in a.o, and WEAK in b.o",
+            "its section is .text in a.o, and undefined in b.o",
+        ]
         self.assertEqual(found, [f"symbol answer: {it}" for it in expected])
 
     def test_a_name(self):
@@ -112,22 +154,46 @@ class ObjectTest(Case):
         relocation = "R_X86_64_PC32 at 0x0 of .text to"
         self.assertIn("symbol answer is only in a.o", found)
         self.assertIn("symbol other is only in b.o", found)
-        self.assertIn(f"section .rela.text: relocation 0 is {relocation} answer +0x0 in a.o, and {relocation} other +0x0 in b.o", found)
+        self.assertIn(
+            (
+                f"section .rela.text: relocation 0 is {relocation} answer +0x0 in a.o, and"
+                f" {relocation} other +0x0 in b.o"
+            ),
+            found,
+        )
 
     def test_a_relocation(self):
         found = self.differ(an_object(), an_object(named=(1, 1)))
-        self.assertIn("section .rela.text: relocation 1 is only in b.o: R_X86_64_PC32 at 0x0 of .text to answer +0x0", found)
+        self.assertIn(
+            (
+                "section .rela.text: relocation 1 is only in b.o: R_X86_64_PC32 at 0x0 of .text to"
+                " answer +0x0"
+            ),
+            found,
+        )
 
     def test_a_symbol_that_is_called_as_that_of_a_section(self):
         """A relocation to the one is no relocation to the other."""
 
         def related(symbol):
             strings = b".strtab", 3, b"\0of section .text\0", {}
-            return bytes(Made(text(), symbols(3, (0, 3, 1), (1, 0x10, 1), info=2), strings, relocations(2, symbol)).data)
+            return bytes(
+                Made(
+                    text(),
+                    symbols(3, (0, 3, 1), (1, 0x10, 1), info=2),
+                    strings,
+                    relocations(2, symbol),
+                ).data
+            )
 
         found = self.differ(related(1), related(2))
-        ours, theirs = (f"R_X86_64_PC32 at 0x0 of .text to {it} +0x0" for it in ("section .text", "of section .text"))
-        self.assertEqual(found, [f"section .rela.text: relocation 0 is {ours} in a.o, and {theirs} in b.o"])
+        ours, theirs = (
+            f"R_X86_64_PC32 at 0x0 of .text to {it} +0x0"
+            for it in ("section .text", "of section .text")
+        )
+        self.assertEqual(
+            found, [f"section .rela.text: relocation 0 is {ours} in a.o, and {theirs} in b.o"]
+        )
 
     def test_a_section(self):
         found = self.differ(an_object(), an_object(more=[(b".data", 1, b"\1\2\3\4", {})]))
@@ -139,20 +205,34 @@ class ObjectTest(Case):
         more = [(b".data", 1, b"\1", {}), (b".data", 1, b"\2", {})]
         other = [(b".data", 1, b"\1", {}), (b".data", 1, b"\3", {})]
         found = self.differ(an_object(more=more), an_object(more=other))
-        self.assertEqual(found, ["section .data (number 2 of this name): offset 0x0 is 0x02 in a.o, and 0x03 in b.o"])
+        self.assertEqual(
+            found,
+            ["section .data (number 2 of this name): offset 0x0 is 0x02 in a.o, and 0x03 in b.o"],
+        )
 
     def test_another_order(self):
-        one, other = (b".one", 1, b"\1", {}), (b".other", 1, b"\2", {})
+        one = (b".one", 1, b"\1", {})
+        other = (b".other", 1, b"\2", {})
         found = self.differ(an_object(more=[one, other]), an_object(more=[other, one]))
-        self.assertEqual(found, ["the order of sections: the first one that differs is .one in a.o, and .other in b.o"])
+        self.assertEqual(
+            found,
+            ["the order of sections: the first one that differs is .one in a.o, and .other in b.o"],
+        )
 
     def test_another_order_of_symbols(self):
         def ordered(*names):
             table = symbols(3, *((it, 0x10, 1) for it in names))
-            return bytes(Made((b".text", 1, bytes(4), {}), table, (b".strtab", 3, b"\0answer\0other\0", {})).data)
+            return bytes(
+                Made(
+                    (b".text", 1, bytes(4), {}), table, (b".strtab", 3, b"\0answer\0other\0", {})
+                ).data
+            )
 
         found = self.differ(ordered(1, 8), ordered(8, 1))
-        self.assertEqual(found, ["the order of symbols: the first one that differs is answer in a.o, and other in b.o"])
+        self.assertEqual(
+            found,
+            ["the order of symbols: the first one that differs is answer in a.o, and other in b.o"],
+        )
 
     def test_a_byte_after_what_is_compared_at_once(self):
         content = bytearray(1 << 18)
@@ -162,19 +242,33 @@ class ObjectTest(Case):
         self.assertEqual(found, ["section .text: offset 0x20005 is 0x00 in a.o, and 0x01 in b.o"])
 
     def test_each_field_of_a_symbol(self):
-        """Each difference by itself; of that of the section the name is told, or the word for a reserved index."""
+        """Each difference by itself; of that of the section the name is told, or the word for a
+        reserved index."""
         for one, other, words in (
             ((1, 0x10, 1), (1, 0x20, 1), "its binding is GLOBAL in a.o, and WEAK in b.o"),
             ((1, 0x11, 1), (1, 0x12, 1), "its type is OBJECT in a.o, and FUNC in b.o"),
             ((1, 0x10, 1, 4), (1, 0x10, 1, 8), "its value is 0x4 in a.o, and 0x8 in b.o"),
             ((1, 0x10, 1), (1, 0x10, 0xFFF1), "its section is .text in a.o, and absolute in b.o"),
-            ((1, 0x11, 0xFFF2, 8), (1, 0x11, 0xFFF1, 8), "its section is common in a.o, and absolute in b.o"),
+            (
+                (1, 0x11, 0xFFF2, 8),
+                (1, 0x11, 0xFFF1, 8),
+                "its section is common in a.o, and absolute in b.o",
+            ),
         ):
-            self.assertEqual(self.differ(an_object(symbol=one), an_object(symbol=other)), [f"symbol answer: {words}"])
+            self.assertEqual(
+                self.differ(an_object(symbol=one), an_object(symbol=other)),
+                [f"symbol answer: {words}"],
+            )
         made = Made(text(), symbols(3, (1, 0x10, 1)), STRINGS)
         at = made.starts[2] + 24
-        for place, words in ((5, "st_other is 0 in a.o, and 2 in b.o"), (16, "its size is 0 in a.o, and 2 in b.o")):
-            self.assertEqual(self.differ(bytes(made.data), made.with_bytes(at + place, b"\2")), [f"symbol answer: {words}"])
+        for place, words in (
+            (5, "st_other is 0 in a.o, and 2 in b.o"),
+            (16, "its size is 0 in a.o, and 2 in b.o"),
+        ):
+            self.assertEqual(
+                self.differ(bytes(made.data), made.with_bytes(at + place, b"\2")),
+                [f"symbol answer: {words}"],
+            )
 
     def test_each_field_of_a_section(self):
         for one, other, words in (
@@ -186,33 +280,61 @@ class ObjectTest(Case):
             (dict(link=1), dict(link=5), "sh_link is .text in a.o, and .one in b.o"),
             (dict(link=0), dict(link=5), "sh_link is none in a.o, and .one in b.o"),
         ):
-            pair = (an_object(more=[(b".one", 1, b"\1", {}), (b".data", 1, b"\1", it)]) for it in (one, other))
+            pair = (
+                an_object(more=[(b".one", 1, b"\1", {}), (b".data", 1, b"\1", it)])
+                for it in (one, other)
+            )
             self.assertEqual(self.differ(*pair), [f"section .data: {words}"])
 
     def test_relocations_of_each_type(self):
         """Those without addends, and those of another section."""
 
         def rel(at):
-            rows = (b".rel.text", 9, struct.pack("<QQ", at, 1 << 32 | 2), dict(link=2, info=1, entsize=16))
+            rows = (
+                b".rel.text",
+                9,
+                struct.pack("<QQ", at, 1 << 32 | 2),
+                dict(link=2, info=1, entsize=16),
+            )
             return bytes(Made(text(), symbols(3, (1, 0x10, 1)), STRINGS, rows).data)
 
         first, second = (f"R_X86_64_PC32 at {it:#x} of .text to answer +0x0" for it in (0, 4))
-        self.assertEqual(self.differ(rel(0), rel(4)), [f"section .rel.text: relocation 0 is {first} in a.o, and {second} in b.o"])
+        self.assertEqual(
+            self.differ(rel(0), rel(4)),
+            [f"section .rel.text: relocation 0 is {first} in a.o, and {second} in b.o"],
+        )
 
         def rela(target):
-            rows = (b".rela", 4, struct.pack("<QQq", 0, 1 << 32 | 2, 0), dict(link=2, info=target, entsize=24))
-            return bytes(Made(text(), symbols(3, (1, 0x10, 1)), STRINGS, rows, text(b".other")).data)
+            rows = (
+                b".rela",
+                4,
+                struct.pack("<QQq", 0, 1 << 32 | 2, 0),
+                dict(link=2, info=target, entsize=24),
+            )
+            return bytes(
+                Made(text(), symbols(3, (1, 0x10, 1)), STRINGS, rows, text(b".other")).data
+            )
 
-        self.assertEqual(self.differ(rela(1), rela(5)), ["section .rela: its target is .text in a.o, and .other in b.o"])
+        self.assertEqual(
+            self.differ(rela(1), rela(5)),
+            ["section .rela: its target is .text in a.o, and .other in b.o"],
+        )
 
     def test_a_group(self):
         def grouped(flags):
-            members = [(b".group", 17, struct.pack("<2I", flags, 6), dict(link=2, info=1, entsize=4)), (b".f", 1, b"\1", dict(flags=0x200))]
+            members = [
+                (b".group", 17, struct.pack("<2I", flags, 6), dict(link=2, info=1, entsize=4)),
+                (b".f", 1, b"\1", dict(flags=0x200)),
+            ]
             return an_object(more=members)
 
         found = self.differ(grouped(1), grouped(0))
         self.assertEqual(
-            found, [f"section .group [answer]: member flags {it} is only in {side}.o" for it, side in (("0x1", "a"), ("0x0", "b"))]
+            found,
+            [
+                f"section .group [answer]: member flags {it} is only in {side}.o"
+                for it, side in (("0x1", "a"), ("0x0", "b"))
+            ],
         )
 
     def test_fields_of_the_header(self):
@@ -223,22 +345,31 @@ class ObjectTest(Case):
             (48, "e_flags is 0x0 in a.o, and 0x5 in b.o"),
         ):
             self.assertEqual(self.differ(GOOD, made.with_bytes(at, b"\5")), [words])
-        self.assertEqual(self.differ(GOOD, bytes(Made(text(), order=">").data)), ["the byte order is little in a.o, and big in b.o"])
+        self.assertEqual(
+            self.differ(GOOD, bytes(Made(text(), order=">").data)),
+            ["the byte order is little in a.o, and big in b.o"],
+        )
 
     def test_big_endian(self):
         """The order of names in a string table is no part of an object, in either byte order."""
         for it, content in (("a", b"\0answer\0"), ("b", b"\0answer\0unused\0")):
-            made = Made(text(), symbols(3, (1, 0x10, 1), order=">"), (b".strtab", 3, content, {}), order=">")
+            made = Made(
+                text(), symbols(3, (1, 0x10, 1), order=">"), (b".strtab", 3, content, {}), order=">"
+            )
             self.put(**{f"{it}__o": bytes(made.data)})
         self.assertSame("a.o", "b.o", lines=["the same"])
 
     def test_the_machine(self):
         data = an_object()
         found = self.differ(data, data[:18] + (183).to_bytes(2, "little") + data[20:])
-        self.assertEqual(found[0], "the machine is 62 (EM_X86_64) in a.o, and 183 (EM_AARCH64) in b.o")
+        self.assertEqual(
+            found[0], "the machine is 62 (EM_X86_64) in a.o, and 183 (EM_AARCH64) in b.o"
+        )
 
     def test_a_limit(self):
-        more, other = ([(b".s%d" % it, 1, bytes([value]), {}) for it in range(30)] for value in (1, 2))
+        more, other = (
+            [(b".s%d" % it, 1, bytes([value]), {}) for it in range(30)] for value in (1, 2)
+        )
         self.put(a__o=an_object(more=more), b__o=an_object(more=other))
         self.assertEqual(len(self.same("a.o", "b.o")[1]), 10 + 2)
         self.assertEqual(len(self.same("--limit", "0", "a.o", "b.o")[1]), 30 + 1)
@@ -252,7 +383,9 @@ class ObjectTest(Case):
         for at in range(0, len(data), 3):
             self.put(b__o=data[:at] + bytes([data[at] ^ 0x11]) + data[at + 1 :])
             status, lines, said = self.same("a.o", "b.o")
-            self.assertEqual((status, bool(said)), (3, True) if said else (int(lines != ["the same"]), False))
+            self.assertEqual(
+                (status, bool(said)), (3, True) if said else (int(lines != ["the same"]), False)
+            )
             self.assertEqual(self.same("b.o", "a.o")[0], status)
 
 
@@ -263,21 +396,31 @@ class ImageTest(Case):
         other[0x41] = 0xC3
         self.put(a=one, b=one, c=bytes(other), d=padded(one))
         self.assertSame("a", "b", lines=["the same"])
-        self.assertDiffer("a", "c", lines=["section .text: offset 0x1 is 0x90 in a, and 0xc3 in c", "different"])
+        self.assertDiffer(
+            "a", "c", lines=["section .text: offset 0x1 is 0x90 in a, and 0xc3 in c", "different"]
+        )
         self.assertEqual(self.same("a", "d")[0], 1)
 
     def program(self, *segments):
-        """A program of these segments, of each its p_type and p_align. Their headers end the file."""
+        """A program of these segments, of each its p_type and p_align. Their headers end the
+        file."""
         made = Made(text())
-        rows = b"".join(struct.pack("<IIQQQQQQ", kind, 4, 0, 0, 0, 0, 0, align) for kind, align in segments)
+        rows = b"".join(
+            struct.pack("<IIQQQQQQ", kind, 4, 0, 0, 0, 0, 0, align) for kind, align in segments
+        )
         data = bytearray(made.with_bytes(16, b"\2")) + rows
-        data[32:40], data[54:58] = len(made.data).to_bytes(8, "little"), struct.pack("<HH", 56, len(segments))
+        data[32:40] = len(made.data).to_bytes(8, "little")
+        data[54:58] = struct.pack("<HH", 56, len(segments))
         return bytes(data)
 
     def test_program_headers(self):
         self.put(a=self.program((1, 1)), b=self.program((1, 2)), c=self.program((1, 1), (1, 1)))
-        self.assertDiffer("a", "b", lines=["program header 0: p_align is 0x1 in a, and 0x2 in b", "different"])
-        self.assertDiffer("a", "c", lines=["the number of program headers is 1 in a, and 2 in c", "different"])
+        self.assertDiffer(
+            "a", "b", lines=["program header 0: p_align is 0x1 in a, and 0x2 in b", "different"]
+        )
+        self.assertDiffer(
+            "a", "c", lines=["the number of program headers is 1 in a, and 2 in c", "different"]
+        )
 
     def test_entry_points(self):
         one = Made(text()).with_bytes(16, b"\2")
@@ -285,7 +428,8 @@ class ImageTest(Case):
         self.assertDiffer("a", "b", lines=["e_entry is 0x0 in a, and 0x5 in b", "different"])
 
     def test_entries_of_no_section(self):
-        """Their sh_name may be any number. They have no name, and the section is the first one of its name."""
+        """Their sh_name may be any number. They have no name, and the section is the first one of
+        its name."""
         made = Made((b"none", 0, b"", {}), text(), text(b".data"))
         at = made.at(2, "name")
         for number in (made.data[at : at + 4], b"\xff" * 4):
@@ -294,13 +438,22 @@ class ImageTest(Case):
             other = bytearray(one)
             other[made.starts[2] + 1] = 0xC3
             self.put(a=bytes(one), b=bytes(other))
-            self.assertDiffer("a", "b", lines=["section .text: offset 0x1 is 0x90 in a, and 0xc3 in b", "different"])
+            self.assertDiffer(
+                "a",
+                "b",
+                lines=["section .text: offset 0x1 is 0x90 in a, and 0xc3 in b", "different"],
+            )
 
     def test_what_is_no_section(self):
-        """The section headers are 64 bytes later: the first byte that differs is that of e_shoff."""
+        """The section headers are 64 bytes later: the first byte that differs is that of
+        e_shoff."""
         one = Made(text()).with_bytes(16, b"\2")
         self.put(a=one, d=padded(one))
-        self.assertDiffer("a", "d", lines=["the files differ at offset 0x28, in no content of a section", "different"])
+        self.assertDiffer(
+            "a",
+            "d",
+            lines=["the files differ at offset 0x28, in no content of a section", "different"],
+        )
 
     def test_a_program_that_is_rejected(self):
         self.put(bad=SHARING[:16] + b"\2" + SHARING[17:])
@@ -315,7 +468,10 @@ class StatusTest(Case):
     def test_rejected(self):
         status, lines, said = self.same("good.o", "bad.o")
         self.assertEqual((status, lines), (3, ["not compared"]))
-        words = "elfmap-same: bad.o: offset 0x72: SHARED_BYTE (33): the content of .text [0x40, 0x73) and of .data [0x72, 0x76) share"
+        words = (
+            "elfmap-same: bad.o: offset 0x72: SHARED_BYTE (33): the content of .text [0x40, 0x73)"
+            " and of .data [0x72, 0x76) share"
+        )
         self.assertTrue(said[0].startswith(words), said)
         for name in ("bad.o", "text", "narrow.o", "empty"):
             self.assertEqual(self.same(name, name)[0], 3, name)
@@ -324,24 +480,42 @@ class StatusTest(Case):
     def test_an_object_that_would_be_too_long(self):
         """Its canonical layout has a byte at 2^30."""
         self.put(long__o=bytes(Made((b".text", 1, b"\x90", dict(align=1 << 30))).data))
-        words = ["elfmap-same: long.o: the canonical layout of its object would be longer than 2^30 bytes"]
+        words = [
+            "elfmap-same: long.o: the canonical layout of its object would be longer than 2^30"
+            " bytes"
+        ]
         self.assertEqual(self.same("good.o", "long.o"), (3, ["not compared"], words))
 
     def test_what_is_not_compared_is_told_beside_what_differs(self):
         for side, content in (("old", b"\x90"), ("new", b"\xc3")):
-            self.put(**{f"{side}/x__o": an_object(content=content), f"{side}/y__o": GOOD, f"{side}/z__o": GOOD})
+            self.put(
+                **{
+                    f"{side}/x__o": an_object(content=content),
+                    f"{side}/y__o": GOOD,
+                    f"{side}/z__o": GOOD,
+                }
+            )
         self.put(**{"new/y__o": SHARING, "new/z__o": SHARING})
         status, lines, said = self.same("old", "new")
-        self.assertEqual((status, lines[-1], len(said)), (3, "0 the same, 1 different, 2 not compared", 2))
+        self.assertEqual(
+            (status, lines[-1], len(said)), (3, "0 the same, 1 different, 2 not compared", 2)
+        )
 
     def test_a_full_device(self):
         with open("/dev/full", "wb") as out:
-            ran = subprocess.run([*PROGRAM, "good.o", "good.o"], stdout=out, stderr=subprocess.PIPE, env=ENVIRONMENT)
-        self.assertEqual((ran.returncode, ran.stderr), (3, b"elfmap-same: no space left on device\n"))
+            ran = subprocess.run(
+                [*PROGRAM, "good.o", "good.o"], stdout=out, stderr=subprocess.PIPE, env=ENVIRONMENT
+            )
+        self.assertEqual(
+            (ran.returncode, ran.stderr), (3, b"elfmap-same: no space left on device\n")
+        )
 
     def test_there_is_no_memory(self):
         with unittest.mock.patch("elfmap.rewrite", side_effect=MemoryError):
-            self.assertEqual(self.same("good.o", "good.o"), (3, ["not compared"], ["elfmap-same: good.o: there is no memory for it"]))
+            self.assertEqual(
+                self.same("good.o", "good.o"),
+                (3, ["not compared"], ["elfmap-same: good.o: there is no memory for it"]),
+            )
 
     def test_a_link_that_is_named(self):
         os.symlink("good.o", "link")
@@ -360,13 +534,20 @@ class StatusTest(Case):
             self.assertEqual(self.same(name, name)[0], 3, name)
 
     def test_usage(self):
-        for words in ([], ["good.o"], ["good.o", "good.o", "good.o"], ["--none", "good.o", "good.o"]):
+        for words in (
+            [],
+            ["good.o"],
+            ["good.o", "good.o", "good.o"],
+            ["--none", "good.o", "good.o"],
+        ):
             self.assertEqual(self.same(*words)[0], 2)
 
     def test_a_closed_pipe_ends_it_silently(self):
         reading, writing = os.pipe()
         os.close(reading)
-        ran = subprocess.run([*PROGRAM, "good.o", "good.o"], stdout=writing, stderr=subprocess.PIPE, env=ENVIRONMENT)
+        ran = subprocess.run(
+            [*PROGRAM, "good.o", "good.o"], stdout=writing, stderr=subprocess.PIPE, env=ENVIRONMENT
+        )
         os.close(writing)
         # As the shell says of a program that SIGPIPE ends.
         self.assertEqual((ran.returncode, ran.stderr), (128 + 13, b""))
@@ -380,7 +561,11 @@ class ArchiveTest(Case):
         changed = an_object(content=b"\xc3" * 0x33)
         one = self.archive((b"a.o", an_object()), (b"b.o", GOOD), (b"b.o", GOOD), (b"text", b"1"))
         other = self.archive((b"a.o", changed), (b"b.o", GOOD), (b"c.o", GOOD), (b"text", b"2"))
-        self.put(a__a=one, b__a=other, c__a=self.archive((b"a.o", padded(an_object())), (b"b.o", GOOD), (b"b.o", GOOD)))
+        self.put(
+            a__a=one,
+            b__a=other,
+            c__a=self.archive((b"a.o", padded(an_object())), (b"b.o", GOOD), (b"b.o", GOOD)),
+        )
         self.assertSame("a.a", "a.a", lines=["3 the same; skipped: 1 not ELF"])
         lines = [
             "(b.o) number 2: it is only in a.a",
@@ -392,11 +577,22 @@ class ArchiveTest(Case):
         self.assertEqual(self.same("a.a", "c.a")[1][0], "(text): it is only in a.a")
 
     def test_another_order(self):
-        self.put(a__a=self.archive((b"a.o", GOOD), (b"b.o", GOOD)), b__a=self.archive((b"b.o", GOOD), (b"a.o", GOOD)))
-        self.assertDiffer("a.a", "b.a", lines=["its members are in another order", "2 the same, 1 different"])
+        self.put(
+            a__a=self.archive((b"a.o", GOOD), (b"b.o", GOOD)),
+            b__a=self.archive((b"b.o", GOOD), (b"a.o", GOOD)),
+        )
+        self.assertDiffer(
+            "a.a", "b.a", lines=["its members are in another order", "2 the same, 1 different"]
+        )
 
     def test_thin(self):
-        self.put(**{"good__o": GOOD, "thin__a": thin(b"good.o"), "whole__a": self.archive((b"good.o", GOOD))})
+        self.put(
+            **{
+                "good__o": GOOD,
+                "thin__a": thin(b"good.o"),
+                "whole__a": self.archive((b"good.o", GOOD)),
+            }
+        )
         self.assertSame("thin.a", "whole.a", lines=["the same"])
         os.unlink("good.o")
         self.assertEqual(self.same("thin.a", "whole.a")[0], 3)
@@ -408,7 +604,10 @@ class ArchiveTest(Case):
             self.assertIn(self.same("whole.a", "cut.a")[0], (1, 3))
         # What is after the damage is not known.
         status, _, said = self.same("cut.a", "cut.a")
-        self.assertEqual((status, said[0].startswith("elfmap-same: cut.a: the archive is damaged at offset ")), (3, True))
+        self.assertEqual(
+            (status, said[0].startswith("elfmap-same: cut.a: the archive is damaged at offset ")),
+            (3, True),
+        )
 
     def test_an_archive_in_an_archive(self):
         nested = GOOD
@@ -421,7 +620,13 @@ class ArchiveTest(Case):
 class TreeTest(Case):
     def test_trees(self):
         for side, content in (("old", b"\x90" * 0x33), ("new", b"\xc3" * 0x33)):
-            self.put(**{f"{side}/a/x__o": an_object(), f"{side}/a/y__o": an_object(content=content), f"{side}/log": side.encode()})
+            self.put(
+                **{
+                    f"{side}/a/x__o": an_object(),
+                    f"{side}/a/y__o": an_object(content=content),
+                    f"{side}/log": side.encode(),
+                }
+            )
         self.put(**{"old/a/gone__o": GOOD, "new/b/more__o": GOOD, "new/b/more__txt": b""})
         lines = [
             "b/more.o: it is only in new",
@@ -437,25 +642,46 @@ class TreeTest(Case):
 
     def test_what_is_on_one_side(self):
         """In the order of names; with --others also what is no ELF file."""
-        self.put(**{f"old/a/{it}__o": GOOD for it in "cab"}, **{"old/log": b"text", "old/narrow": CLASS_32, "old/lib__a": GNU})
+        self.put(
+            **{f"old/a/{it}__o": GOOD for it in "cab"},
+            **{"old/log": b"text", "old/narrow": CLASS_32, "old/lib__a": GNU},
+        )
         os.mkdir("new")
         only = [f"{it}: it is only in old" for it in ("a/a.o", "a/b.o", "a/c.o", "lib.a")]
-        self.assertDiffer("old", "new", lines=[*only, "0 the same, 4 only in old; skipped: 1 not ELF, 1 of class 32"])
-        lines = [*only, "log: it is only in old", "narrow: it is only in old", "0 the same, 6 only in old"]
+        self.assertDiffer(
+            "old",
+            "new",
+            lines=[*only, "0 the same, 4 only in old; skipped: 1 not ELF, 1 of class 32"],
+        )
+        lines = [
+            *only,
+            "log: it is only in old",
+            "narrow: it is only in old",
+            "0 the same, 6 only in old",
+        ]
         self.assertDiffer("--others", "old", "new", lines=lines)
 
     def test_an_object_and_an_empty_file(self):
         self.put(**{"a/x__o": GOOD, "b/x__o": b"", "a/y__o": b"", "b/y__o": b"x"})
-        lines = ["x.o: it is an object in a, and no ELF file in b", "0 the same, 1 different; skipped: 1 not ELF"]
+        lines = [
+            "x.o: it is an object in a, and no ELF file in b",
+            "0 the same, 1 different; skipped: 1 not ELF",
+        ]
         self.assertDiffer("a", "b", lines=lines)
 
     def test_other_files(self):
         long = bytearray(3 << 20)
-        self.put(**{"a/front": b"a line\n", "b/front": b"a line\nand another\n", "a/long": bytes(long)})
+        self.put(
+            **{"a/front": b"a line\n", "b/front": b"a line\nand another\n", "a/long": bytes(long)}
+        )
         long[0x200005] = 1
         self.put(**{"b/long": bytes(long), "a/same": b"text", "b/same": b"text"})
         self.assertSame("a", "b", lines=["0 the same; skipped: 3 not ELF"])
-        lines = ["front: its length is 7 in a, and 19 in b", "long: the files differ at offset 0x200005", "1 the same, 2 different"]
+        lines = [
+            "front: its length is 7 in a, and 19 in b",
+            "long: the files differ at offset 0x200005",
+            "1 the same, 2 different",
+        ]
         self.assertDiffer("--others", "a", "b", lines=lines)
 
     def test_the_same_tree(self):
@@ -465,7 +691,10 @@ class TreeTest(Case):
 
     def test_kinds_that_differ(self):
         self.put(**{"a/x": GOOD, "b/x/y": GOOD, "a/z": GOOD, "b/z": GNU})
-        lines = ["x: it is a file in a, and a directory in b", "z: it is an object in a, and an archive in b"]
+        lines = [
+            "x: it is a file in a, and a directory in b",
+            "z: it is an object in a, and an archive in b",
+        ]
         self.assertDiffer("a", "b", lines=[*lines, "0 the same, 2 different"])
         self.assertEqual(self.same("a", "a/x")[0], 1)
 
@@ -501,8 +730,12 @@ class TreeTest(Case):
 
     def test_a_folder_that_can_not_be_read(self):
         self.put(**{"a/x__o": GOOD, "b/x__o": GOOD})
-        with unittest.mock.patch("os.listdir", side_effect=PermissionError(13, "Permission denied")):
-            self.assertEqual(self.same("a", "b"), (3, ["not compared"], ["elfmap-same: a: permission denied"]))
+        with unittest.mock.patch(
+            "os.listdir", side_effect=PermissionError(13, "Permission denied")
+        ):
+            self.assertEqual(
+                self.same("a", "b"), (3, ["not compared"], ["elfmap-same: a: permission denied"])
+            )
 
 
 class ShrinkTest(Case):
@@ -515,7 +748,10 @@ class ShrinkTest(Case):
             return whole(source)
 
         with unittest.mock.patch.object(same, "whole_content", cut):
-            self.assertEqual(self.same("a.o", "b.o"), (3, ["not compared"], ["elfmap-same: a.o: it became shorter while it was read"]))
+            self.assertEqual(
+                self.same("a.o", "b.o"),
+                (3, ["not compared"], ["elfmap-same: a.o: it became shorter while it was read"]),
+            )
 
 
 if __name__ == "__main__":

@@ -11,9 +11,6 @@ from .python_sources import SETTINGS, own_files, package_files
 from .suite import Tally, Test, flag
 from .tree import TOP, Options, read_text, said
 
-# How long the lines of the package for Python are, until it is laid out like the tools.
-PACKAGE_COLUMNS = 140
-
 
 def columns() -> int:
     """How long lines are, by black's settings."""
@@ -79,10 +76,9 @@ def by_black(files: list[str], *words: str) -> bool:
     options=(flag("write", "format it"),),
 )
 def try_format(tally: Tally, options: Options) -> None:
-    how = [] if options.write else ["--check"]
-    is_laid_out = by_black(own_files(), *how)
-    is_laid_out &= by_black(package_files(), "--line-length", str(PACKAGE_COLUMNS), *how)
+    files = [*own_files(), *package_files()]
+    is_laid_out = by_black(files, *([] if options.write else ["--check"]))
     tally.check(is_laid_out, "the Python is not formatted: `tools/test format --write` does it")
-    for path in own_files():
+    for path in files:
         wrong = list(left_open(path))
         tally.check(not wrong, "\n".join(wrong))
