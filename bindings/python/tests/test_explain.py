@@ -24,7 +24,7 @@ from tests.made import BROKEN_SYMBOLS, ENVIRONMENT, GNU, GOOD, LONG, SHARING, Fo
 from tests.made import Made, archive_member, relocations, setUpModule, symbols, text, thin  # noqa: F401
 
 sys.path.insert(0, str(build.REPOSITORY / "tools" / "lib"))
-from elfmap_tools.cases import cases_of  # noqa: E402
+from elfmap_tools.written_cases import cases_of  # noqa: E402
 
 CASES = build.REPOSITORY / "cases/explain.txt"
 PROGRAM = [sys.executable, "-m", "elfmap.explain"]

@@ -32,7 +32,7 @@ from tests.made import BROKEN_SYMBOLS, BSD, CLASS_32, ENVIRONMENT, GNU, GOOD, LO
 from tests.made import FolderCase, Made, archive_member, relocations, setUpModule, symbols, text, thin  # noqa: F401
 
 sys.path.insert(0, str(build.REPOSITORY / "tools" / "lib"))
-from elfmap_tools.cases import cases_of  # noqa: E402
+from elfmap_tools.written_cases import cases_of  # noqa: E402
 
 PROGRAM = [sys.executable, "-m", "elfmap.lint"]
 SHARED = (

@@ -23,7 +23,8 @@ from tests.made import ENVIRONMENT, FolderCase, Made, relocations, setUpModule, 
 from tests.test_hostile import run
 
 sys.path.insert(0, str(build.REPOSITORY / "tools" / "lib"))
-from elfmap_tools.slow_files import MB, Shape  # noqa: E402
+from elfmap_tools.bounds import MB  # noqa: E402
+from elfmap_tools.shapes import Shape  # noqa: E402
 
 MOST = 200
 RELA, HASH, GROUP = 4, 5, 17
