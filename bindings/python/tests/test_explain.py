@@ -38,7 +38,7 @@ from tests.made import (
 )
 
 sys.path.insert(0, str(build.REPOSITORY / "tools" / "lib"))
-from elfmap_tools.cases import cases_of  # noqa: E402
+from elfmap_tools.written_cases import cases_of  # noqa: E402
 
 CASES = build.REPOSITORY / "cases/explain.txt"
 PROGRAM = [sys.executable, "-m", "elfmap.explain"]

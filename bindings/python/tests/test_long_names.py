@@ -32,7 +32,8 @@ from tests.made import (
 from tests.test_hostile import run
 
 sys.path.insert(0, str(build.REPOSITORY / "tools" / "lib"))
-from elfmap_tools.slow_files import MB, Shape  # noqa: E402
+from elfmap_tools.bounds import MB  # noqa: E402
+from elfmap_tools.shapes import Shape  # noqa: E402
 
 MOST = 200
 RELA = 4
