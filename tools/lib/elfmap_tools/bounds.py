@@ -15,8 +15,10 @@ from typing import IO, NamedTuple
 
 import generated
 
+from . import failing_library
+from .failing_library import environment, report_of
 from .instructions import COMMANDS, ENVIRONMENT, VALGRIND
-from .tree import PACKAGE, PROGRAM, by_cc, read_text, run, write
+from .tree import PACKAGE, PROGRAM, run, write
 
 MB = 1000000
 # How long the files of families are.
@@ -52,8 +54,6 @@ OF_PYTHON = {
 }
 PYTHON_SECONDS = 0.3
 PYTHON_MEMORY = 32 << 20
-# How the library is made that counts calls, and says how much memory was there at once.
-COUNTING = "-shared -fPIC -O1 -w", "failing.c"
 PERF = ["perf", "stat", "-x,", "-e", "instructions:u"]
 LONGEST = 100
 STACK = 1 << 20
@@ -108,21 +108,15 @@ def read_some(output: IO[bytes]) -> tuple[int, bool]:
 
 
 def cost_of(folder: str, command: str, file: str) -> Cost:
-    """Runs a command on a file."""
-    report = write(f"{folder}/report", "")
-    own = {
-        "LD_PRELOAD": f"{folder}/counting.so",
-        "FAILING_CALL": f"count 1 nothing {report}",
-        "PYTHONPATH": PACKAGE,
-        "ELFMAP_LIB_DIR": folder,
-    }
+    """Runs a command on a file. The library that counts says how much memory was there at once."""
+    own = {"PYTHONPATH": PACKAGE, "ELFMAP_LIB_DIR": folder}
     # A write to a pipe that nobody reads is an error, and no signal: Python ignores this one.
     ran = subprocess.Popen(
         limited(command, words_of(command, file, f"{folder}/rules")),
         stdin=subprocess.DEVNULL,
         stdout=subprocess.PIPE,
         stderr=subprocess.DEVNULL,
-        env=os.environ | own,
+        env=environment(folder, "count 1 nothing") | own,
         restore_signals=False,
     )
     assert ran.stdout
@@ -130,7 +124,7 @@ def cost_of(folder: str, command: str, file: str) -> Cost:
     ran.stdout.close()
     _, ended, usage = os.wait4(ran.pid, 0)
     ran.returncode = os.waitstatus_to_exitcode(ended)
-    said = dict(line.split() for line in read_text(report).splitlines())
+    said = dict(line.split() for line in report_of(folder))
     seconds = usage.ru_utime + usage.ru_stime
     moved = os.path.getsize(file) + output
     return Cost(ran.returncode, is_cut, seconds, moved, int(said.get("peak", 0)))
@@ -194,7 +188,7 @@ def tables_in(file: bytes) -> int:
 
 def begin(folder: str) -> None:
     """Puts into a folder what calls need: a library that counts, and rules."""
-    by_cc(f"{folder}/counting.so", *COUNTING)
+    failing_library.make(folder)
     write(f"{folder}/rules", generated.RULES)
 
 
