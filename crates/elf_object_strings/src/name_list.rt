@@ -10,7 +10,7 @@ use crate::sorting::{compare_ends, is_suffix};
 use std::cmp::Ordering;
 use std::marker::Model;
 
-/// Names of up to so many bytes are compared as they are: that takes no longer than to look up where they end.
+/// Names of up to so many bytes are compared as they are: that takes no longer than to look up their leaders.
 pub const SHORT_NAME: usize = 64;
 
 /// Names, and for each where it ends in the string table that it was read from; 0, or none, if that is not known. Of two names with one end
@@ -141,6 +141,9 @@ impl<'n, 'a> NameList<'n, 'a> {
     {
         let left = self.name(a);
         let right = self.name(b);
+        if left.len() <= SHORT_NAME {
+            return compare_ends(left, right);
+        }
         let run = run_at(self.runs, a);
         let other = run_at(self.runs, b);
         if run.last > 0 && other.last > 0 {
@@ -156,6 +159,9 @@ impl<'n, 'a> NameList<'n, 'a> {
     {
         let name = self.name(a);
         let other = self.name(b);
+        if name.len() <= SHORT_NAME {
+            return is_suffix(name, other);
+        }
         let run = run_at(self.runs, a);
         let last = run_at(self.runs, b).last;
         if run.last > 0 && last > 0 {
