@@ -148,7 +148,7 @@ begin_last (x ∷ xs) ys =
     let sum : suc (length xs + length ys) ≡ suc (length xs) + length ys = omega arith in
     rw (same_number x) (begin_last xs ys ∙ sym (next_number (length xs + length ys) (length xs)) ∙ ap (λ (n : ℕ). nat_cmp n (suc (length xs))) sum)
 
-shorter : (name other : List ℕ) → IsSuffix name other →
+pub shorter : (name other : List ℕ) → IsSuffix name other →
     slice_cmp nat_cmp (reverse name) (reverse other) ≡ nat_cmp (length name) (length other)
 shorter name other (front, is) =
     let turned : reverse other ≡ reverse name ++ reverse front = ap reverse is ∙ reverse-append front name in
@@ -158,7 +158,7 @@ shorter name other (front, is) =
     let sum : length name + length front ≡ length other = omega arith in
     rw turned (begin_first (reverse name) (reverse front) ∙ rw (long, more, sum) refl)
 
-longer : (name other : List ℕ) → IsSuffix name other →
+pub longer : (name other : List ℕ) → IsSuffix name other →
     slice_cmp nat_cmp (reverse other) (reverse name) ≡ nat_cmp (length other) (length name)
 longer name other (front, is) =
     let turned : reverse other ≡ reverse name ++ reverse front = ap reverse is ∙ reverse-append front name in

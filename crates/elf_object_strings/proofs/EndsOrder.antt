@@ -19,14 +19,14 @@ use Rattle.elf_object_strings.specs.declared.sorting.Numbered.{Numbered}
 
 -- ---- names that are read from their ends on
 
-abbrev IsNotLess : List ℕ → List ℕ → Type 0
+abbrev pub IsNotLess : List ℕ → List ℕ → Type 0
 IsNotLess a b = is_lt (slice_cmp nat_cmp a b) ≡ false
 
-abbrev Begins : List ℕ → List ℕ → Type 0
+abbrev pub Begins : List ℕ → List ℕ → Type 0
 Begins a b = (rest : List ℕ) × (b ≡ a ++ rest)
 
 -- what comes first decides, and where it is equal what follows
-step : (x y : ℕ) (o : Ordering) → is_lt (ordering_then (nat_cmp x y) o) ≡ false → (y ≤ x) × (x ≡ y → is_lt o ≡ false)
+pub step : (x y : ℕ) (o : Ordering) → is_lt (ordering_then (nat_cmp x y) o) ≡ false → (y ≤ x) × (x ≡ y → is_lt o ≡ false)
 step x y o is = by (nat_cmp x y) (ranked x y (nat_cmp x y) refl) is where
   by : (r : Ordering) → MatchOrdering r (x < y) (x ≡ y) (y < x) → is_lt (ordering_then r o) ≡ false → (y ≤ x) × (x ≡ y → is_lt o ≡ false)
   by Less lt is_not = absurd (true≢false is_not)
@@ -34,7 +34,7 @@ step x y o is = by (nat_cmp x y) (ranked x y (nat_cmp x y) refl) is where
   by Greater gt is_not = (omega arith, λ same. absurd (omega arith))
 
 -- a name that begins a greater one begins those between
-between : (a b c : List ℕ) → IsNotLess b a → IsNotLess c b → Begins a c → Begins a b
+pub between : (a b c : List ℕ) → IsNotLess b a → IsNotLess c b → Begins a c → Begins a b
 between [] b c low high begins = (b, refl)
 between (x ∷ a) [] c low high begins = absurd (true≢false low)
 between (x ∷ a) (y ∷ b) [] low high begins = absurd (true≢false high)
@@ -63,10 +63,10 @@ alike (x ∷ a) (z ∷ c) least (rest, is) =
     let rest_alike : c ≡ a = alike a c (both.1 (sym head)) (rest, tail) in
     cc
 
-begins_reversed : (a b : List ℕ) → IsSuffix a b → Begins (reverse a) (reverse b)
+pub begins_reversed : (a b : List ℕ) → IsSuffix a b → Begins (reverse a) (reverse b)
 begins_reversed a b (front, is) = (reverse front, ap reverse is ∙ reverse-append front a)
 
-suffix_reversed : (a b : List ℕ) → Begins (reverse a) (reverse b) → IsSuffix a b
+pub suffix_reversed : (a b : List ℕ) → Begins (reverse a) (reverse b) → IsSuffix a b
 suffix_reversed a b (rest, is) =
     let turned : reverse (reverse b) ≡ reverse (reverse a ++ rest) = ap reverse is in
     let parts : reverse (reverse a ++ rest) ≡ reverse rest ++ reverse (reverse a) = reverse-append (reverse a) rest in
@@ -88,7 +88,7 @@ second_part Less p equal is = absurd (true≢false (ap is_lt equal))
 second_part Equal p equal is = is
 second_part Greater p equal is = cc
 
-at_ends : (sorted : List (List ℕ)) (indexes : List ℕ) → AreInEndsOrder sorted indexes → (q r : ℕ) → q ≤ r → r < length sorted →
+pub at_ends : (sorted : List (List ℕ)) (indexes : List ℕ) → AreInEndsOrder sorted indexes → (q r : ℕ) → q ≤ r → r < length sorted →
     IsNotLess (reverse (get_or sorted q [])) (reverse (get_or sorted r []))
 at_ends sorted indexes ordered q r le lt =
     let by_names = slice_cmp nat_cmp (reverse (get_or sorted q [])) (reverse (get_or sorted r [])) in
@@ -142,7 +142,7 @@ length-indexes_in sorted = length-map sorted (λ (it : Numbered). it.index)
 abbrev pub name_of : List (List ℕ) → List Numbered → ℕ → List ℕ
 name_of names sorted q = get_or names (get_or sorted q no_name).index []
 
-name_at : (names : List (List ℕ)) (sorted : List Numbered) (q : ℕ) → q < length sorted →
+pub name_at : (names : List (List ℕ)) (sorted : List Numbered) (q : ℕ) → q < length sorted →
     get_or (names_by_ends names sorted) q [] ≡ name_of names sorted q
 name_at names sorted q lt = get_or-map (λ (it : Numbered). get_or names it.index []) sorted q no_name [] lt
 

@@ -4,4 +4,7 @@ mod Written
 mod Numbering
 mod Ends
 mod EndsOrder
+mod LeaderOrder
+mod CommonEnd
+mod Reach
 pub mod Public

@@ -1,3 +1,4 @@
 -- The words of this crate's contracts.
 pub mod StringTable
 pub mod Sorting
+pub mod Leaders

@@ -9,7 +9,9 @@
 //! ```
 #![tactic(auto)]
 
+mod bounds;
 mod laws;
+mod leaders;
 mod name_list;
 mod sorting;
 mod table;

@@ -1,26 +1,27 @@
-//! The names that a string table is to hold, with what is known of where they were read.
-ghost use Rattle.std.specs.Prelude.{◌≡◌, [], get_or, length, reverse};
-ghost use Rattle.std.specs.Bool.{OnTrue};
+//! The names that a string table is to hold, with what is known of those that share bytes.
+ghost use Rattle.std.specs.Prelude.{◌≡◌, ◌≤◌, [], get_or, length, reverse};
+ghost use Rattle.std.specs.Bool.{OnFalse, OnTrue};
 ghost use Rattle.std.specs.Cmp.Lexicographic.{slice_cmp};
 ghost use Rattle.std.specs.Ordering.{nat_cmp};
-ghost use Rattle.elf_object_strings.specs.StringTable.{AreTails, IsTailOf, texts, is_suffix};
+ghost use Rattle.elf_object_strings.specs.Leaders.{AreLed, no_run};
+ghost use Rattle.elf_object_strings.specs.StringTable.{AreTails, IsSuffix, is_suffix, texts};
 
 use crate::sorting::{compare_ends, is_suffix};
 use std::cmp::Ordering;
 use std::marker::Model;
 
-/// Names of up to so many bytes are compared as they are: that takes no longer than to look up their ends.
+/// Names of up to so many bytes are compared as they are: that takes no longer than to look up their leaders.
 pub const SHORT_NAME: usize = 64;
 
 /// Names, and for each where it ends in the string table that it was read from; 0, or none, if that is not known. Of two names with one end
-/// the longer one ends with the other, so neither has to be read to see it.
+/// the longer one ends with the other.
 #[derive(Drop)]
-pub(crate) struct NameList<'n, 'a> {
+pub(crate) struct ReadNames<'n, 'a> {
     names: &'n [&'a [u8]],
     ends: &'n [u32],
 }
 
-impl<'n, 'a> Model for NameList<'n, 'a> {
+impl<'n, 'a> Model for ReadNames<'n, 'a> {
     ghost use Rattle.std.specs.Prelude.{ℕ, List};
 
     ghost Value = { List (List ℕ) };
@@ -33,13 +34,91 @@ impl<'n, 'a> Model for NameList<'n, 'a> {
     ghost invariant = { λ list. AreTails (texts list.names.now) list.ends.now };
 }
 
-impl<'n, 'a> NameList<'n, 'a> {
+impl<'n, 'a> ReadNames<'n, 'a> {
     /// These names with these ends.
-    pub(crate) fn new(names: &'n [&'a [u8]], ends: &'n [u32]) -> NameList<'n, 'a>
+    pub(crate) fn new(names: &'n [&'a [u8]], ends: &'n [u32]) -> ReadNames<'n, 'a>
         requires { AreTails (texts names.now) ends.now }
         ensures { result ≡ texts names.now }
     {
-        NameList { names, ends }
+        ReadNames { names, ends }
+    }
+
+    /// How many they are.
+    pub(crate) fn count(&self) -> usize
+        ensures { result ≡ length self.now }
+    {
+        self.names.len()
+    }
+
+    /// The name at this index; beyond the last one the empty name.
+    pub(crate) fn name(&self, index: usize) -> &'a [u8]
+        ensures { result.now ≡ get_or self.now index [] }
+    {
+        name_at(self.names, index)
+    }
+
+    /// Where the name at this index ends, if it is long and that is known; else 0.
+    pub(crate) fn long_end(&self, index: usize) -> u32 {
+        if self.name(index).len() > SHORT_NAME {
+            number_at(self.ends, index)
+        } else {
+            0
+        }
+    }
+
+    /// Whether the name at `b` is known to end with the one at `a`.
+    pub(crate) fn is_tail(&self, a: usize, b: usize) -> bool
+        ensures { OnTrue result (IsSuffix (get_or self.now a []) (get_or self.now b [])) }
+    {
+        let end = number_at(self.ends, a);
+        end > 0 && end == number_at(self.ends, b) && self.name(a).len() <= self.name(b).len()
+    }
+}
+
+/// The leaders that end with a name: the positions of the first and the last, each plus 1; 0 where they are not known.
+#[derive(Clone, Copy, Debug)]
+pub(crate) struct Run {
+    pub(crate) first: u32,
+    pub(crate) last: u32,
+}
+
+impl Run {
+    /// Whether the leader of this number is one of them.
+    fn has(self, number: u32) -> bool
+        ensures yes { OnTrue result (self.first ≤ number × number ≤ self.last) }
+        ensures no { OnFalse result (self.first ≤ number → number ≤ self.last → ⊥) }
+    {
+        self.first <= number && number <= self.last
+    }
+}
+
+/// Names, and the leaders of those that are long and may share bytes, by which these are compared without a look at them.
+#[derive(Drop)]
+pub(crate) struct NameList<'n, 'a> {
+    names: &'n [&'a [u8]],
+    runs: &'n [Run],
+}
+
+impl<'n, 'a> Model for NameList<'n, 'a> {
+    ghost use Rattle.std.specs.Prelude.{ℕ, List};
+
+    ghost Value = { List (List ℕ) };
+
+    ghost use Rattle.elf_object_strings.specs.Leaders.{AreLed};
+    ghost use Rattle.elf_object_strings.specs.StringTable.{texts};
+
+    ghost view = { λ list. texts list.names.now };
+
+    ghost invariant = { λ list. AreLed (texts list.names.now) list.runs.now };
+}
+
+impl<'n, 'a> NameList<'n, 'a> {
+    /// These names with these leaders.
+    pub(crate) fn new(names: &'n [&'a [u8]], runs: &'n [Run]) -> NameList<'n, 'a>
+        requires { AreLed (texts names.now) runs.now }
+        ensures { result ≡ texts names.now }
+    {
+        NameList { names, runs }
     }
 
     /// The names.
@@ -50,23 +129,10 @@ impl<'n, 'a> NameList<'n, 'a> {
     }
 
     /// The name at this index; beyond the last one the empty name.
-    fn name(&self, index: usize) -> &'a [u8]
+    pub(crate) fn name(&self, index: usize) -> &'a [u8]
         ensures { result.now ≡ get_or self.now index [] }
     {
-        if index < self.names.len() {
-            self.names[index]
-        } else {
-            &[]
-        }
-    }
-
-    /// Whether both names are known to have one end.
-    fn have_one_end(&self, a: usize, b: usize) -> bool
-        ensures first { OnTrue result (IsTailOf self.now a b) }
-        ensures second { OnTrue result (IsTailOf self.now b a) }
-    {
-        let end = end_at(self.ends, a);
-        end > 0 && end == end_at(self.ends, b)
+        name_at(self.names, index)
     }
 
     /// The order of the names at two indexes, read from their last bytes on.
@@ -75,8 +141,13 @@ impl<'n, 'a> NameList<'n, 'a> {
     {
         let left = self.name(a);
         let right = self.name(b);
-        if left.len() > SHORT_NAME && self.have_one_end(a, b) {
-            left.len().cmp(&right.len())
+        if left.len() <= SHORT_NAME {
+            return compare_ends(left, right);
+        }
+        let run = run_at(self.runs, a);
+        let other = run_at(self.runs, b);
+        if run.last > 0 && other.last > 0 {
+            other.last.cmp(&run.last).then(left.len().cmp(&right.len()))
         } else {
             compare_ends(left, right)
         }
@@ -88,17 +159,48 @@ impl<'n, 'a> NameList<'n, 'a> {
     {
         let name = self.name(a);
         let other = self.name(b);
-        if name.len() > SHORT_NAME && self.have_one_end(a, b) {
-            name.len() <= other.len()
+        if name.len() <= SHORT_NAME {
+            return is_suffix(name, other);
+        }
+        let run = run_at(self.runs, a);
+        let last = run_at(self.runs, b).last;
+        if run.last > 0 && last > 0 {
+            run.has(last) && name.len() <= other.len()
         } else {
             is_suffix(name, other)
         }
     }
 }
 
-/// The end at this index; beyond the last one 0.
-fn end_at(ends: &[u32], index: usize) -> u32
-    ensures { result ≡ get_or ends.now index 0 }
+/// The name at this index; beyond the last one the empty name.
+fn name_at<'a>(names: &[&'a [u8]], index: usize) -> &'a [u8]
+    ensures { result.now ≡ get_or (texts names.now) index [] }
 {
-    if index < ends.len() { ends[index] } else { 0 }
+    if index < names.len() {
+        names[index]
+    } else {
+        &[]
+    }
+}
+
+/// The number at this index; beyond the last one 0.
+fn number_at(numbers: &[u32], index: usize) -> u32
+    ensures { result ≡ get_or numbers.now index 0 }
+{
+    if index < numbers.len() {
+        numbers[index]
+    } else {
+        0
+    }
+}
+
+/// The leaders of the name at this index; beyond the last one none is known.
+fn run_at(runs: &[Run], index: usize) -> Run
+    ensures { result ≡ get_or runs.now index no_run }
+{
+    if index < runs.len() {
+        runs[index]
+    } else {
+        Run { first: 0, last: 0 }
+    }
 }

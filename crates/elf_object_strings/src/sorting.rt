@@ -3,6 +3,8 @@ ghost use Rattle.std.specs.Cmp.Lexicographic.{slice_cmp};
 ghost use Rattle.std.specs.Ordering.{nat_cmp};
 ghost use Rattle.std.specs.Prelude.{◌≡◌, ◌<◌, length, reverse, IfSome, [], get_or, IfOk, true, ℕ, List};
 ghost use Rattle.std.specs.List.{All};
+ghost use Rattle.std.specs.List.Sorted.{IsPermutation};
+ghost use Rattle.elf_object_strings.specs.Leaders.{IsCommonEnd};
 ghost use Rattle.elf_object_strings.specs.Sorting.{AreWithoutEqualEnds, AreInEndsOrder, AreNumbered, HasEnd, end_number, ends_order, indexes_in, names_by_ends, numbered_order};
 ghost use Rattle.elf_object_strings.specs.StringTable.{IsSuffix, is_suffix, texts};
 ghost use Rattle.elf_field.specs.Bytes.{IsBytes};
@@ -18,6 +20,32 @@ pub(crate) fn is_suffix(name: &[u8], other: &[u8]) -> bool
     ensures { result ≡ is_suffix name.now other.now }
 {
     other.ends_with(name)
+}
+
+/// How long the longest name is that both end with, in bytes.
+pub(crate) fn common_end(a: &[u8], b: &[u8]) -> usize
+    ensures { IsCommonEnd a.now b.now result }
+{
+    let mut left = a;
+    let mut right = b;
+    while let Some((less_left, less_right)) = without_equal_ends(left, right) {
+        left = less_left;
+        right = less_right;
+    }
+    a.len() - left.len() + equal_bytes(left, right)
+}
+
+/// How many of the last bytes of both are equal. It compares byte by byte.
+fn equal_bytes(a: &[u8], b: &[u8]) -> usize
+    ensures { IsCommonEnd a.now b.now result }
+{
+    let most = a.len().min(b.len());
+    for count in 0..most {
+        if a[a.len() - 1 - count] != b[b.len() - 1 - count] {
+            return count;
+        }
+    }
+    most
 }
 
 /// The order of two names that are read from their last bytes on.
@@ -56,6 +84,17 @@ pub(crate) struct Numbered {
 }
 
 impl Numbered {
+    /// The name at an index.
+    pub(crate) fn new(name: &[u8], index: usize) -> Numbered
+        ensures end { (names : List (List ℕ)) → get_or names index [] ≡ name.now → HasEnd names result }
+        ensures index { result.index ≡ index }
+    {
+        Numbered {
+            index,
+            end: end_of(name),
+        }
+    }
+
     /// Whether the other name may end with this one, by the numbers alone: they are equal, or this name has fewer than eight bytes, and its
     /// number the last digit 0.
     pub(crate) fn may_be_tail(&self, other: &Numbered) -> bool
@@ -77,9 +116,19 @@ pub(crate) fn sorted_names(
     ensures order { IfOk result (λ sorted. AreInEndsOrder (names_by_ends list.now sorted.items) (indexes_in sorted.items)) }
     ensures ends { IfOk result (λ sorted. All (HasEnd list.now) sorted.items) }
 {
-    let mut sorted = number_names(alloc, list.names())?;
+    Ok(sort_by_ends(list, number_names(alloc, list.names())?))
+}
+
+/// Numbered names of a list, sorted by what they end with, as [`sorted_names`] sorts all of them.
+pub(crate) fn sort_by_ends(list: &NameList<'_, '_>, numbered: Vec<Numbered>) -> Vec<Numbered>
+    requires { All (HasEnd list.now) numbered.items }
+    ensures permutation { IsPermutation numbered.items result.items }
+    ensures order { AreInEndsOrder (names_by_ends list.now result.items) (indexes_in result.items) }
+    ensures ends { All (HasEnd list.now) result.items }
+{
+    let mut sorted = numbered;
     sorted.sort_unstable_by(|a, b| by_end(list, a, b));
-    Ok(sorted)
+    sorted
 }
 
 fn number_names(alloc: Global, names: &[&[u8]]) -> Result<Vec<Numbered>, AllocError>
@@ -88,8 +137,7 @@ fn number_names(alloc: Global, names: &[&[u8]]) -> Result<Vec<Numbered>, AllocEr
 {
     let mut numbered = Vec::with_capacity(alloc, names.len())?;
     for index in 0..names.len() {
-        let end = end_of(names[index]);
-        numbered.push(Numbered { index, end })?;
+        numbered.push(Numbered::new(names[index], index))?;
     }
     Ok(numbered)
 }

@@ -4,6 +4,7 @@ ghost use Rattle.std.specs.List.{All, range_with_len};
 ghost use Rattle.elf_object_strings.specs.StringTable.{AreOwners, AreTails, AreTheirOwn, HaveZeros, texts, is_suffix, AreZeroFree, HoldsEach, IsShortest, Shares, is_named, name_offset, string_table, HasEnds, with_name};
 ghost use Rattle.elf_object_strings.specs.Sorting.{AreBelow, AreRuns, GivesOwner, HasEnd, IsRun, AreInEndsOrder, AreNumbered, indexes_in, names_by_ends};
 
+use crate::leaders::runs_of;
 use crate::name_list::NameList;
 use crate::sorting::{Numbered, sorted_names};
 use elf_extent::OutOfMemory;
@@ -22,7 +23,8 @@ pub(crate) fn owners_of(
     requires { AreTails (texts names.now) ends.now }
     ensures { IfOk result (λ owners. AreOwners (texts names.now) owners.items) }
 {
-    let list = NameList::new(names, ends);
+    let runs = runs_of(alloc, names, ends)?;
+    let list = NameList::new(names, &runs);
     owners_in(alloc, &list, &sorted_names(alloc, &list)?)
 }
 

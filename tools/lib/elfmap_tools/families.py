@@ -22,7 +22,6 @@ NOT_YET: list[tuple[str, tuple[str, ...], Standing]] = [
     ("hash_tables_over_tails", ("lint --tables", "explain"), Standing(0.2)),
     ("symbols_of_one_name", (*OF_MAP, "link", *OF_OBJECT), Standing(0.3)),
     ("symbols_of_tails", (*OF_MAP, "link", *OF_OBJECT), Standing(0.3)),
-    ("symbols_of_two_equal_names", ("rewrite", *OF_OBJECT), Standing(0.5)),
     ("symbols_of_two_equal_names", (*OF_MAP, "link"), Standing(0.15)),
     ("sections_of_one_name", ("rewrite", *OF_OBJECT), Standing(0.6)),
     ("sections_of_one_name", (*OF_MAP, "link"), Standing(0.15)),

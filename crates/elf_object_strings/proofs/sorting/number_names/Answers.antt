@@ -1,4 +1,4 @@
-use Rattle.std.proofs.Common.{◌≡◌, ℕ, [], length, arith, refl, subst}
+use Rattle.std.proofs.Common.{◌≡◌, ℕ, [], length, arith, subst}
 use Rattle.std.proofs.lemmas.List.{get_or-map, length-map}
 use Rattle.elf_object_strings.specs.StringTable.{texts}
 use Rattle.elf_object_strings.proofs.Numbering.{AreNumberedTo, numbered_all, numbered_more}
@@ -16,8 +16,7 @@ loop-index-preserved c =
     let i = c.loop-index.index in
     let name = get_or-map (λ name. name.now) names i (record { ref_ptr = (0, 0); now = [] }) [] c.loop-index-test.true in
     rw c.in_ok-push.ensures.items
-    (numbered_more (texts names) i c.loop-index.numbered.items _ refl
-    (record { bytes = rw name c.end_of-end.ensures.bytes; number = rw name c.end_of-end.ensures.value }) c.loop-index.invariant)
+    (numbered_more (texts names) i c.loop-index.numbered.items _ c.new.ensures.index (c.new.ensures.end (texts names) name) c.loop-index.invariant)
 
 pub returns-clause-ends : goal.returns-clause-ends
 returns-clause-ends c = c.loop-index.invariant.ends

@@ -1,21 +1,9 @@
-use Rattle.std.proofs.Common.{rules}
-use Rattle.std.specs.Ordering.{is_lt}
-use Rattle.std.proofs.lemmas.Fn.{always_returns_same}
-use Rattle.std.proofs.lemmas.List.Sorted.{All-permutation, ranks_by}
-use Rattle.elf_object_strings.specs.Sorting.{HasEnd, numbered_order}
-use Rattle.elf_object_strings.proofs.Numbering.{numbered_in_order, numbered_permuted, numbered_total}
+use Rattle.elf_object_strings.proofs.Numbering.{numbered_permuted}
 use Rattle.elf_object_strings.proofs.sorting.sorted_names.Goals as goal
+
+pub sort_by_ends-requires : goal.sort_by_ends-requires
+sort_by_ends-requires c = rw c.names.ensures at c.in_ok-number_names.ensures.ends
 
 pub returns-clause-numbered : goal.returns-clause-numbered
 returns-clause-numbered c =
-    numbered_permuted _ _ _ c.sort_unstable_by.ensures.permutation (rw c.names.ensures at c.in_ok-sorted.ensures.numbered)
-
-pub returns-clause-ends : goal.returns-clause-ends
-returns-clause-ends c = All-permutation (HasEnd c.args.list.now) _ _ c.sort_unstable_by.ensures.permutation (rw c.names.ensures at c.in_ok-sorted.ensures.ends)
-
-pub returns-clause-order : goal.returns-clause-order
-returns-clause-order c =
-    let list = c.args.list.now in
-    numbered_in_order list _ (returns-clause-ends c)
-    (c.sort_unstable_by.ensures.sorted (λ a b. is_lt (numbered_order list a b)) (ranks_by (numbered_total list) (λ it. it))
-    (always_returns_same _ _ _ (λ a r q k. search rules)))
+    numbered_permuted _ _ _ c.sort_by_ends.ensures.permutation (rw c.names.ensures at c.in_ok-number_names.ensures.numbered)
