@@ -1,5 +1,5 @@
 //! The names that a string table is to hold, with what is known of those that share bytes.
-ghost use Rattle.std.specs.Prelude.{◌≡◌, ◌≤◌, [], get_or, length, reverse};
+ghost use Rattle.std.specs.Prelude.{◌≡◌, ◌≤◌, IfSome, [], get_or, length, reverse};
 ghost use Rattle.std.specs.Bool.{OnFalse, OnTrue};
 ghost use Rattle.std.specs.Cmp.Lexicographic.{slice_cmp};
 ghost use Rattle.std.specs.Ordering.{nat_cmp};
@@ -141,15 +141,26 @@ impl<'n, 'a> NameList<'n, 'a> {
     {
         let left = self.name(a);
         let right = self.name(b);
-        if left.len() <= SHORT_NAME {
-            return compare_ends(left, right);
+        if left.len() > SHORT_NAME {
+            if let Some(order) = self.order_by_leaders(a, b) {
+                return order;
+            }
         }
+        compare_ends(left, right)
+    }
+
+    /// Their order, if the leaders of both names are known.
+    fn order_by_leaders(&self, a: usize, b: usize) -> Option<Ordering>
+        ensures { IfSome result (λ order. order ≡ slice_cmp nat_cmp (reverse (get_or self.now a [])) (reverse (get_or self.now b []))) }
+    {
+        let left = self.name(a);
+        let right = self.name(b);
         let run = run_at(self.runs, a);
         let other = run_at(self.runs, b);
         if run.last > 0 && other.last > 0 {
-            other.last.cmp(&run.last).then(left.len().cmp(&right.len()))
+            Some(other.last.cmp(&run.last).then(left.len().cmp(&right.len())))
         } else {
-            compare_ends(left, right)
+            None
         }
     }
 
@@ -159,15 +170,26 @@ impl<'n, 'a> NameList<'n, 'a> {
     {
         let name = self.name(a);
         let other = self.name(b);
-        if name.len() <= SHORT_NAME {
-            return is_suffix(name, other);
+        if name.len() > SHORT_NAME {
+            if let Some(is_tail) = self.is_tail_by_leaders(a, b) {
+                return is_tail;
+            }
         }
+        is_suffix(name, other)
+    }
+
+    /// Whether it does, if the leaders of both names are known.
+    fn is_tail_by_leaders(&self, a: usize, b: usize) -> Option<bool>
+        ensures { IfSome result (λ is_tail. is_tail ≡ is_suffix (get_or self.now a []) (get_or self.now b [])) }
+    {
+        let name = self.name(a);
+        let other = self.name(b);
         let run = run_at(self.runs, a);
         let last = run_at(self.runs, b).last;
         if run.last > 0 && last > 0 {
-            run.has(last) && name.len() <= other.len()
+            Some(run.has(last) && name.len() <= other.len())
         } else {
-            is_suffix(name, other)
+            None
         }
     }
 }

@@ -2,7 +2,7 @@ use Rattle.std.proofs.Common.{ℕ, List, length, subst, sym, ap₂, ◌<◌, ◌
 use Rattle.std.specs.Ordering.{nat_cmp, ordering_then}
 use Rattle.elf_object_strings.specs.Leaders.{AreLed}
 use Rattle.elf_object_strings.specs.declared.name_list.Run.{Run}
-use Rattle.elf_object_strings.proofs.name_list.NameList.compare.Goals as goal
+use Rattle.elf_object_strings.proofs.name_list.NameList.order_by_leaders.Goals as goal
 
 pub returns-then-other-gt0 : goal.returns-then-other-gt0
 returns-then-other-gt0 c =

@@ -5,7 +5,7 @@ use Rattle.elf_object_strings.specs.Leaders.{AreLed, run_of}
 use Rattle.elf_object_strings.specs.StringTable.{is_suffix}
 use Rattle.elf_object_strings.specs.declared.name_list.Run.{Run}
 use Rattle.elf_object_strings.proofs.Ends.{suffix_from, tail_by_length}
-use Rattle.elf_object_strings.proofs.name_list.NameList.is_tail.Goals as goal
+use Rattle.elf_object_strings.proofs.name_list.NameList.is_tail_by_leaders.Goals as goal
 
 led_in : (names inside : List (List ℕ)) (runs : List Run) → inside ≡ names → AreLed inside runs → AreLed names runs
 led_in names inside runs is led = subst (λ (these : List (List ℕ)). AreLed these runs) is led
