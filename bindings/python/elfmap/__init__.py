@@ -89,6 +89,8 @@ _END = 2**64
 _UNKNOWN = ("UNKNOWN_RULE", "it is refused by a rule without a sentence", "")
 # The longest file that keeps rule 1, and one byte more.
 _LONGEST = 2**30 + 1
+# So much of a file is read at once whose length is not known.
+_PIECE = 1 << 20
 _DATA_MSB = 2
 # So many bytes of a name are in a message.
 _MOST_OF_NAME = 200
@@ -160,7 +162,10 @@ class TooLong(ValueError):
     """What would be written is longer than 2^30 bytes, or has too many segments."""
 
     def __init__(self) -> None:
-        super().__init__("what would be written is too long")
+        super().__init__()
+
+    def __str__(self) -> str:
+        return "what would be written is too long"
 
 
 class BadRules(ValueError):
@@ -420,8 +425,8 @@ class File:
         self._numbers = self._filled(_library.Numbers, "elfmap_file")
 
     def close(self) -> None:
-        """Releases the bytes. Contents that are still held keep them. What is asked for afterwards
-        is a ValueError."""
+        """Releases the bytes. Contents that are still held keep them. What would read the bytes
+        afterwards is a ValueError."""
         self._view.release()
 
     def __enter__(self) -> "File":
@@ -647,8 +652,18 @@ def open(path: AnyPath) -> File:
 
     Raises OSError where it can't be read. Nothing is mapped: the file may change meanwhile.
     """
+    return parse(_read(path))
+
+
+def _read(path: AnyPath) -> bytes:
+    """The bytes of a file; of one that is longer than any that keeps the rules, the first ones."""
     with builtins.open(os.fspath(path), "rb") as it:
-        return parse(it.read(_LONGEST))
+        # As many bytes of memory are taken as are asked for.
+        size = os.fstat(it.fileno()).st_size
+        pieces = [it.read(min(size, _LONGEST) or _PIECE)]
+        while pieces[-1] and sum(len(piece) for piece in pieces) < _LONGEST:
+            pieces.append(it.read(_PIECE))
+    return b"".join(piece for piece in pieces if piece)
 
 
 def check(data: Bytes) -> Summary:

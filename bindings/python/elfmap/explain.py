@@ -110,16 +110,20 @@ class Files:
         stack.close()
 
     def _content(self, path: bytes, stack: ExitStack) -> Content:
+        why = "no such file or directory"
         # In text what can't be printed of a path is escaped.
         for own in dict.fromkeys((path, original_path(path))):
             if os.path.lexists(own):
                 return Content(path, own, stack.enter_context(opened(own)))
             archive = _archive_of(own)
+            member = self._member(own, archive, stack) if archive else None
+            if member:
+                return member
             if archive:
-                return self._member(own, archive, stack)
-        raise Unreadable("no such file or directory")
+                why = "the archive has no such member"
+        raise Unreadable(why)
 
-    def _member(self, path: bytes, archive: bytes, stack: ExitStack) -> Content:
+    def _member(self, path: bytes, archive: bytes, stack: ExitStack) -> Optional[Content]:
         """The first member of this path: an archive may have several."""
         source = stack.enter_context(opened(archive))
         if self._members[0] != archive:
@@ -136,7 +140,7 @@ class Files:
             content = stack.enter_context(contents.opened(archive, source, it))
             if content.path == path:
                 return content
-        raise Unreadable("the archive has no such member")
+        return None
 
 
 def _members_of(source: Source, path: bytes) -> tuple[dict[bytes, Member], list[Member]]:

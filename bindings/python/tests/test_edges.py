@@ -21,6 +21,7 @@ from tests.made import (
     SHARING,
     FolderCase,
     Made,
+    archive_member,
     setUpModule,
     symbols,
     text,
@@ -232,10 +233,14 @@ class NamesTest(Case):
         self.assertEqual(self.ran("lint", "-0", self.bad)[1].partition(b": ")[0], self.bad)
 
     def test_findings_of_such_paths_are_explained(self):
-        for words in ((), ("-0",), ("--format", "jsonl")):
-            found = self.ran("lint", *words, self.bad)[1]
-            status, out, err = self.ran("explain", *words[:1] if "-0" in words else (), stdin=found)
-            self.assertEqual((status, err, out.count(b"what to do")), (0, b"", 1), out)
+        bad = Path(os.fsdecode(self.bad)).read_bytes()
+        Path("bad.a").write_bytes(b"!<arch>\n" + archive_member(b"\x1b\x9b\x07.o", bad))
+        for path in (self.bad, b"bad.a"):
+            for words in ((), ("-0",), ("--format", "jsonl")):
+                found = self.ran("lint", *words, path)[1]
+                of_paths = words if "-0" in words else ()
+                status, out, err = self.ran("explain", *of_paths, stdin=found)
+                self.assertEqual((status, err, out.count(b"what to do")), (0, b"", 1), out)
 
     def test_a_path_for_a_shell(self):
         """What is to be typed names the file: a shell undoes the escapes."""

@@ -93,12 +93,21 @@ class PickleTest(unittest.TestCase):
             self.assertEqual(
                 (other.summary, [*other.sections]), (self.file.summary, [*self.file.sections])
             )
-        # It is validated where it is unpickled: with .bss as a section of bytes, these pass the end
-        # of the file.
-        content = bytearray(NOTED)
-        dumped = pickle.dumps(elfmap.parse(content))
+        # It is validated where it is unpickled: here class 64 has become class 32.
+        dumped = pickle.dumps(elfmap.parse(NOTED))
         with self.assertRaises(elfmap.Refused):
             pickle.loads(dumped.replace(b"\x7fELF\2\1\1", b"\x7fELF\1\1\1"))
+
+
+    def test_errors(self):
+        for error in (
+            elfmap.Refused(33, 240),
+            elfmap.NotLinked(6, 0, 1, 2, b"name"),
+            elfmap.TooLong(),
+            elfmap.BadRules(3),
+        ):
+            for other in self.copies(error):
+                self.assertEqual((type(other), str(other)), (type(error), str(error)))
 
 
 class ClosedTest(FolderCase):
