@@ -98,7 +98,6 @@ class PickleTest(unittest.TestCase):
         with self.assertRaises(elfmap.Refused):
             pickle.loads(dumped.replace(b"\x7fELF\2\1\1", b"\x7fELF\1\1\1"))
 
-
     def test_errors(self):
         for error in (
             elfmap.Refused(33, 240),
