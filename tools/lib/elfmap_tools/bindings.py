@@ -13,11 +13,11 @@ from elfmap import _library
 from .header import STRUCTS, calls, calls_in, structs, structs_in
 from .library import BOTH, FOLDER, PACKERS
 from .package_tests import count_run, unittests
-from .requirements import JSONSCHEMA, JUNITPARSER
+from .requirements import ELF_H, JSONSCHEMA, JUNITPARSER
 from .suite import Tally, Test
 from .tree import TOP, Options, read_text, said
 
-BINDERS = f"{PACKERS} cargo git pre-commit {JSONSCHEMA} {JUNITPARSER}"
+BINDERS = f"{PACKERS} cargo fish git mypy pre-commit {ELF_H} {JSONSCHEMA} {JUNITPARSER}"
 # What Python declares of a struct: its fields, each with its type of ctypes.
 PythonStructs = dict[str, list[tuple[str, Any]]]
 

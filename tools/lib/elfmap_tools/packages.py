@@ -22,7 +22,7 @@ from .suite import Tally, Test, steps_of
 from .tree import TOP, Options, Texts, files_below, read_bytes, read_text, said, wanted
 
 SUITE = "bookworm"
-INSTALLERS = f"{MAKERS} readelf nm git dpkg-deb unshare {SETUPTOOLS} {WHEEL}"
+INSTALLERS = f"{MAKERS} readelf nm git dpkg-deb lintian unshare {SETUPTOOLS} {WHEEL}"
 INCLUDED = "python3,python3-venv,gcc,libc6-dev,pkg-config,man-db,fish,zsh,cargo"
 CACHE = os.environ.get("XDG_CACHE_HOME") or os.path.expanduser("~/.cache")
 # Of other packages it is another root.
@@ -86,15 +86,12 @@ def lintian_errors(folder: str) -> list[str]:
 
 def compare_debian(tally: Tally, folder: str, version: str) -> None:
     """The package of the program recommends that of the commands beside it, and lintian has nothing
-    against the packages, if it is installed."""
+    against the packages."""
     program = f"{folder}/elfmap_{version}_amd64.deb"
     recommended = said("dpkg-deb", "-f", program, "Recommends").stdout
     what = "what the package of the program recommends"
     tally.same(what, recommended, "python3-elfmap\n")
-    if shutil.which("lintian"):
-        tally.same("the errors of lintian", lintian_errors(folder), [])
-    else:
-        tally.note("skipped: lintian is not installed")
+    tally.same("the errors of lintian", lintian_errors(folder), [])
 
 
 def contents(folder: str) -> dict[str, bytes]:

@@ -11,6 +11,7 @@ from collections.abc import Iterable
 
 from .tree import run
 
+ELF_H = "/usr/include/elf.h"
 KLIBC = "/usr/lib/klibc/lib/libc.a"
 # What Debian's python3 imports.
 IMPORTED = "/usr/lib/python3/dist-packages/{}/__init__.py"
@@ -37,6 +38,7 @@ COMMANDS = {
     "g++": "c++ g++",
     "gcc": "cc gcc",
     "libclang-rt-14-dev": SANITIZERS,
+    "libc6-dev": ELF_H,
     "libklibc-dev": KLIBC,
     "lld": "ld.lld",
     "lld-19": "ld.lld-19",
