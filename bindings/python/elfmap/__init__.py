@@ -336,13 +336,7 @@ def _with_contents(kind: Any, fields: list[Any], views: list[int]) -> Any:
 
 
 class _Read(Sequence[Record]):
-    """So many records that are read when they are asked for. They are pickled as a list."""
-
-    def __init__(self, count: int) -> None:
-        self._indices = range(count)
-
-    def __len__(self) -> int:
-        return len(self._indices)
+    """Records that are read when they are asked for. They are pickled as a list."""
 
     def __repr__(self) -> str:
         return f"<{len(self)} records>"
@@ -355,8 +349,11 @@ class _Records(_Read[Record]):
     """Records that are read by their index; of a broken table some can't be."""
 
     def __init__(self, count: int, read: Callable[[int], Optional[Record]]) -> None:
-        super().__init__(count)
+        self._indices = range(count)
         self._read = read
+
+    def __len__(self) -> int:
+        return len(self._indices)
 
     def __getitem__(self, index: Any) -> Any:
         if isinstance(index, slice):
@@ -375,18 +372,22 @@ class _Records(_Read[Record]):
 
 class _Notes(_Read[Note]):
     """Notes, each of which says where the next one begins: they are read as far as they are asked
-    for."""
+    for, and to the last one to count them."""
 
-    def __init__(self, count: int, read: Callable[[int], Optional[tuple[Note, int]]]) -> None:
-        super().__init__(count)
+    def __init__(self, read: Callable[[int], Optional[tuple[Note, int]]]) -> None:
         self._read = read
         # Where those begin that were passed.
         self._starts = [0]
 
+    def __len__(self) -> int:
+        return sum(1 for _ in self)
+
     def __getitem__(self, index: Any) -> Any:
         if isinstance(index, slice):
-            return [self[it] for it in self._indices[index]]
-        position = self._indices[index]
+            return [*self][index]
+        position = operator.index(index)
+        if position < 0:
+            return [*self][position]
         while position >= len(self._starts):
             self._starts.append(self._at(self._starts[-1])[1])
         return self._at(self._starts[position])[0]
@@ -515,7 +516,7 @@ class File:
             desc = self._at(note.desc.start, note.desc.len)
             return Note(bytes(name), note.n_type, desc), note.next
 
-        return _Notes(table.entries if table else 0, read)
+        return _Notes(read)
 
     def columns(self, section: int) -> dict[str, Column]:
         """The numbers of a symbol table, relocation section or dynamic array: an array for each
