@@ -825,12 +825,9 @@ class OptionTest(Case):
         self.assertTrue(lines[0].startswith("a/b/narrow: offset 0x4: WRONG_CLASS (4): "), lines)
 
     def test_ignored(self):
+        summary = b"0 findings in 0 of 2 ELF files, 2 suppressed; skipped: 1 of class 32"
         for rule in ("33", "SHARED_BYTE", "shared_byte", "shared-byte"):
-            self.assertSaid(
-                ["--ignore", rule, "a"],
-                0,
-                [b"0 findings in 0 of 2 ELF files, 2 suppressed; skipped: 1 of class 32"],
-            )
+            self.assertSaid(["--ignore", rule, "a"], 0, [summary])
         self.assertEqual(self.paths("--ignore", "33:a/b/*", "a"), ["a/bad.o"])
         self.assertEqual(self.paths("--ignore", "22", "a"), ["a/b/bad.o", "a/bad.o"])
         for rule in ("34", "NO_RULE", "", "0", "²"):
@@ -941,13 +938,10 @@ class OptionTest(Case):
         ):
             self.put(x__o=bytes(one))
             self.assertEqual(self.lint("--tables", "--write-baseline", "known.json", "x.o")[0], 0)
-            self.assertSaid(
-                ["--tables", "--baseline", "known.json", "x.o"],
-                0,
-                [b"0 findings in 0 of 1 ELF file, 1 suppressed"],
-            )
+            words = ["--tables", "--baseline", "known.json", "x.o"]
+            self.assertSaid(words, 0, [b"0 findings in 0 of 1 ELF file, 1 suppressed"])
             self.put(x__o=bytes(other))
-            lines = self.told("--tables", "--baseline", "known.json", "x.o")
+            lines = self.told(*words)
             self.assertEqual((len(lines), f": {told}: " in lines[0]), (2, True), lines)
         # The same finding of another path is none that was known.
         self.put(**{"x__o": SHARING, "c/x__o": SHARING})
@@ -957,17 +951,12 @@ class OptionTest(Case):
     def test_a_baseline_is_written_anew(self):
         """It has all that is found, also what the one before had."""
         self.lint("--write-baseline", "known.json", "a/b")
-        status, out, _ = self.lint(
-            "--baseline", "known.json", "--write-baseline", "known.json", "a"
-        )
-        self.assertEqual(
-            (status, out),
-            (0, b"0 findings in 0 of 2 ELF files, 2 suppressed; skipped: 1 of class 32\n"),
-        )
-        self.assertEqual(
-            [it["path"] for it in json.loads(Path("known.json").read_bytes())["findings"]],
-            ["a/b/bad.o", "a/bad.o"],
-        )
+        both = ["--baseline", "known.json", "--write-baseline", "known.json"]
+        status, out, _ = self.lint(*both, "a")
+        summary = b"0 findings in 0 of 2 ELF files, 2 suppressed; skipped: 1 of class 32\n"
+        self.assertEqual((status, out), (0, summary))
+        findings = json.loads(Path("known.json").read_bytes())["findings"]
+        self.assertEqual([it["path"] for it in findings], ["a/b/bad.o", "a/bad.o"])
 
     def test_a_baseline_of_any_path(self):
         os.rename("a/bad.o", b"a/\xff")
