@@ -232,12 +232,14 @@ class Words:
     def symbol(self, table: int, index: int, field: str) -> int:
         """A field of a symbol, 0 where there is none."""
         at, width = SYMBOL[field]
-        start, _ = self.content(table)
-        return self.number(start + 24 * index + at, width) if self._has_symbol(table, index) else 0
+        begins = self._symbol_at(table, index)
+        return 0 if begins is None else self.number(begins + at, width)
 
-    def _has_symbol(self, table: int, index: int) -> bool:
+    def _symbol_at(self, table: int, index: int) -> Optional[int]:
+        """Where a symbol begins; None where there is none."""
         start, end = self.content(table)
-        return start + 24 * (index + 1) <= end
+        begins = start + 24 * index
+        return begins if begins + 24 <= end else None
 
     # ---- in words
 
@@ -259,7 +261,7 @@ class Words:
         return name or "(no name)"
 
     def symbol_words(self, table: int, index: int) -> str:
-        if not self._has_symbol(table, index):
+        if self._symbol_at(table, index) is None:
             return f"symbol {index}, which isn't there"
         return f"symbol {index} {self.symbol_name(table, index)}"
 
