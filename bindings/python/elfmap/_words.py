@@ -83,12 +83,13 @@ ENTRY_SIZES = {
     SYMTAB_SHNDX: 4,
     HASH: 4,
 }
-# Where a rule's offset is. Any other rule's may be in each of these.
+# The rules whose offset is in a section header: those of images, of tables and of objects.
 _OF_SECTION_HEADERS = {
     *(13, 14, 17, 20, 22, 23, 24, 30, 32),
     *(40, 42, 43, 44, 46, 49, 50, 53, 55, 57, 63, 65),
     *(72, 73, 74, 76, 78, 79),
 }
+# Where a rule's offset is. Any other rule's may be in each of these.
 PARTS = {
     "header": {*range(3, 13), 15, 16, 18, 19, 21, 70, 71},
     "section": _OF_SECTION_HEADERS,
