@@ -330,9 +330,8 @@ def _without_views(record: tuple[Any, ...]) -> tuple[list[Any], list[int]]:
 
 def _with_contents(kind: Any, fields: list[Any], views: list[int]) -> Any:
     """A record that was pickled: its contents are views again, of its own bytes."""
-    return kind._make(
-        memoryview(it) if position in views else it for position, it in enumerate(fields)
-    )
+    values = [memoryview(it) if position in views else it for position, it in enumerate(fields)]
+    return kind._make(values)
 
 
 class _Read(Sequence[Record]):
@@ -493,16 +492,12 @@ class File:
     def relocations(self, section: int) -> Sequence[Relocation]:
         """The relocations of a relocation section; none where it is none."""
         kind = _library.Relocation
-        call = "elfmap_relocation"
-        return self._entries(
-            section, _RELOCATIONS, call, kind, lambda _, it: Relocation(*_values(it))
-        )
+        return self._entries(section, _RELOCATIONS, "elfmap_relocation", kind, self._relocation)
 
     def dynamic(self, section: int) -> Sequence[Dynamic]:
         """The entries of the dynamic array in a section, before the first DT_NULL."""
-        return self._entries(
-            section, (SHT.DYNAMIC,), "elfmap_dynamic", _library.Dynamic, self._dynamic
-        )
+        kind = _library.Dynamic
+        return self._entries(section, (SHT.DYNAMIC,), "elfmap_dynamic", kind, self._dynamic)
 
     def notes(self, section: int) -> Sequence[Note]:
         """The notes of a note section; none where it is none."""
@@ -591,11 +586,10 @@ class File:
 
     def _table(self, section: int, types: tuple[int, ...]) -> Optional[_library.Table]:
         """The table in a section of one of these types."""
-        table = _library.Table()
         index = operator.index(section)
-        is_there = 0 <= index < _END and self._call(
-            "elfmap_table", index, table, of=(self._numbers,)
-        )
+        table = _library.Table()
+        of = (self._numbers,)
+        is_there = 0 <= index < _END and self._call("elfmap_table", index, table, of=of)
         return table if is_there and table.sh_type in types else None
 
     def _entries(
@@ -617,6 +611,9 @@ class File:
 
     def _symbol(self, _: _library.Table, it: _library.Symbol) -> Symbol:
         return Symbol(bytes(self._at(it.name.start, it.name.len)), *_values(it)[1:])
+
+    def _relocation(self, _: _library.Table, it: _library.Relocation) -> Relocation:
+        return Relocation(*_values(it))
 
     def _dynamic(self, table: _library.Table, it: _library.Dynamic) -> Dynamic:
         place = _library.Extent()
@@ -690,10 +687,11 @@ def refused_tables(data: Bytes) -> list[tuple[int, int, int]]:
     tables, but for those of one group or hash table at a time. Names of more than 64 bytes of
     symbols in hash tables take memory too: a few bytes for each place where one begins.
     """
-    lines = _done(*_said("elfmap_refused_tables", *_bytes_of(data))).splitlines()
-    return [
-        (int(section), int(rule), int(at)) for _, section, rule, at in (it.split() for it in lines)
-    ]
+    found = []
+    for line in _done(*_said("elfmap_refused_tables", *_bytes_of(data))).splitlines():
+        _, section, rule, at = line.split()
+        found.append((int(section), int(rule), int(at)))
+    return found
 
 
 def rewrite(data: Bytes) -> bytes:
@@ -853,8 +851,6 @@ def _symbol_of(
 
     if rule == NO_ENTRY:
         return start
-    return (
-        refused_symbol(contents[file].tobytes(), rule, index, entry)
-        if file < len(contents)
-        else None
-    )
+    if file >= len(contents):
+        return None
+    return refused_symbol(contents[file].tobytes(), rule, index, entry)

@@ -22,6 +22,8 @@ from elfmap._sources import Source, Unreadable, opened
 MAGIC = b"!<arch>\n"
 THIN_MAGIC = b"!<thin>\n"
 _HEADER = 60
+# So many bytes of a long name are read.
+_LONGEST_NAME = 4096
 _LONG_NAME = re.compile(rb"/(\d+)(?::(\d+))?$")
 _BSD_NAME = re.compile(rb"#1/(\d+)$")
 _INDEXES = (b"/", b"/SYM64/")
@@ -92,11 +94,7 @@ class _Archive:
                 raise Damaged(at, "the name is longer than the member")
             own = self.source[start : start + length].rstrip(b"\0")
             return Member(own, at, start + length, size - length)
-        own = (
-            self._long_name(at, int(long_name[1]))
-            if long_name
-            else name[: -name.endswith(b"/") or None]
-        )
+        own = self._long_name(at, int(long_name[1])) if long_name else name.removesuffix(b"/")
         if not self.is_thin:
             return Member(own, at, start, size)
         origin = int(long_name[2]) if long_name and long_name[2] else None
@@ -106,10 +104,8 @@ class _Archive:
         start, size = self._names or (0, 0)
         if position >= size:
             raise Damaged(at, "there is no such long name")
-        name = self.source[start + position : start + min(size, position + 4096)].partition(b"\n")[
-            0
-        ]
-        return name[:-1] if name.endswith(b"/") else name
+        block = self.source[start + position : start + min(size, position + _LONGEST_NAME)]
+        return block.partition(b"\n")[0].removesuffix(b"/")
 
 
 def _shown(name: bytes) -> str:
@@ -146,9 +142,8 @@ class Contents:
     def opened(self, archive: bytes, source: Source, member: Member) -> Iterator[Content]:
         name = printed(archive, member)
         if member.path is None:
-            yield Content(
-                name, archive, Source(source.handle, source.start + member.start, member.size)
-            )
+            own = Source(source.handle, source.start + member.start, member.size)
+            yield Content(name, archive, own)
             return
         if not self._follows_all and not _is_below(member.path, archive):
             raise Unreadable("it is outside of the archive's directory; --follow-thin reads it")

@@ -114,9 +114,8 @@ class _Needs:
                 waiting += [sections[index].link, *self._index_tables.get(index, ())]
         needed = [it for it in self._whole.needed if it.section in found]
         # A string table keeps its type: it may be that of section names.
-        return Batch(
-            shown, needed, [it for it in self._whole.shown if it.section not in found], sections
-        )
+        others = [it for it in self._whole.shown if it.section not in found]
+        return Batch(shown, needed, others, sections)
 
 
 class Checks:
@@ -187,9 +186,8 @@ class Checks:
         name_table = _library.Section()
         bytes_ = self._room.address, size
         self._library.elfmap_header(*bytes_, header)
-        self._read(
-            source, size, header.e_shoff, 64 * max(header.e_shnum, 1) if header.e_shoff else 0
-        )
+        if header.e_shoff:
+            self._read(source, size, header.e_shoff, 64 * max(header.e_shnum, 1))
         if not self._library.elfmap_file(*bytes_, file):
             return
         if file.sections > header.e_shnum:
@@ -202,12 +200,10 @@ class Checks:
     def _sections(self, size: int) -> list[Table]:
         """The section headers that the rules of tables look at."""
         file = self._file(size)
+        if not file.e_shoff:
+            return []
         record = struct.Struct(f"{_order(file)}4xI16x2QI20x")
-        table = (
-            self._room.view[file.e_shoff : file.e_shoff + 64 * file.sections]
-            if file.e_shoff
-            else b""
-        )
+        table = self._room.view[file.e_shoff : file.e_shoff + 64 * file.sections]
         return [Table(index, *fields) for index, fields in enumerate(record.iter_unpack(table))]
 
     def _file(self, size: int) -> _library.Numbers:
@@ -221,10 +217,9 @@ class Checks:
             self._load(source, size)
         self._is_masked = bool(batch.others)
         file = self._file(size)
+        word = struct.Struct(f"{_order(file)}I")
         for it in batch.others:
-            struct.pack_into(
-                f"{_order(file)}I", self._room.view, file.e_shoff + 64 * it.section + 4, _PROGBITS
-            )
+            word.pack_into(self._room.view, file.e_shoff + 64 * it.section + 4, _PROGBITS)
         for it in batch.needed:
             self._read(source, size, it.start, it.size)
 
@@ -234,9 +229,8 @@ class Checks:
         if len(self._extents) > _MOST_EXTENTS:
             self._extents = (_library.Extent * _LEAST_EXTENTS)()
         fault = _library.Fault()
-        while not self._library.elfmap_verdict_in(
-            self._room.address, size, self._extents, len(self._extents), fault
-        ):
+        verdict = self._library.elfmap_verdict_in
+        while not verdict(self._room.address, size, self._extents, len(self._extents), fault):
             if fault.rule != _library.SHORT_ROOM:
                 return Fault(fault.rule, fault.at)
             self._extents = (_library.Extent * fault.at)()
@@ -251,11 +245,10 @@ class Checks:
             for section, rule, at in self._refused(size):
                 if section in own:
                     groups.setdefault((rule, at), []).append(section)
-        words = Words(source) if groups else None
-        return [
-            Fault(rule, at, _owner(words, it) if words else it[0])
-            for (rule, at), it in groups.items()
-        ]
+        if not groups:
+            return []
+        words = Words(source)
+        return [Fault(rule, at, _owner(words, it)) for (rule, at), it in groups.items()]
 
     def _refused(self, size: int) -> Iterator[tuple[int, int, int]]:
         """The tables that break a rule: a section, the rule and the offset."""
@@ -271,11 +264,10 @@ class Checks:
             yield int(section), int(rule), int(at)
 
     def _say(self, size: int, outcome: _library.Outcome) -> int:
+        call = self._library.elfmap_refused_tables
         with memoryview(self._text) as text:
             room = _library.address_of(text), len(text)
-            return int(
-                self._library.elfmap_refused_tables(self._room.address, size, *room, outcome)
-            )
+            return int(call(self._room.address, size, *room, outcome))
 
     def _object_fault(self, size: int) -> Optional[Fault]:
         """Why the file is read as no object, by the engine of `elfmap rewrite`."""
@@ -322,5 +314,7 @@ def _order(file: _library.Numbers) -> str:
 
 def _owner(words: Words, tables: list[int]) -> int:
     """Of the tables with the same fault the one that has it: the symbol table, if any."""
-    is_symbols = (it for it in tables if words.section(it, "sh_type") in (SYMTAB, DYNSYM))
-    return next(is_symbols, tables[0])
+    for it in tables:
+        if words.section(it, "sh_type") in (SYMTAB, DYNSYM):
+            return it
+    return tables[0]

@@ -136,15 +136,15 @@ def name_words(name: Name) -> str:
         return f"of section {name_words(name.section)}"
     if isinstance(name, Signed):
         return f"{name_words(name.name)} [{name_words(name.signature)}]"
-    front = name.front(LONGEST_LETTER * (MOST_LETTERS + 1)) if isinstance(name, LongName) else name
-    return printable(front, MOST_LETTERS)
+    if isinstance(name, LongName):
+        name = name.front(LONGEST_LETTER * (MOST_LETTERS + 1))
+    return printable(name, MOST_LETTERS)
 
 
 def label_words(label: Label) -> str:
     name, position = label
-    return (name_words(name) or "(no name)") + (
-        f" (number {position + 1} of this name)" if position else ""
-    )
+    words = name_words(name) or "(no name)"
+    return f"{words} (number {position + 1} of this name)" if position else words
 
 
 def place_words(place: Place) -> str:
@@ -174,13 +174,11 @@ def sections_of(file: File, data: Bytes, names: Names) -> tuple[list[Section], l
         kind = row[1]
         start = row[4]
         size = row[5]
-        found.append(
-            Section._make(
-                [*row, b"", None if kind in (_NULL, _NOBITS) else view[start : start + size]]
-            )
-        )
+        content = None if kind in (_NULL, _NOBITS) else view[start : start + size]
+        found.append(Section._make([*row, b"", content]))
     own = found[0].sh_link if header.e_shstrndx == _IN_INDEX_TABLE else header.e_shstrndx
-    at = names.of(bytes(found[own].content or b"") if own else b"", (it.sh_name for it in found))
+    strings = bytes(found[own].content or b"") if own else b""
+    at = names.of(strings, (it.sh_name for it in found))
     # In an entry of no section sh_name may be any number.
     return found, [b"" if it.sh_type == _NULL else at[it.sh_name] for it in found]
 
@@ -202,31 +200,32 @@ class Canonical:
         self.file = file
         self.machine = file.header.e_machine
         self.sections, self._names = sections_of(file, data, names)
-        self._table = next((k for k, it in enumerate(self.sections) if it.sh_type == _SYMTAB), 0)
+        self._table = self._first(_SYMTAB)
         self.order = ">" if file.header.e_ident[5] == 2 else "<"
         self.symbols: Sequence[Symbol] = list(self._read_symbols()) if self._table else []
         strings = self._content(self.sections[self._table].sh_link) if self._table else b""
         at = names.of(strings, (it.st_name for it in self.symbols))
         own = [self._symbol_name(it, at[it.st_name]) for it in self.symbols]
-        self.section_labels = labelled(
-            self._section_name(k, own) for k in range(len(self.sections))
-        )
+        section_names = [self._section_name(k, own) for k in range(len(self.sections))]
+        self.section_labels = labelled(section_names)
         self.symbol_labels = labelled(own)
+
+    def _first(self, kind: int) -> int:
+        """The first section of a type, 0 where there is none."""
+        return next((k for k, it in enumerate(self.sections) if it.sh_type == kind), 0)
 
     def _content(self, index: int) -> bytes:
         return bytes(self.sections[index].content or b"")
 
+    def _words(self, index: int) -> list[int]:
+        """The content of a section as numbers of four bytes."""
+        return [it for (it,) in struct.iter_unpack(f"{self.order}I", self._content(index))]
+
     def _read_symbols(self) -> Iterator[Symbol]:
         """All symbols at once, without their names: `elfmap rewrite` wrote the table, so that each
         of its fields is sound."""
-        index_table = next(
-            (k for k, it in enumerate(self.sections) if it.sh_type == _SYMTAB_SHNDX), 0
-        )
-        words = (
-            [it for (it,) in struct.iter_unpack(f"{self.order}I", self._content(index_table))]
-            if index_table
-            else []
-        )
+        index_table = self._first(_SYMTAB_SHNDX)
+        words = self._words(index_table) if index_table else []
         rows = struct.iter_unpack(f"{self.order}IBBHQQ", self._content(self._table))
         for k, (name, info, other, shndx, value, size) in enumerate(rows):
             section = words[k] if shndx == _IN_INDEX_TABLE else shndx
@@ -235,12 +234,9 @@ class Canonical:
     def relocations(self, index: int) -> Iterator[Relocation]:
         """Those of a section, in the same way."""
         has_addends = self.sections[index].sh_type == _RELA
-        for row in struct.iter_unpack(
-            f"{self.order}QQ{'q' if has_addends else ''}", self._content(index)
-        ):
-            yield Relocation(
-                row[0], row[2] if has_addends else 0, row[1] >> 32, row[1] & 0xFFFFFFFF
-            )
+        layout = f"{self.order}QQ{'q' if has_addends else ''}"
+        for offset, info, *addend in struct.iter_unpack(layout, self._content(index)):
+            yield Relocation(offset, addend[0] if addend else 0, info >> 32, info & 0xFFFFFFFF)
 
     def place(self, it: Symbol) -> Place:
         """Where a symbol is defined."""
@@ -252,62 +248,51 @@ class Canonical:
 
     def members(self, index: int) -> tuple[int, dict[Place, int]]:
         """Of a group its flags and its members."""
-        flags, *members = (
-            it for (it,) in struct.iter_unpack(f"{self.order}I", self._content(index))
-        )
+        flags, *members = self._words(index)
         return flags, {self.section(it): it for it in members}
 
     def _section_name(self, index: int, symbols: Sequence[Union[Text, OfSection]]) -> Name:
         """The name, and of a group also that of its signature."""
+        name = self._names[index]
         it = self.sections[index]
-        return (
-            Signed(self._names[index], symbols[it.sh_info])
-            if it.sh_type == _GROUP
-            else self._names[index]
-        )
+        return Signed(name, symbols[it.sh_info]) if it.sh_type == _GROUP else name
 
     def _symbol_name(self, it: Symbol, name: Text) -> Union[Text, OfSection]:
         """The name, or of a symbol of a section that section's."""
-        is_of_section = (
-            not name and it.symbol_type == _STT_SECTION and it.section < len(self.sections)
-        )
-        return OfSection(self._names[it.section]) if is_of_section else name
+        if name or it.symbol_type != _STT_SECTION or it.section >= len(self.sections):
+            return name
+        return OfSection(self._names[it.section])
 
     def own_sections(self) -> dict[Label, int]:
         """The sections of the object. Its symbol table and its names are compared by names."""
-        tables = {
-            0,
-            self._table,
-            self.sections[self._table].sh_link if self._table else 0,
-            self.file.header.e_shstrndx,
-        }
+        tables = {0, self._table, self.file.header.e_shstrndx}
+        if self._table:
+            tables.add(self.sections[self._table].sh_link)
         if self.file.header.e_shstrndx == _IN_INDEX_TABLE:
             tables.add(self.sections[0].sh_link)
-        kept = (
-            k
-            for k, it in enumerate(self.sections)
-            if it.sh_type not in (_NULL, _SYMTAB_SHNDX) and k not in tables
-        )
-        return {self.section_labels[k]: k for k in kept}
+        own = {}
+        for k, it in enumerate(self.sections):
+            if it.sh_type not in (_NULL, _SYMTAB_SHNDX) and k not in tables:
+                own[self.section_labels[k]] = k
+        return own
+
+    def _target(self, it: Relocation) -> Optional[Label]:
+        """The symbol that a relocation refers to."""
+        return self.symbol_labels[it.symbol] if it.symbol else None
 
     def relocation(self, it: Relocation) -> tuple[int, int, int, Optional[Label]]:
         """What is compared of a relocation, beside its section's target."""
-        return (
-            it.relocation_type,
-            it.r_offset,
-            it.r_addend,
-            self.symbol_labels[it.symbol] if it.symbol else None,
-        )
+        return it.relocation_type, it.r_offset, it.r_addend, self._target(it)
 
     def relocation_words(self, it: Relocation, target: int) -> str:
-        label = self.relocation(it)[-1]
+        label = self._target(it)
         name = label_words(label) if label else "no symbol"
         # A symbol of a section has that one's name, after the word "of".
-        name = name.removeprefix("of ") if label and isinstance(label[0], OfSection) else name
+        if label and isinstance(label[0], OfSection):
+            name = name.removeprefix("of ")
         place = f"{it.r_offset:#x} of {place_words(self.section(target))}"
-        kind = (
-            relocation_types(self.machine).get(it.relocation_type) or f"type {it.relocation_type}"
-        )
+        known = relocation_types(self.machine).get(it.relocation_type)
+        kind = known or f"type {it.relocation_type}"
         return f"{kind} at {place} to {name} {it.r_addend:+#x}"
 
 
@@ -326,15 +311,15 @@ class Comparison:
 
     def order(self) -> Iterator[str]:
         """Where the same sections or symbols are in another order."""
-        for what, one, other in (
-            ("section", list(self._one.own_sections()), list(self._other.own_sections())),
-            ("symbol", self._one.symbol_labels, self._other.symbol_labels),
-        ):
-            pair = next((it for it in zip(one, other) if it[0] != it[1]), None)
-            if pair:
-                yield f"the order of {what}s: " + self._sides.both(
-                    "the first one that differs", *map(label_words, pair)
-                )
+        yield from self._order("sections", self._one.own_sections(), self._other.own_sections())
+        yield from self._order("symbols", self._one.symbol_labels, self._other.symbol_labels)
+
+    def _order(self, what: str, one: Iterable[Label], other: Iterable[Label]) -> Iterator[str]:
+        for pair in zip(one, other):
+            if pair[0] != pair[1]:
+                first = self._sides.both("the first one that differs", *map(label_words, pair))
+                yield f"the order of {what}: {first}"
+                return
 
     def _sections(self) -> Iterator[str]:
         one = self._one.own_sections()
@@ -349,15 +334,11 @@ class Comparison:
         one = self._one.sections[index]
         other = self._other.sections[other_index]
         yield from section_fields(self._sides, one, other, self._one.machine)
-        yield from self._places(
-            "sh_link", self._one.section(one.sh_link), self._other.section(other.sh_link)
-        )
+        yield from self._named("sh_link", one.sh_link, other.sh_link)
         if one.sh_type != other.sh_type or one.content is None or other.content is None:
             return
         if one.sh_type in (_REL, _RELA):
-            yield from self._places(
-                "its target", self._one.section(one.sh_info), self._other.section(other.sh_info)
-            )
+            yield from self._named("its target", one.sh_info, other.sh_info)
             yield from self._relocations(index, other_index)
         elif one.sh_type == _GROUP:
             yield from self._group(index, other_index)
@@ -367,46 +348,48 @@ class Comparison:
 
     def _info(self, one: Section, other: Section) -> Iterator[str]:
         if one.sh_flags & _INFO_LINK:
-            yield from self._places(
-                "sh_info", self._one.section(one.sh_info), self._other.section(other.sh_info)
-            )
+            yield from self._named("sh_info", one.sh_info, other.sh_info)
         elif one.sh_info != other.sh_info:
             yield self._sides.both("sh_info", one.sh_info, other.sh_info)
+
+    def _named(self, what: str, index: int, other_index: int) -> Iterator[str]:
+        """The sections that a field names by their indexes."""
+        yield from self._places(what, self._one.section(index), self._other.section(other_index))
 
     def _places(self, what: str, one: Place, other: Place) -> Iterator[str]:
         if one != other:
             yield self._sides.both(what, place_words(one), place_words(other))
 
     def _group(self, index: int, other_index: int) -> Iterator[str]:
-        (flags, members) = self._one.members(index)
-        (other_flags, other_members) = self._other.members(other_index)
+        flags, members = self._one.members(index)
+        other_flags, other_members = self._other.members(other_index)
         yield from only_in(self._sides, "member flags", {flags: 0}, {other_flags: 0}, hex)
         yield from only_in(self._sides, "member", members, other_members, place_words)
 
     def _relocations(self, index: int, other_index: int) -> Iterator[str]:
         """The first entry that differs: the entries after it are often the same, moved."""
-        contents = [
-            bytes(it.sections[k].content or b"")
-            for it, k in ((self._one, index), (self._other, other_index))
-        ]
-        if contents[0] == contents[1] and self._one.symbol_labels == self._other.symbol_labels:
+        ours = self._one.sections[index]
+        theirs = self._other.sections[other_index]
+        has_same_content = bytes(ours.content or b"") == bytes(theirs.content or b"")
+        if has_same_content and self._one.symbol_labels == self._other.symbol_labels:
             return
         one = self._one.relocations(index)
         other = self._other.relocations(other_index)
-        targets = self._one.sections[index].sh_info, self._other.sections[other_index].sh_info
-        for position, (ours, theirs) in enumerate(zip_longest(one, other)):
-            if ours and theirs and self._one.relocation(ours) == self._other.relocation(theirs):
-                continue
-            first = self._one.relocation_words(ours, targets[0]) if ours else ""
-            second = self._other.relocation_words(theirs, targets[1]) if theirs else ""
-            if ours and theirs:
-                yield self._sides.both(f"relocation {position}", first, second)
-            else:
-                yield (
-                    f"relocation {position} is only in"
-                    f" {self._sides.first if ours else self._sides.second}: {first or second}"
-                )
+        for position, (mine, other_one) in enumerate(zip_longest(one, other)):
+            if mine and other_one:
+                if self._one.relocation(mine) == self._other.relocation(other_one):
+                    continue
+            first = self._one.relocation_words(mine, ours.sh_info) if mine else ""
+            second = self._other.relocation_words(other_one, theirs.sh_info) if other_one else ""
+            yield self._relocation_difference(f"relocation {position}", first, second)
             return
+
+    def _relocation_difference(self, what: str, first: str, second: str) -> str:
+        """Two entries in words, of which one may be empty."""
+        if first and second:
+            return self._sides.both(what, first, second)
+        side = self._sides.first if first else self._sides.second
+        return f"{what} is only in {side}: {first or second}"
 
     def _symbols(self) -> Iterator[str]:
         one = {label: k for k, label in enumerate(self._one.symbol_labels)}
@@ -414,15 +397,13 @@ class Comparison:
         yield from only_in(self._sides, "symbol", one, other, label_words)
         for label, index in one.items():
             position = other.get(label)
-            if position is None or self._is_same(
-                self._one.symbols[index], self._other.symbols[position]
-            ):
+            if position is None:
                 continue
-            name = f"symbol {label_words(label)}"
-            yield from (
-                f"{name}: {it}"
-                for it in self._symbol(self._one.symbols[index], self._other.symbols[position])
-            )
+            ours = self._one.symbols[index]
+            theirs = self._other.symbols[position]
+            if not self._is_same(ours, theirs):
+                name = f"symbol {label_words(label)}"
+                yield from (f"{name}: {it}" for it in self._symbol(ours, theirs))
 
     def _is_same(self, one: Symbol, other: Symbol) -> bool:
         """Of most symbols nothing differs, and nothing is put into words."""
@@ -433,21 +414,21 @@ class Comparison:
         for what, ours, theirs in (
             ("its value", hex(one.st_value), hex(other.st_value)),
             ("its size", one.st_size, other.st_size),
-            (
-                "its binding",
-                _BINDINGS.get(one.binding, one.binding),
-                _BINDINGS.get(other.binding, other.binding),
-            ),
-            (
-                "its type",
-                _TYPES.get(one.symbol_type, one.symbol_type),
-                _TYPES.get(other.symbol_type, other.symbol_type),
-            ),
+            ("its binding", binding_words(one), binding_words(other)),
+            ("its type", type_words(one), type_words(other)),
             ("st_other", one.st_other, other.st_other),
         ):
             if ours != theirs:
                 yield self._sides.both(what, ours, theirs)
         yield from self._places("its section", self._one.place(one), self._other.place(other))
+
+
+def binding_words(it: Symbol) -> str:
+    return _BINDINGS.get(it.binding, str(it.binding))
+
+
+def type_words(it: Symbol) -> str:
+    return _TYPES.get(it.symbol_type, str(it.symbol_type))
 
 
 def only_in(
@@ -505,10 +486,8 @@ def object_differences(sides: Sides, one: Bytes, other: Bytes) -> Iterator[str]:
             count += 1
             yield it
     if not count:
-        yield (
-            "the canonical files differ at offset"
-            f" {first_difference(memoryview(one), memoryview(other)):#x}"
-        )
+        at = first_difference(memoryview(one), memoryview(other))
+        yield f"the canonical files differ at offset {at:#x}"
 
 
 def image_differences(sides: Sides, one: Bytes, other: Bytes) -> Iterator[str]:
@@ -516,13 +495,10 @@ def image_differences(sides: Sides, one: Bytes, other: Bytes) -> Iterator[str]:
     ours = File(one)
     theirs = File(other)
     names = Names()
-    sections = _section_differences(
-        sides,
-        ours.header.e_machine,
-        sections_of(ours, one, names),
-        sections_of(theirs, other, names),
-    )
-    found = [*header_differences(sides, ours, theirs), *sections]
+    own = sections_of(ours, one, names)
+    others = sections_of(theirs, other, names)
+    found = list(header_differences(sides, ours, theirs))
+    found += _section_differences(sides, ours.header.e_machine, own, others)
     found += _segment_differences(sides, ours, theirs)
     at = first_difference(memoryview(one), memoryview(other))
     yield from found or [f"the files differ at offset {at:#x}, in no content of a section"]
@@ -534,8 +510,8 @@ def _section_differences(
     one: tuple[list[Section], list[Text]],
     other: tuple[list[Section], list[Text]],
 ) -> Iterator[str]:
-    (ours, own) = one
-    (theirs, others) = other
+    ours, own = one
+    theirs, others = other
     first = {label: k for k, label in enumerate(labelled(own)) if k}
     second = {label: k for k, label in enumerate(labelled(others)) if k}
     yield from only_in(sides, "section", first, second, label_words)
@@ -555,10 +531,10 @@ def _segment_differences(sides: Sides, one: File, other: File) -> Iterator[str]:
         yield sides.both("the number of program headers", len(one.segments), len(other.segments))
         return
     for index, (ours, theirs) in enumerate(zip(one.segments, other.segments)):
+        # The last field is the content.
         for field in ours._fields[:-1]:
-            if getattr(ours, field) != getattr(theirs, field):
-                yield sides.both(
-                    f"program header {index}: {field}",
-                    hex(getattr(ours, field)),
-                    hex(getattr(theirs, field)),
-                )
+            value = getattr(ours, field)
+            other_value = getattr(theirs, field)
+            if value != other_value:
+                what = f"program header {index}: {field}"
+                yield sides.both(what, hex(value), hex(other_value))

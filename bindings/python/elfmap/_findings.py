@@ -39,16 +39,16 @@ class Rule(NamedTuple):
     @property
     def place(self) -> str:
         """Where docs/RULES.md has it."""
-        kind = (
-            "link"
-            if self.is_of_link
-            else "image"
-            if self.number < 40
-            else "table"
-            if self.number < 70
-            else "object"
-        )
-        return f"docs/RULES.md#{kind}-{self.number}"
+        return f"docs/RULES.md#{self._kind}-{self.number}"
+
+    @property
+    def _kind(self) -> str:
+        """What it is a rule of. Those of images are below 40, and those of tables below 70."""
+        if self.is_of_link:
+            return "link"
+        if self.number < 40:
+            return "image"
+        return "table" if self.number < 70 else "object"
 
     @property
     def table(self) -> dict[int, tuple[str, str, str]]:
@@ -135,10 +135,10 @@ class Globs:
         self._names = _pattern([it for it in words if b"/" not in it])
 
     def match(self, path: bytes) -> bool:
+        if self._whole and self._whole.match(path):
+            return True
         name = path.rstrip(b"/").rpartition(b"/")[2]
-        return bool(
-            (self._whole and self._whole.match(path)) or (self._names and self._names.match(name))
-        )
+        return bool(self._names and self._names.match(name))
 
 
 def _pattern(globs: Sequence[bytes]) -> Optional[re.Pattern[bytes]]:
@@ -151,7 +151,9 @@ def _pattern(globs: Sequence[bytes]) -> Optional[re.Pattern[bytes]]:
 
 def _words_of_rules() -> Iterator[tuple[str, Rule]]:
     """Each rule that a finding may be of, by its name and by its number."""
-    for rule in (*(Rule(False, it) for it in RULES), *(Rule(True, it) for it in OF_ONE_FILE)):
+    of_files = [Rule(False, it) for it in RULES]
+    of_link = [Rule(True, it) for it in OF_ONE_FILE]
+    for rule in of_files + of_link:
         yield rule.table[rule.number][0], rule
         yield _plain(str(rule.key)), rule
 

@@ -19,6 +19,13 @@ Format = Callable[[Report, bytes], Iterable[bytes]]
 _TOO_SHORT = Rule(False, 2)
 # The number is another one if another thing is hashed.
 _FINGERPRINT = "elfmapFinding/v1"
+_SARIF_SCHEMA = "https://json.schemastore.org/sarif-2.1.0.json"
+# What is counted of files that are skipped, and how it is called.
+_SKIPPED = (
+    ("not_elf", "not ELF"),
+    ("class_32", "of class 32"),
+    ("not_regular", "not regular"),
+)
 
 
 def _encoded(text: str) -> bytes:
@@ -31,18 +38,16 @@ def counted(count: int, what: str) -> str:
 
 def summary_words(report: Report) -> str:
     it = report.summary()
-    skipped = [
-        f"{it['not_elf']} not ELF" if it["not_elf"] else "",
-        f"{it['class_32']} of class 32" if it["class_32"] else "",
-        f"{it['not_regular']} not regular" if it["not_regular"] else "",
-    ]
-    words = (
-        f"{counted(it['findings'], 'finding')} in {it['files_with_findings']} of"
-        f" {counted(it['checked'], 'ELF file')}"
-    )
-    words += f", {it['suppressed']} suppressed" if it["suppressed"] else ""
-    words += f"; skipped: {', '.join(filter(None, skipped))}" if any(skipped) else ""
-    return words + (f"; {it['unreadable']} unreadable" if it["unreadable"] else "")
+    skipped = ", ".join(f"{it[key]} {what}" for key, what in _SKIPPED if it[key])
+    files = counted(it["checked"], "ELF file")
+    words = f"{counted(it['findings'], 'finding')} in {it['files_with_findings']} of {files}"
+    if it["suppressed"]:
+        words += f", {it['suppressed']} suppressed"
+    if skipped:
+        words += f"; skipped: {skipped}"
+    if it["unreadable"]:
+        words += f"; {it['unreadable']} unreadable"
+    return words
 
 
 def sentence(finding: Finding) -> str:
@@ -98,9 +103,8 @@ def _command(level: str, path: bytes, title: str, message: str) -> bytes:
 
     # Those signs are escaped as the file's own, so that it is found. Others that can't be printed
     # are not.
-    file = printable(
-        escaped(path.decode("utf-8", "surrogateescape"), ":,").encode("utf-8", "surrogateescape")
-    )
+    own = escaped(path.decode("utf-8", "surrogateescape"), ":,")
+    file = printable(own.encode("utf-8", "surrogateescape"))
     words = f"file={file},title={escaped(title, ':,')}::{escaped(message)}"
     return _encoded(f"::{level} {words}")
 
@@ -116,24 +120,22 @@ def sarif(report: Report, end: bytes) -> Iterator[bytes]:
         "version": __version__,
         "rules": [_sarif_rule(rule, name) for rule, name in rules],
     }
-    fingerprints = _fingerprints(report.findings)
+    invocation = {
+        "executionSuccessful": not report.unreadable,
+        "toolExecutionNotifications": [_notification(it) for it in report.unreadable],
+    }
+    results = [
+        _sarif_result(it, positions[it.rule], fingerprint)
+        for it, fingerprint in zip(report.findings, _fingerprints(report.findings))
+    ]
     run = {
         "tool": {"driver": driver},
-        "invocations": [
-            {
-                "executionSuccessful": not report.unreadable,
-                "toolExecutionNotifications": [_notification(it) for it in report.unreadable],
-            }
-        ],
-        "results": [
-            _sarif_result(it, positions[it.rule], next(fingerprints)) for it in report.findings
-        ],
+        "invocations": [invocation],
+        "results": results,
         "properties": report.summary(),
     }
-    schema = "https://json.schemastore.org/sarif-2.1.0.json"
-    yield json.dumps({"$schema": schema, "version": "2.1.0", "runs": [run]}, indent=1).encode(
-        "ascii"
-    )
+    document = {"$schema": _SARIF_SCHEMA, "version": "2.1.0", "runs": [run]}
+    yield json.dumps(document, indent=1).encode("ascii")
     yield b"\n"
 
 
@@ -162,10 +164,10 @@ def _fingerprints(findings: Iterable[Finding]) -> Iterator[str]:
 
 
 def _sarif_result(it: Finding, position: int, fingerprint: str) -> dict[str, Any]:
-    region = {
-        "byteOffset": it.start + it.offset,
-        **({} if it.rule == _TOO_SHORT else {"byteLength": 1}),
-    }
+    region = {"byteOffset": it.start + it.offset}
+    # A file that is too short has no byte there.
+    if it.rule != _TOO_SHORT:
+        region["byteLength"] = 1
     location: dict[str, Any] = {"physicalLocation": {**_artifact(it.file), "region": region}}
     # The schema asks for locations that differ; the names of sections need not.
     names = [{"name": name, "kind": "section"} for name in dict.fromkeys(it.sections)]

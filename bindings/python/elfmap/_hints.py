@@ -65,10 +65,8 @@ def hints(
     elif rule in _OF_SECTION_TABLE:
         yield from _astray(words)
     elif rule == NOT_RELOCATABLE:
-        yield (
-            f"the file is {_FILE_TYPES.get(words.number(16, 2), 'of another type')}: an object is"
-            " what cc -c writes"
-        )
+        kind = _FILE_TYPES.get(words.number(16, 2), "of another type")
+        yield f"the file is {kind}: an object is what cc -c writes"
     elif rule in (_KEPT_LINK, _KEPT_INFO):
         yield from _address_significance(words, path, at)
 
@@ -83,21 +81,14 @@ def _astray(words: Words) -> Iterator[str]:
     size = len(words.data)
     fits = _table_at_end(words, count)
     end = words.table + 64 * max(count, 1)
+    astray = f"e_shoff, which is {words.table:#x}, points astray"
     if fits:
-        yield (
-            f"e_shoff, which is {words.table:#x}, points astray: a table of {count} section headers"
-            f" is at {fits:#x}"
-        )
+        yield f"{astray}: a table of {count} section headers is at {fits:#x}"
     elif end > size:
-        yield (
-            f"the file was cut short: its section header table ends at {end:#x}, and the file at"
-            f" {size:#x}"
-        )
+        ends = f"its section header table ends at {end:#x}, and the file at {size:#x}"
+        yield f"the file was cut short: {ends}"
     elif _fields_that_are_set(words) > 1:
-        yield (
-            f"e_shoff, which is {words.table:#x}, points astray: what is there looks like no"
-            " section header 0"
-        )
+        yield f"{astray}: what is there looks like no section header 0"
 
 
 def _table_at_end(words: Words, count: int) -> int:
@@ -119,10 +110,8 @@ def _fields_that_are_set(words: Words) -> int:
 
 def _address_significance(words: Words, path: str, at: int) -> Iterator[str]:
     index = (at - words.table) // 64
-    if (
-        section_type(words.section(index, "sh_type")) == _ADDRSIG
-        or words.section_name(index) == ".llvm_addrsig"
-    ):
+    kind = section_type(words.section(index, "sh_type"))
+    if kind == _ADDRSIG or words.section_name(index) == ".llvm_addrsig":
         strip = f"objcopy --remove-section=.llvm_addrsig {_shell_word(os.fsencode(path))}"
         yield f"clang wrote .llvm_addrsig: compile with -fno-addrsig, or strip it: {strip}"
 
@@ -156,18 +145,14 @@ def _unknown_relocation(file: Linked, index: int, entry: int) -> Iterator[str]:
     if at < 0:
         return
     number = file.words.number(at + 8, 8) & 0xFFFFFFFF
-    name = relocation_types(file.words.machine).get(number, "")
+    machine = file.words.machine
+    name = relocation_types(machine).get(number, "")
     if "GOT" in name:
-        yield (
-            f"{name} is by a global offset table, which elfmap does not make: compile with -fno-pic"
-        )
+        table = "a global offset table, which elfmap does not make"
+        yield f"{name} is by {table}: compile with -fno-pic"
     elif name == "R_X86_64_PLT32":
-        yield (
-            f"{name} is a call, which needs no table here: the rule file needs the line"
-            f" `{number} pc 4 signed`"
-        )
+        line = f"`{number} pc 4 signed`"
+        yield f"{name} is a call, which needs no table here: the rule file needs the line {line}"
     elif name:
-        yield (
-            f"the rule file has no line for type {number}, {name} of machine"
-            f" {machine_words(file.words.machine)}"
-        )
+        kind = f"{number}, {name} of machine {machine_words(machine)}"
+        yield f"the rule file has no line for type {kind}"

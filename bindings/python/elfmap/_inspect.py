@@ -78,10 +78,9 @@ class Inspector:
             self._image(Content(path, path, source))
             return
         for member in members(source, path):
-            with self._guarded(printed(path, member)), self._contents.opened(
-                path, source, member
-            ) as it:
-                self._image(it)
+            with self._guarded(printed(path, member)):
+                with self._contents.opened(path, source, member) as it:
+                    self._image(it)
 
     def _image(self, it: Content) -> None:
         head = it.source[:5]
@@ -97,11 +96,12 @@ class Inspector:
         faults = self._checks.faults(it.source)
         if self._depth.keeps_names:
             self._report.names.append(it.path)
-        words = Words(it.source, self._depth.most_letters) if faults else None
-        if words:
-            self._report.findings += [
-                _finding(it, words, fault, self._depth.names_sections) for fault in faults
-            ]
+        if not faults:
+            return
+        words = Words(it.source, self._depth.most_letters)
+        names_sections = self._depth.names_sections
+        found = [_finding(it, words, fault, names_sections) for fault in faults]
+        self._report.findings += found
 
 
 def _finding(content: Content, words: Words, fault: Fault, names_sections: bool) -> Finding:
@@ -113,7 +113,6 @@ def _finding(content: Content, words: Words, fault: Fault, names_sections: bool)
         told = explain_alone(Linked("", words), fault.rule, fault.at)
     else:
         told = explain(words, fault.rule, fault.at, fault.table)
+    name = rule.table[rule.number][0]
     sections = tuple(map(words.section_name, told.sections)) if names_sections else ()
-    return Finding(
-        path, fault.at, rule, rule.table[rule.number][0], told.message, sections, file, source.start
-    )
+    return Finding(path, fault.at, rule, name, told.message, sections, file, source.start)

@@ -106,16 +106,16 @@ class Linked:
 
     def raw_name(self, position: int, most: int = LONGEST_NAME) -> bytes:
         """The name of the symbol at a position, or so many bytes of it."""
-        return self.words.name(
-            self._strings, self.words.symbol(self.symbols, position + 1, "st_name"), most
-        )
+        offset = self.words.symbol(self.symbols, position + 1, "st_name")
+        return self.words.name(self._strings, offset, most)
 
     def first_definition(self, name: bytes) -> Optional[int]:
         """The first symbol that is a global definition of a name."""
         offsets = set(islice(self._offsets_of(name), _MOST_OFFSETS)) if name else set()
-        return next(
-            (index for index, offset in self._global_definitions() if offset in offsets), None
-        )
+        for index, offset in self._global_definitions():
+            if offset in offsets:
+                return index
+        return None
 
     @cached_property
     def _strings(self) -> int:
@@ -141,9 +141,8 @@ class Linked:
         for at in range(start, min(end, len(words.data)), step):
             block = words.data[at : min(at + step, end)]
             whole = block[: len(block) // _SYMBOL_SIZE * _SYMBOL_SIZE]
-            for index, (name, info, section) in enumerate(
-                record.iter_unpack(whole), (at - start) // _SYMBOL_SIZE
-            ):
+            first = (at - start) // _SYMBOL_SIZE
+            for index, (name, info, section) in enumerate(record.iter_unpack(whole), first):
                 if index and info >> 4 == _GLOBAL and section not in (_UNDEFINED, _COMMON):
                     yield index, name
 
@@ -154,32 +153,24 @@ class Linked:
 
     def machine_words(self) -> str:
         order = "big" if self.words.order == ">" else "little"
+        machine = machine_words(self.words.machine)
         flags = self.words.number(48, 4)
-        return (
-            f"{self.path} has order {order}, machine {machine_words(self.words.machine)}, flags"
-            f" {flags:#x}"
-        )
+        return f"{self.path} has order {order}, machine {machine}, flags {flags:#x}"
 
     def own_words(self, rule: int, index: int) -> str:
         """The section or symbol of this index, and what of it a rule looks at that needs no other
         file."""
-        return (
-            self._section_words(rule, index)
-            if rule in _OF_SECTIONS
-            else self._symbol_words(rule, index)
-        )
+        if rule in _OF_SECTIONS:
+            return self._section_words(rule, index)
+        return self._symbol_words(rule, index)
 
     def _section_words(self, rule: int, index: int) -> str:
         words = self.words
+        section = words.section_words(index)
         if rule == _EMPTY_SIGNATURE:
-            signature = words.symbol_words(
-                words.section(index, "sh_link"), words.section(index, "sh_info")
-            )
-            return f"{words.section_words(index)}: signed by {signature}"
-        return (
-            f"{words.section_words(index)}: sh_flags, which is"
-            f" {words.section(index, 'sh_flags'):#x}"
-        )
+            table, symbol = (words.section(index, it) for it in ("sh_link", "sh_info"))
+            return f"{section}: signed by {words.symbol_words(table, symbol)}"
+        return f"{section}: sh_flags, which is {words.section(index, 'sh_flags'):#x}"
 
     def _symbol_words(self, rule: int, index: int) -> str:
         words = self.words
@@ -201,11 +192,9 @@ class Linked:
     def relocation_words(self, position: int, entry: int) -> str:
         index = self.section(position)
         at = self.relocation(position, entry)
-        own = (
-            entry_words(self.words, index, at)
-            if at >= 0
-            else f"relocation {entry}, which isn't there"
-        )
+        own = f"relocation {entry}, which isn't there"
+        if at >= 0:
+            own = entry_words(self.words, index, at)
         return f"{self.path}, {self.words.section_words(index)}: {own}"
 
 
@@ -241,14 +230,15 @@ def link_words(files: Sequence[Linked], rule: int, file: int, index: int, entry:
         return f"{it.path}, {it.own_words(rule, own)}"
     if rule == _TWO_DEFINITIONS:
         return _two_definitions(files, file, index)
-    return (
-        it.undefined_words(index) if rule == UNDEFINED_NAME else it.relocation_words(index, entry)
-    )
+    if rule == UNDEFINED_NAME:
+        return it.undefined_words(index)
+    return it.relocation_words(index, entry)
 
 
 def _two_definitions(files: Sequence[Linked], file: int, index: int) -> str:
     """Both definitions of a name, of which the given one is the second."""
-    name = files[file].raw_name(index)
+    own = files[file]
+    name = own.raw_name(index)
     symbol = index + 1
     before = "an earlier file has it"
     for position, it in enumerate(files[: file + 1]):
@@ -256,7 +246,5 @@ def _two_definitions(files: Sequence[Linked], file: int, index: int) -> str:
         if other is not None and (position, other) < (file, symbol):
             before = f"{it.path} has it at symbol {other}"
             break
-    return (
-        f"two definitions of {files[file].symbol_name(index)}, the second one at symbol {symbol} of"
-        f" {files[file].path}; {before}"
-    )
+    second = f"the second one at symbol {symbol} of {own.path}"
+    return f"two definitions of {own.symbol_name(index)}, {second}; {before}"

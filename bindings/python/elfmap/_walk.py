@@ -27,11 +27,8 @@ class Found(NamedTuple):
 def reason_of_foreign(size: int) -> str:
     """Why a file of so many bytes, which does not begin as an ELF file or an archive, is not
     checked."""
-    return (
-        "it is neither an ELF file nor an archive; --skip skips it"
-        if size
-        else "it is empty; --skip skips it"
-    )
+    kind = "neither an ELF file nor an archive" if size else "empty"
+    return f"it is {kind}; --skip skips it"
 
 
 class Walk:

@@ -83,38 +83,16 @@ ENTRY_SIZES = {
     SYMTAB_SHNDX: 4,
     HASH: 4,
 }
+# The rules whose offset is in a section header: those of images, of tables and of objects.
+_OF_SECTION_HEADERS = {
+    *(13, 14, 17, 20, 22, 23, 24, 30, 32),
+    *(40, 42, 43, 44, 46, 49, 50, 53, 55, 57, 63, 65),
+    *(72, 73, 74, 76, 78, 79),
+}
 # Where a rule's offset is. Any other rule's may be in each of these.
 PARTS = {
     "header": {*range(3, 13), 15, 16, 18, 19, 21, 70, 71},
-    "section": {
-        13,
-        14,
-        17,
-        20,
-        22,
-        23,
-        24,
-        30,
-        32,
-        40,
-        42,
-        43,
-        44,
-        46,
-        49,
-        50,
-        53,
-        55,
-        57,
-        63,
-        65,
-        72,
-        73,
-        74,
-        76,
-        78,
-        79,
-    },
+    "section": _OF_SECTION_HEADERS,
     "segment": {25, 26, 27, 28, 29},
     "content": {31, 41, 47, 48, 51, 52, 54, 56, 58, 59, 60, 61, 62, 64, 66, 67, 68, 69, 75, 77},
 }
@@ -148,14 +126,16 @@ class Words:
         self.data = data
         self._most = most
         self.order = ">" if data[5:6] == b"\2" else "<"
-        self.table, names, segments = self.number(40, 8), self.number(62, 2), self.number(56, 2)
+        self.table = self.number(40, 8)
         self.machine = self.number(18, 2)
         counted = self.number(60, 2) or self.number(self.table + 32, 8)
         self.count = min(counted, len(data) // 64) if self.table else 0
+        names = self.number(62, 2)
         self.names = self.section(0, "sh_link") if names == XINDEX else names
-        self.segments = min(
-            self.section(0, "sh_info") if segments == XINDEX else segments, len(data) // 56
-        )
+        segments = self.number(56, 2)
+        if segments == XINDEX:
+            segments = self.section(0, "sh_info")
+        self.segments = min(segments, len(data) // 56)
         self._index_tables: Optional[dict[int, int]] = None
 
     def number(self, at: int, width: int) -> int:
@@ -179,16 +159,13 @@ class Words:
         for first in range(0, self.count, _HEADERS_AT_ONCE):
             start = self.table + 64 * first
             block = self.data[start : start + 64 * min(_HEADERS_AT_ONCE, self.count - first)]
-            for index, fields in enumerate(
-                record.iter_unpack(block[: len(block) // 64 * 64]), first
-            ):
+            whole = block[: len(block) // 64 * 64]
+            for index, fields in enumerate(record.iter_unpack(whole), first):
                 yield (index, *fields)
 
     def holding(self, at: int, near: Iterable[int] = ()) -> list[int]:
         """The sections whose content has an offset; those nearby are looked at first."""
-        found = [
-            it for it in dict.fromkeys(near) if self.content(it)[0] <= at < self.content(it)[1]
-        ]
+        found = [it for it in dict.fromkeys(near) if self._holds(it, at)]
         position = 0 if found else bisect.bisect_left(self._contents, (at + 1,))
         while position and self._ends[position - 1] > at:
             position -= 1
@@ -196,16 +173,18 @@ class Words:
             found += [index] if end > at else []
         return sorted(found)
 
+    def _holds(self, index: int, at: int) -> bool:
+        start, end = self.content(index)
+        return start <= at < end
+
     @cached_property
     def _contents(self) -> list[tuple[int, ...]]:
         """Where the contents of sections begin and end, and their indexes, in ascending order."""
-        all_ = (
-            (start, start + size, index, kind)
-            for index, _, kind, _, _, start, size, *_ in self.headers()
-        )
-        return sorted(
-            it[:3] for it in all_ if it[2] and it[0] < it[1] and it[3] not in (NULL, NOBITS)
-        )
+        found = []
+        for index, _, kind, _, _, start, size, *_ in self.headers():
+            if index and size and kind not in (NULL, NOBITS):
+                found.append((start, start + size, index))
+        return sorted(found)
 
     @cached_property
     def _ends(self) -> list[int]:
@@ -232,18 +211,15 @@ class Words:
     def name(self, table: int, at: int, most: int = LONGEST_NAME) -> bytes:
         """The name at an offset of a string table, or so many bytes of it."""
         start, end = self.content(table)
-        is_there = 0 < table < self.count and start + at < end
-        return (
-            self.data[start + at : min(end, start + at + most)].partition(b"\0")[0]
-            if is_there
-            else b""
-        )
+        first = start + at
+        if not 0 < table < self.count or first >= end:
+            return b""
+        return self.data[first : min(end, first + most)].partition(b"\0")[0]
 
     def string(self, table: int, at: int) -> str:
         """That name in a sentence, in letters that can be printed."""
-        return printable(
-            self.name(table, at, min(LONGEST_NAME, LONGEST_LETTER * (self._most + 1))), self._most
-        )
+        most = min(LONGEST_NAME, LONGEST_LETTER * (self._most + 1))
+        return printable(self.name(table, at, most), self._most)
 
     def section_string(self, index: int) -> str:
         """The name of a section in a sentence."""
@@ -251,15 +227,20 @@ class Words:
 
     def section_name(self, index: int) -> str:
         """The name of a section in JSON, or what it is called without one."""
-        return (
-            printable(self.name(self.names, self.section(index, "sh_name"))) or f"section {index}"
-        )
+        name = self.name(self.names, self.section(index, "sh_name"))
+        return printable(name) or f"section {index}"
 
     def symbol(self, table: int, index: int, field: str) -> int:
         """A field of a symbol, 0 where there is none."""
         at, width = SYMBOL[field]
+        begins = self._symbol_at(table, index)
+        return 0 if begins is None else self.number(begins + at, width)
+
+    def _symbol_at(self, table: int, index: int) -> Optional[int]:
+        """Where a symbol begins; None where there is none."""
         start, end = self.content(table)
-        return self.number(start + 24 * index + at, width) if start + 24 * index + 24 <= end else 0
+        begins = start + 24 * index
+        return begins if begins + 24 <= end else None
 
     # ---- in words
 
@@ -271,10 +252,8 @@ class Words:
     def typed_words(self, index: int) -> str:
         if index >= self.count:
             return self.section_words(index)
-        return (
-            f"{self.section_words(index)} of type"
-            f" {section_type(self.section(index, 'sh_type'), self.machine)}"
-        )
+        kind = section_type(self.section(index, "sh_type"), self.machine)
+        return f"{self.section_words(index)} of type {kind}"
 
     def symbol_name(self, table: int, index: int) -> str:
         name = self.string(self.section(table, "sh_link"), self.symbol(table, index, "st_name"))
@@ -283,39 +262,37 @@ class Words:
         return name or "(no name)"
 
     def symbol_words(self, table: int, index: int) -> str:
-        start, end = self.content(table)
-        is_there = start + 24 * index + 24 <= end
-        return (
-            f"symbol {index} {self.symbol_name(table, index)}"
-            if is_there
-            else f"symbol {index}, which isn't there"
-        )
+        if self._symbol_at(table, index) is None:
+            return f"symbol {index}, which isn't there"
+        return f"symbol {index} {self.symbol_name(table, index)}"
 
     def field_words(self, record: Layout, start: int, at: int) -> str:
         """The field of a record that holds an offset, and its value."""
         for name, (begins, width) in record.items():
             if begins <= at - start < begins + width:
-                if name.startswith("the "):
-                    return (
-                        f"{name}, which is"
-                        f" {self.data[start + begins : start + begins + width].hex(' ')}"
-                    )
-                value = self.number(start + begins, width)
-                is_hex = any(it in name for it in _IN_HEX) and value > 9
-                return f"{name}, which is {hex(value) if is_hex else value}"
+                return f"{name}, which is {self._value_words(name, start + begins, width)}"
         return "no field"
+
+    def _value_words(self, field: str, at: int, width: int) -> str:
+        # A field without a name of the standard has bytes, and no number.
+        if field.startswith("the "):
+            return self.data[at : at + width].hex(" ")
+        value = self.number(at, width)
+        is_hex = any(it in field for it in _IN_HEX) and value > 9
+        return hex(value) if is_hex else str(value)
 
     def header_words(self, index: int) -> str:
         """What a section header is about: its section, and those that it names."""
         kind, link, info = (self.section(index, it) for it in ("sh_type", "sh_link", "sh_info"))
-        words = [
-            f"the section header of {self.typed_words(index)}" if index else "section header 0"
-        ]
-        words += [f"its link is {self.typed_words(link)}"] if link and kind != NULL else []
-        words += (
-            [f"it relocates {self.section_words(info)}"] if kind in (REL, RELA) and info else []
-        )
-        words += [f"signed by {self.symbol_words(link, info)}"] if kind == GROUP else []
+        words = ["section header 0"]
+        if index:
+            words = [f"the section header of {self.typed_words(index)}"]
+        if link and kind != NULL:
+            words.append(f"its link is {self.typed_words(link)}")
+        if info and kind in (REL, RELA):
+            words.append(f"it relocates {self.section_words(info)}")
+        if kind == GROUP:
+            words.append(f"signed by {self.symbol_words(link, info)}")
         return "; ".join(words)
 
     def content_words(self, index: int, at: int) -> str:
@@ -334,11 +311,8 @@ class Words:
         table = self.number(32, 8)
         if table and table <= at < table + 56 * self.segments:
             index = (at - table) // 56
-            yield Place(
-                "segment",
-                None,
-                f"program header {index}: {self.field_words(SEGMENT, table + 56 * index, at)}",
-            )
+            field = self.field_words(SEGMENT, table + 56 * index, at)
+            yield Place("segment", None, f"program header {index}: {field}")
         for index in self.holding(at, near):
             yield Place("content", index, self.content_words(index, at))
 
@@ -396,27 +370,17 @@ def _in_bytes(letter: str) -> str:
 def entry_words(file: Words, index: int, at: int) -> str:
     """The entry of the table in a section that holds an offset."""
     kind = file.section(index, "sh_type")
-    (start, end) = file.content(index)
-    link = file.section(index, "sh_link")
+    start, end = file.content(index)
     size = ENTRY_SIZES.get(kind, 1)
     position = (at - start) // size
     begins = start + position * size
     if kind in (SYMTAB, DYNSYM):
         return _symbol_entry(file, index, position, at)
     if kind in (RELA, REL):
-        info = file.number(begins + 8, 8)
-        place = (
-            f"{file.number(begins, 8):#x} of {file.section_words(file.section(index, 'sh_info'))}"
-        )
-        typed = f"of type {relocation_type(info & 0xFFFFFFFF, file.machine)}"
-        return (
-            f"relocation {position}, of {file.symbol_words(link, info >> 32)}, at {place}, {typed}"
-        )
+        return f"relocation {position}, {_relocation_entry(file, index, begins)}"
     if kind == DYNAMIC_SECTION:
-        return (
-            f"entry {position}, of tag {file.number(begins, 8)}:"
-            f" {file.field_words(DYNAMIC, begins, at)}"
-        )
+        field = file.field_words(DYNAMIC, begins, at)
+        return f"entry {position}, of tag {file.number(begins, 8)}: {field}"
     if kind == NOTE_SECTION:
         return _note_words(file, start, end, at)
     if kind in (GROUP, SYMTAB_SHNDX, HASH):
@@ -431,19 +395,23 @@ def _symbol_entry(file: Words, index: int, position: int, at: int) -> str:
     return f"{file.symbol_words(index, position)}{defined}: {field}"
 
 
+def _relocation_entry(file: Words, index: int, begins: int) -> str:
+    """What an entry of a section of relocations relocates, and how."""
+    info = file.number(begins + 8, 8)
+    symbol = file.symbol_words(file.section(index, "sh_link"), info >> 32)
+    target = file.section_words(file.section(index, "sh_info"))
+    kind = relocation_type(info & 0xFFFFFFFF, file.machine)
+    return f"of {symbol}, at {file.number(begins, 8):#x} of {target}, of type {kind}"
+
+
 def _word_entry(file: Words, index: int, position: int, value: int) -> str:
     """A word of a group, an index table or a hash table."""
     kind = file.section(index, "sh_type")
     link = file.section(index, "sh_link")
     if kind == GROUP:
-        signature = (
-            f"of the group that {file.symbol_words(link, file.section(index, 'sh_info'))} signs"
-        )
-        return (
-            f"the member {file.section_words(value)} {signature}"
-            if position
-            else f"the flags, {value}, {signature}"
-        )
+        signature = file.symbol_words(link, file.section(index, "sh_info"))
+        word = f"the member {file.section_words(value)}" if position else f"the flags, {value},"
+        return f"{word} of the group that {signature} signs"
     if kind == SYMTAB_SHNDX:
         return f"the word of {file.symbol_words(link, position)}: {value}"
     buckets = file.number(file.content(index)[0], 4)
@@ -501,11 +469,8 @@ def found_at(file: Words, rule: int, at: int, table: Optional[int] = None) -> li
         return [Place("end", None, f"the file ends there, with {len(file.data)} bytes")]
     found = list(file.places(at, file.related(table) if table is not None else ()))
     wanted = [kind for kind, rules in PARTS.items() if rule in rules] or list(PARTS)
-    return (
-        [it for it in found if it.kind in wanted]
-        or found
-        or [Place("gap", None, "in no part of the file")]
-    )
+    looked_at = [it for it in found if it.kind in wanted]
+    return looked_at or found or [Place("gap", None, "in no part of the file")]
 
 
 def _shared_byte(file: Words, at: int) -> Told:

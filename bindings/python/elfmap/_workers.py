@@ -137,11 +137,9 @@ class Pool:
         if len(worker.paths) > 1:
             self._again += [[it] for it in worker.paths]
             return
-        reason = (
-            f"the process that checked it ended by signal {number}"
-            if number
-            else "the check of it failed"
-        )
+        reason = "the check of it failed"
+        if number:
+            reason = f"the process that checked it ended by signal {number}"
         self._done(Report(unreadable=[Unread(it, reason) for it in worker.paths]))
 
     def _drop(self, worker: Worker) -> int:

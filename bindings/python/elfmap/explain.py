@@ -32,7 +32,7 @@ import stat
 import textwrap
 from collections.abc import Iterable, Iterator, Sequence
 from contextlib import ExitStack, suppress
-from typing import BinaryIO, NamedTuple, Optional
+from typing import Any, BinaryIO, NamedTuple, Optional
 
 from elfmap import __version__
 from elfmap._archives import Content, Contents, Member, is_archive, members, printed
@@ -49,10 +49,8 @@ PROGRAM = "elfmap-explain"
 WIDTH = 130
 _REFUSAL = re.compile(rb"(?:file (\d+) )?refused((?: \d+){2,4})$")
 _FINDING = re.compile(
-    (
-        rb"(?P<path>.*?): offset 0x(?P<offset>[0-9a-f]{1,16}): (?P<name>[A-Z_0-9]+) \((?P<link>link"
-        rb" )?(?P<rule>\d{1,3})\): "
-    ),
+    rb"(?P<path>.*?): offset 0x(?P<offset>[0-9a-f]{1,16}): "
+    rb"(?P<name>[A-Z_0-9]+) \((?P<link>link )?(?P<rule>\d{1,3})\): ",
     re.S,
 )
 _LINK_RULE = re.compile(r"link-([0-9]{1,3})")
@@ -77,6 +75,10 @@ class Finding(NamedTuple):
     offset: int
     rule: Rule
     name: str
+
+    def words(self) -> str:
+        place = f"{printable(self.path)}: offset {self.offset:#x}"
+        return f"{place}: {self.name} ({self.rule.words})"
 
 
 class Files:
@@ -129,12 +131,11 @@ class Files:
         if self._members[0] != archive:
             self._members = archive, *_members_of(source, archive)
         _, named, others = self._members
-        # Of a member in another archive the path goes on.
-        mine = (
-            [named[path]]
-            if path in named
-            else [it for it in others if path.startswith(printed(archive, it)[:-1] + b"(")]
-        )
+        if path in named:
+            mine = [named[path]]
+        else:
+            # Of a member in another archive the path goes on.
+            mine = [it for it in others if path.startswith(printed(archive, it)[:-1] + b"(")]
         contents = Contents()
         for it in mine:
             content = stack.enter_context(contents.opened(archive, source, it))
@@ -186,14 +187,12 @@ class Explainer:
     def tell(self, lines: Iterable[bytes], out: BinaryIO, head: str = "") -> None:
         """Writes the words for each of the lines, and an empty line between them."""
         if head:
-            out.write((self._filled.fill(head) + "\n").encode("utf-8", "backslashreplace"))
+            out.write(_encoded(self._filled.fill(head) + "\n"))
         for line in lines:
-            before = self.count
+            is_first = not self.count and not head
             found = self.explain(line)
             if found:
-                out.write(
-                    (f"\n{found}" if before or head else found).encode("utf-8", "backslashreplace")
-                )
+                out.write(_encoded(found if is_first else f"\n{found}"))
                 out.flush()
 
     def explain(self, line: bytes) -> str:
@@ -201,19 +200,15 @@ class Explainer:
         refusal = _REFUSAL.match(line.strip())
         finding = None if refusal else finding_in(line)
         if refusal:
+            lead = printable(line.strip())
             numbers = [int(it) for it in refusal[2].split()]
             found = self._refusal(int(refusal[1] or 0), numbers)
         elif finding:
+            lead = finding.words()
             found = self._finding(finding)
         else:
             return ""
         self.count += 1
-        lead = (
-            f"{printable(finding.path)}: offset {finding.offset:#x}:"
-            f" {finding.name} ({finding.rule.words})"
-            if finding
-            else printable(line.strip())
-        )
         return "\n".join(self._filled.fill(it) for it in (lead, *found)) + "\n"
 
     def refusals(self) -> Iterator[bytes]:
@@ -229,23 +224,23 @@ class Explainer:
                 self.lost = True
                 complain(PROGRAM, one_line(file.file) + f": {fault.reason}".encode())
                 continue
-            # A rule of the link is no reason against the file.
-            for it in (it for it in faults if not it.is_of_link):
-                table = f"{it.table} " if it.table is not None else ""
-                yield f"file {position} refused {table}{it.rule} {it.at}".encode()
+            for it in faults:
+                # A rule of the link is no reason against the file.
+                if not it.is_of_link:
+                    table = f"{it.table} " if it.table is not None else ""
+                    yield f"file {position} refused {table}{it.rule} {it.at}".encode()
 
     def _refusal(self, position: int, numbers: list[int]) -> Iterator[str]:
         if len(numbers) == 4:
             yield from self._of_link(*numbers)
             return
-        *table, rule, at = numbers
+        *tables, rule, at = numbers
         if position >= len(self._named):
             yield f"there is no file {position}"
             return
         file = self._named[position]
-        yield from self._of_file(
-            file.path, file.words, file.file, rule, at, table[0] if table else None
-        )
+        table = tables[0] if tables else None
+        yield from self._of_file(file.path, file.words, file.file, rule, at, table)
 
     def _finding(self, it: Finding) -> Iterator[str]:
         try:
@@ -308,19 +303,18 @@ def finding_in(line: bytes) -> Optional[Finding]:
         return None
     try:
         it = json.loads(line)
-        path = (
-            bytes.fromhex(it["path_hex"])
-            if "path_hex" in it
-            else it["path"].encode("utf-8", "surrogateescape")
-        )
-        return Finding(
-            path,
-            _number(it["offset"]),
-            _rule(it["rule"]),
-            printable(str(it["name"]).encode("utf-8", "replace")),
-        )
+        name = printable(str(it["name"]).encode("utf-8", "replace"))
+        return Finding(_path(it), _number(it["offset"]), _rule(it["rule"]), name)
     except (ValueError, KeyError, TypeError, AttributeError, RecursionError):
         return None
+
+
+def _path(finding: Any) -> bytes:
+    """The path of a finding in JSON, which has the bytes of one that is no UTF-8."""
+    if "path_hex" in finding:
+        return bytes.fromhex(finding["path_hex"])
+    path: str = finding["path"]
+    return path.encode("utf-8", "surrogateescape")
 
 
 def _rule(value: object) -> Rule:
@@ -337,12 +331,10 @@ def _number(value: object) -> int:
 def named_file(path: str, stack: ExitStack) -> Linked:
     """A FILE of the command line. One that is not regular, as a pipe, is read into memory."""
     try:
-        is_regular = stat.S_ISREG(os.stat(path).st_mode)
-        source = (
-            stack.enter_context(opened(os.fsencode(path)))
-            if is_regular
-            else _read_whole(path, stack)
-        )
+        if stat.S_ISREG(os.stat(path).st_mode):
+            source = stack.enter_context(opened(os.fsencode(path)))
+        else:
+            source = _read_whole(path, stack)
     except (OSError, ValueError, Unreadable) as fault:
         reason = reason_of(fault) if isinstance(fault, OSError) else str(fault)
         raise Unreadable(f"{one_line(os.fsencode(path)).decode()}: {reason}") from None
@@ -413,10 +405,17 @@ def _parser() -> Parser:
 
 def _line_of(words: list[str]) -> int:
     """How many of the words are a line of elfmap."""
-    are_of_line = (
-        re.fullmatch(_WORD if it else _FIRST_WORD, word) for it, word in enumerate(words)
-    )
-    return next((it for it, is_own in enumerate(are_of_line) if not is_own), len(words))
+    for count, word in enumerate(words):
+        if not re.fullmatch(_WORD if count else _FIRST_WORD, word):
+            return count
+    return len(words)
+
+
+def _no_line(line: bytes, paths: list[str]) -> int:
+    """Says why words that begin as a line of elfmap are not explained."""
+    wrong = b"`%s` is no line of elfmap" % line if paths else b"FILE is missing"
+    complain(PROGRAM, wrong + b"; see --help")
+    return USAGE
 
 
 def main(words: Optional[Sequence[str]] = None) -> int:
@@ -426,15 +425,7 @@ def main(words: Optional[Sequence[str]] = None) -> int:
     paths = options.words[count:]
     line = " ".join(options.words[:count]).encode()
     if count and not (paths and _REFUSAL.match(line)):
-        complain(
-            PROGRAM,
-            (
-                b"`%s` is no line of elfmap; see --help" % line
-                if paths
-                else b"FILE is missing; see --help"
-            ),
-        )
-        return USAGE
+        return _no_line(line, paths)
     is_asked = not count and "-" in paths
     paths = [it for it in paths if it != "-"] if is_asked else paths
     # Where standard input is closed, the first FILE that is opened gets its number.
@@ -453,6 +444,10 @@ def main(words: Optional[Sequence[str]] = None) -> int:
         lines = records(b"\0" if options.zero else b"\n") if is_read else iter([line])
         return _explain_all(explainer, lines, "standard input refuses nothing; " if is_read else "")
     return UNREADABLE
+
+
+def _encoded(words: str) -> bytes:
+    return words.encode("utf-8", "backslashreplace")
 
 
 def _explain_all(explainer: Explainer, lines: Iterator[bytes], lead: str) -> int:

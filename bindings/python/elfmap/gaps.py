@@ -10,6 +10,7 @@ can't be read or is refused. The other files are read all the same.
 
 from __future__ import annotations
 
+import argparse
 import heapq
 import os
 from collections.abc import Iterator, Sequence
@@ -45,11 +46,9 @@ class Gap(NamedTuple):
 
     def line(self) -> bytes:
         end = self.start - self.less
-        words = f"between {self.before} and {self.after}" if self.after else f"after {self.before}"
-        words = (
-            f": [{self.start:#x}, {end:#x}) {words},"
-            f" {'zeros' if self.is_zeros else 'not only zeros'}\n"
-        )
+        place = f"between {self.before} and {self.after}" if self.after else f"after {self.before}"
+        bytes_ = "zeros" if self.is_zeros else "not only zeros"
+        words = f": [{self.start:#x}, {end:#x}) {place}, {bytes_}\n"
         return b"%d " % -self.less + one_line(self.path) + words.encode("utf-8", "backslashreplace")
 
 
@@ -65,16 +64,11 @@ class Finder(Inspector):
     def _elf(self, it: Content) -> None:
         parts, fault = self._checks.parts(it.source)
         if fault:
-            raise Unreadable(
-                f"offset {fault.at:#x}: {RULES[fault.rule][0]} ({fault.rule}); elfmap-lint says"
-                " more"
-            )
+            rule = f"{RULES[fault.rule][0]} ({fault.rule})"
+            raise Unreadable(f"offset {fault.at:#x}: {rule}; elfmap-lint says more")
         words = Words(it.source)
-        own = [
-            _gap(it, words, parts, position)
-            for position, part in enumerate(parts)
-            if part.owner == _GAP
-        ]
+        gaps = [position for position, part in enumerate(parts) if part.owner == _GAP]
+        own = [_gap(it, words, parts, position) for position in gaps]
         self.count += len(own)
         self.bytes -= sum(gap.less for gap in own)
         self.longest = heapq.nsmallest(self._most, [*self.longest, *own])
@@ -88,8 +82,10 @@ def _gap(it: Content, words: Words, parts: Sequence[_library.Part], position: in
 
 
 def _owner(words: Words, part: _library.Part) -> str:
+    if part.owner < len(_OWNERS):
+        return _OWNERS[part.owner]
     index = part.owner - len(_OWNERS)
-    return _OWNERS[part.owner] if index < 0 else words.section_string(index) or f"section {index}"
+    return words.section_string(index) or f"section {index}"
 
 
 def _blocks(source: Source, start: int, length: int) -> Iterator[bytes]:
@@ -124,22 +120,24 @@ def _summary(finder: Finder, report: Report) -> str:
     gaps = counted(finder.count, "gap")
     files = counted(report.checked, "ELF file")
     words = f"{gaps} of {counted(finder.bytes, 'byte')} in {files}"
-    skipped = [
-        f"{count} {what}"
-        for count, what in ((report.no_elf, "not ELF"), (report.class_32, "of class 32"))
-        if count
-    ]
-    return words + (f"; skipped: {', '.join(skipped)}" if skipped else "")
+    counts = ((report.no_elf, "not ELF"), (report.class_32, "of class 32"))
+    skipped = ", ".join(f"{count} {what}" for count, what in counts if count)
+    return f"{words}; skipped: {skipped}" if skipped else words
+
+
+def _usage_error(options: argparse.Namespace) -> str:
+    """What is wrong with the words of the command; nothing if they are right."""
+    if not options.paths:
+        return "PATH is missing; see --help"
+    return "--most needs a number from 0 on" if options.most < 0 else ""
 
 
 def main(words: Optional[Sequence[str]] = None) -> int:
     """Runs the program, and returns its status."""
     options = _parser().in_any_order(words, "paths")
-    if options.most < 0 or not options.paths:
-        complain(
-            PROGRAM,
-            b"--most needs a number from 0 on" if options.paths else b"PATH is missing; see --help",
-        )
+    wrong = _usage_error(options)
+    if wrong:
+        complain(PROGRAM, wrong.encode())
         return USAGE
     finder = Finder(options.most)
     report = Report()

@@ -22,7 +22,16 @@ from typing import Any, BinaryIO, Optional
 
 from elfmap import __version__, _library
 from elfmap._commands import DONE, FOUND, UNREADABLE, USAGE, Parser, complain, failure, run_script
-from elfmap._findings import BadWord, Baseline, Globs, Ignored, Report, Unread, baseline_text
+from elfmap._findings import (
+    BadWord,
+    Baseline,
+    Finding,
+    Globs,
+    Ignored,
+    Report,
+    Unread,
+    baseline_text,
+)
 from elfmap._inspect import Depth, Inspector
 from elfmap._sources import reason_of
 from elfmap._walk import Walk, chunks
@@ -37,19 +46,29 @@ _OF_JSON = ("jsonl", "sarif")
 _MOST_FILES = 64
 _MOST_BYTES = 16 << 20
 _STANDARD_INPUT = b"-"
+_STATUSES = (
+    "Status: 0 clean, 1 findings, 2 usage, 3 something can't be read, or a PATH is no ELF file."
+)
+_TABLES = "symbols, relocations, groups, notes, dynamic arrays, hash tables"
 
 
 def _parser() -> Parser:
     parser = Parser(
         prog=PROGRAM,
         description="Checks all ELF-64 files of files, directories and .a archives.",
-        epilog=(
-            "Status: 0 clean, 1 findings, 2 usage, 3 something can't be read, or a PATH is no ELF"
-            " file."
-        ),
+        epilog=_STATUSES,
     )
+    parser.add_argument("--version", action="version", version=f"%(prog)s {__version__}")
+    _add_paths(parser)
+    _add_checks(parser)
+    _add_suppressions(parser)
+    _add_output(parser)
+    return parser
+
+
+def _add_paths(parser: Parser) -> None:
+    """What is looked at, and what of it is skipped."""
     add = parser.add_argument
-    add("--version", action="version", version=f"%(prog)s {__version__}")
     add(
         "paths",
         metavar="PATH",
@@ -84,18 +103,22 @@ def _parser() -> Parser:
         default="skip",
         help="skip files of class 32, or report them (default: skip)",
     )
-    add(
-        "--tables",
-        action="store_true",
-        help=(
-            "check the tables too: symbols, relocations, groups, notes, dynamic arrays, hash tables"
-        ),
-    )
+
+
+def _add_checks(parser: Parser) -> None:
+    """By which rules it is checked."""
+    add = parser.add_argument
+    add("--tables", action="store_true", help=f"check the tables too: {_TABLES}")
     add(
         "--object",
         action="store_true",
         help="check what `elfmap rewrite` and `link` need of an object by itself",
     )
+
+
+def _add_suppressions(parser: Parser) -> None:
+    """Which findings are suppressed."""
+    add = parser.add_argument
     add(
         "--ignore",
         metavar="RULE[:GLOB]",
@@ -109,6 +132,11 @@ def _parser() -> Parser:
         metavar="FILE",
         help="write the findings to FILE, and suppress all of them",
     )
+
+
+def _add_output(parser: Parser) -> None:
+    """How the findings are printed, and by how many processes they are found."""
+    add = parser.add_argument
     add("--format", choices=FORMATS, default="text", help="default: text")
     add(
         "-0",
@@ -126,7 +154,6 @@ def _parser() -> Parser:
         help="use N processes (default: one for each processor)",
     )
     add("--fail-on-empty", action="store_true", help="end with status 1 if no ELF file was checked")
-    return parser
 
 
 class Progress:
@@ -141,13 +168,12 @@ class Progress:
         if not self._is_shown or time.monotonic() < self._next:
             return
         self._next = time.monotonic() + 0.1
+        findings = f"{len(report.findings)} findings"
         if self._bar is not None:
-            self._bar.set_postfix_str(f"{len(report.findings)} findings", refresh=False)
+            self._bar.set_postfix_str(findings, refresh=False)
             self._bar.update(report.checked - self._bar.n)
         else:
-            sys.stderr.write(
-                f"\r{report.checked} files checked, {len(report.findings)} findings\x1b[K"
-            )
+            sys.stderr.write(f"\r{report.checked} files checked, {findings}\x1b[K")
             sys.stderr.flush()
 
     def end(self) -> None:
@@ -218,19 +244,17 @@ class Run:
 
     def _tools(self) -> Inspector:
         it = self._options
-        format = self._options.format
-        letters = LONGEST_NAME if format in _OF_JSON else MOST_LETTERS
-        # A baseline has them too.
-        names_sections = format in _OF_JSON or bool(it.baseline or it.write_baseline)
+        is_json = it.format in _OF_JSON
         depth = Depth(
-            it.tables,
-            it.object,
-            it.class32 == "fail",
-            format == "junit",
-            it.follow_thin,
-            letters,
-            names_sections,
-            it.skip,
+            tables=it.tables,
+            objects=it.object,
+            fails_class_32=it.class32 == "fail",
+            keeps_names=it.format == "junit",
+            follows_thin=it.follow_thin,
+            most_letters=LONGEST_NAME if is_json else MOST_LETTERS,
+            # A baseline has them too.
+            names_sections=is_json or bool(it.baseline or it.write_baseline),
+            skips_named=it.skip,
         )
         return Inspector(depth)
 
@@ -264,11 +288,14 @@ class Run:
         if options.write_baseline:
             with Output(options.write_baseline) as it:
                 it.write(baseline_text(found))
-        known = self._baseline
-        report.findings = [
-            it for it in found if not (options.write_baseline or known and known.match(it))
-        ]
+        report.findings = [it for it in found if not self._is_known(it)]
         report.suppressed += len(found) - len(report.findings)
+
+    def _is_known(self, finding: Finding) -> bool:
+        """Whether a baseline has a finding: the one that is written has all of them."""
+        if self._options.write_baseline:
+            return True
+        return self._baseline is not None and self._baseline.match(finding)
 
     def tell(self) -> None:
         """Writes the report in its format."""
@@ -308,9 +335,8 @@ class Output:
             return open(self._path, "wb")
         # The file that a link names is written, not the link.
         self._path = os.path.realpath(self._path)
-        handle, self._made = tempfile.mkstemp(
-            prefix=".elfmap-lint-", dir=os.path.dirname(self._path)
-        )
+        folder = os.path.dirname(self._path)
+        handle, self._made = tempfile.mkstemp(prefix=".elfmap-lint-", dir=folder)
         mask = os.umask(0)
         os.umask(mask)
         os.fchmod(handle, 0o666 & ~mask)

@@ -60,6 +60,11 @@ TYPES = {
     17: "group",
     18: "indexes",
 }
+RELOCATION_TYPES = (4, 9)
+SYMBOL_TYPES = (2, 3, 5, 11, 18)
+WRITE = 1
+ALLOC = 2
+EXECINSTR = 4
 COLOURS = {
     "header and tables": "#4c566a",
     "code": "#c0504d",
@@ -81,6 +86,11 @@ HATCHES = (
     ' height="5" fill="#d09a20"/></pattern>'
 )
 FILE_TYPES = {0: "no type", 1: "relocatable", 2: "executable", 3: "shared", 4: "core"}
+# How the parts are called that are no contents and no gaps.
+TITLES = {"header": "header", "segments": "program table", "sections": "section table"}
+# The flags of a segment.
+PERMISSIONS = ((4, "R"), (2, "W"), (1, "X"))
+NOTE = "Bars are drawn to scale; what is too short to be seen is drawn two points wide."
 
 
 class NoLines(ValueError):
@@ -116,16 +126,27 @@ def content(words: list[str]) -> tuple[str, str, str]:
     flags = int(words[3], 16)
     name = words[-1]
     if kind in TYPES:
-        colour = (
-            "relocations"
-            if kind in (4, 9)
-            else "symbols and strings"
-            if kind in (2, 3, 5, 11, 18)
-            else "other"
-        )
-        return name, TYPES[kind], colour
-    colour = "code" if flags & 4 else "data" if flags & 1 else "constants" if flags & 2 else "other"
+        return name, TYPES[kind], colour_of_type(kind)
+    colour = colour_of_flags(flags)
     return name, colour, colour
+
+
+def colour_of_type(kind: int) -> str:
+    """The colour of a section of one of the types that say what it holds."""
+    if kind in RELOCATION_TYPES:
+        return "relocations"
+    if kind in SYMBOL_TYPES:
+        return "symbols and strings"
+    return "other"
+
+
+def colour_of_flags(flags: int) -> str:
+    """The colour of a section of any other type, which says also what it holds."""
+    if flags & EXECINSTR:
+        return "code"
+    if flags & WRITE:
+        return "data"
+    return "constants" if flags & ALLOC else "other"
 
 
 def gap(front: str, length: int) -> str:
@@ -146,85 +167,86 @@ class Load:
     def name(self) -> str:
         return f"0x{self.address:x} to 0x{self.address + self.size:x}"
 
+    def colour(self) -> str:
+        if self.flags & 1:
+            return "code"
+        return "data" if self.flags & 2 else "constants"
+
     def part(self, start: int, end: int) -> Part:
-        kind = "code" if self.flags & 1 else "data" if self.flags & 2 else "constants"
-        letters = "".join(
-            letter for bit, letter in ((4, "R"), (2, "W"), (1, "X")) if self.flags & bit
-        )
-        return Part(
-            start,
-            end - start,
-            self.owner,
-            self.name(),
-            f"{kind if end > start else 'zeros in memory'} {letters}",
-            kind,
-        )
+        colour = self.colour()
+        kind = colour if end > start else "zeros in memory"
+        letters = "".join(letter for bit, letter in PERMISSIONS if self.flags & bit)
+        return Part(start, end - start, self.owner, self.name(), f"{kind} {letters}", colour)
+
+    def covers(self, start: int, end: int) -> bool:
+        """Whether all bytes from the one offset to the other are loaded."""
+        return self.start <= start and end <= self.start + self.length
 
 
 def among_loads(part: Part, loads: list[Load]) -> Iterator[Part]:
     """A gap, cut where loadable segments begin and end."""
-    edges = sorted(
-        {
-            part.start,
-            part.start + part.length,
-            *(
-                edge
-                for it in loads
-                for edge in (it.start, it.start + it.length)
-                if 0 < edge - part.start < part.length
-            ),
-        }
-    )
-    for start, end in zip(edges, edges[1:]):
-        owner = next(
-            (it for it in loads if it.start <= start and end <= it.start + it.length), None
-        )
-        whole = (start, end - start) == (part.start, part.length)
-        yield (
-            owner.part(start, end)
-            if owner
-            else part
-            if whole
-            else Part(start, end - start, "gap", "", "", "gap")
-        )
+    first = part.start
+    last = part.start + part.length
+    edges = {first, last}
+    for it in loads:
+        edges.update(edge for edge in (it.start, it.start + it.length) if first < edge < last)
+    ordered = sorted(edges)
+    for start, end in zip(ordered, ordered[1:]):
+        owner = next((it for it in loads if it.covers(start, end)), None)
+        if owner:
+            yield owner.part(start, end)
+        elif (start, end) == (first, last):
+            yield part
+        else:
+            # Of a piece of a gap the first bytes are not known.
+            yield Part(start, end - start, "gap", "", "", "gap")
 
 
-def read(lines: list[str]) -> tuple[list[Part], str]:
-    """The parts of the file, and the head of the picture."""
+def rows_of(lines: list[str]) -> list[list[str]]:
+    """The lines in words, if they are of a file that elfmap accepts."""
     rows = [it.split() for it in lines if it]
     if rows and rows[0][0] == "refused":
         raise NoLines(f"elfmap refuses it: {' '.join(rows[0])}; elfmap-explain says why")
     if not rows or rows[0][0] != "file":
-        raise NoLines(
-            f"these are no lines of `elfmap show`: {' '.join(rows[0])[:80] if rows else 'none'}"
-        )
-    sections = {int(it[1]): content(it) for it in rows if it[0] == "section"}
-    loads = [Load(it) for it in rows if it[0] == "segment" and it[2] == "1"] if not sections else []
-    parts = []
-    for words in rows:
-        if words[0] != "part":
-            continue
-        start = int(words[1], 16)
-        length = int(words[2], 16)
-        owner = words[3]
-        if owner == "content":
-            parts.append(Part(start, length, f"section {words[4]}", *sections[int(words[4])]))
-        elif owner == "gap":
-            parts += among_loads(
-                Part(start, length, "gap", "", gap(words[4], length), "gap"), loads
-            )
-        else:
-            title = {"header": "header", "segments": "program table", "sections": "section table"}[
-                owner
-            ]
-            parts.append(Part(start, length, title))
-    parts += [it.part(it.start, it.start) for it in loads if not it.length]
-    number = int(rows[0][3])
+        first = " ".join(rows[0])[:80] if rows else "none"
+        raise NoLines(f"these are no lines of `elfmap show`: {first}")
+    return rows
+
+
+def part_of(words: list[str], sections: dict[int, tuple[str, str, str]]) -> Part:
+    """The part that a line is about."""
+    start = int(words[1], 16)
+    length = int(words[2], 16)
+    owner = words[3]
+    if owner == "content":
+        return Part(start, length, f"section {words[4]}", *sections[int(words[4])])
+    if owner == "gap":
+        return Part(start, length, "gap", "", gap(words[4], length), "gap")
+    return Part(start, length, TITLES[owner])
+
+
+def head_of(words: list[str]) -> str:
+    """The type of the file, its machine and its byte order, by the first line."""
+    number = int(words[3])
     machine = f"EM_{MACHINES[number]}" if number in MACHINES else f"machine {number}"
-    head = (
-        f"{FILE_TYPES.get(int(rows[0][2]), 'type ' + rows[0][2])}, {machine}, {rows[0][1]}-endian"
-    )
-    return parts, head
+    kind = FILE_TYPES.get(int(words[2]), f"type {words[2]}")
+    return f"{kind}, {machine}, {words[1]}-endian"
+
+
+def read(lines: list[str]) -> tuple[list[Part], str]:
+    """The parts of the file, and the head of the picture."""
+    rows = rows_of(lines)
+    sections = {int(it[1]): content(it) for it in rows if it[0] == "section"}
+    loads = []
+    if not sections:
+        loads = [Load(it) for it in rows if it[0] == "segment" and it[2] == "1"]
+    parts: list[Part] = []
+    for words in rows:
+        if words[0] == "part":
+            part = part_of(words, sections)
+            parts += among_loads(part, loads) if part.owner == "gap" else [part]
+    parts += [it.part(it.start, it.start) for it in loads if not it.length]
+    return parts, head_of(rows[0])
 
 
 def folded(parts: list[Part]) -> list[Part]:
@@ -248,24 +270,22 @@ def folded(parts: list[Part]) -> list[Part]:
 
 
 def together(run: list[Part]) -> Part:
+    """The row of a run of parts."""
     sections = [it for it in run if it.colour != "gap"]
     owner = counted(len(sections), "section") if len(sections) != 1 else sections[0].owner
-    name = (
-        ""
-        if not sections
-        else sections[0].name
-        if len(sections) == 1
-        else f"{sections[0].name} … {sections[-1].name}"
-    )
+    gaps = counted(len(run) - len(sections), "gap")
     start = run[0].start
-    return Part(
-        start,
-        run[-1].start + run[-1].length - start,
-        owner,
-        name,
-        counted(len(run) - len(sections), "gap"),
-        "several parts",
-    )
+    length = run[-1].start + run[-1].length - start
+    return Part(start, length, owner, names_of(sections), gaps, "several parts")
+
+
+def names_of(sections: list[Part]) -> str:
+    """The name of the one section, or those of the first and of the last one."""
+    if not sections:
+        return ""
+    if len(sections) == 1:
+        return sections[0].name
+    return f"{sections[0].name} … {sections[-1].name}"
 
 
 # ---- the picture
@@ -291,36 +311,31 @@ def bar(part: Part, total: int, y: int, height: int) -> str:
         return ""
     width = max(part.length / total * WIDTH, SHORTEST)
     x = min(LEFT + part.start / total * WIDTH, LEFT + WIDTH - width)
-    words = f"{part.owner} {part.name}: {part.length:,} bytes from 0x{part.start:x}".replace(
-        " :", ":"
-    )
+    words = f"{part.owner} {part.name}: {part.length:,} bytes from 0x{part.start:x}"
+    title = escape(words.replace(" :", ":"))
+    # Hatches are too wide for a narrow bar.
     colour = "#d09a20" if part.colour == "gap" and width < 6 else COLOURS[part.colour]
     return (
         f'<rect x="{x:.2f}" y="{y}" width="{width:.2f}" height="{height}"'
-        f' fill="{colour}"><title>{escape(words)}</title></rect>'
+        f' fill="{colour}"><title>{title}</title></rect>'
     )
 
 
 def row(part: Part, total: int, number: int) -> list[str]:
+    """A part in words and as a bar. Every second row is shaded."""
     y = HEAD + ROW * number
-    shade = (
-        [f'<rect x="12" y="{y}" width="{LEFT + WIDTH}" height="{ROW}" fill="#f4f6f7"/>']
-        if number % 2
-        else []
-    )
-    cells = (
-        f"0x{part.start:x}",
-        f"{part.length:,}",
-        part.owner,
-        cut(part.name, 25),
-        cut(part.holds, 16),
-    )
+    drawn = []
+    if number % 2:
+        drawn.append(f'<rect x="12" y="{y}" width="{LEFT + WIDTH}" height="{ROW}" fill="#f4f6f7"/>')
+    name = cut(part.name, 25)
+    holds = cut(part.holds, 16)
+    cells = (f"0x{part.start:x}", f"{part.length:,}", part.owner, name, holds)
     more = ' fill="#9a6a00"' if part.colour == "gap" else ""
-    return (
-        shade
-        + [text(x, y + 14, it, anchor, more) for it, (_, x, anchor) in zip(cells, COLUMNS) if it]
-        + [bar(part, total, y + 3, ROW - 6)]
-    )
+    for words, (_, x, anchor) in zip(cells, COLUMNS):
+        if words:
+            drawn.append(text(x, y + 14, words, anchor, more))
+    drawn.append(bar(part, total, y + 3, ROW - 6))
+    return drawn
 
 
 def legend(parts: list[Part]) -> list[str]:
@@ -329,59 +344,69 @@ def legend(parts: list[Part]) -> list[str]:
     drawn = []
     for name, colour in COLOURS.items():
         if name in used:
-            drawn += [
-                f'<rect x="{x}" y="46" width="12" height="12" fill="{colour}"/>',
-                text(x + 17, 56, name),
-            ]
+            drawn.append(f'<rect x="{x}" y="46" width="12" height="12" fill="{colour}"/>')
+            drawn.append(text(x + 17, 56, name))
             x += 34 + 7 * len(name)
     return drawn
+
+
+def sheet(bottom: int) -> list[str]:
+    """The beginning of the drawing, and its white ground."""
+    across = LEFT + WIDTH + 24
+    down = bottom + 30
+    size = f'width="{across}" height="{down}"'
+    space = "http://www.w3.org/2000/svg"
+    return [
+        f'<svg xmlns="{space}" {size} viewBox="0 0 {across} {down}" {FONT}>',
+        f"<defs>{HATCHES}</defs>",
+        f'<rect {size} fill="#ffffff"/>',
+    ]
+
+
+def counts(parts: list[Part]) -> str:
+    """How many bytes and parts the file has, and how many of them are gaps."""
+    total = sum(it.length for it in parts)
+    gaps = [it.length for it in parts if it.colour == "gap"]
+    every = f"{total:,} bytes in {counted(len(parts), 'part')}"
+    return f"{every}, {sum(gaps):,} of them in {counted(len(gaps), 'gap')}"
+
+
+def scale(rows: list[Part], total: int) -> list[str]:
+    """The whole file as one bar, and above the columns their titles."""
+    y = HEAD - 8
+    bold = ' font-weight="bold"'
+    place = f'x="{LEFT - 0.5}" y="{HEAD - 45.5}"'
+    return [
+        *[text(x, y, it, anchor, bold) for it, x, anchor in COLUMNS],
+        text(LEFT, y, "0x0"),
+        text(LEFT + WIDTH, y, f"0x{total:x}", "end"),
+        f'<rect {place} width="{WIDTH + 1}" height="21" fill="none" stroke="#8aa0a8"/>',
+        *[bar(it, total, HEAD - 45, 20) for it in rows],
+    ]
+
+
+def edge_lines(bottom: int) -> str:
+    """A line down the rows where the file begins, and one where it ends."""
+    edges = (LEFT - 0.5, LEFT + WIDTH + 0.5)
+    lines = "".join(f"M{x} {HEAD - 2}V{bottom + 4}" for x in edges)
+    return f'<path d="{lines}" stroke="#c5ced3"/>'
 
 
 def picture(title: str, parts: list[Part], head: str) -> str:
     total = sum(it.length for it in parts)
     rows = folded(parts)
-    gaps = [it.length for it in parts if it.colour == "gap"]
     bottom = HEAD + ROW * len(rows)
-    across = LEFT + WIDTH + 24
-    down = bottom + 30
-    counts = (
-        f"{total:,} bytes in {counted(len(parts), 'part')}, {sum(gaps):,} of them in"
-        f" {counted(len(gaps), 'gap')}; {head}"
-    )
     lines = [
-        (
-            f'<svg xmlns="http://www.w3.org/2000/svg" width="{across}" height="{down}" viewBox="0 0'
-            f' {across} {down}" {FONT}>'
-        ),
-        f"<defs>{HATCHES}</defs>",
-        f'<rect width="{across}" height="{down}" fill="#ffffff"/>',
+        *sheet(bottom),
         text(20, 28, cut(title, 60), more=' font-size="16" font-weight="bold"'),
-        text(LEFT + WIDTH, 28, counts, "end"),
+        text(LEFT + WIDTH, 28, f"{counts(parts)}; {head}", "end"),
         *legend(rows),
-        *[text(x, HEAD - 8, it, anchor, ' font-weight="bold"') for it, x, anchor in COLUMNS],
-        text(LEFT, HEAD - 8, "0x0"),
-        text(LEFT + WIDTH, HEAD - 8, f"0x{total:x}", "end"),
-        (
-            f'<rect x="{LEFT - 0.5}" y="{HEAD - 45.5}" width="{WIDTH + 1}" height="21" fill="none"'
-            ' stroke="#8aa0a8"/>'
-        ),
-        *[bar(it, total, HEAD - 45, 20) for it in rows],
+        *scale(rows, total),
     ]
     for number, part in enumerate(rows):
         lines += row(part, total, number)
-    lines.append(
-        "<path"
-        f' d="M{LEFT - 0.5} {HEAD - 2}V{bottom + 4}M{LEFT + WIDTH + 0.5} {HEAD - 2}V{bottom + 4}"'
-        ' stroke="#c5ced3"/>'
-    )
-    lines.append(
-        text(
-            20,
-            bottom + 20,
-            "Bars are drawn to scale; what is too short to be seen is drawn two points wide.",
-            more=' fill="#66727a"',
-        )
-    )
+    lines.append(edge_lines(bottom))
+    lines.append(text(20, bottom + 20, NOTE, more=' fill="#66727a"'))
     return "\n".join(it for it in lines if it) + "\n</svg>\n"
 
 
@@ -392,9 +417,8 @@ def shown(path: str) -> bytes:
     """The lines of `elfmap show` on a file."""
     program = os.environ.get("ELFMAP")
     if program:
-        return subprocess.run(
-            [program, "show", "--", path], stdin=subprocess.DEVNULL, stdout=subprocess.PIPE
-        ).stdout
+        command = [program, "show", "--", path]
+        return subprocess.run(command, stdin=subprocess.DEVNULL, stdout=subprocess.PIPE).stdout
     with opened(os.fsencode(path)) as source:
         content = bytearray(min(len(source), LONGEST))
         source.read_into(memoryview(content), 0)
@@ -426,6 +450,11 @@ def _parser() -> Parser:
     return parser
 
 
+def _no_picture(path: bytes, reason: str) -> int:
+    complain(PROGRAM, one_line(path) + f": {reason}".encode("utf-8", "backslashreplace"))
+    return FOUND
+
+
 def main(words: Optional[Sequence[str]] = None) -> int:
     """Runs the program, and returns its status."""
     options = _parser().parse_args(words)
@@ -439,12 +468,10 @@ def main(words: Optional[Sequence[str]] = None) -> int:
     except Unreadable as fault:
         complain(PROGRAM, one_line(own) + f": {fault.reason}".encode())
         return UNREADABLE
-    except (ValueError, LookupError) as fault:
-        words_of = (
-            str(fault) if isinstance(fault, NoLines) else "these are no lines of `elfmap show`"
-        )
-        complain(PROGRAM, one_line(own) + f": {words_of}".encode("utf-8", "backslashreplace"))
-        return FOUND
+    except NoLines as fault:
+        return _no_picture(own, str(fault))
+    except (ValueError, LookupError):
+        return _no_picture(own, "these are no lines of `elfmap show`")
     with open(1, "wb", closefd=False) as out:
         out.write(drawn.encode("utf-8", "backslashreplace"))
     return 0

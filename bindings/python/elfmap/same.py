@@ -36,6 +36,8 @@ _LIMIT = 10
 # A shorter file has no magic number.
 _LEAST = 4
 _COMPARED = ("object", "image", "archive")
+_TOO_LONG = "the canonical layout of its object would be longer than 2^30 bytes"
+_STEP = 1 << 20
 
 
 class Pair(NamedTuple):
@@ -62,17 +64,27 @@ class Counts:
         self.lost = 0
 
     def status(self) -> int:
-        return UNREADABLE if self.lost else FOUND if self.differing or self.only else DONE
+        if self.lost:
+            return UNREADABLE
+        return FOUND if self.differing or self.only else DONE
 
     def words(self) -> str:
         if self.same + self.differing + self.lost == 1 and not self.only and not self.skipped:
-            return "the same" if self.same else "different" if self.differing else "not compared"
+            return self._words_of_one()
         words = [f"{self.same} the same"]
-        words += [f"{self.differing} different"] if self.differing else []
+        if self.differing:
+            words.append(f"{self.differing} different")
         words += [f"{count} only in {side}" for side, count in self.only.items()]
-        words += [f"{self.lost} not compared"] if self.lost else []
-        skipped = [f"{count} {what}" for what, count in self.skipped.items()]
-        return ", ".join(words) + (f"; skipped: {', '.join(skipped)}" if skipped else "")
+        if self.lost:
+            words.append(f"{self.lost} not compared")
+        told = ", ".join(words)
+        skipped = ", ".join(f"{count} {what}" for what, count in self.skipped.items())
+        return f"{told}; skipped: {skipped}" if skipped else told
+
+    def _words_of_one(self) -> str:
+        if self.same:
+            return "the same"
+        return "different" if self.differing else "not compared"
 
 
 class Run:
@@ -81,17 +93,15 @@ class Run:
     def __init__(self, options: argparse.Namespace, out: TextIO) -> None:
         self._options = options
         self._out = out
-        self._sides = Sides(
-            printable(os.fsencode(options.first)), printable(os.fsencode(options.second))
-        )
+        self._first = os.fsencode(options.first)
+        self._second = os.fsencode(options.second)
+        self._sides = Sides(printable(self._first), printable(self._second))
         self.counts = Counts()
 
     # ---- Trees
 
     def compare(self) -> None:
-        pairs = [
-            Pair(b"", os.fsencode(self._options.first), os.fsencode(self._options.second), True)
-        ]
+        pairs = [Pair(b"", self._first, self._second, is_named=True)]
         while pairs:
             # Those below a directory come next, in the order of their names.
             pairs += reversed(list(self._paths(pairs.pop())))
@@ -118,12 +128,10 @@ class Run:
     def _folders(self, pair: Pair) -> list[Pair]:
         first = set(os.listdir(pair.first))
         second = set(os.listdir(pair.second))
-        for side, names, folder in (
-            (0, first - second, pair.first),
-            (1, second - first, pair.second),
-        ):
-            for name in sorted(names):
-                self._only_in(side, pair.below(name).name, os.path.join(folder, name))
+        for it in map(pair.below, sorted(first - second)):
+            self._only_in(0, it.name, it.first)
+        for it in map(pair.below, sorted(second - first)):
+            self._only_in(1, it.name, it.second)
         return [pair.below(it) for it in sorted(first & second)]
 
     def _only_in(self, side: int, name: bytes, path: bytes) -> None:
@@ -160,11 +168,9 @@ class Run:
             self.counts.skipped["not ELF"] += 1
             return
         with opened(pair.first) as first, opened(pair.second) as second:
-            self._contents(
-                pair,
-                Content(pair.first, pair.first, first),
-                Content(pair.second, pair.second, second),
-            )
+            one = Content(pair.first, pair.first, first)
+            other = Content(pair.second, pair.second, second)
+            self._contents(pair, one, other)
 
     def _contents(
         self, pair: Pair, first: Content, second: Content, is_member: bool = False
@@ -209,28 +215,20 @@ class Run:
             return content
         except elfmap.Refused as refused:
             told = explain(Words(it.source), refused.rule, refused.offset)
-            name = RULES[refused.rule][0]
-            self._lose(
-                it.path, f"offset {refused.offset:#x}: {name} ({refused.rule}): {told.message}"
-            )
+            rule = f"{RULES[refused.rule][0]} ({refused.rule})"
+            self._lose(it.path, f"offset {refused.offset:#x}: {rule}: {told.message}")
         except elfmap.TooLong:
-            self._lose(
-                it.path, "the canonical layout of its object would be longer than 2^30 bytes"
-            )
+            self._lose(it.path, _TOO_LONG)
         return None
 
     def _others(self, name: bytes, first: Source, second: Source) -> None:
-        step = 1 << 20
         size = min(len(first), len(second))
-        for at in range(0, size, step):
-            one = first[at : min(at + step, size)]
-            other = second[at : min(at + step, size)]
+        for at in range(0, size, _STEP):
+            one = first[at : min(at + _STEP, size)]
+            other = second[at : min(at + _STEP, size)]
             if one != other:
-                place = next(
-                    (k for k, (a, b) in enumerate(zip(one, other)) if a != b),
-                    min(len(one), len(other)),
-                )
-                self._differ(name, [f"the files differ at offset {at + place:#x}"])
+                place = at + first_difference(one, other)
+                self._differ(name, [f"the files differ at offset {place:#x}"])
                 return
         if len(first) == len(second):
             self.counts.same += 1
@@ -316,6 +314,14 @@ KINDS = {
 }
 
 
+def first_difference(one: bytes, other: bytes) -> int:
+    """Where two blocks differ: a file that became shorter meanwhile may have less of one."""
+    for position, (ours, theirs) in enumerate(zip(one, other)):
+        if ours != theirs:
+            return position
+    return min(len(one), len(other))
+
+
 def kind_of_path(found: os.stat_result) -> str:
     names = {stat.S_IFDIR: "a directory", stat.S_IFREG: "a file", stat.S_IFLNK: "a symbolic link"}
     return names.get(stat.S_IFMT(found.st_mode), "no regular file")
@@ -346,7 +352,8 @@ def whole_content(source: Source) -> bytearray:
 
 def member_name(archive: bytes, key: tuple[bytes, int]) -> bytes:
     name, position = key
-    return b"%s(%s)" % (archive, name) + (b" number %d" % (position + 1) if position else b"")
+    own = b"%s(%s)" % (archive, name)
+    return own + b" number %d" % (position + 1) if position else own
 
 
 def _parser() -> Parser:

@@ -52,9 +52,8 @@ class Made:
         self.data += b"".join(rows)
         counts = 64, 0, 0, 64, len(rows), len(rows) - 1
         ident = b"\x7fELF\2\1\1" if order == "<" else b"\x7fELF\2\2\1"
-        self.data[:64] = struct.pack(
-            f"{order}16sHHIQQQIHHHHHH", ident, 1, 62, 1, 0, 0, self.table, 0, *counts
-        )
+        header = ident, 1, 62, 1, 0, 0, self.table, 0, *counts
+        self.data[:64] = struct.pack(f"{order}16sHHIQQQIHHHHHH", *header)
 
     def row(self, name, kind, offset, size, fields):
         it = dict(flags=0, addr=0, size=size, link=0, info=0, align=1, entsize=0) | fields
@@ -99,16 +98,11 @@ def relocations(link, *named):
 GOOD = bytes(Made(text()).data)
 # .text has the bytes from 0x40 to below 0x73, and .data four bytes from 0x72 on.
 SHARING = Made(text(), (b".data", 1, b"\1\2\3\4", {})).with_field(2, "offset", 0x72)
+# The names of symbols: that at 1 is f.
+NAMES = (b".strtab", 3, b"\0f\0", {})
 # Symbol 1 is of section 99, which isn't there (rule 51), and two sections link to the table.
-BROKEN_SYMBOLS = bytes(
-    Made(
-        text(),
-        symbols(3, (1, 0x10, 99)),
-        (b".strtab", 3, b"\0f\0", {}),
-        relocations(2, 1),
-        relocations(2, 1),
-    ).data
-)
+_LINKED = (relocations(2, 1), relocations(2, 1))
+BROKEN_SYMBOLS = bytes(Made(text(), symbols(3, (1, 0x10, 99)), NAMES, *_LINKED).data)
 CLASS_32 = b"\x7fELF\1\1\1" + bytes(64)
 
 

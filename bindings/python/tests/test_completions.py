@@ -34,25 +34,17 @@ class FishTest(FolderCase):
     def setUp(self):
         super().setUp()
         self.put(**{"work/file__o": b"", "work/folder/a__o": b""})
-        scripts = {
-            "elfmap": HELP,
-            **{
-                f"elfmap-{it}": f'exec "{sys.executable}" -m elfmap.{it} "$@"\n'
-                for it in ("lint", "same")
-            },
-        }
+        scripts = {"elfmap": HELP}
+        for it in ("lint", "same"):
+            scripts[f"elfmap-{it}"] = f'exec "{sys.executable}" -m elfmap.{it} "$@"\n'
         for name, script in scripts.items():
             self.put(**{f"bin/{name}": f"#!/bin/sh\n{script}".encode()})
             os.chmod(f"bin/{name}", 0o755)
-            (text,) = (
-                it for place, it in man.completions(name).items() if place.startswith("fish/")
-            )
-            Path(f"{name}.fish").write_text(text)
-        self.environment = {
-            **ENVIRONMENT,
-            "PATH": f"{os.path.abspath('bin')}:{os.environ['PATH']}",
-            "HOME": os.getcwd(),
-        }
+            texts = man.completions(name)
+            (place,) = (it for it in texts if it.startswith("fish/"))
+            Path(f"{name}.fish").write_text(texts[place])
+        path = f"{os.path.abspath('bin')}:{os.environ['PATH']}"
+        self.environment = {**ENVIRONMENT, "PATH": path, "HOME": os.getcwd()}
 
     def completed(self, line):
         """What fish lists for a line, without what is said of each."""

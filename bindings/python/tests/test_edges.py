@@ -39,16 +39,8 @@ class Case(FolderCase):
     def ran(self, command, *words, streams="", stdin=b""):
         """The status, standard output and standard error of a command, where the shell says what
         its streams are."""
-        script = [
-            "sh",
-            "-c",
-            f'"$@" {streams}',
-            "sh",
-            sys.executable,
-            "-m",
-            f"elfmap.{command}",
-            *words,
-        ]
+        shell = ["sh", "-c", f'"$@" {streams}', "sh"]
+        script = [*shell, sys.executable, "-m", f"elfmap.{command}", *words]
         ran = subprocess.run(script, input=stdin, capture_output=True, env=ENVIRONMENT, timeout=60)
         return ran.returncode, ran.stdout, ran.stderr
 
@@ -67,20 +59,14 @@ class ClosedTest(Case):
 
     def test_standard_error(self):
         for command in COMMANDS:
-            for words in (
-                self.broken(command),
-                ["none"] * len(self.broken(command)),
-                ["--none"],
-                [],
-                ["--help"],
-                ["--version"],
-            ):
+            broken = self.broken(command)
+            missing = ["none"] * len(broken)
+            for words in (broken, missing, ["--none"], [], ["--help"], ["--version"]):
                 with self.subTest(command=command, words=words):
                     status, out, _ = self.ran(command, *words)
-                    self.assertEqual(self.ran(command, *words, streams="2>&-"), (status, out, b""))
-                    self.assertEqual(
-                        self.ran(command, *words, streams="2> /dev/full"), (status, out, b"")
-                    )
+                    for streams in ("2>&-", "2> /dev/full"):
+                        found = self.ran(command, *words, streams=streams)
+                        self.assertEqual(found, (status, out, b""), streams)
 
     def test_statuses(self):
         """Those of the README, with standard error closed."""
@@ -106,26 +92,20 @@ class ClosedTest(Case):
     def test_standard_output(self):
         for command in COMMANDS:
             words = ["good.o", "good.o"] if command == "same" else ["good.o"]
+            closed = f"elfmap-{command}: bad file descriptor\n".encode()
             for streams in (">&-", "<&- >&-"):
-                found = self.ran(command, *words, streams=streams)
-                self.assertEqual(
-                    found, (3, b"", f"elfmap-{command}: bad file descriptor\n".encode())
-                )
+                self.assertEqual(self.ran(command, *words, streams=streams), (3, b"", closed))
             self.assertEqual(self.ran(command, *words, streams=">&- 2>&-"), (3, b"", b""))
-            self.assertEqual(
-                self.ran(command, *words, streams="> /dev/full")[::2],
-                (3, f"elfmap-{command}: no space left on device\n".encode()),
-            )
+            full = f"elfmap-{command}: no space left on device\n".encode()
+            self.assertEqual(self.ran(command, *words, streams="> /dev/full")[::2], (3, full))
 
     def test_no_file_gets_the_number_of_a_closed_stream(self):
         """Messages are lost, and do not come into what is written."""
         for streams in ("2>&-", "<&- >&- 2>&-"):
             self.assertEqual(self.ran("lint", "-o", "out", "bad.o", "none", streams=streams)[0], 3)
-            lines = Path("out").read_text().splitlines()
-            self.assertEqual(
-                (lines[0][:14], lines[1:]),
-                ("bad.o: offset ", ["1 finding in 1 of 1 ELF file; 1 unreadable"]),
-            )
+            finding, *others = Path("out").read_text().splitlines()
+            self.assertEqual(finding[:14], "bad.o: offset ")
+            self.assertEqual(others, ["1 finding in 1 of 1 ELF file; 1 unreadable"])
 
     def test_standard_input(self):
         closed = "standard input is closed\n"
@@ -140,24 +120,20 @@ class ClosedTest(Case):
                 status, _, err = self.ran(command, *words, streams="<&-")
                 self.assertEqual((status, err.decode()), (3, f"elfmap-{command}: {said}"))
         status, out, _ = self.ran("lint", "-", "bad.o", streams="<&-")
-        self.assertEqual(
-            (status, out.splitlines()[-1]), (3, b"1 finding in 1 of 1 ELF file; 1 unreadable")
-        )
+        summary = b"1 finding in 1 of 1 ELF file; 1 unreadable"
+        self.assertEqual((status, out.splitlines()[-1]), (3, summary))
 
     def test_standard_input_that_is_not_read(self):
         for command in COMMANDS:
             words = self.broken(command)
-            self.assertEqual(
-                self.ran(command, *words, streams="<&-"),
-                self.ran(command, *words, streams="< /dev/null"),
-            )
+            closed = self.ran(command, *words, streams="<&-")
+            self.assertEqual(closed, self.ran(command, *words, streams="< /dev/null"))
 
 
 def unprintable(out):
     """What of an output is no letter that can be printed, and ends no line."""
-    return [
-        it for it in out.decode("utf-8", "surrogateescape") if it != "\n" and not it.isprintable()
-    ]
+    letters = out.decode("utf-8", "surrogateescape")
+    return [it for it in letters if it != "\n" and not it.isprintable()]
 
 
 class NamesTest(Case):
@@ -168,9 +144,8 @@ class NamesTest(Case):
         made = Made(text(NAME), (NAME + b"2", 1, b"\1\2\3\4", {}))
         self.bad = NAME + b".o"
         Path(os.fsdecode(self.bad)).write_bytes(made.with_field(2, "offset", 0x72))
-        Path(os.fsdecode(NAME + b".a")).write_bytes(
-            GNU.replace(b"good.o/".ljust(16), b"\x1b\x9b\x07.o/".ljust(16))
-        )
+        archive = GNU.replace(b"good.o/".ljust(16), b"\x1b\x9b\x07.o/".ljust(16))
+        Path(os.fsdecode(NAME + b".a")).write_bytes(archive)
         self.put(good__o=GOOD)
 
     def runs(self):
@@ -178,56 +153,38 @@ class NamesTest(Case):
         missing = NAME
         bad = self.bad
         archive = NAME + b".a"
-        yield from (
-            ("lint", "--format", it, "--object", bad, missing, archive, ".")
-            for it in ("text", "jsonl", "sarif", "junit", "github")
-        )
+        for format in ("text", "jsonl", "sarif", "junit", "github"):
+            yield "lint", "--format", format, "--object", bad, missing, archive, "."
         for option in ("--baseline", "--ignore", "--files0-from", "--format", "-j", "--no"):
             yield "lint", option, missing, bad
         yield "lint", b"--" + missing, bad
         for option in ("-o", "--write-baseline"):
             yield "lint", option, missing + b"/out", bad
-        yield from (
-            ("explain", bad),
-            ("explain", missing),
-            ("explain", b"refused", b"33", missing),
-            ("explain", "refused", "33", "114", bad),
-        )
-        yield from (
-            ("gaps", bad),
-            ("gaps", missing),
-            ("gaps", "."),
-            ("gaps", archive),
-            ("gaps", "--most", missing),
-        )
-        yield from (
-            ("same", bad, missing),
-            ("same", missing, bad),
-            ("same", "good.o", archive),
-            ("same", ".", "good.o"),
-        )
-        yield from (("picture", bad), ("picture", missing), ("picture", "good.o", missing))
+        for words in ([bad], [missing], ["refused", "33", missing], ["refused", "33", "114", bad]):
+            yield "explain", *words
+        for words in ([bad], [missing], ["."], [archive], ["--most", missing]):
+            yield "gaps", *words
+        for words in ([bad, missing], [missing, bad], ["good.o", archive], [".", "good.o"]):
+            yield "same", *words
+        for words in ([bad], [missing], ["good.o", missing]):
+            yield "picture", *words
 
     def test_nothing_is_obeyed(self):
         seen = set()
         for command, *words in self.runs():
-            status, out, err = self.ran(command, *words)
+            _, out, err = self.ran(command, *words)
             with self.subTest(command=command, words=words):
-                self.assertEqual(
-                    (unprintable(out), unprintable(err), b"Traceback" in err), ([], [], False)
-                )
+                self.assertEqual((unprintable(out), unprintable(err)), ([], []))
+                self.assertNotIn(b"Traceback", err)
             seen |= {(command, ESCAPED.encode() in it) for it in (out, err)}
-        self.assertLessEqual(
-            {("lint", True), ("explain", True), ("gaps", True), ("same", True), ("picture", True)},
-            seen,
-        )
+        self.assertLessEqual({(it, True) for it in COMMANDS}, seen)
 
     def test_a_path_in_text(self):
         self.assertEqual(_words.one_line(NAME).decode(), ESCAPED)
-        for path in (NAME, b"a\\x1b", b"plain", "naïve ✓".encode(), b"\x00\x7f\x80\n"):
-            self.assertEqual(
-                _words.original_path(_words.one_line(path)), path if path != b"a\\x1b" else b"a\x1b"
-            )
+        for path in (NAME, b"plain", "naïve ✓".encode(), b"\x00\x7f\x80\n"):
+            self.assertEqual(_words.original_path(_words.one_line(path)), path)
+        # What a path has itself is taken for an escape.
+        self.assertEqual(_words.original_path(_words.one_line(b"a\\x1b")), b"a\x1b")
         status, out, _ = self.ran("lint", self.bad)
         self.assertTrue(out.startswith(f"{ESCAPED}.o: offset 0x72: ".encode()), out)
         self.assertEqual(self.ran("lint", "-0", self.bad)[1].partition(b": ")[0], self.bad)
@@ -253,15 +210,11 @@ class NamesTest(Case):
         for path in (NAME, b"a'b\\\n", b"a b", b"a'b"):
             Path(os.fsdecode(path)).write_bytes(made.data)
             out = self.ran("explain", "refused", "78", str(made.at(4, "link")), path)[1].decode()
-            (command,) = [
-                it
-                for it in out.replace("\n  ", " ").splitlines()
-                if it.startswith("likely cause: ")
-            ]
+            lines = out.replace("\n  ", " ").splitlines()
+            (command,) = [it for it in lines if it.startswith("likely cause: ")]
             word = command.partition("objcopy --remove-section=.llvm_addrsig ")[2]
-            told = subprocess.run(
-                ["bash", "-c", f"printf %s {word}"], capture_output=True, check=True
-            ).stdout
+            printed = ["bash", "-c", f"printf %s {word}"]
+            told = subprocess.run(printed, capture_output=True, check=True).stdout
             self.assertEqual((told, unprintable(out.encode())), (path, []))
 
 
@@ -271,26 +224,19 @@ class ExamplesTest(Case):
     def setUp(self):
         super().setUp()
         name = NAME.replace(b"\xff", b"") + b"\xff"
-        self.put(
-            symbols__o=bytes(
-                Made(
-                    text(NAME), symbols(3, (1, 0x10, 1)), (b".strtab", 3, b"\0" + name + b"\0", {})
-                ).data
-            )
-        )
+        strings = (b".strtab", 3, b"\0" + name + b"\0", {})
+        made = Made(text(NAME), symbols(3, (1, 0x10, 1)), strings)
+        self.put(symbols__o=bytes(made.data))
 
     def printed(self, *words):
-        ran = subprocess.run(
-            [*words, "symbols.o"], capture_output=True, env=ENVIRONMENT, timeout=60
-        )
+        every = [*words, "symbols.o"]
+        ran = subprocess.run(every, capture_output=True, env=ENVIRONMENT, timeout=60)
         self.assertEqual((ran.returncode, ran.stderr), (0, b""))
         return ran.stdout.decode("ascii").splitlines()
 
     def test_python(self):
-        self.assertEqual(
-            self.printed(sys.executable, str(PACKAGE / "examples/symbols.py")),
-            ["0x0 ", f"0x0 {ESCAPED}"],
-        )
+        found = self.printed(sys.executable, str(PACKAGE / "examples/symbols.py"))
+        self.assertEqual(found, ["0x0 ", f"0x0 {ESCAPED}"])
 
     @unittest.skipUnless(shutil.which("cc"), "cc is not installed")
     def test_c(self):
@@ -303,33 +249,33 @@ class ExamplesTest(Case):
             ("symbols", ["0x0 ", f"0x0 {ESCAPED}"]),
             ("sections", ["0x0 ", f"0x33 {ESCAPED}"]),
         ):
-            words = [
-                "-std=c99",
-                f"-I{folder}/include",
-                f"{folder}/bindings/c/{name}.c",
-                str(archive),
-            ]
-            subprocess.run(["cc", *words, "-o", name], check=True)
+            sources = [f"{folder}/bindings/c/{name}.c", str(archive)]
+            compiler = ["cc", "-std=c99", f"-I{folder}/include"]
+            subprocess.run([*compiler, *sources, "-o", name], check=True)
             self.assertEqual(self.printed(f"./{name}")[:2], lines)
 
 
 class CallerTest(FolderCase):
     """Who calls a command in Python may have put another file in place of standard error."""
 
+    def lint_of_no_file(self, stream):
+        """Runs elfmap-lint with a stream in place of standard error, and without an output."""
+        with contextlib.ExitStack() as stack:
+            stack.enter_context(contextlib.redirect_stderr(stream))
+            output = stack.enter_context(mock.patch.object(lint, "Output"))
+            out = stack.enter_context(open(os.devnull, "wb"))
+            output.return_value.__enter__.return_value = out
+            self.assertEqual(lint.main(["none"]), 3)
+
     def test_messages(self):
         said = "elfmap-lint: none: no such file or directory\n"
-        for stream in io.StringIO(), io.TextIOWrapper(io.BytesIO()):
-            with contextlib.redirect_stderr(stream), open(
-                os.devnull, "wb"
-            ) as out, mock.patch.object(lint, "Output") as output:
-                output.return_value.__enter__.return_value = out
-                self.assertEqual(lint.main(["none"]), 3)
-            self.assertEqual(
-                stream.getvalue()
-                if isinstance(stream, io.StringIO)
-                else stream.buffer.getvalue().decode(),
-                said,
-            )
+        words = io.StringIO()
+        self.lint_of_no_file(words)
+        self.assertEqual(words.getvalue(), said)
+        letters = io.BytesIO()
+        stream = io.TextIOWrapper(letters)
+        self.lint_of_no_file(stream)
+        self.assertEqual(letters.getvalue().decode(), said)
         with mock.patch.object(sys, "stderr", None), self.assertRaises(SystemExit) as raised:
             lint.main(["--none"])
         self.assertEqual(raised.exception.code, 2)
@@ -349,10 +295,9 @@ class OrderTest(Case):
         ):
             with self.subTest(command=command):
                 status, out, err = self.ran(command, *words)
-                self.assertEqual(
-                    (status, b"SHARED_BYTE" in out + err, b"usage" in err),
-                    (1 if command == "lint" else 3, True, False),
-                )
+                self.assertEqual(status, 1 if command == "lint" else 3)
+                self.assertIn(b"SHARED_BYTE", out + err)
+                self.assertNotIn(b"usage", err)
 
     def test_paths_that_begin_as_options(self):
         self.put(**{"-0": SHARING, "--help": SHARING})

@@ -290,14 +290,10 @@ class ArgumentsTest(unittest.TestCase):
             call(*words, **named)
 
     def test_each_call_is_here(self):
-        of_module = {
-            it for it in elfmap.__all__ if not isinstance(getattr(elfmap, it), (type, str))
-        }
-        of_file = {
-            it
-            for it in vars(elfmap.File)
-            if it[0] != "_" and not isinstance(vars(elfmap.File)[it], property)
-        }
+        every = {it: getattr(elfmap, it) for it in elfmap.__all__}
+        of_module = {name for name, it in every.items() if not isinstance(it, (type, str))}
+        public = {name: it for name, it in vars(elfmap.File).items() if name[0] != "_"}
+        of_file = {name for name, it in public.items() if not isinstance(it, property)}
         self.assertEqual(of_module - self.OTHERS, self.OF_BYTES.keys() - {"File", "refused_tables"})
         self.assertEqual(of_file - self.OTHERS, self.OF_SECTIONS.keys())
 
@@ -379,13 +375,8 @@ class ArgumentsTest(unittest.TestCase):
 
     def test_names(self):
         for k, name in enumerate(self.NAMES, 1):
-            self.assertEqual(
-                [
-                    self.file.find(self.HASH, it)
-                    for it in (name, name.decode("utf-8", "surrogateescape"))
-                ],
-                [k, k],
-            )
+            for it in (name, name.decode("utf-8", "surrogateescape")):
+                self.assertEqual(self.file.find(self.HASH, it), k)
         self.assertIsNone(self.file.find(self.HASH, "g"))
         for it in self.NO_TEXTS:
             for section in self.HASH, 0:

@@ -26,6 +26,7 @@ from tests.made import (
     GNU,
     GOOD,
     LONG,
+    NAMES,
     SHARING,
     FolderCase,
     Made,
@@ -77,28 +78,25 @@ class RuleTest(Case):
             seen.add((kind, int(number)))
             with self.subTest(kind=kind, rule=number):
                 self.one_rule(case, kind, int(number), words.split("|"))
-        self.assertEqual(
-            seen,
-            {(self.kind(it), it) for it in _rules.RULES}
-            | {("link", it) for it in _rules.LINK_RULES},
-        )
+        of_files = {(self.kind(it), it) for it in _rules.RULES}
+        of_link = {("link", it) for it in _rules.LINK_RULES}
+        self.assertEqual(seen, of_files | of_link)
 
     def kind(self, rule):
-        return "image" if rule < 40 else "table" if rule < 70 else "object"
+        if rule < 40:
+            return "image"
+        return "table" if rule < 70 else "object"
 
     def one_rule(self, case, kind, number, wanted):
-        pattern = (
-            rf"refused {number}( \d+){{3}}" if kind == "link" else rf"refused (\d+ )?{number} \d+"
-        )
+        pattern = rf"refused (\d+ )?{number} \d+"
+        if kind == "link":
+            pattern = rf"refused {number}( \d+){{3}}"
         lines = (case.out + case.err).decode().splitlines()
         line = next(it for it in lines if re.fullmatch(pattern, it))
         with tempfile.TemporaryDirectory(dir=".") as room:
             case.put_needs(room)
-            names = [
-                f"{room}/{it.partition('=')[0]}"
-                for it in case.needs
-                if not it.startswith("list.rules")
-            ]
+            files = [it for it in case.needs if not it.startswith("list.rules")]
+            names = [f"{room}/{it.partition('=')[0]}" for it in files]
             found = explained(line, names).replace(f"{room}/", "")
         name = (_rules.LINK_RULES if kind == "link" else _rules.RULES)[number][0]
         for it in (f"{name}: ", f"docs/RULES.md#{kind}-{number}", *wanted):
@@ -171,38 +169,24 @@ class LineTest(Case):
         made = Made(*((b".data", 1, b"\1", {}) for _ in range(100)))
         content = bytearray(made.data)
         for index in range(1, 101):
-            content[made.at(index, "offset") : made.at(index, "offset") + 8] = (64).to_bytes(
-                8, "little"
-            )
+            struct.pack_into("<Q", content, made.at(index, "offset"), 64)
         self.put(many__o=bytes(content))
         found = explained("refused 33 64", ["many.o"])
-        self.assertEqual(
-            (
-                found.count(".data [0x40, 0x41)"),
-                "many.o, offset 64 (0x40): 84 more sections" in found,
-            ),
-            (16, True),
-            found,
-        )
+        self.assertEqual(found.count(".data [0x40, 0x41)"), 16, found)
+        self.assertIn("many.o, offset 64 (0x40): 84 more sections", found)
 
     def place(self, made, at):
         """What is said of an offset."""
         self.put(made__o=bytes(made.data))
-        return re.search(
-            r"offset \d+ \(0x[0-9a-f]+\): (?:the content of .*?\): )?(.*?) what to do",
-            explained(f"refused 33 {at}", ["made.o"]),
-        )[1]
+        found = explained(f"refused 33 {at}", ["made.o"])
+        place = r"offset \d+ \(0x[0-9a-f]+\): (?:the content of .*?\): )?(.*?) what to do"
+        return re.search(place, found)[1]
 
     def test_the_parts_of_notes(self):
         """Names and descriptors are padded to four bytes; each note has 12 bytes before them."""
-        notes = (
-            struct.pack("<3I", 4, 5, 1)
-            + b"abc\0"
-            + b"12345\0\0\0"
-            + struct.pack("<3I", 2, 0, 3)
-            + b"d\0\0\0"
-        )
-        made = Made(text(), (b".note", 7, notes, {}))
+        first = struct.pack("<3I", 4, 5, 1) + b"abc\0" + b"12345\0\0\0"
+        second = struct.pack("<3I", 2, 0, 3) + b"d\0\0\0"
+        made = Made(text(), (b".note", 7, first + second, {}))
         start = made.starts[2]
         for at, words in (
             (0, "note 0: namesz, which is 4"),
@@ -221,18 +205,15 @@ class LineTest(Case):
         """The counts of buckets and chain words, the buckets, and a word for each symbol."""
         table = (b".hash", 5, struct.pack("<6I", 2, 2, 1, 0, 0, 0), dict(link=3, entsize=4))
         made = Made(text(), table, symbols(4, (1, 0x10, 1)), (b".strtab", 3, b"\0f\0", {}))
-        start = made.starts[2]
-        for at, words in enumerate(
-            (
-                "the number of buckets, 2",
-                "the number of chain words, 2",
-                "bucket 0, which begins with symbol 1 f",
-                "bucket 1, which begins with symbol 0 (no name)",
-                "the chain word of symbol 0 (no name): 0",
-                "the chain word of symbol 1 f: 0",
-            )
+        for at, words in (
+            (0, "the number of buckets, 2"),
+            (4, "the number of chain words, 2"),
+            (8, "bucket 0, which begins with symbol 1 f"),
+            (12, "bucket 1, which begins with symbol 0 (no name)"),
+            (16, "the chain word of symbol 0 (no name): 0"),
+            (20, "the chain word of symbol 1 f: 0"),
         ):
-            self.assertEqual(self.place(made, start + 4 * at), words)
+            self.assertEqual(self.place(made, made.starts[2] + at), words)
 
     def test_the_entries_of_a_dynamic_array(self):
         made = Made(
@@ -240,32 +221,22 @@ class LineTest(Case):
             (b".dynamic", 6, struct.pack("<4Q", 1, 7, 0, 0), dict(link=3, entsize=16)),
             (b".dynstr", 3, b"\0", {}),
         )
-        self.assertEqual(self.place(made, made.starts[2]), "entry 0, of tag 1: d_tag, which is 1")
-        self.assertEqual(
-            self.place(made, made.starts[2] + 8), "entry 0, of tag 1: d_un, which is 7"
-        )
+        start = made.starts[2]
+        self.assertEqual(self.place(made, start), "entry 0, of tag 1: d_tag, which is 1")
+        self.assertEqual(self.place(made, start + 8), "entry 0, of tag 1: d_un, which is 7")
 
     def test_symbols_of_no_section(self):
-        made = Made(
-            text(), symbols(3, (1, 0x10, 0xFFF1), (1, 0x10, 1)), (b".strtab", 3, b"\0f\0", {})
-        )
-        self.assertEqual(
-            self.place(made, made.starts[2] + 24 + 8), "symbol 1 f: st_value, which is 0"
-        )
-        self.assertEqual(
-            self.place(made, made.starts[2] + 48 + 8),
-            "symbol 2 f, defined in section 1 .text: st_value, which is 0",
-        )
+        made = Made(text(), symbols(3, (1, 0x10, 0xFFF1), (1, 0x10, 1)), NAMES)
+        start = made.starts[2]
+        defined = ", defined in section 1 .text"
+        for at, words in ((24, "symbol 1 f"), (48, f"symbol 2 f{defined}")):
+            self.assertEqual(self.place(made, start + at + 8), f"{words}: st_value, which is 0")
 
     def test_the_relocations_of_each_type(self):
         """Without addends an entry has 16 bytes."""
-        rows = (
-            b".rel.text",
-            9,
-            struct.pack("<4Q", 0, 1 << 32 | 2, 8, 1 << 32 | 2),
-            dict(link=2, info=1, entsize=16),
-        )
-        made = Made(text(), symbols(3, (1, 0x10, 0)), (b".strtab", 3, b"\0f\0", {}), rows)
+        entries = struct.pack("<4Q", 0, 1 << 32 | 2, 8, 1 << 32 | 2)
+        rows = (b".rel.text", 9, entries, dict(link=2, info=1, entsize=16))
+        made = Made(text(), symbols(3, (1, 0x10, 0)), NAMES, rows)
         own = "relocation 1, of symbol 1 f, at 0x8 of section 1 .text, of type 2 (R_X86_64_PC32)"
         self.assertEqual(self.place(made, made.starts[4] + 16), own)
         linked = Linked("a.o", _words.Words(bytes(made.data)))
@@ -281,20 +252,17 @@ class LineTest(Case):
 
         at = (1 << 20) - 2
         far = b"\0" + b"x" * (at - 2) + b"\0main\0"
-        last = file("last.o", 1, 0x10, 1)
-        for before, words in (
-            ([file("0.o", 1, 0x11, 0xFFF2, 8), file("1.o", 1, 0x10, 1)], "1.o has it at symbol 1"),
-            ([file("0.o", 1, 0x20, 1), file("1.o", 1, 0x10, 1)], "1.o has it at symbol 1"),
-            ([file("0.o", 1, 0x10, 0), file("1.o", 1, 0x10, 1)], "1.o has it at symbol 1"),
-            (
-                [file("0.o", at, 0x10, 1, strings=far), file("1.o", 1, 0x10, 1)],
-                "0.o has it at symbol 1",
-            ),
+        others = [file("1.o", 1, 0x10, 1), file("last.o", 1, 0x10, 1)]
+        second = "the second one at symbol 1 of last.o"
+        for before, path in (
+            (file("0.o", 1, 0x11, 0xFFF2, 8), "1.o"),
+            (file("0.o", 1, 0x20, 1), "1.o"),
+            (file("0.o", 1, 0x10, 0), "1.o"),
+            (file("0.o", at, 0x10, 1, strings=far), "0.o"),
         ):
-            found = link_words([*before, last], 8, 2, 0, 0)
-            self.assertEqual(
-                found, f"two definitions of main, the second one at symbol 1 of last.o; {words}"
-            )
+            found = link_words([before, *others], 8, 2, 0, 0)
+            words = f"two definitions of main, {second}; {path} has it at symbol 1"
+            self.assertEqual(found, words)
 
     def test_statuses(self):
         for words in (
@@ -405,24 +373,19 @@ class CheckedTest(Case):
 
     def test_broken_files(self):
         self.put(lines=b"refused\nok 680 3 0\n")
-        for ways, lead in (self.unread(self.FILES), ""), (
-            self.read(self.FILES),
-            "standard input refuses nothing; ",
-        ):
+        head = f"{self.HEAD}{' '.join(self.FILES)} file 0 "
+        read = "standard input refuses nothing; "
+        for ways, lead in ((self.unread(self.FILES), ""), (self.read(self.FILES), read)):
             for way, found in ways:
                 with self.subTest(stdin=way):
-                    self.assertTrue(
-                        found.startswith(f"{lead}{self.HEAD}{' '.join(self.FILES)} file 0 "), found
-                    )
+                    self.assertTrue(found.startswith(f"{lead}{head}"), found)
                     self.assertEqual([it for it in self.FOUND if it not in found], [])
                     self.assertNotIn("no refusal", found)
 
     def test_sound_files(self):
         self.put(lines=b"refused\nok 680 3 0\n")
-        for ways, lead in (self.unread(["good.o"]), ""), (
-            self.read(["good.o"]),
-            "standard input refuses nothing; ",
-        ):
+        read = "standard input refuses nothing; "
+        for ways, lead in ((self.unread(["good.o"]), ""), (self.read(["good.o"]), read)):
             for way, found in ways:
                 self.assertEqual(found, f"{lead}{self.HEAD}good.o no refusal", way)
 
@@ -440,25 +403,16 @@ class CheckedTest(Case):
             self.assertNotIn("checked here", found)
 
     def test_a_file_that_is_standard_input(self):
-        for stdin, shell in (None, "< bad.o"), (SHARING, ""):
-            with self.subTest(shell=shell):
-                found = (
-                    self.ran(["/dev/stdin"], shell=shell)
-                    if shell
-                    else self.said("/dev/stdin", stdin=bytes(stdin))
-                )
-                self.assertIn("SHARED_BYTE: ", found)
+        self.assertIn("SHARED_BYTE: ", self.ran(["/dev/stdin"], shell="< bad.o"))
+        self.assertIn("SHARED_BYTE: ", self.said("/dev/stdin", stdin=SHARING))
 
     def test_without_files(self):
         """There is nothing to check."""
         self.assertEqual(self.said(stdin=b"ok 680 3 0\n"), "no refusal")
-        closed = subprocess.run(
-            ["sh", "-c", '"$@" <&-', "sh", *PROGRAM], capture_output=True, env=ENVIRONMENT
-        )
-        self.assertEqual(
-            (closed.returncode, closed.stdout, closed.stderr),
-            (3, b"", b"elfmap-explain: standard input is closed\n"),
-        )
+        command = ["sh", "-c", '"$@" <&-', "sh", *PROGRAM]
+        closed = subprocess.run(command, capture_output=True, env=ENVIRONMENT)
+        self.assertEqual((closed.returncode, closed.stdout), (3, b""))
+        self.assertEqual(closed.stderr, b"elfmap-explain: standard input is closed\n")
 
 
 class FindingTest(Case):
@@ -468,12 +422,8 @@ class FindingTest(Case):
 
     def test_text(self):
         found = self.said(stdin=FINDING)
-        self.assertTrue(
-            found.startswith(
-                "bad.o: offset 0x72: SHARED_BYTE (33) SHARED_BYTE: the file is refused"
-            ),
-            found,
-        )
+        front = "bad.o: offset 0x72: SHARED_BYTE (33) SHARED_BYTE: the file is refused"
+        self.assertTrue(found.startswith(front), found)
         self.assertIn("the content of section 1 .text [0x40, 0x73)", found)
         self.assertIn("the content of section 2 .data [0x72, 0x76)", found)
 
@@ -502,13 +452,9 @@ class FindingTest(Case):
             self.assertIn("section 2 .data", self.said(stdin=FINDING.replace(b"bad.o", told)))
 
     def test_members(self):
-        self.assertIn(
-            "section 2 .data", self.said(stdin=FINDING.replace(b"bad.o", b"lib.a(" + LONG + b")"))
-        )
         self.put(thin__a=thin(b"bad.o"))
-        self.assertIn(
-            "section 2 .data", self.said(stdin=FINDING.replace(b"bad.o", b"thin.a(bad.o)"))
-        )
+        for name in (b"lib.a(" + LONG + b")", b"thin.a(bad.o)"):
+            self.assertIn("section 2 .data", self.said(stdin=FINDING.replace(b"bad.o", name)))
         for name in (b"lib.a(none)", b"none(lib.a)", b"bad.o(x)", b"lib.a()"):
             status, out, _ = self.explain(stdin=FINDING.replace(b"bad.o", name))
             self.assertEqual((status, "can't be read" in out), (3, True))
@@ -518,26 +464,24 @@ class FindingTest(Case):
         archive may be cut short later on."""
         many = b"!<arch>\n" + archive_member(b"x.o", SHARING) + archive_member(b"x.o", GOOD)
         self.put(**{"many__a": many, "a(b)/lib__a": GNU, "cut__a": GNU[:-3]})
+        member = b"(" + LONG + b")"
         names = (
-            b"lib.a(" + LONG + b")",
+            b"lib.a" + member,
             b"many.a(x.o)",
-            b"lib.a(" + LONG + b")",
-            b"a(b)/lib.a(" + LONG + b")",
-            b"cut.a(" + LONG + b")",
+            b"lib.a" + member,
+            b"a(b)/lib.a" + member,
+            b"cut.a" + member,
         )
-        status, out, err = self.explain(
-            stdin=b"".join(FINDING.replace(b"bad.o", it) + b"\n" for it in names)
-        )
+        lines = b"".join(FINDING.replace(b"bad.o", it) + b"\n" for it in names)
+        status, out, err = self.explain(stdin=lines)
         self.assertEqual((status, err, out.count("section 2 .data [0x72, 0x76)")), (0, "", 5), out)
 
     def test_members_that_a_thin_archive_names_in_another(self):
         front = b"!<thin>\n" + archive_member(b"/", b"lib.a/\n")
         origin = GNU.index(archive_member(b"/0", SHARING, b""))
         self.put(outer__a=front + archive_member(b"/0:%d" % origin, b"", b""))
-        self.assertIn(
-            "section 2 .data",
-            self.said(stdin=FINDING.replace(b"bad.o", b"outer.a(lib.a(" + LONG + b"))")),
-        )
+        line = FINDING.replace(b"bad.o", b"outer.a(lib.a(" + LONG + b"))")
+        self.assertIn("section 2 .data", self.said(stdin=line))
 
     def test_an_object_that_would_be_too_long(self):
         found = self.said(stdin=b"bad.o: offset 0x0: OBJECT_TOO_LONG (0): ")
@@ -562,13 +506,10 @@ class FindingTest(Case):
 
     def test_many_members(self):
         count = 5000
-        self.put(
-            many__a=b"!<arch>\n"
-            + b"".join(archive_member(b"%d.o" % it, SHARING) for it in range(count))
-        )
-        lines = b"".join(
-            FINDING.replace(b"bad.o", b"many.a(%d.o)" % it) + b"\n" for it in range(count)
-        )
+        every = b"".join(archive_member(b"%d.o" % it, SHARING) for it in range(count))
+        self.put(many__a=b"!<arch>\n" + every)
+        findings = (FINDING.replace(b"bad.o", b"many.a(%d.o)" % it) for it in range(count))
+        lines = b"".join(it + b"\n" for it in findings)
         start = time.monotonic()
         status, out, _ = self.explain(stdin=lines)
         self.assertEqual((status, out.count("section 2 .data")), (0, count))
@@ -586,11 +527,8 @@ class FindingTest(Case):
         for number, content in enumerate(files):
             self.put(**{f"{number}__o": content})
             lines = [f"refused {rule} {at}" for rule in _rules.RULES for at in (0, 63, 2**64 - 1)]
-            lines += [
-                f"refused {rule} 0 {it} {it}"
-                for rule in _rules.LINK_RULES
-                for it in (0, 5, 2**40)
-            ]
+            for rule in _rules.LINK_RULES:
+                lines += [f"refused {rule} 0 {it} {it}" for it in (0, 5, 2**40)]
             for line in lines:
                 self.assertIn("what to do: ", explained(line, [f"{number}.o"]), line)
 
@@ -607,22 +545,16 @@ class HintTest(Case):
     def test_a_section_table_that_is_elsewhere(self):
         made = Made(text())
         data = made.with_bytes(40, (64).to_bytes(8, "little"))
-        self.assertIn(
-            (
-                "e_shoff, which is 0x40, points astray: a table of 3 section headers is at"
-                f" {made.table:#x}"
-            ),
-            self.hints(data, 13),
-        )
+        lead = "e_shoff, which is 0x40, points astray"
+        table = f"a table of 3 section headers is at {made.table:#x}"
+        self.assertIn(f"{lead}: {table}", self.hints(data, 13))
         cut = bytes(made.data[:-64])
         self.assertIn("the file was cut short", self.hints(cut, 15))
         # A table of one section header, at the bytes of .text.
         astray = bytearray(data)
         astray[60] = 1
-        self.assertIn(
-            "e_shoff, which is 0x40, points astray: what is there looks like no section header 0",
-            self.hints(astray, 13),
-        )
+        found = self.hints(astray, 13)
+        self.assertIn(f"{lead}: what is there looks like no section header 0", found)
         # One byte of section header 0 was written: it is where it belongs.
         self.assertEqual(self.hints(made.with_bytes(made.table + 4, b"\1"), 13), "")
 
@@ -634,13 +566,8 @@ class HintTest(Case):
             (b".llvm_addrsig", 0x6FFF4C03, b"\1", dict(link=2)),
         )
         found = self.hints(made.data, 78, made.table + 4 * 64 + 40)
-        self.assertIn(
-            (
-                "compile with -fno-addrsig, or strip it: objcopy --remove-section=.llvm_addrsig 'a"
-                " b.o'"
-            ),
-            found,
-        )
+        command = "objcopy --remove-section=.llvm_addrsig 'a b.o'"
+        self.assertIn(f"compile with -fno-addrsig, or strip it: {command}", found)
         self.assertEqual(self.hints(made.data, 78, made.table + 64 + 40), "")
 
     def linked(self, machine=62, name=b"_GLOBAL_OFFSET_TABLE_", kind=9):
@@ -653,34 +580,17 @@ class HintTest(Case):
 
     def test_the_global_offset_table(self):
         found = " ".join(_hints.link_hints([self.linked()], 9, 0, 0, 0))
-        self.assertIn(
-            (
-                "_GLOBAL_OFFSET_TABLE_: the code is compiled for a global offset table: compile it"
-                " with -fno-pic"
-            ),
-            found,
-        )
+        words = "the code is compiled for a global offset table: compile it with -fno-pic"
+        self.assertIn(f"_GLOBAL_OFFSET_TABLE_: {words}", found)
         self.assertEqual(list(_hints.link_hints([self.linked(name=b"other")], 9, 0, 0, 0)), [])
 
     def test_relocations_without_a_rule(self):
+        table = "a global offset table, which elfmap does not make: compile with -fno-pic"
+        call = "type 283, R_AARCH64_CALL26 of machine 183 (EM_AARCH64)"
         for machine, kind, words in (
-            (
-                62,
-                42,
-                (
-                    "R_X86_64_REX_GOTPCRELX is by a global offset table, which elfmap does not"
-                    " make: compile with -fno-pic"
-                ),
-            ),
+            (62, 42, f"R_X86_64_REX_GOTPCRELX is by {table}"),
             (62, 4, "the rule file needs the line `4 pc 4 signed`"),
-            (
-                183,
-                283,
-                (
-                    "the rule file has no line for type 283, R_AARCH64_CALL26 of machine 183"
-                    " (EM_AARCH64)"
-                ),
-            ),
+            (183, 283, f"the rule file has no line for {call}"),
         ):
             found = " ".join(_hints.link_hints([self.linked(machine, b"f", kind)], 12, 0, 1, 0))
             self.assertIn(words, found)
@@ -713,9 +623,8 @@ class HintTest(Case):
     def test_other_files(self):
         self.assertIn("it is an archive: elfmap-lint checks its members", self.hints(GNU, 3))
         self.assertIn("-m64", self.hints(b"\x7fELF\1" + bytes(80), 4))
-        self.assertIn(
-            "the file is an executable", self.hints(Made(text()).with_bytes(16, b"\2"), 70)
-        )
+        program = Made(text()).with_bytes(16, b"\2")
+        self.assertIn("the file is an executable", self.hints(program, 70))
 
 
 class KnownNamesTest(unittest.TestCase):
@@ -757,9 +666,8 @@ class NamesTest(unittest.TestCase):
     def test_machines(self):
         known = self.constants("EM_")
         self.assertEqual({f"EM_{it}" for it in _names.MACHINES.values()} - set(known), set())
-        self.assertTrue(
-            all(known[f"EM_{name}"] == number for number, name in _names.MACHINES.items())
-        )
+        for number, name in _names.MACHINES.items():
+            self.assertEqual(known[f"EM_{name}"], number)
 
     def test_section_types(self):
         known = {name.lower(): number for name, number in self.constants("SHT_").items()}

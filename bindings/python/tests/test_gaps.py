@@ -100,13 +100,9 @@ class GapsTest(FolderCase):
         lines = self.gaps("a.o")[1]
         self.assertEqual(len(lines), 20 + 1)
         # The last one is between the last section and the names.
-        self.assertEqual(
-            lines[:20],
-            [
-                f"7 a.o: [{it + 1:#x}, {it + 8:#x}) between .s and .s, zeros"
-                for it in range(64, 64 + 20 * 8, 8)
-            ],
-        )
+        for at, line in zip(range(64, 64 + 20 * 8, 8), lines):
+            place = f"[{at + 1:#x}, {at + 8:#x})"
+            self.assertEqual(line, f"7 a.o: {place} between .s and .s, zeros")
 
     def test_a_section_without_a_name(self):
         self.put(a__o=Made(text(), (b"", 1, bytes(8), {})).with_field(1, "size", 0x13))

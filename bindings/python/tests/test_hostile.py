@@ -72,10 +72,8 @@ def run(*words, limit=LONGEST):
         timer.start()
         process.wait()
         timer.cancel()
-        said = [
-            os.pread(it.fileno(), 1 << 26, 0).decode("utf-8", "surrogateescape")
-            for it in (out, err)
-        ]
+        written = (os.pread(it.fileno(), 1 << 26, 0) for it in (out, err))
+        said = [it.decode("utf-8", "surrogateescape") for it in written]
         status, peak = os.pread(ended.fileno(), 100, 0).split()
         return int(status), *said, int(peak) / 1024
 
@@ -249,11 +247,9 @@ class TreeTest(FolderCase):
         lines = [it for it in err.splitlines() if not it.startswith("elfmap-lint: cut/")]
         self.assertEqual(lines, [])
         found = self.found(out)
-        start = GNU.index(SHARING)
-        wanted = {
-            f"cut/gnu-{it:05}.a(a name of more than sixteen letters.o)"
-            for it in range(start + len(SHARING), len(GNU))
-        }
+        end = GNU.index(SHARING) + len(SHARING)
+        member = "(a name of more than sixteen letters.o)"
+        wanted = {f"cut/gnu-{it:05}.a{member}" for it in range(end, len(GNU))}
         self.assertLessEqual(wanted, {*found})
         self.assertIn("cut/bad.o", found)
 

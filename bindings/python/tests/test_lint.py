@@ -146,16 +146,11 @@ class WordsTest(Case):
         made = Made(*data)
         content = bytearray(made.data)
         for index in range(1, 101):
-            content[made.table + 64 * index + 24 : made.table + 64 * index + 32] = (64).to_bytes(
-                8, "little"
-            )
+            struct.pack_into("<Q", content, made.at(index, "offset"), 64)
         self.put(bad__o=bytes(content))
         line = self.told("bad.o")[0]
-        self.assertEqual(
-            (line.count(".data [0x40, 0x41)"), "and of 84 more share byte 0x40; " in line),
-            (16, True),
-            line,
-        )
+        self.assertEqual(line.count(".data [0x40, 0x41)"), 16, line)
+        self.assertIn("and of 84 more share byte 0x40; ", line)
 
     def test_a_byte_of_the_header(self):
         self.put(bad__o=Made(text()).with_field(1, "offset", 0x3F))
@@ -346,18 +341,13 @@ class DepthTest(Case):
     def test_a_fault_of_dynamic_symbols_is_theirs(self):
         """A hash table before them has all rules of its symbols."""
         hashes = (b".hash", 5, struct.pack("<5I", 1, 2, 1, 0, 0), dict(link=2, entsize=4))
-        names = (b".dynstr", 3, b"\0f\0", {})
-        made = Made(
-            hashes,
-            (b".dynsym", 11, symbols(3, (1, 0x10, 99))[2], dict(link=3, info=1, entsize=24)),
-            names,
-        )
+        content = symbols(3, (1, 0x10, 99))[2]
+        table = (b".dynsym", 11, content, dict(link=3, info=1, entsize=24))
+        made = Made(hashes, table, (b".dynstr", 3, b"\0f\0", {}))
         self.put(bad__o=bytes(made.data))
         line = json.loads(self.told("--tables", "--format", "jsonl", "bad.o")[0])
-        self.assertEqual(
-            (line["rule"], line["offset"], line["sections"]),
-            (51, made.starts[2] + 24 + 6, [".dynsym"]),
-        )
+        found = line["rule"], line["offset"], line["sections"]
+        self.assertEqual(found, (51, made.starts[2] + 24 + 6, [".dynsym"]))
         self.assertTrue(line["message"].startswith("the content of section 2 .dynsym ["))
 
     def test_an_object_that_would_be_too_long(self):
@@ -381,21 +371,14 @@ class DepthTest(Case):
     def test_an_index_table_of_a_long_file(self):
         """Symbol 1 has an index of its own, so its word has to be 0."""
         index_table = (b".symtab_shndx", 18, struct.pack("<2I", 0, 7), dict(link=2, entsize=4))
-        made = Made(
-            (b".filler", 1, bytes(1 << 17), {}),
-            symbols(3, (1, 0x10, 1)),
-            (b".strtab", 3, b"\0f\0", {}),
-            index_table,
-        )
+        filler = (b".filler", 1, bytes(1 << 17), {})
+        strings = (b".strtab", 3, b"\0f\0", {})
+        made = Made(filler, symbols(3, (1, 0x10, 1)), strings, index_table)
         self.put(bad__o=bytes(made.data))
+        front = f"bad.o: offset {made.starts[4] + 4:#x}: WRONG_INDEX_WORD (52): "
         for words in (["--tables"], ["--object"]):
             lines = self.told(*words, "bad.o")
-            self.assertTrue(
-                lines[0].startswith(
-                    f"bad.o: offset {made.starts[4] + 4:#x}: WRONG_INDEX_WORD (52): "
-                ),
-                lines,
-            )
+            self.assertTrue(lines[0].startswith(front), lines)
 
     def test_more_sections_than_the_header_counts(self):
         """0xff01 sections: their count, and the index of the names, are in section header 0. The
@@ -490,20 +473,11 @@ class DepthTest(Case):
             relocations(2, 1),
             relocations(2, 2),
         ]
-        index_table = (
-            b".symtab_shndx",
-            18,
-            struct.pack("<3I", 0, 0xFF00, 0),
-            dict(link=2, entsize=4),
-        )
+        words = struct.pack("<3I", 0, 0xFF00, 0)
+        index_table = (b".symtab_shndx", 18, words, dict(link=2, entsize=4))
         group = (b".group", 17, struct.pack("<2I", 1, 4), dict(link=2, info=1, entsize=4))
-        made = Made(
-            text(),
-            *parts,
-            index_table,
-            group,
-            (b".note", 7, struct.pack("<3I", 4, 0, 1) + b"abc\0", {}),
-        )
+        note = (b".note", 7, struct.pack("<3I", 4, 0, 1) + b"abc\0", {})
+        made = Made(text(), *parts, index_table, group, note)
         checks = _checks.Checks(True, True)
         for at in range(64, len(made.data)):
             for value in (0, 2, 0xEE):
@@ -851,12 +825,9 @@ class OptionTest(Case):
         self.assertTrue(lines[0].startswith("a/b/narrow: offset 0x4: WRONG_CLASS (4): "), lines)
 
     def test_ignored(self):
+        summary = b"0 findings in 0 of 2 ELF files, 2 suppressed; skipped: 1 of class 32"
         for rule in ("33", "SHARED_BYTE", "shared_byte", "shared-byte"):
-            self.assertSaid(
-                ["--ignore", rule, "a"],
-                0,
-                [b"0 findings in 0 of 2 ELF files, 2 suppressed; skipped: 1 of class 32"],
-            )
+            self.assertSaid(["--ignore", rule, "a"], 0, [summary])
         self.assertEqual(self.paths("--ignore", "33:a/b/*", "a"), ["a/bad.o"])
         self.assertEqual(self.paths("--ignore", "22", "a"), ["a/b/bad.o", "a/bad.o"])
         for rule in ("34", "NO_RULE", "", "0", "²"):
@@ -886,38 +857,25 @@ class OptionTest(Case):
         """It is an error, and not skipped as one of a directory is, unless that is asked for."""
         foreign = b"it is neither an ELF file nor an archive; --skip skips it"
         empty = b"it is empty; --skip skips it"
-        self.put(
-            **{
-                "a/text": b"no ELF file",
-                "a/short": b"\x7fEL",
-                "a/empty": b"",
-                "names": b"a/text\0a/bad.o\0",
-            }
-        )
+        self.put(**{"a/text": b"no ELF file", "a/short": b"\x7fEL", "a/empty": b""})
+        unread = b"0 findings in 0 of 0 ELF files; 1 unreadable\n"
         skipped = b"0 findings in 0 of 0 ELF files; skipped: 1 not ELF\n"
         for name, reason in (("text", foreign), ("short", foreign), ("empty", empty)):
             lost = b"elfmap-lint: a/%s: %s\n" % (name.encode(), reason)
-            self.assertEqual(
-                self.lint(f"a/{name}"), (3, b"0 findings in 0 of 0 ELF files; 1 unreadable\n", lost)
-            )
+            self.assertEqual(self.lint(f"a/{name}"), (3, unread, lost))
             self.assertEqual(self.lint("--skip", f"a/{name}"), (0, skipped, b""))
             # It is named, whatever directory has it too.
             self.assertEqual(self.lint("a", f"a/{name}")[::2], (3, lost))
             self.assertEqual(self.lint("-j3", f"a/{name}", "a")[::2], (3, lost))
             self.assertEqual(self.lint("--exclude", name, f"a/{name}")[0], 0)
             content = Path(f"a/{name}").read_bytes()
-            self.assertEqual(
-                self.lint("-", stdin=content)[::2], (3, b"elfmap-lint: -: " + reason + b"\n")
-            )
+            lost = b"elfmap-lint: -: " + reason + b"\n"
+            self.assertEqual(self.lint("-", stdin=content)[::2], (3, lost))
             self.assertEqual(self.lint("--skip", "-", stdin=content), (0, skipped, b""))
-        self.assertEqual(
-            (
-                self.lint("a")[0],
-                self.lint("--files0-from", "names")[0],
-                self.lint("--skip", "--files0-from", "names")[0],
-            ),
-            (1, 3, 1),
-        )
+        self.assertEqual(self.lint("a")[0], 1)
+        self.put(names=b"a/text\0a/bad.o\0")
+        self.assertEqual(self.lint("--files0-from", "names")[0], 3)
+        self.assertEqual(self.lint("--skip", "--files0-from", "names")[0], 1)
         # By one of its hard links, of which the first one is in a directory.
         os.link("a/text", "z")
         self.assertEqual(self.lint("a", "z")[::2], (3, b"elfmap-lint: a/text: " + foreign + b"\n"))
@@ -980,13 +938,10 @@ class OptionTest(Case):
         ):
             self.put(x__o=bytes(one))
             self.assertEqual(self.lint("--tables", "--write-baseline", "known.json", "x.o")[0], 0)
-            self.assertSaid(
-                ["--tables", "--baseline", "known.json", "x.o"],
-                0,
-                [b"0 findings in 0 of 1 ELF file, 1 suppressed"],
-            )
+            words = ["--tables", "--baseline", "known.json", "x.o"]
+            self.assertSaid(words, 0, [b"0 findings in 0 of 1 ELF file, 1 suppressed"])
             self.put(x__o=bytes(other))
-            lines = self.told("--tables", "--baseline", "known.json", "x.o")
+            lines = self.told(*words)
             self.assertEqual((len(lines), f": {told}: " in lines[0]), (2, True), lines)
         # The same finding of another path is none that was known.
         self.put(**{"x__o": SHARING, "c/x__o": SHARING})
@@ -996,17 +951,12 @@ class OptionTest(Case):
     def test_a_baseline_is_written_anew(self):
         """It has all that is found, also what the one before had."""
         self.lint("--write-baseline", "known.json", "a/b")
-        status, out, _ = self.lint(
-            "--baseline", "known.json", "--write-baseline", "known.json", "a"
-        )
-        self.assertEqual(
-            (status, out),
-            (0, b"0 findings in 0 of 2 ELF files, 2 suppressed; skipped: 1 of class 32\n"),
-        )
-        self.assertEqual(
-            [it["path"] for it in json.loads(Path("known.json").read_bytes())["findings"]],
-            ["a/b/bad.o", "a/bad.o"],
-        )
+        both = ["--baseline", "known.json", "--write-baseline", "known.json"]
+        status, out, _ = self.lint(*both, "a")
+        summary = b"0 findings in 0 of 2 ELF files, 2 suppressed; skipped: 1 of class 32\n"
+        self.assertEqual((status, out), (0, summary))
+        findings = json.loads(Path("known.json").read_bytes())["findings"]
+        self.assertEqual([it["path"] for it in findings], ["a/b/bad.o", "a/bad.o"])
 
     def test_a_baseline_of_any_path(self):
         os.rename("a/bad.o", b"a/\xff")
@@ -1364,19 +1314,12 @@ class ArchiveTest(Case):
 
     def test_a_thin_archive_of_members_of_two_others(self):
         table = archive_member(b"/", b"one.a/\ntwo.a/\n")
-        outer = (
-            b"!<thin>\n"
-            + table
-            + b"".join(archive_member(it, b"", b"") for it in (b"/0:8", b"/7:8", b"/0:8"))
-        )
-        inner = {
-            name: b"!<arch>\n" + archive_member(*it)
-            for name, it in (("one__a", (b"good.o", GOOD)), ("two__a", (b"bad.o", SHARING)))
-        }
-        self.put(outer__a=outer, **inner)
-        self.assertSaid(
-            ["outer.a"], 1, [b"outer.a(two.a(bad.o)): " + SHARED, b"1 finding in 1 of 3 ELF files"]
-        )
+        headers = [archive_member(it, b"", b"") for it in (b"/0:8", b"/7:8", b"/0:8")]
+        one = b"!<arch>\n" + archive_member(b"good.o", GOOD)
+        two = b"!<arch>\n" + archive_member(b"bad.o", SHARING)
+        self.put(outer__a=b"!<thin>\n" + table + b"".join(headers), one__a=one, two__a=two)
+        lines = [b"outer.a(two.a(bad.o)): " + SHARED, b"1 finding in 1 of 3 ELF files"]
+        self.assertSaid(["outer.a"], 1, lines)
 
     def test_a_thin_archive_of_its_own_members(self):
         front = b"!<thin>\n" + archive_member(b"/", b"own.a/\n")

@@ -97,17 +97,13 @@ def with_symbol(*symbol, order="<"):
 
 
 def bad_symbol(order):
-    return Broken(
-        *with_symbol(3, 0xA1, 1, order=order), ".symtab", "symbol 2 g: binding 10, type 1"
-    )
+    file = with_symbol(3, 0xA1, 1, order=order)
+    return Broken(*file, ".symtab", "symbol 2 g: binding 10, type 1")
 
 
 def bad_common(order):
-    return Broken(
-        *with_symbol(3, 0x11, COMMON, 12, order=order),
-        ".symtab",
-        "symbol 2 g: binding 1, st_value 12",
-    )
+    file = with_symbol(3, 0x11, COMMON, 12, order=order)
+    return Broken(*file, ".symtab", "symbol 2 g: binding 1, st_value 12")
 
 
 BROKEN = {"TLS": (3, tls), "LINK_ORDER": (4, link_order), "EMPTY_SIGNATURE": (5, empty_signature)}
@@ -225,19 +221,11 @@ class SuppressedTest(ObjectCase):
         self.put_broken()
         for name, (number, _) in BROKEN.items():
             path = f"{name.lower()}.o"
-            for word in (
-                name,
-                name.lower().replace("_", "-"),
-                f"link-{number}",
-                f"LINK_{number}",
-                f"{name}:*.o",
-                f"link-{number}:{path}",
-            ):
-                self.assertSaid(
-                    ["--object", "--ignore", word, path],
-                    0,
-                    [b"0 findings in 0 of 1 ELF file, 1 suppressed"],
-                )
+            summary = b"0 findings in 0 of 1 ELF file, 1 suppressed"
+            names = (name, name.lower().replace("_", "-"), f"{name}:*.o")
+            numbers = (f"link-{number}", f"LINK_{number}", f"link-{number}:{path}")
+            for word in (*names, *numbers):
+                self.assertSaid(["--object", "--ignore", word, path], 0, [summary])
             for word in (str(number), f"{name}:*.c", f"link-{number}:none"):
                 self.assertEqual(self.lint("--object", "--ignore", word, path)[0], 1)
 
@@ -303,11 +291,8 @@ class FormatTest(ObjectCase):
         self.assertEqual(lines[-1], "7 findings in 7 of 7 ELF files")
 
     def test_jsonl(self):
-        found = {
-            it["path"]: it
-            for it in map(json.loads, self.report("jsonl").splitlines())
-            if "path" in it
-        }
+        records = [json.loads(it) for it in self.report("jsonl").splitlines()]
+        found = {it["path"]: it for it in records if "path" in it}
         for name, (number, make) in BROKEN.items():
             path = f"./{name.lower()}.o"
             it = make("<")
@@ -319,27 +304,23 @@ class FormatTest(ObjectCase):
                 "sections": [it.section],
             }
             self.assertEqual(found[path], {**fields, "message": message_of(number, it.words)})
-        self.assertEqual(
-            (found["./narrow.o"]["rule"], found["./lib.a(tls.o)"]["rule"]), (4, "link-3")
-        )
+        self.assertEqual(found["./narrow.o"]["rule"], 4)
+        self.assertEqual(found["./lib.a(tls.o)"]["rule"], "link-3")
 
     def test_sarif(self):
         log = json.loads(self.report("sarif"))
         self.assert_sarif(log)
         run = log["runs"][0]
         rules = {it["id"]: it["shortDescription"]["text"] for it in run["tool"]["driver"]["rules"]}
-        wanted = {
-            name: f"link rule {number}: {_rules.LINK_RULES[number][1]}"
-            for name, (number, _) in BROKEN.items()
-        }
-        self.assertEqual(rules, {**wanted, "WRONG_CLASS": f"rule 4: {_rules.RULES[4][1]}"})
+        wanted = {"WRONG_CLASS": f"rule 4: {_rules.RULES[4][1]}"}
+        for name, (number, _) in BROKEN.items():
+            wanted[name] = f"link rule {number}: {_rules.LINK_RULES[number][1]}"
+        self.assertEqual(rules, wanted)
         places = {}
         for it in run["results"]:
             physical = it["locations"][0]["physicalLocation"]
-            places[physical["artifactLocation"]["uri"]] = (
-                it["ruleId"],
-                physical["region"]["byteOffset"],
-            )
+            offset = physical["region"]["byteOffset"]
+            places[physical["artifactLocation"]["uri"]] = (it["ruleId"], offset)
         for name, (_, make) in BROKEN.items():
             self.assertEqual(places[f"./{name.lower()}.o"], (name, make("<").offset))
         # In the archive the member begins after its header.

@@ -106,33 +106,21 @@ class CutTest(Case):
             for format in ("text", "github", "junit"):
                 said = self.said(lint, "--tables", "--format", format, "a.o")
                 self.assertIn(f"the section header of section 2 {shown(name)} of type RELA", said)
-            for format in ("jsonl", "sarif"):
-                said = self.said(lint, "--tables", "--format", format, "a.o")
-                records = said.splitlines()[:1] if format == "jsonl" else [said]
-                self.assertIn(
-                    json.dumps(f"the section header of section 2 {name} of type RELA")[1:-1],
-                    records[0],
-                )
-            self.assertEqual(
-                json.loads(self.said(lint, "--tables", "--format", "jsonl", "a.o").splitlines()[0])[
-                    "sections"
-                ],
-                [name],
-            )
-            self.assertIn(
-                f"the section header of section 2 {shown(name)} of type RELA",
-                " ".join(self.said(explain, "a.o").split()),
-            )
+            whole = json.dumps(f"the section header of section 2 {name} of type RELA")[1:-1]
+            self.assertIn(whole, self.said(lint, "--tables", "--format", "sarif", "a.o"))
+            record = self.said(lint, "--tables", "--format", "jsonl", "a.o").splitlines()[0]
+            self.assertIn(whole, record)
+            self.assertEqual(json.loads(record)["sections"], [name])
+            said = " ".join(self.said(explain, "a.o").split())
+            self.assertIn(f"the section header of section 2 {shown(name)} of type RELA", said)
 
     def test_a_baseline_for_each_format(self):
         """The names of sections in it do not depend on the format."""
-        self.put(
-            a__o=bytes(Made(text(), (b"s" * 300, RELA, b"", dict(link=0, info=1, entsize=24))).data)
-        )
+        table = (b"s" * 300, RELA, b"", dict(link=0, info=1, entsize=24))
+        self.put(a__o=bytes(Made(text(), table).data))
         for format in ("text", "jsonl"):
-            self.said(
-                lint, "--tables", "--format", format, "--write-baseline", f"known.{format}", "a.o"
-            )
+            baseline = ("--write-baseline", f"known.{format}")
+            self.said(lint, "--tables", "--format", format, *baseline, "a.o")
         self.assertEqual(Path("known.text").read_bytes(), Path("known.jsonl").read_bytes())
         self.assertIn(b"s" * 300, Path("known.text").read_bytes())
 
@@ -141,9 +129,8 @@ class CutTest(Case):
             name = "n" * length
             made = Made(text(), (name.encode(), 1, bytes(8), {}))
             self.put(a__o=made.with_field(2, "offset", 0x72), b__o=made.with_field(1, "size", 0x13))
-            self.assertIn(
-                f"and of {shown(name)} [0x72, 0x7a) share byte 0x72", self.said(lint, "a.o")
-            )
+            said = self.said(lint, "a.o")
+            self.assertIn(f"and of {shown(name)} [0x72, 0x7a) share byte 0x72", said)
             self.assertIn(f"between .text and {shown(name)}, ", self.said(gaps, "b.o"))
 
     def test_names_of_symbols(self):
@@ -151,38 +138,24 @@ class CutTest(Case):
         for length in (200, 201, 300, 70000):
             first, second = (b"n" * (length - 1) + it for it in (b"a", b"b"))
             strings = b".strtab", 3, b"\0" + first + b"\0" + second + b"\0", {}
-            for k, size in (("a", 3), ("b", 4)):
-                made = Made(
-                    text(),
-                    symbols(3, (1, 0x10, 1), (2 + length, 0x10, 1, size)),
-                    strings,
-                    relocations(2, 2),
-                )
+            for k, value in (("a", 3), ("b", 4)):
+                table = symbols(3, (1, 0x10, 1), (2 + length, 0x10, 1, value))
+                made = Made(text(), table, strings, relocations(2, 2))
                 self.put(**{f"{k}__o": bytes(made.data)})
             said = self.said(same, "a.o", "b.o")
-            self.assertEqual(
-                said,
-                (
-                    f"symbol {shown(second.decode())}: its value is 0x3 in a.o, and 0x4 in"
-                    " b.o\ndifferent\n"
-                ),
-            )
+            words = "its value is 0x3 in a.o, and 0x4 in b.o"
+            self.assertEqual(said, f"symbol {shown(second.decode())}: {words}\ndifferent\n")
 
     def test_names_of_groups_and_of_symbols_of_sections(self):
         """Both have two names."""
         name = "n" * 300
-        group = (
-            name.encode(),
-            GROUP,
-            (1).to_bytes(4, "little") + (5).to_bytes(4, "little"),
-            dict(link=2, info=2, entsize=4),
-        )
+        words = struct.pack("<2I", 1, 5)
+        group = (name.encode(), GROUP, words, dict(link=2, info=2, entsize=4))
         strings = b".strtab", 3, b"\0" + name.encode() + b"\0", {}
         member = b".text.f", 1, b"", dict(flags=0x200)
         made = Made(text(), symbols(3, (0, 3, 1), (1, 0x10, 1), info=2), strings, group, member)
-        self.put(
-            a__o=bytes(made.data), b__o=bytes(Made(text(), symbols(3, (1, 0x10, 1)), strings).data)
-        )
+        other = Made(text(), symbols(3, (1, 0x10, 1)), strings)
+        self.put(a__o=bytes(made.data), b__o=bytes(other.data))
         said = self.said(same, "a.o", "b.o").splitlines()
         self.assertIn(f"section {shown(name)} [{shown(name)}] is only in a.o", said)
         self.assertIn("symbol of section .text is only in a.o", said)
@@ -198,19 +171,20 @@ class TwinsTest(Case):
     def twins(self, *, symbol=1, target=1, link=1, info=1, section=1, members=((10,), (11,))):
         strings = b"\0" + b"\0".join(self.TWINS) + b"\0answer\0"
         places = [strings.index(it) for it in (*self.TWINS, b"answer")]
+        rows = [(it, 0x10, k) for it, k in zip(places, (1, 1, section))]
         relocation = struct.pack("<QQq", 0, symbol << 32 | 2, 0)
-        grouped = (struct.pack(f"<{1 + len(it)}I", 1, *it) for it in members)
+        groups = []
+        for k, it in enumerate(members, 1):
+            words = struct.pack(f"<{1 + len(it)}I", 1, *it)
+            groups.append((b".group", GROUP, words, dict(link=3, info=k, entsize=4)))
         made = Made(
             *(text(it) for it in self.TWINS),
-            symbols(4, *((it, 0x10, k) for it, k in zip(places, (1, 1, section)))),
+            symbols(4, *rows),
             (b".strtab", 3, strings, {}),
             (b".rela", RELA, relocation, dict(link=3, info=target, entsize=24)),
             (b".linked", 1, b"\1", dict(link=link)),
             (b".informed", 1, b"\1", dict(flags=0x40, info=info)),
-            *(
-                (b".group", GROUP, it, dict(link=3, info=k, entsize=4))
-                for k, it in enumerate(grouped, 1)
-            ),
+            *groups,
             *((it, 1, b"\1", dict(flags=0x200)) for it in self.MEMBERS),
         )
         return bytes(made.data)
@@ -226,11 +200,8 @@ class TwinsTest(Case):
             ("info", "section .informed: sh_info"),
             ("section", "symbol answer: its section"),
         ):
-            self.assertSaid(
-                self.twins(),
-                self.twins(**{what: 2}),
-                f"{words} is {self.NAME} in a.o, and {self.NAME} in b.o",
-            )
+            line = f"{words} is {self.NAME} in a.o, and {self.NAME} in b.o"
+            self.assertSaid(self.twins(), self.twins(**{what: 2}), line)
 
     def test_a_relocation(self):
         words = f"R_X86_64_PC32 at 0x0 of {self.NAME} to {self.NAME} +0x0"
@@ -239,18 +210,12 @@ class TwinsTest(Case):
 
     def test_members(self):
         """Each is in the other group, or both are in one."""
-        lines = [
-            f"section .group [{self.NAME}]: member {self.MEMBER} is only in {file}.o"
-            for file in "ab"
-        ]
+        group = f"section .group [{self.NAME}]"
+        lines = [f"{group}: member {self.MEMBER} is only in {file}.o" for file in "ab"]
         self.assertSaid(self.twins(), self.twins(members=[(11,), (10,)]), *lines, *lines)
-        sizes = [
-            f"section .group [{self.NAME}]: its size is {it} in a.o, and 0x8 in b.o"
-            for it in ("0xc", "0x4")
-        ]
-        self.assertSaid(
-            self.twins(members=[(10, 11), ()]), self.twins(), sizes[0], lines[0], sizes[1], lines[1]
-        )
+        sizes = [f"{group}: its size is {it} in a.o, and 0x8 in b.o" for it in ("0xc", "0x4")]
+        found = (sizes[0], lines[0], sizes[1], lines[1])
+        self.assertSaid(self.twins(members=[(10, 11), ()]), self.twins(), *found)
 
 
 class NamesTest(unittest.TestCase):
@@ -265,25 +230,15 @@ class NamesTest(unittest.TestCase):
                 if changed is not None:
                     name[changed % length] = ord("m")
                 table = b"\0" + name + b"\0" + name[1:]
-                offsets = [
-                    0,
-                    1,
-                    2,
-                    3,
-                    abs(length - 256),
-                    length,
-                    length + 1,
-                    length + 2,
-                    len(table),
-                    len(table) + 1,
-                ]
+                first = [0, 1, 2, 3, abs(length - 256)]
+                second = [length, length + 1, length + 2]
+                offsets = [*first, *second, len(table), len(table) + 1]
                 at = names.of(table, offsets)
                 self.assertEqual(set(at), set(offsets))
                 found += [(table[it:].partition(b"\0")[0], at[it]) for it in offsets]
         for name, it in found:
-            self.assertEqual(
-                [name == other for other, _ in found], [it is other for _, other in found]
-            )
+            are_equal = [name == other for other, _ in found]
+            self.assertEqual(are_equal, [it is other for _, other in found])
         self.assertEqual({front_of(it) for _, it in found}, {name[:3] for name, _ in found})
 
 
@@ -308,20 +263,14 @@ class EscapeTest(Case):
             for before, letters in ((0, 200), (0, 201), (198, 201), (199, 201), (200, 201)):
                 after = letters - before
                 name = b"n" * before + letter * after
-                self.put(
-                    a__o=bytes(
-                        Made(text(), (name, RELA, b"", dict(link=0, info=1, entsize=24))).data
-                    )
-                )
+                table = (name, RELA, b"", dict(link=0, info=1, entsize=24))
+                self.put(a__o=bytes(Made(text(), table).data))
                 words = "n" * before + escape * min(after, MOST - before) + "…" * (letters > MOST)
-                self.assertIn(
-                    f"the section header of section 2 {words} of type RELA",
-                    self.said(lint, "--tables", "a.o"),
-                )
+                said = self.said(lint, "--tables", "a.o")
+                self.assertIn(f"the section header of section 2 {words} of type RELA", said)
                 self.put(a__o=bytes(Made(text(), (name, 1, b"", {})).data))
-                self.assertEqual(
-                    self.said(same, "a.o", "b.o"), f"section {words} is only in a.o\ndifferent\n"
-                )
+                said = self.said(same, "a.o", "b.o")
+                self.assertEqual(said, f"section {words} is only in a.o\ndifferent\n")
 
     def test_nothing_is_kept_of_letters(self):
         """A process prints those of many files, and each may have other ones."""
@@ -357,11 +306,8 @@ class CostTest(Case):
             begun = time.process_time()
             said = self.said(module, *words, stdin=stdin)
             took = time.process_time() - begun - spent[0]
-        return (
-            took,
-            len(said) + len(stdin) + sum(os.path.getsize(it) for it in words if os.path.isfile(it)),
-            said,
-        )
+        read = sum(os.path.getsize(it) for it in words if os.path.isfile(it))
+        return took, len(said) + len(stdin) + read, said
 
     def assertQuick(self, what, module, *words, stdin=b""):
         took, moved, said = self.own_seconds(module, *words, stdin=stdin)
@@ -392,9 +338,8 @@ class CostTest(Case):
         self.put(a__o=data, b__o=other)
         said = self.assertQuick("symbols of tails", same, "a.o", "b.o")
         first, second = (shown(it + "n" * (MB // 2 - 1)) for it in "nm")
-        self.assertEqual(
-            said, f"symbol {first} is only in a.o\nsymbol {second} is only in b.o\ndifferent\n"
-        )
+        lines = (f"symbol {first} is only in a.o", f"symbol {second} is only in b.o", "different")
+        self.assertEqual(said, "".join(f"{it}\n" for it in lines))
 
     def test_memory(self):
         """Of a process of each command, with 32 MiB and 12 times the file beside what it takes of
@@ -404,18 +349,16 @@ class CostTest(Case):
             data = shape.file()
             self.put(a__o=data, b__o=with_size(data, 7), bad__o=broken(data))
             names = ("a.o", "bad.o") if what in SHAPES else ("bad.o",)
-            calls = [
-                (*call, file)
-                for call in (["lint", "-j1", "--tables"], ["gaps"], ["explain"])
-                for file in names
-            ]
-            for call in calls + ([("same", "a.o", "b.o")] if what in SHAPES else []):
+            calls = []
+            for call in (["lint", "-j1", "--tables"], ["gaps"], ["explain"]):
+                calls += [(*call, it) for it in names]
+            if what in SHAPES:
+                calls.append(("same", "a.o", "b.o"))
+            for call in calls:
                 files = sum(it.endswith(".o") for it in call)
                 least = run(*call[: len(call) - files], *["empty.o"] * files)[3]
-                peak = run(*call)[3]
-                self.assertLess(
-                    peak, least + 32 + 12 * files * len(data) / 2**20, f"{what}: {' '.join(call)}"
-                )
+                most = least + 32 + 12 * files * len(data) / 2**20
+                self.assertLess(run(*call)[3], most, f"{what}: {' '.join(call)}")
 
 
 if __name__ == "__main__":

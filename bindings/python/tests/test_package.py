@@ -260,54 +260,40 @@ class ColumnsTest(unittest.TestCase):
     def test_the_fields(self):
         """Those of the records, but for names and the section of a symbol."""
         for order in "<>":
-            made = Made(
-                text(),
-                symbols(3, (1, 0x10, 1, 7), (3, 0x22, 1), order=order),
-                (b".strtab", 3, b"\0f\0g\0", {}),
-                order=order,
-            )
+            table = symbols(3, (1, 0x10, 1, 7), (3, 0x22, 1), order=order)
+            made = Made(text(), table, (b".strtab", 3, b"\0f\0g\0", {}), order=order)
             file = elfmap.parse(made.data)
             found = file.columns(2)
-            self.assertEqual(
-                [*found], ["st_name", "st_info", "st_other", "st_shndx", "st_value", "st_size"]
-            )
-            self.assertEqual(
-                [[*it] for it in found.values()],
-                [[0, 1, 3], [0, 0x10, 0x22], [0, 0, 0], [0, 1, 1], [0, 7, 0], [0, 0, 0]],
-            )
-            self.assertEqual(
-                (file.columns(1), file.columns(99), file.columns(2**64 + 2), file.columns(-1)),
-                ({}, {}, {}, {}),
-            )
+            wanted = {
+                "st_name": [0, 1, 3],
+                "st_info": [0, 0x10, 0x22],
+                "st_other": [0, 0, 0],
+                "st_shndx": [0, 1, 1],
+                "st_value": [0, 7, 0],
+                "st_size": [0, 0, 0],
+            }
+            self.assertEqual([*found], [*wanted])
+            self.assertEqual({name: [*it] for name, it in found.items()}, wanted)
+            for it in (1, 99, 2**64 + 2, -1):
+                self.assertEqual(file.columns(it), {})
             self.assertTrue(all(memoryview(it).c_contiguous for it in found.values()))
 
     def test_relocations_without_addends(self):
-        rows = (
-            b".rel.text",
-            9,
-            struct.pack("<4Q", 8, 1 << 32 | 2, 16, 1 << 32 | 4),
-            dict(link=2, info=1, entsize=16),
-        )
-        file = elfmap.parse(
-            Made(text(), symbols(3, (1, 0x10, 0)), (b".strtab", 3, b"\0f\0", {}), rows).data
-        )
+        entries = struct.pack("<4Q", 8, 1 << 32 | 2, 16, 1 << 32 | 4)
+        rows = (b".rel.text", 9, entries, dict(link=2, info=1, entsize=16))
+        made = Made(text(), symbols(3, (1, 0x10, 0)), (b".strtab", 3, b"\0f\0", {}), rows)
+        file = elfmap.parse(made.data)
         found = file.columns(4)
-        self.assertEqual(
-            [*zip(*(found[it] for it in elfmap.Relocation._fields))],
-            [*map(tuple, file.relocations(4))],
-        )
+        columns = [found[it] for it in elfmap.Relocation._fields]
+        self.assertEqual([*zip(*columns)], [*map(tuple, file.relocations(4))])
         self.assertEqual([*found["relocation_type"]], [2, 4])
 
     def test_the_time(self):
         """A microsecond for each entry, with all its fields."""
         count = 65_012
-        made = Made(
-            text(),
-            symbols(3, (1, 0x10, 0)),
-            (b".strtab", 3, b"\0f\0", {}),
-            relocations(2, *[1] * count),
-        )
-        file = elfmap.parse(made.data)
+        strings = (b".strtab", 3, b"\0f\0", {})
+        many = relocations(2, *[1] * count)
+        file = elfmap.parse(Made(text(), symbols(3, (1, 0x10, 0)), strings, many).data)
         times = []
         for _ in range(3):
             begun = time.perf_counter()
@@ -365,37 +351,26 @@ class ConstantsTest(unittest.TestCase):
     NAMES = "DT EM ET PF PT SHF SHN SHT STB STT STV".split()
 
     def test_they_are_names_of_the_package(self):
-        own = {
-            name
-            for name, it in vars(constants).items()
-            if isinstance(it, type) and it.__module__ == constants.__name__
-        }
+        types = {name: it for name, it in vars(constants).items() if isinstance(it, type)}
+        own = {name for name, it in types.items() if it.__module__ == constants.__name__}
         self.assertEqual(own, {*self.NAMES})
         for it in self.NAMES:
             self.assertIs(getattr(elfmap, it), getattr(constants, it))
 
     def test_fields_are_equal_to_them(self):
         file = elfmap.parse(GOOD)
-        self.assertEqual(
-            [it.sh_type for it in file.sections],
-            [elfmap.SHT.NULL, elfmap.SHT.PROGBITS, elfmap.SHT.STRTAB],
-        )
-        self.assertEqual(
-            (file.header.e_type, file.header.e_machine), (elfmap.ET.REL, elfmap.EM.X86_64)
-        )
+        wanted = [elfmap.SHT.NULL, elfmap.SHT.PROGBITS, elfmap.SHT.STRTAB]
+        self.assertEqual([it.sh_type for it in file.sections], wanted)
+        self.assertEqual(file.header.e_type, elfmap.ET.REL)
+        self.assertEqual(file.header.e_machine, elfmap.EM.X86_64)
 
     @unittest.skipUnless(ELF_H.is_file(), "elf.h is not installed")
     def test_the_header_of_the_c_library(self):
         """A number there is written as such, or as a bit."""
-        found = re.findall(
-            r"^#define\s+([A-Z]+)_(\w+)\s+(?:\((\d+)U? << (\d+)\)|(0x[0-9a-fA-F]+|\d+)\b)",
-            ELF_H.read_text(),
-            re.M,
-        )
-        known = {
-            (kind, name): int(number, 0) if number else int(one) << int(bit)
-            for kind, name, one, bit, number in found
-        }
+        line = r"^#define\s+([A-Z]+)_(\w+)\s+(?:\((\d+)U? << (\d+)\)|(0x[0-9a-fA-F]+|\d+)\b)"
+        known = {}
+        for kind, name, one, bit, number in re.findall(line, ELF_H.read_text(), re.M):
+            known[kind, name] = int(number, 0) if number else int(one) << int(bit)
         for kind in self.NAMES:
             for name, it in getattr(elfmap, kind).__members__.items():
                 self.assertEqual(known[kind, name], it, f"{kind}_{name}")
@@ -405,20 +380,15 @@ class HelpTest(unittest.TestCase):
     def test_it_has_public_names_alone(self):
         shown = pydoc.plain(pydoc.render_doc(elfmap))
         self.assertNotIn("ForwardRef", shown)
-        private = [
-            name
-            for name, it in vars(elfmap).items()
-            if re.match("_[^_]", name) and type(it) is not type(elfmap)
-        ]
+        others = {name: it for name, it in vars(elfmap).items() if type(it) is not type(elfmap)}
+        private = {it for it in others if re.match("_[^_]", it)}
         self.assertTrue(private)
-        listed = re.findall(
-            r"^ {4,8}(?:class )?(_\w+)\b(?=\(| =|$)", shown.partition("\nCLASSES\n")[2], re.M
-        )
-        self.assertEqual({*private} & {*listed}, set())
-        for it in elfmap.__all__:
-            self.assertRegex(
-                shown, rf"(?m)^    (class )?{it}\b" if it != "__version__" else "(?m)^VERSION$"
-            )
+        classes = shown.partition("\nCLASSES\n")[2]
+        listed = re.findall(r"^ {4,8}(?:class )?(_\w+)\b(?=\(| =|$)", classes, re.M)
+        self.assertEqual(private & {*listed}, set())
+        self.assertRegex(shown, "(?m)^VERSION$")
+        for it in {*elfmap.__all__} - {"__version__"}:
+            self.assertRegex(shown, rf"(?m)^    (class )?{it}\b")
 
 
 SNIPPET = """
@@ -461,23 +431,18 @@ class TypesTest(FolderCase):
 
     @unittest.skipUnless(shutil.which("mypy"), "mypy is not installed")
     def test_a_type_checker(self):
-        refused = "".join(
-            f"elfmap.check({it})\n" for it in ('"a.o"', 'Path("a.o")', "5", "[5]", "None")
-        )
+        wrong = ('"a.o"', 'Path("a.o")', "5", "[5]", "None")
+        refused = "".join(f"elfmap.check({it})\n" for it in wrong)
         Path("good.py").write_text(SNIPPET)
         Path("bad.py").write_text(f"import elfmap\nfrom pathlib import Path\n{refused}")
         environment = {**os.environ, "MYPYPATH": str(PACKAGE)}
         with tempfile.TemporaryDirectory() as cache:
             words = ["mypy", "--strict", "--python-version", "3.9", "--cache-dir", cache]
-            ran = [
-                subprocess.run([*words, it], capture_output=True, text=True, env=environment)
-                for it in ("good.py", "bad.py")
-            ]
-        self.assertEqual((ran[0].returncode, ran[0].stderr), (0, ""), ran[0].stdout)
-        self.assertEqual(
-            re.findall(r"^bad.py:(\d+): error", ran[1].stdout, re.M),
-            [str(it) for it in range(3, 8)],
-        )
+            keep = {"capture_output": True, "text": True, "env": environment}
+            good, bad = (subprocess.run([*words, it], **keep) for it in ("good.py", "bad.py"))
+        self.assertEqual((good.returncode, good.stderr), (0, ""), good.stdout)
+        lines = re.findall(r"^bad.py:(\d+): error", bad.stdout, re.M)
+        self.assertEqual(lines, [str(it) for it in range(3, 8)])
 
 
 if __name__ == "__main__":

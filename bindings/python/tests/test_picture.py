@@ -27,21 +27,17 @@ PROGRAM = [sys.executable, "-m", "elfmap.picture"]
 HEADER = "file little 1 62 0x0 0x0\npart 0x0 0x40 header\n"
 
 
+def elements(drawn, tag):
+    """The elements of a picture that have a tag."""
+    return [it for it in ElementTree.fromstring(drawn).iter() if it.tag.endswith(f"}}{tag}")]
+
+
 class Case(FolderCase):
     def draw(self, *words, stdin=b"", **env):
         """The status, the texts of the picture, and what is said on standard error."""
-        ran = subprocess.run(
-            [*PROGRAM, *words], input=stdin, capture_output=True, env={**ENVIRONMENT, **env}
-        )
-        texts = (
-            [
-                it.text
-                for it in ElementTree.fromstring(ran.stdout).iter()
-                if it.tag.endswith("}text")
-            ]
-            if ran.stdout
-            else []
-        )
+        own = {**ENVIRONMENT, **env}
+        ran = subprocess.run([*PROGRAM, *words], input=stdin, capture_output=True, env=own)
+        texts = [it.text for it in elements(ran.stdout, "text")] if ran.stdout else []
         return ran.returncode, texts, ran.stderr.decode()
 
     def test_a_file(self):
@@ -49,16 +45,9 @@ class Case(FolderCase):
         Path("a<&>.o").write_bytes(made.data)
         status, texts, said = self.draw("a<&>.o")
         self.assertEqual((status, said, texts[0]), (0, "", "a<&>.o"))
-        for it in (
-            "section 1",
-            ".text",
-            "0x40",
-            "51",
-            "section 2",
-            ".symtab",
-            "symbols",
-            "section table",
-        ):
+        of_text = ("section 1", ".text", "0x40", "51")
+        of_symbols = ("section 2", ".symtab", "symbols")
+        for it in (*of_text, *of_symbols, "section table"):
             self.assertIn(it, texts)
         self.assertTrue(any(it.endswith("relocatable, EM_X86_64, little-endian") for it in texts))
 
@@ -72,68 +61,50 @@ class Case(FolderCase):
     def test_a_path_and_a_section(self):
         """The title is the name of the file; what a section holds is told by its type, or else by
         its flags."""
-        sections = [
-            (f".s{it}".encode(), 1, b"\1", dict(flags=flags))
-            for it, flags in enumerate((6, 3, 2, 0))
-        ]
+        held = {".s0": "code", ".s1": "data", ".s2": "constants", ".s3": "other"}
+        sections = []
+        for name, flags in zip(held, (6, 3, 2, 0)):
+            sections.append((name.encode(), 1, b"\1", dict(flags=flags)))
         self.put(**{"a/b__o": bytes(Made(*sections).data)})
         texts = self.draw("a/b.o")[1]
         self.assertEqual(texts[0], "b.o")
-        rows = {
-            name: texts[texts.index(name) + 1] for name in (".s0", ".s1", ".s2", ".s3", ".shstrtab")
-        }
-        self.assertEqual(
-            rows,
-            {
-                ".s0": "code",
-                ".s1": "data",
-                ".s2": "constants",
-                ".s3": "other",
-                ".shstrtab": "strings",
-            },
-        )
+        held[".shstrtab"] = "strings"
+        self.assertEqual({it: texts[texts.index(it) + 1] for it in held}, held)
 
     def test_types_of_files(self):
-        for number, name in (
-            (0, "no type"),
-            (1, "relocatable"),
-            (2, "executable"),
-            (3, "shared"),
-            (4, "core"),
-            (9, "type 9"),
-        ):
+        names = ("no type", "relocatable", "executable", "shared", "core")
+        for number, name in (*enumerate(names), (9, "type 9")):
             head = picture.read(HEADER.replace("little 1", f"little {number}").splitlines())[1]
             self.assertEqual(head, f"{name}, EM_X86_64, little-endian")
 
     def test_gaps(self):
         """A line has the first 16 bytes alone; the head has how many bytes all gaps have."""
-        gaps = (
-            (5, "0000000000"),
-            (16, "00" * 16),
-            (20, "00" * 16),
-            (7, "00112233445566"),
-            (6, "001122334455"),
-        )
-        starts = [64 + sum(size for size, _ in gaps[:it]) for it in range(len(gaps))]
-        lines = HEADER + "".join(
-            f"part {at:#x} {size:#x} gap {front}\n" for at, (size, front) in zip(starts, gaps)
-        )
+        zeros = ((5, "00" * 5), (16, "00" * 16), (20, "00" * 16))
+        others = ((7, "00112233445566"), (6, "001122334455"))
+        lines = HEADER
+        starts = []
+        at = 64
+        for size, front in (*zeros, *others):
+            starts.append(at)
+            lines += f"part {at:#x} {size:#x} gap {front}\n"
+            at += size
         texts = self.draw("-", stdin=lines.encode())[1]
-        self.assertIn(
-            "118 bytes in 6 parts, 54 of them in 5 gaps; relocatable, EM_X86_64, little-endian",
-            texts,
-        )
-        held = [texts[at + 3] for at in (texts.index(hex(start)) for start in starts)]
+        counts = "118 bytes in 6 parts, 54 of them in 5 gaps"
+        self.assertIn(f"{counts}; relocatable, EM_X86_64, little-endian", texts)
+        held = [texts[texts.index(hex(it)) + 3] for it in starts]
         self.assertEqual(held, ["zeros", "zeros", "16 zeros, …", "001122334455…", "001122334455"])
 
     def test_segments_of_a_file_without_sections(self):
         """Two loadable segments of the file, each of which ends one byte before what is after it,
         and one of memory alone."""
         lines = (
-            "file little 2 62 0x400000 0x0\npart 0x0 0x40 header\npart 0x40 0xa8 segments\npart"
-            " 0xe8 0x118 gap 00\nsegment 0 1 0x5 0x100 0x400100 0x400100 0x7f 0x7f 0x1000\nsegment"
-            " 1 1 0x4 0x180 0x401180 0x401180 0x7f 0x7f 0x1000\nsegment 2 1 0x6 0x200 0x402200"
-            " 0x402200 0x0 0x300 0x1000\n"
+            "file little 2 62 0x400000 0x0\n"
+            "part 0x0 0x40 header\n"
+            "part 0x40 0xa8 segments\n"
+            "part 0xe8 0x118 gap 00\n"
+            "segment 0 1 0x5 0x100 0x400100 0x400100 0x7f 0x7f 0x1000\n"
+            "segment 1 1 0x4 0x180 0x401180 0x401180 0x7f 0x7f 0x1000\n"
+            "segment 2 1 0x6 0x200 0x402200 0x402200 0x0 0x300 0x1000\n"
         )
         parts, head = picture.read(lines.splitlines())
         self.assertEqual(head, "executable, EM_X86_64, little-endian")
@@ -151,19 +122,14 @@ class Case(FolderCase):
             ],
         )
         # Of the first one more bytes are in memory than in the file.
-        parts, _ = picture.read(
-            lines.replace("0x400100 0x7f 0x7f", "0x400100 0x7f 0x8f").splitlines()
-        )
+        longer = lines.replace("0x400100 0x7f 0x7f", "0x400100 0x7f 0x8f")
+        parts, _ = picture.read(longer.splitlines())
         self.assertEqual(parts[3].name, "0x400100 to 0x40018f")
 
     def bars(self, lines):
         """Of each row where its bar begins, and how wide it is: the last ones that have a title."""
         parts, head = picture.read(lines.splitlines())
-        drawn = [
-            it
-            for it in ElementTree.fromstring(picture.picture("", parts, head)).iter()
-            if it.tag.endswith("}rect") and len(it)
-        ]
+        drawn = [it for it in elements(picture.picture("", parts, head), "rect") if len(it)]
         return [(float(it.get("x")), float(it.get("width"))) for it in drawn[len(parts) :]]
 
     def test_bars_are_drawn_to_scale(self):
@@ -173,18 +139,16 @@ class Case(FolderCase):
         self.assertEqual(self.bars(HEADER + short), [(640, 2), (640.03, 519.97), (1158, 2)])
 
     def test_words_that_are_too_long(self):
-        self.assertEqual(
-            [picture.cut("abcdefghij", it) for it in (4, 5, 9, 10)],
-            ["a…ij", "ab…ij", "abcd…ghij", "abcdefghij"],
-        )
+        found = [picture.cut("abcdefghij", it) for it in (4, 5, 9, 10)]
+        self.assertEqual(found, ["a…ij", "ab…ij", "abcd…ghij", "abcdefghij"])
 
     def test_the_largest_parts(self):
         """Of 401 parts the largest have rows; all others, which are beside each other, have one
         together."""
         starts = [64 + sum(range(1, it)) for it in range(1, 402)]
-        lines = HEADER + "".join(
-            f"part {at:#x} {size:#x} gap 00\n" for size, at in zip(range(1, 401), starts)
-        )
+        lines = HEADER
+        for size, at in zip(range(1, 401), starts):
+            lines += f"part {at:#x} {size:#x} gap 00\n"
         parts, _ = picture.read(lines.splitlines())
         rows = picture.folded(parts)
         self.assertEqual(sum(it.length for it in rows), starts[-1])
@@ -194,18 +158,14 @@ class Case(FolderCase):
 
     def test_equal_parts(self):
         """Of 400 equal parts the first 150 have rows."""
-        parts = [
-            picture.Part(16 * k, 16, f"section {k}", f".s{k}", "PROGBITS", "data")
-            for k in range(400)
-        ]
+        parts = []
+        for k in range(400):
+            parts.append(picture.Part(16 * k, 16, f"section {k}", f".s{k}", "PROGBITS", "data"))
         self.assertEqual([it.length for it in picture.folded(parts)], [16] * 150 + [16 * 250])
 
     def test_many_parts(self):
-        lines = (
-            HEADER
-            + "".join(f"part {hex(64 + k)} 0x1 gap 00\n" for k in range(1000))
-            + "part 0x428 0x100 gap 00\n"
-        )
+        gaps = "".join(f"part {hex(64 + k)} 0x1 gap 00\n" for k in range(1000))
+        lines = f"{HEADER}{gaps}part 0x428 0x100 gap 00\n"
         parts, head = picture.read(lines.splitlines())
         self.assertEqual((len(parts), head), (1002, "relocatable, EM_X86_64, little-endian"))
         self.assertLess(picture.picture("many", parts, head).count("<rect"), 3 * picture.MOST)

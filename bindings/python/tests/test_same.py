@@ -43,15 +43,8 @@ def an_object(
     *, content=b"\x90" * 0x33, symbol=(1, 0x10, 1), strings=STRINGS, more=(), named=(1,), type=1
 ):
     """An object: .text, a symbol table, its names, relocations of .text, and more sections."""
-    return bytes(
-        Made(
-            (b".text", type, content, {}),
-            symbols(3, symbol),
-            strings,
-            relocations(2, *named),
-            *more,
-        ).data
-    )
+    own = (b".text", type, content, {})
+    return bytes(Made(own, symbols(3, symbol), strings, relocations(2, *named), *more).data)
 
 
 def padded(data):
@@ -74,10 +67,8 @@ class Case(FolderCase):
             finally:
                 os.dup2(saved, 1)
                 os.close(saved)
-            lines = (
-                os.pread(out.fileno(), 1 << 24, 0).decode("utf-8", "surrogateescape").splitlines()
-            )
-            return status, lines, said.buffer.getvalue().decode().splitlines()
+            printed = os.pread(out.fileno(), 1 << 24, 0).decode("utf-8", "surrogateescape")
+            return status, printed.splitlines(), said.buffer.getvalue().decode().splitlines()
 
     def assertSame(self, *words, lines):
         self.assertEqual(self.same(*words), (0, lines, []))
@@ -151,49 +142,29 @@ class ObjectTest(Case):
 
     def test_a_name(self):
         found = self.differ(an_object(), an_object(strings=(b".strtab", 3, b"\0other\0", {})))
-        relocation = "R_X86_64_PC32 at 0x0 of .text to"
         self.assertIn("symbol answer is only in a.o", found)
         self.assertIn("symbol other is only in b.o", found)
-        self.assertIn(
-            (
-                f"section .rela.text: relocation 0 is {relocation} answer +0x0 in a.o, and"
-                f" {relocation} other +0x0 in b.o"
-            ),
-            found,
-        )
+        lead = "R_X86_64_PC32 at 0x0 of .text to"
+        words = f"{lead} answer +0x0 in a.o, and {lead} other +0x0 in b.o"
+        self.assertIn(f"section .rela.text: relocation 0 is {words}", found)
 
     def test_a_relocation(self):
         found = self.differ(an_object(), an_object(named=(1, 1)))
-        self.assertIn(
-            (
-                "section .rela.text: relocation 1 is only in b.o: R_X86_64_PC32 at 0x0 of .text to"
-                " answer +0x0"
-            ),
-            found,
-        )
+        words = "R_X86_64_PC32 at 0x0 of .text to answer +0x0"
+        self.assertIn(f"section .rela.text: relocation 1 is only in b.o: {words}", found)
 
     def test_a_symbol_that_is_called_as_that_of_a_section(self):
         """A relocation to the one is no relocation to the other."""
 
         def related(symbol):
+            table = symbols(3, (0, 3, 1), (1, 0x10, 1), info=2)
             strings = b".strtab", 3, b"\0of section .text\0", {}
-            return bytes(
-                Made(
-                    text(),
-                    symbols(3, (0, 3, 1), (1, 0x10, 1), info=2),
-                    strings,
-                    relocations(2, symbol),
-                ).data
-            )
+            return bytes(Made(text(), table, strings, relocations(2, symbol)).data)
 
         found = self.differ(related(1), related(2))
-        ours, theirs = (
-            f"R_X86_64_PC32 at 0x0 of .text to {it} +0x0"
-            for it in ("section .text", "of section .text")
-        )
-        self.assertEqual(
-            found, [f"section .rela.text: relocation 0 is {ours} in a.o, and {theirs} in b.o"]
-        )
+        lead = "R_X86_64_PC32 at 0x0 of .text to"
+        words = f"{lead} section .text +0x0 in a.o, and {lead} of section .text +0x0 in b.o"
+        self.assertEqual(found, [f"section .rela.text: relocation 0 is {words}"])
 
     def test_a_section(self):
         found = self.differ(an_object(), an_object(more=[(b".data", 1, b"\1\2\3\4", {})]))
@@ -205,34 +176,25 @@ class ObjectTest(Case):
         more = [(b".data", 1, b"\1", {}), (b".data", 1, b"\2", {})]
         other = [(b".data", 1, b"\1", {}), (b".data", 1, b"\3", {})]
         found = self.differ(an_object(more=more), an_object(more=other))
-        self.assertEqual(
-            found,
-            ["section .data (number 2 of this name): offset 0x0 is 0x02 in a.o, and 0x03 in b.o"],
-        )
+        words = "offset 0x0 is 0x02 in a.o, and 0x03 in b.o"
+        self.assertEqual(found, [f"section .data (number 2 of this name): {words}"])
 
     def test_another_order(self):
         one = (b".one", 1, b"\1", {})
         other = (b".other", 1, b"\2", {})
         found = self.differ(an_object(more=[one, other]), an_object(more=[other, one]))
-        self.assertEqual(
-            found,
-            ["the order of sections: the first one that differs is .one in a.o, and .other in b.o"],
-        )
+        words = "the first one that differs is .one in a.o, and .other in b.o"
+        self.assertEqual(found, [f"the order of sections: {words}"])
 
     def test_another_order_of_symbols(self):
         def ordered(*names):
             table = symbols(3, *((it, 0x10, 1) for it in names))
-            return bytes(
-                Made(
-                    (b".text", 1, bytes(4), {}), table, (b".strtab", 3, b"\0answer\0other\0", {})
-                ).data
-            )
+            strings = (b".strtab", 3, b"\0answer\0other\0", {})
+            return bytes(Made(text(content=bytes(4)), table, strings).data)
 
         found = self.differ(ordered(1, 8), ordered(8, 1))
-        self.assertEqual(
-            found,
-            ["the order of symbols: the first one that differs is answer in a.o, and other in b.o"],
-        )
+        words = "the first one that differs is answer in a.o, and other in b.o"
+        self.assertEqual(found, [f"the order of symbols: {words}"])
 
     def test_a_byte_after_what_is_compared_at_once(self):
         content = bytearray(1 << 18)
@@ -244,31 +206,25 @@ class ObjectTest(Case):
     def test_each_field_of_a_symbol(self):
         """Each difference by itself; of that of the section the name is told, or the word for a
         reserved index."""
+        common = (1, 0x11, 0xFFF2, 8)
+        absolute = (1, 0x11, 0xFFF1, 8)
         for one, other, words in (
             ((1, 0x10, 1), (1, 0x20, 1), "its binding is GLOBAL in a.o, and WEAK in b.o"),
             ((1, 0x11, 1), (1, 0x12, 1), "its type is OBJECT in a.o, and FUNC in b.o"),
             ((1, 0x10, 1, 4), (1, 0x10, 1, 8), "its value is 0x4 in a.o, and 0x8 in b.o"),
             ((1, 0x10, 1), (1, 0x10, 0xFFF1), "its section is .text in a.o, and absolute in b.o"),
-            (
-                (1, 0x11, 0xFFF2, 8),
-                (1, 0x11, 0xFFF1, 8),
-                "its section is common in a.o, and absolute in b.o",
-            ),
+            (common, absolute, "its section is common in a.o, and absolute in b.o"),
         ):
-            self.assertEqual(
-                self.differ(an_object(symbol=one), an_object(symbol=other)),
-                [f"symbol answer: {words}"],
-            )
+            found = self.differ(an_object(symbol=one), an_object(symbol=other))
+            self.assertEqual(found, [f"symbol answer: {words}"])
         made = Made(text(), symbols(3, (1, 0x10, 1)), STRINGS)
         at = made.starts[2] + 24
         for place, words in (
             (5, "st_other is 0 in a.o, and 2 in b.o"),
             (16, "its size is 0 in a.o, and 2 in b.o"),
         ):
-            self.assertEqual(
-                self.differ(bytes(made.data), made.with_bytes(at + place, b"\2")),
-                [f"symbol answer: {words}"],
-            )
+            found = self.differ(bytes(made.data), made.with_bytes(at + place, b"\2"))
+            self.assertEqual(found, [f"symbol answer: {words}"])
 
     def test_each_field_of_a_section(self):
         for one, other, words in (
@@ -290,12 +246,8 @@ class ObjectTest(Case):
         """Those without addends, and those of another section."""
 
         def rel(at):
-            rows = (
-                b".rel.text",
-                9,
-                struct.pack("<QQ", at, 1 << 32 | 2),
-                dict(link=2, info=1, entsize=16),
-            )
+            entry = struct.pack("<QQ", at, 1 << 32 | 2)
+            rows = (b".rel.text", 9, entry, dict(link=2, info=1, entsize=16))
             return bytes(Made(text(), symbols(3, (1, 0x10, 1)), STRINGS, rows).data)
 
         first, second = (f"R_X86_64_PC32 at {it:#x} of .text to answer +0x0" for it in (0, 4))
@@ -305,20 +257,13 @@ class ObjectTest(Case):
         )
 
         def rela(target):
-            rows = (
-                b".rela",
-                4,
-                struct.pack("<QQq", 0, 1 << 32 | 2, 0),
-                dict(link=2, info=target, entsize=24),
-            )
-            return bytes(
-                Made(text(), symbols(3, (1, 0x10, 1)), STRINGS, rows, text(b".other")).data
-            )
+            entry = struct.pack("<QQq", 0, 1 << 32 | 2, 0)
+            rows = (b".rela", 4, entry, dict(link=2, info=target, entsize=24))
+            other = text(b".other")
+            return bytes(Made(text(), symbols(3, (1, 0x10, 1)), STRINGS, rows, other).data)
 
-        self.assertEqual(
-            self.differ(rela(1), rela(5)),
-            ["section .rela: its target is .text in a.o, and .other in b.o"],
-        )
+        found = self.differ(rela(1), rela(5))
+        self.assertEqual(found, ["section .rela: its target is .text in a.o, and .other in b.o"])
 
     def test_a_group(self):
         def grouped(flags):
@@ -329,13 +274,8 @@ class ObjectTest(Case):
             return an_object(more=members)
 
         found = self.differ(grouped(1), grouped(0))
-        self.assertEqual(
-            found,
-            [
-                f"section .group [answer]: member flags {it} is only in {side}.o"
-                for it, side in (("0x1", "a"), ("0x0", "b"))
-            ],
-        )
+        flags = "section .group [answer]: member flags"
+        self.assertEqual(found, [f"{flags} 0x1 is only in a.o", f"{flags} 0x0 is only in b.o"])
 
     def test_fields_of_the_header(self):
         made = Made(text())
