@@ -84,8 +84,10 @@ def put_changelog(root: str, name: str, version: str) -> None:
 
 
 def put_elfmap(root: str, tree: str, version: str) -> None:
-    """The program, and files of rules."""
-    copied(f"{tree}/elfmap", f"{root}/usr/lib/elfmap/elfmap")
+    """The program without its symbols, as Debian wants it, and files of rules."""
+    program = f"{root}/usr/lib/elfmap/elfmap"
+    copied(f"{tree}/elfmap", program)
+    wanted("objcopy", "--strip-all", program)
     copied(f"{tree}/rules", f"{root}/usr/share/elfmap/rules")
     put(f"{root}/usr/bin/elfmap", runner(version, "lib/elfmap/elfmap"))
     put_help(root, tree, "elfmap")
