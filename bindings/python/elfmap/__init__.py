@@ -14,6 +14,7 @@ bytes. Fields have the names of the gABI (System V ABI, generic part, chapters 4
 # Annotations are no strings: `help(elfmap)` shows them.
 import array
 import builtins
+import contextlib
 import ctypes
 import mmap
 import operator
@@ -379,7 +380,11 @@ class _Notes(_Read[Note]):
         self._starts = [0]
 
     def __len__(self) -> int:
-        return sum(1 for _ in self)
+        # The last one of these begins no note.
+        with contextlib.suppress(IndexError):
+            while True:
+                self._starts.append(self._at(self._starts[-1])[1])
+        return len(self._starts) - 1
 
     def __getitem__(self, index: Any) -> Any:
         if isinstance(index, slice):
