@@ -23,6 +23,7 @@ NOT_YET: list[tuple[str, tuple[str, ...], Standing]] = [
     ("symbols_of_one_name", (*OF_MAP, "link", *OF_OBJECT), Standing(0.3)),
     ("symbols_of_tails", (*OF_MAP, "link", *OF_OBJECT), Standing(0.3)),
     ("symbols_of_two_equal_names", (*OF_MAP, "link"), Standing(0.15)),
+    ("symbols_of_two_equal_names", OF_OBJECT, Standing(0.3)),
     ("sections_of_one_name", ("rewrite", *OF_OBJECT), Standing(0.6)),
     ("sections_of_one_name", (*OF_MAP, "link"), Standing(0.15)),
     ("sections_of_tails", ("rewrite", *OF_OBJECT), Standing(0.6)),
