@@ -1,7 +1,7 @@
 -- Sorted names, the greatest first, and what some of them end with. Those that end with one name are one after the other (`together`). So
--- the last of them decides the place of a name (`run_order`): the sorted names before it are greater than the name, read from their last
+-- the last of them decides the place of a name (`range_order`): the sorted names before it are greater than the name, read from their last
 -- bytes on, and those after it end with no name that is. And one name ends with another exactly if its last one is one of the other's
--- (`run_tail`, `run_within`).
+-- (`range_tail`, `range_within`).
 use Rattle.std.proofs.Common.{◌≡◌, ◌<◌, ◌≤◌, ◌+◌, ◌-◌, ◌⊎◌, ℕ, false, List, [], ◌∷◌, ◌++◌, get_or, length, reverse, set, refl, sym, ap, subst, ◌∙◌, inl, inr, arith, Ordering, length-append, length-set, get_or-set_other, get_or-set_same}
 use Rattle.std.specs.declared.cmp.Ordering.TheVariants.{Less, Equal, Greater}
 use Rattle.std.specs.Cmp.{nat_cmp_is}
@@ -12,9 +12,9 @@ use Rattle.std.proofs.lemmas.List.{get_or_append_left, get_or_past, get_or_push,
 use Rattle.std.proofs.lemmas.Cmp.{nat_list_cmp_total, ranked}
 use Rattle.elf_object_strings.proofs.Ends.{longer, shorter, suffix_fits, suffix_trans}
 use Rattle.elf_object_strings.proofs.EndsOrder.{Begins, IsNotLess, at_ends, length-names_by_ends, name_at, no_name, begins_reversed, between, step, suffix_reversed}
-use Rattle.elf_object_strings.specs.Leaders.{AreBetween, AreLasts, AreLed, IsBetween, IsLastWith, IsTailByLeaders, StandTogether, no_run, run_of}
+use Rattle.elf_object_strings.specs.Leaders.{AreBetween, AreLasts, AreLed, IsBetween, IsLastWith, IsTailByLeaders, StandTogether, no_range, range_of}
 use Rattle.elf_object_strings.specs.declared.sorting.Numbered.{Numbered}
-use Rattle.elf_object_strings.specs.declared.name_list.Run.{Run}
+use Rattle.elf_object_strings.specs.declared.name_list.LeaderRange.{LeaderRange}
 use Rattle.elf_object_strings.specs.Sorting.{AreInEndsOrder, names_by_ends}
 use Rattle.elf_object_strings.specs.StringTable.{IsSuffix}
 
@@ -112,22 +112,22 @@ together_turned leaders turned by stand name p q r low high lt first last =
 -- ---- the leaders of one name
 
 -- the first and the last of some sorted names that end with a name, each plus 1
-pub record IsRunOf (sorted : List (List ℕ)) (name : List ℕ) (run : Run) : Type 0 where
-  pub last : IsLastWith sorted name (run.last - 1)
-  pub some : 0 < run.last
-  pub from : 0 < run.first
-  pub first : IsSuffix name (get_or sorted (run.first - 1) [])
-  pub none : (r : ℕ) → r < run.first - 1 → ¬ IsSuffix name (get_or sorted r [])
+pub record IsRangeOf (sorted : List (List ℕ)) (name : List ℕ) (range : LeaderRange) : Type 0 where
+  pub last : IsLastWith sorted name (range.last - 1)
+  pub some : 0 < range.last
+  pub from : 0 < range.first
+  pub first : IsSuffix name (get_or sorted (range.first - 1) [])
+  pub none : (r : ℕ) → r < range.first - 1 → ¬ IsSuffix name (get_or sorted r [])
 
 -- found from both sides
-pub run_found : (sorted turned : List (List ℕ)) → AreTurned sorted turned → (name : List ℕ) (first last : ℕ) → 0 < first → 0 < last →
+pub range_found : (sorted turned : List (List ℕ)) → AreTurned sorted turned → (name : List ℕ) (first last : ℕ) → 0 < first → 0 < last →
     IsLastWith turned name (first - 1) → IsLastWith sorted name (last - 1) →
-    (run : Run) → run.last ≡ last → run.first ≡ length sorted - first + 1 → IsRunOf sorted name run
-run_found sorted turned by name first last first_some last_some turned_last sorted_last run last_is first_is =
+    (range : LeaderRange) → range.last ≡ last → range.first ≡ length sorted - first + 1 → IsRangeOf sorted name range
+range_found sorted turned by name first last first_some last_some turned_last sorted_last range last_is first_is =
     let n = length sorted in
     let all : length turned ≡ n = by.all in
     let within = turned_last.within in
-    let at : n - 1 - (first - 1) ≡ run.first - 1 = omega arith in
+    let at : n - 1 - (first - 1) ≡ range.first - 1 = omega arith in
     record {
       last = subst (λ (k : ℕ). IsLastWith sorted name (k - 1)) (sym last_is) sorted_last;
       some = omega arith;
@@ -141,10 +141,10 @@ run_found sorted turned by name first last first_some last_some turned_last sort
     }
 
 -- names are in the order of their last names, the later one first, and of their lengths
-run_order : (sorted : List (List ℕ)) (indexes : List ℕ) → AreInEndsOrder sorted indexes → (a b : List ℕ) (own other : Run) →
-    IsRunOf sorted a own → IsRunOf sorted b other →
+range_order : (sorted : List (List ℕ)) (indexes : List ℕ) → AreInEndsOrder sorted indexes → (a b : List ℕ) (own other : LeaderRange) →
+    IsRangeOf sorted a own → IsRangeOf sorted b other →
     slice_cmp nat_cmp (reverse a) (reverse b) ≡ ordering_then (nat_cmp other.last own.last) (nat_cmp (length a) (length b))
-run_order sorted indexes ordered a b own other first second =
+range_order sorted indexes ordered a b own other first second =
     let own_some = first.some in
     let other_some = second.some in
     elim (cases_order own.last other.last) [
@@ -166,9 +166,9 @@ run_order sorted indexes ordered a b own other first second =
     by_length there (inr more) = shorter a b (suffix_of_both a b (get_or sorted (other.last - 1) []) there second.last.ends more)
 
 -- one ends with the other where its last name is one of the other's
-run_tail : (sorted : List (List ℕ)) → StandTogether sorted → (a b : List ℕ) (own other : Run) → IsRunOf sorted a own →
-    IsRunOf sorted b other → IsTailByLeaders a own b other → IsSuffix a b
-run_tail sorted stand a b own other first second within =
+range_tail : (sorted : List (List ℕ)) → StandTogether sorted → (a b : List ℕ) (own other : LeaderRange) → IsRangeOf sorted a own →
+    IsRangeOf sorted b other → IsTailByLeaders a own b other → IsSuffix a b
+range_tail sorted stand a b own other first second within =
     let last = second.last.within in
     let from = first.from in
     let own_within = first.last.within in
@@ -178,9 +178,9 @@ run_tail sorted stand a b own other first second within =
     suffix_of_both a b (get_or sorted (other.last - 1) []) there second.last.ends within.fits
 
 -- and nowhere else
-run_within : (sorted : List (List ℕ)) (a b : List ℕ) (own other : Run) → IsRunOf sorted a own → IsRunOf sorted b other → IsSuffix a b →
+range_within : (sorted : List (List ℕ)) (a b : List ℕ) (own other : LeaderRange) → IsRangeOf sorted a own → IsRangeOf sorted b other → IsSuffix a b →
     IsTailByLeaders a own b other
-run_within sorted a b own other first second ends =
+range_within sorted a b own other first second ends =
     let there = suffix_trans a b (get_or sorted (other.last - 1) []) ends second.last.ends in
     let last = second.last.within in
     let some = second.some in
@@ -196,12 +196,12 @@ run_within sorted a b own other first second ends =
       fits = suffix_fits a b ends;
     }
 
-pub led_by : (sorted : List (List ℕ)) (indexes : List ℕ) → AreInEndsOrder sorted indexes → (names : List (List ℕ)) (runs : List Run) →
-    ((i : ℕ) → 0 < (run_of runs i).last → IsRunOf sorted (get_or names i []) (run_of runs i)) → AreLed names runs
-led_by sorted indexes ordered names runs each = record {
-  order = λ i j some other_some. run_order sorted indexes ordered _ _ _ _ (each i some) (each j other_some);
-  tails = λ i j some other_some within. run_tail sorted (together sorted indexes ordered) _ _ _ _ (each i some) (each j other_some) within;
-  only = λ i j some other_some ends. run_within sorted _ _ _ _ (each i some) (each j other_some) ends;
+pub led_by : (sorted : List (List ℕ)) (indexes : List ℕ) → AreInEndsOrder sorted indexes → (names : List (List ℕ)) (ranges : List LeaderRange) →
+    ((i : ℕ) → 0 < (range_of ranges i).last → IsRangeOf sorted (get_or names i []) (range_of ranges i)) → AreLed names ranges
+led_by sorted indexes ordered names ranges each = record {
+  order = λ i j some other_some. range_order sorted indexes ordered _ _ _ _ (each i some) (each j other_some);
+  tails = λ i j some other_some within. range_tail sorted (together sorted indexes ordered) _ _ _ _ (each i some) (each j other_some) within;
+  only = λ i j some other_some ends. range_within sorted _ _ _ _ (each i some) (each j other_some) ends;
 }
 
 -- no leader is known
@@ -238,7 +238,7 @@ lasts_fit leaders names lasts are i = elim (cases_lt 0 (get_or lasts i 0)) [
   | inr none ↦ omega arith
 ]
 
--- ---- the runs of names, one after the other
+-- ---- the ranges of names, one after the other
 
 pub turned_names : (names : List (List ℕ)) (sorted : List Numbered) → AreTurned (names_by_ends names sorted) (names_by_ends names (reverse sorted))
 turned_names names sorted =
@@ -255,34 +255,34 @@ turned_names names sorted =
           ∙ ap (λ (k : ℕ). get_or (names_by_ends names sorted) k []) at);
     }
 
-pub runs_more : (firsts lasts : List ℕ) (count : ℕ) (runs : List Run) (run : Run) → AreBetween firsts lasts count runs →
-    (0 < run.last → IsBetween (get_or firsts (length runs) 0) (get_or lasts (length runs) 0) count run) →
-    AreBetween firsts lasts count (runs ++ (run ∷ []))
-runs_more firsts lasts count runs run are new q some = elim (cases_lt q (length runs)) [
-  | inl below ↦ (let is : run_of (runs ++ (run ∷ [])) q ≡ run_of runs q = get_or_append_left runs (run ∷ []) no_run q below in
-      subst (IsBetween (get_or firsts q 0) (get_or lasts q 0) count) (sym is) (are q (subst (λ (r : Run). 0 < r.last) is some)))
-  | inr beyond ↦ elim (cases_lt (length runs) q) [
-    | inl past ↦ (let long : length (runs ++ (run ∷ [])) ≡ length runs + 1 = length-append runs (run ∷ []) in
-        let is : run_of (runs ++ (run ∷ [])) q ≡ no_run = get_or_past (runs ++ (run ∷ [])) q no_run (omega arith) in
-        let none : (run_of (runs ++ (run ∷ [])) q).last ≡ 0 = ap (λ (r : Run). r.last) is in
+pub ranges_more : (firsts lasts : List ℕ) (count : ℕ) (ranges : List LeaderRange) (range : LeaderRange) → AreBetween firsts lasts count ranges →
+    (0 < range.last → IsBetween (get_or firsts (length ranges) 0) (get_or lasts (length ranges) 0) count range) →
+    AreBetween firsts lasts count (ranges ++ (range ∷ []))
+ranges_more firsts lasts count ranges range are new q some = elim (cases_lt q (length ranges)) [
+  | inl below ↦ (let is : range_of (ranges ++ (range ∷ [])) q ≡ range_of ranges q = get_or_append_left ranges (range ∷ []) no_range q below in
+      subst (IsBetween (get_or firsts q 0) (get_or lasts q 0) count) (sym is) (are q (subst (λ (r : LeaderRange). 0 < r.last) is some)))
+  | inr beyond ↦ elim (cases_lt (length ranges) q) [
+    | inl past ↦ (let long : length (ranges ++ (range ∷ [])) ≡ length ranges + 1 = length-append ranges (range ∷ []) in
+        let is : range_of (ranges ++ (range ∷ [])) q ≡ no_range = get_or_past (ranges ++ (range ∷ [])) q no_range (omega arith) in
+        let none : (range_of (ranges ++ (range ∷ [])) q).last ≡ 0 = ap (λ (r : LeaderRange). r.last) is in
         absurd (omega arith))
-    | inr here ↦ (let same : q ≡ length runs = omega arith in
-        let is : run_of (runs ++ (run ∷ [])) q ≡ run = get_or_push runs run no_run q (sym same) in
+    | inr here ↦ (let same : q ≡ length ranges = omega arith in
+        let is : range_of (ranges ++ (range ∷ [])) q ≡ range = get_or_push ranges range no_range q (sym same) in
         subst (IsBetween (get_or firsts q 0) (get_or lasts q 0) count) (sym is)
-        (subst (λ (k : ℕ). IsBetween (get_or firsts k 0) (get_or lasts k 0) count run) (sym same) (new (subst (λ (r : Run). 0 < r.last) is some))))
+        (subst (λ (k : ℕ). IsBetween (get_or firsts k 0) (get_or lasts k 0) count range) (sym same) (new (subst (λ (r : LeaderRange). 0 < r.last) is some))))
   ]
 ]
 
--- the runs between leaders that were found from both sides
-pub runs_found : (names : List (List ℕ)) (sorted : List Numbered) (firsts lasts : List ℕ) (runs : List Run) →
+-- the ranges between leaders that were found from both sides
+pub ranges_found : (names : List (List ℕ)) (sorted : List Numbered) (firsts lasts : List ℕ) (ranges : List LeaderRange) →
     AreLasts (names_by_ends names (reverse sorted)) names firsts → AreLasts (names_by_ends names sorted) names lasts →
-    AreBetween firsts lasts (length sorted) runs → (q : ℕ) → 0 < (run_of runs q).last →
-    IsRunOf (names_by_ends names sorted) (get_or names q []) (run_of runs q)
-runs_found names sorted firsts lasts runs first last between q some =
+    AreBetween firsts lasts (length sorted) ranges → (q : ℕ) → 0 < (range_of ranges q).last →
+    IsRangeOf (names_by_ends names sorted) (get_or names q []) (range_of ranges q)
+ranges_found names sorted firsts lasts ranges first last between q some =
     let it = between q some in
     let last_is = it.last_is in
     let last_some : 0 < get_or lasts q 0 = omega arith in
     let many : length sorted ≡ length (names_by_ends names sorted) = sym (length-names_by_ends names sorted) in
-    run_found (names_by_ends names sorted) (names_by_ends names (reverse sorted)) (turned_names names sorted) (get_or names q []) (get_or firsts q 0)
-    (get_or lasts q 0) it.some last_some (first q it.some) (last q last_some) (run_of runs q) last_is
-    (subst (λ (n : ℕ). (run_of runs q).first ≡ n - get_or firsts q 0 + 1) many it.first_is)
+    range_found (names_by_ends names sorted) (names_by_ends names (reverse sorted)) (turned_names names sorted) (get_or names q []) (get_or firsts q 0)
+    (get_or lasts q 0) it.some last_some (first q it.some) (last q last_some) (range_of ranges q) last_is
+    (subst (λ (n : ℕ). (range_of ranges q).first ≡ n - get_or firsts q 0 + 1) many it.first_is)

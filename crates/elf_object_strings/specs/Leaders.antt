@@ -7,31 +7,31 @@ use Rattle.std.specs.Ordering.{nat_cmp, ordering_then}
 use Rattle.std.specs.List.Sorted.{IsNonDecreasingBy}
 use Rattle.elf_object_strings.specs.StringTable.{IsSuffix}
 use Rattle.elf_object_strings.specs.declared.bounds.Bound.{Bound}
-use Rattle.elf_object_strings.specs.declared.name_list.Run.{Run}
+use Rattle.elf_object_strings.specs.declared.name_list.LeaderRange.{LeaderRange}
 
 -- no leader is known
-abbrev pub no_run : Run
-no_run = record { first = 0; last = 0 }
+abbrev pub no_range : LeaderRange
+no_range = record { first = 0; last = 0 }
 
-abbrev pub run_of : List Run → ℕ → Run
-run_of runs i = get_or runs i no_run
+abbrev pub range_of : List LeaderRange → ℕ → LeaderRange
+range_of ranges i = get_or ranges i no_range
 
 -- the last leader of the other name is one of this one's, which is no longer
-pub record IsTailByLeaders (name : List ℕ) (run : Run) (other : List ℕ) (other_run : Run) : Type 0 where
-  pub first : run.first ≤ other_run.last
-  pub last : other_run.last ≤ run.last
+pub record IsTailByLeaders (name : List ℕ) (range : LeaderRange) (other : List ℕ) (other_range : LeaderRange) : Type 0 where
+  pub first : range.first ≤ other_range.last
+  pub last : other_range.last ≤ range.last
   pub fits : length name ≤ length other
 
--- Names whose runs are known are in the order of their last leaders, the later one first, and of their lengths, read from their last bytes
+-- Names whose ranges are known are in the order of their last leaders, the later one first, and of their lengths, read from their last bytes
 -- on. One ends with another one exactly if its last leader is one of that one's, and it is not shorter.
-pub record AreLed (names : List (List ℕ)) (runs : List Run) : Type 0 where
-  pub order : (i j : ℕ) → 0 < (run_of runs i).last → 0 < (run_of runs j).last →
+pub record AreLed (names : List (List ℕ)) (ranges : List LeaderRange) : Type 0 where
+  pub order : (i j : ℕ) → 0 < (range_of ranges i).last → 0 < (range_of ranges j).last →
       slice_cmp nat_cmp (reverse (get_or names i [])) (reverse (get_or names j [])) ≡
-      ordering_then (nat_cmp (run_of runs j).last (run_of runs i).last) (nat_cmp (length (get_or names i [])) (length (get_or names j [])))
-  pub tails : (i j : ℕ) → 0 < (run_of runs i).last → 0 < (run_of runs j).last →
-      IsTailByLeaders (get_or names i []) (run_of runs i) (get_or names j []) (run_of runs j) → IsSuffix (get_or names i []) (get_or names j [])
-  pub only : (i j : ℕ) → 0 < (run_of runs i).last → 0 < (run_of runs j).last →
-      IsSuffix (get_or names i []) (get_or names j []) → IsTailByLeaders (get_or names i []) (run_of runs i) (get_or names j []) (run_of runs j)
+      ordering_then (nat_cmp (range_of ranges j).last (range_of ranges i).last) (nat_cmp (length (get_or names i [])) (length (get_or names j [])))
+  pub tails : (i j : ℕ) → 0 < (range_of ranges i).last → 0 < (range_of ranges j).last →
+      IsTailByLeaders (get_or names i []) (range_of ranges i) (get_or names j []) (range_of ranges j) → IsSuffix (get_or names i []) (get_or names j [])
+  pub only : (i j : ℕ) → 0 < (range_of ranges i).last → 0 < (range_of ranges j).last →
+      IsSuffix (get_or names i []) (get_or names j []) → IsTailByLeaders (get_or names i []) (range_of ranges i) (get_or names j []) (range_of ranges j)
 
 -- the length of the longest name that two names end with
 pub record IsCommonEnd (name other : List ℕ) (n : ℕ) : Type 0 where
@@ -86,13 +86,13 @@ pub record AreBounds (leaders : List (List ℕ)) (bounds : List Bound) (position
 abbrev pub AreLasts : List (List ℕ) → List (List ℕ) → List ℕ → Type 0
 AreLasts leaders names lasts = (i : ℕ) → 0 < get_or lasts i 0 → IsLastWith leaders (get_or names i []) (get_or lasts i 0 - 1)
 
--- a run from the first leader, which is counted from the other side, to the last one, of so many
-pub record IsBetween (first last count : ℕ) (run : Run) : Type 0 where
+-- a range from the first leader, which is counted from the other side, to the last one, of so many
+pub record IsBetween (first last count : ℕ) (range : LeaderRange) : Type 0 where
   pub some : 0 < first
-  pub first_is : run.first ≡ count - first + 1
-  pub last_is : run.last ≡ last
+  pub first_is : range.first ≡ count - first + 1
+  pub last_is : range.last ≡ last
 
--- each run that is known
-abbrev pub AreBetween : List ℕ → List ℕ → ℕ → List Run → Type 0
-AreBetween firsts lasts count runs =
-    (i : ℕ) → 0 < (run_of runs i).last → IsBetween (get_or firsts i 0) (get_or lasts i 0) count (run_of runs i)
+-- each range that is known
+abbrev pub AreBetween : List ℕ → List ℕ → ℕ → List LeaderRange → Type 0
+AreBetween firsts lasts count ranges =
+    (i : ℕ) → 0 < (range_of ranges i).last → IsBetween (get_or firsts i 0) (get_or lasts i 0) count (range_of ranges i)

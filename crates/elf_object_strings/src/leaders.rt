@@ -6,7 +6,7 @@ ghost use Rattle.elf_object_strings.specs.Sorting.{AreInEndsOrder, HasEnd, index
 ghost use Rattle.elf_object_strings.specs.StringTable.{AreTails, texts};
 
 use crate::bounds::{Bound, last_with, step_back};
-use crate::name_list::{NameList, ReadNames, Run};
+use crate::name_list::{LeaderRange, NameList, ReadNames};
 use crate::sorting::{Numbered, sort_by_ends};
 use std::alloc::{AllocError, Global};
 
@@ -20,12 +20,16 @@ struct LongName {
 
 /// The leaders of names of which some were read from one string table, with the end of each there, or 0 if that is not known.
 ///
-/// Of the long names that end at one place the longest is a leader. Leaders share no bytes, so each byte of the string table is read log n
-/// times at most to sort them, however many names it is part of. A short name has no known leader, nor has a long one whose end is not
-/// known. If no two long names end at one place, none has one.
-pub(crate) fn runs_of(alloc: Global, names: &[&[u8]], ends: &[u32]) -> Result<Vec<Run>, AllocError>
+/// Of the long names that end at one place the longest is a leader. Leaders share no bytes: to sort them takes n log n reads of bytes for a
+/// string table of n, however many names a byte is part of. A short name has no known leader, nor has a long one whose end is not known. If
+/// no two long names end at one place, none has one. Memory grows with the number of names.
+pub(crate) fn ranges_of(
+    alloc: Global,
+    names: &[&[u8]],
+    ends: &[u32],
+) -> Result<Vec<LeaderRange>, AllocError>
     requires { AreTails (texts names.now) ends.now }
-    ensures { IfOk result (λ runs. AreLed (texts names.now) runs.items) }
+    ensures { IfOk result (λ ranges. AreLed (texts names.now) ranges.items) }
 {
     let read = ReadNames::new(names, ends);
     if ends.is_empty() || ends_ascend(&read) {
@@ -37,10 +41,10 @@ pub(crate) fn runs_of(alloc: Global, names: &[&[u8]], ends: &[u32]) -> Result<Ve
         return Ok(Vec::new(alloc));
     }
     let sorted = sort_by_ends(&NameList::new(names, &[]), leaders);
-    runs_by(alloc, &read, &long, sorted)
+    ranges_by(alloc, &read, &long, sorted)
 }
 
-/// Whether each long name ends behind those before it, as far as that is known: then no two end at one place.
+/// Whether the ends of long names ascend, as far as they are known: then no two end at one place.
 fn ends_ascend(read: &ReadNames<'_, '_>) -> bool {
     let mut last = 0;
     for index in 0..read.count() {
@@ -87,58 +91,57 @@ fn leaders_of(
     Ok(leaders)
 }
 
-/// The runs by the sorted leaders: the last leader of each name, and the first, which is the last one from the other side.
-fn runs_by(
+/// The ranges of the names: the last leader of each, and the first, which is the last one of the leaders in reverse.
+fn ranges_by(
     alloc: Global,
     read: &ReadNames<'_, '_>,
     long: &[LongName],
     sorted: Vec<Numbered>,
-) -> Result<Vec<Run>, AllocError>
+) -> Result<Vec<LeaderRange>, AllocError>
     requires { AreInEndsOrder (names_by_ends read.now sorted.items) (indexes_in sorted.items) }
-    ensures { IfOk result (λ runs. AreLed read.now runs.items) }
+    ensures { IfOk result (λ ranges. AreLed read.now ranges.items) }
 {
     let mut leaders = sorted;
     let lasts = lasts_of(alloc, read, long, &leaders)?;
     leaders.reverse();
     let firsts = lasts_of(alloc, read, long, &leaders)?;
-    runs_between(alloc, &firsts, &lasts, leaders.len())
+    ranges_between(alloc, &firsts, &lasts, leaders.len())
 }
 
-/// The run of each name from its first leader, which is counted from the other side, to the last one, of so many leaders.
-fn runs_between(
+/// The range of each name from its first leader, which is counted from the end of so many leaders, to its last one.
+fn ranges_between(
     alloc: Global,
     firsts: &[u32],
     lasts: &[u32],
     count: usize,
-) -> Result<Vec<Run>, AllocError>
+) -> Result<Vec<LeaderRange>, AllocError>
     requires all { length firsts.now ≡ length lasts.now }
     requires fit { (i : ℕ) → get_or firsts.now i 0 ≤ count }
-    ensures { IfOk result (λ runs. AreBetween firsts.now lasts.now count runs.items) }
+    ensures { IfOk result (λ ranges. AreBetween firsts.now lasts.now count ranges.items) }
 {
-    let mut runs = Vec::with_capacity(alloc, lasts.len())?;
+    let mut ranges = Vec::with_capacity(alloc, lasts.len())?;
     for i in 0..lasts.len() {
-        runs.push(run_between(firsts[i], lasts[i], count))?;
+        ranges.push(range_between(firsts[i], lasts[i], count))?;
     }
-    Ok(runs)
+    Ok(ranges)
 }
 
-/// The run of one name; none if its first or its last leader is not known.
-fn run_between(first: u32, last: u32, count: usize) -> Run
+/// The range of one name; none if its first or its last leader is not known.
+fn range_between(first: u32, last: u32, count: usize) -> LeaderRange
     requires { first ≤ count }
     ensures { 0 < result.last → IsBetween first last count result }
 {
-    let none = Run { first: 0, last: 0 };
+    let none = LeaderRange { first: 0, last: 0 };
     if first == 0 || last == 0 {
         return none;
     }
     match u32::try_from(count - first as usize + 1) {
-        Ok(first) => Run { first, last },
+        Ok(first) => LeaderRange { first, last },
         Err(_) => none,
     }
 }
 
-/// For each name the position of the last leader that ends with it, plus 1; 0 if that is not known. It goes from the last leader back to
-/// the first.
+/// For each name the position of the last leader that ends with it, plus 1; 0 if that is not known.
 fn lasts_of(
     alloc: Global,
     read: &ReadNames<'_, '_>,

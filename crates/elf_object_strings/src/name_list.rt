@@ -3,7 +3,7 @@ ghost use Rattle.std.specs.Prelude.{◌≡◌, ◌≤◌, IfSome, [], get_or, le
 ghost use Rattle.std.specs.Bool.{OnFalse, OnTrue};
 ghost use Rattle.std.specs.Cmp.Lexicographic.{slice_cmp};
 ghost use Rattle.std.specs.Ordering.{nat_cmp};
-ghost use Rattle.elf_object_strings.specs.Leaders.{AreLed, no_run};
+ghost use Rattle.elf_object_strings.specs.Leaders.{AreLed, no_range};
 ghost use Rattle.elf_object_strings.specs.StringTable.{AreTails, IsSuffix, is_suffix, texts};
 
 use crate::sorting::{compare_ends, is_suffix};
@@ -77,12 +77,12 @@ impl<'n, 'a> ReadNames<'n, 'a> {
 
 /// The leaders that end with a name: the positions of the first and the last, each plus 1; 0 where they are not known.
 #[derive(Clone, Copy, Debug)]
-pub(crate) struct Run {
+pub(crate) struct LeaderRange {
     pub(crate) first: u32,
     pub(crate) last: u32,
 }
 
-impl Run {
+impl LeaderRange {
     /// Whether the leader of this number is one of them.
     fn has(self, number: u32) -> bool
         ensures yes { OnTrue result (self.first ≤ number × number ≤ self.last) }
@@ -96,7 +96,7 @@ impl Run {
 #[derive(Drop)]
 pub(crate) struct NameList<'n, 'a> {
     names: &'n [&'a [u8]],
-    runs: &'n [Run],
+    ranges: &'n [LeaderRange],
 }
 
 impl<'n, 'a> Model for NameList<'n, 'a> {
@@ -109,16 +109,16 @@ impl<'n, 'a> Model for NameList<'n, 'a> {
 
     ghost view = { λ list. texts list.names.now };
 
-    ghost invariant = { λ list. AreLed (texts list.names.now) list.runs.now };
+    ghost invariant = { λ list. AreLed (texts list.names.now) list.ranges.now };
 }
 
 impl<'n, 'a> NameList<'n, 'a> {
     /// These names with these leaders.
-    pub(crate) fn new(names: &'n [&'a [u8]], runs: &'n [Run]) -> NameList<'n, 'a>
-        requires { AreLed (texts names.now) runs.now }
+    pub(crate) fn new(names: &'n [&'a [u8]], ranges: &'n [LeaderRange]) -> NameList<'n, 'a>
+        requires { AreLed (texts names.now) ranges.now }
         ensures { result ≡ texts names.now }
     {
-        NameList { names, runs }
+        NameList { names, ranges }
     }
 
     /// The names.
@@ -149,16 +149,18 @@ impl<'n, 'a> NameList<'n, 'a> {
         compare_ends(left, right)
     }
 
-    /// Their order, if the leaders of both names are known.
+    /// The order of the names at two indexes, if the leaders of both are known.
+    #[inline(never)]
     fn order_by_leaders(&self, a: usize, b: usize) -> Option<Ordering>
         ensures { IfSome result (λ order. order ≡ slice_cmp nat_cmp (reverse (get_or self.now a [])) (reverse (get_or self.now b []))) }
     {
         let left = self.name(a);
         let right = self.name(b);
-        let run = run_at(self.runs, a);
-        let other = run_at(self.runs, b);
-        if run.last > 0 && other.last > 0 {
-            Some(other.last.cmp(&run.last).then(left.len().cmp(&right.len())))
+        let range = range_at(self.ranges, a);
+        let other = range_at(self.ranges, b);
+        if range.last > 0 && other.last > 0 {
+            let lasts = other.last.cmp(&range.last);
+            Some(lasts.then(left.len().cmp(&right.len())))
         } else {
             None
         }
@@ -178,16 +180,17 @@ impl<'n, 'a> NameList<'n, 'a> {
         is_suffix(name, other)
     }
 
-    /// Whether it does, if the leaders of both names are known.
+    /// Whether the name at `b` ends with the one at `a`, if the leaders of both are known.
+    #[inline(never)]
     fn is_tail_by_leaders(&self, a: usize, b: usize) -> Option<bool>
         ensures { IfSome result (λ is_tail. is_tail ≡ is_suffix (get_or self.now a []) (get_or self.now b [])) }
     {
         let name = self.name(a);
         let other = self.name(b);
-        let run = run_at(self.runs, a);
-        let last = run_at(self.runs, b).last;
-        if run.last > 0 && last > 0 {
-            Some(run.has(last) && name.len() <= other.len())
+        let range = range_at(self.ranges, a);
+        let last = range_at(self.ranges, b).last;
+        if range.last > 0 && last > 0 {
+            Some(range.has(last) && name.len() <= other.len())
         } else {
             None
         }
@@ -217,12 +220,12 @@ fn number_at(numbers: &[u32], index: usize) -> u32
 }
 
 /// The leaders of the name at this index; beyond the last one none is known.
-fn run_at(runs: &[Run], index: usize) -> Run
-    ensures { result ≡ get_or runs.now index no_run }
+fn range_at(ranges: &[LeaderRange], index: usize) -> LeaderRange
+    ensures { result ≡ get_or ranges.now index no_range }
 {
-    if index < runs.len() {
-        runs[index]
+    if index < ranges.len() {
+        ranges[index]
     } else {
-        Run { first: 0, last: 0 }
+        LeaderRange { first: 0, last: 0 }
     }
 }

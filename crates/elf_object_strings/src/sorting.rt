@@ -62,6 +62,7 @@ pub(crate) fn compare_ends(a: &[u8], b: &[u8]) -> Ordering
 }
 
 /// Both without their last bytes, where these are equal.
+#[inline(always)]
 fn without_equal_ends<'a, 'b>(a: &'a [u8], b: &'b [u8]) -> Option<(&'a [u8], &'b [u8])>
     ensures shorter { IfSome result (λ rests. length rests.0.now < length a.now) }
     ensures ends { IfSome result (λ rests. AreWithoutEqualEnds a.now b.now rests.0.now rests.1.now) }
@@ -85,6 +86,7 @@ pub(crate) struct Numbered {
 
 impl Numbered {
     /// The name at an index.
+    #[inline(always)]
     pub(crate) fn new(name: &[u8], index: usize) -> Numbered
         ensures end { (names : List (List ℕ)) → get_or names index [] ≡ name.now → HasEnd names result }
         ensures index { result.index ≡ index }
@@ -143,6 +145,7 @@ fn number_names(alloc: Global, names: &[&[u8]]) -> Result<Vec<Numbered>, AllocEr
 }
 
 /// The last eight bytes of a name as a number.
+#[inline(always)]
 fn end_of(name: &[u8]) -> u64
     ensures value { result ≡ end_number name.now }
     ensures bytes { IsBytes name.now }
@@ -163,6 +166,7 @@ fn by_end(list: &NameList<'_, '_>, a: &Numbered, b: &Numbered) -> Ordering
     }
 }
 
+#[inline(never)]
 fn by_whole_end(list: &NameList<'_, '_>, a: usize, b: usize) -> Ordering
     ensures { result ≡ ends_order (get_or list.now a []) a (get_or list.now b []) b }
 {

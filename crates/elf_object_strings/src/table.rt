@@ -4,7 +4,7 @@ ghost use Rattle.std.specs.List.{All, range_with_len};
 ghost use Rattle.elf_object_strings.specs.StringTable.{AreOwners, AreTails, AreTheirOwn, HaveZeros, texts, is_suffix, AreZeroFree, HoldsEach, IsShortest, Shares, is_named, name_offset, string_table, HasEnds, with_name};
 ghost use Rattle.elf_object_strings.specs.Sorting.{AreBelow, AreRuns, GivesOwner, HasEnd, IsRun, AreInEndsOrder, AreNumbered, indexes_in, names_by_ends};
 
-use crate::leaders::runs_of;
+use crate::leaders::ranges_of;
 use crate::name_list::NameList;
 use crate::sorting::{Numbered, sorted_names};
 use elf_extent::OutOfMemory;
@@ -23,8 +23,8 @@ pub(crate) fn owners_of(
     requires { AreTails (texts names.now) ends.now }
     ensures { IfOk result (λ owners. AreOwners (texts names.now) owners.items) }
 {
-    let runs = runs_of(alloc, names, ends)?;
-    let list = NameList::new(names, &runs);
+    let ranges = ranges_of(alloc, names, ends)?;
+    let list = NameList::new(names, &ranges);
     owners_in(alloc, &list, &sorted_names(alloc, &list)?)
 }
 
@@ -122,7 +122,7 @@ pub struct Shared {
 ///
 /// Each name is at its offset with a zero after it. Of names without a zero byte the offset is the lowest at which this is so, that of the
 /// empty name is 0, and no table that holds them all is shorter. Takes n log n comparisons of names, from their ends on, and at most four
-/// numbers of memory a name besides the table. Returns [`OutOfMemory`] only if an allocation failed.
+/// numbers of memory for each name besides the table. Returns [`OutOfMemory`] only if an allocation failed.
 pub fn shared_table(alloc: Global, names: &[&[u8]]) -> Result<Shared, OutOfMemory>
     ensures bytes { IfOk result (λ shared. shared.bytes.items ≡ string_table (texts names.now)) }
     ensures offsets { IfOk result (λ shared. shared.offsets.items ≡ map (name_offset (texts names.now)) (texts names.now)) }
@@ -133,8 +133,10 @@ pub fn shared_table(alloc: Global, names: &[&[u8]]) -> Result<Shared, OutOfMemor
     shared_table_at(alloc, names, &[])
 }
 
-/// The same of names of which some were read from one string table: for each where it ended there, or 0 if that is not known. So names that
-/// share their bytes are compared by their lengths.
+/// [`shared_table`] of names of which some were read from one string table: for each where it ended there, or 0 if that is not known.
+///
+/// Names that shared bytes there are compared by numbers, so that no byte of that table is read for each of them. That takes up to eight
+/// numbers of memory for each name besides the table.
 pub fn shared_table_at(alloc: Global, names: &[&[u8]], ends: &[u32]) -> Result<Shared, OutOfMemory>
     requires { AreTails (texts names.now) ends.now }
     ensures bytes { IfOk result (λ shared. shared.bytes.items ≡ string_table (texts names.now)) }

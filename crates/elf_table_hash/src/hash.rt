@@ -48,8 +48,8 @@ impl<'a> Hash<'a> {
     ///
     /// It takes a pass over the section headers, the symbols and the words, and log n steps at most to find a symbol on a chain. Each name
     /// is hashed, but one of more than 64 bytes once for each place where it begins, and none if there is one bucket. So the time is n
-    /// log n, unless many symbols have tails of one long name: then it is the sum of their lengths. The whole symbol table is validated too. `Tables`
-    /// of `elf_table` validates each symbol table of an image once, and hashes long names once for all of its hash tables.
+    /// log n, unless many symbols have tails of one long name: then it is the sum of their lengths. The whole symbol table is validated
+    /// too. `Tables` of `elf_table` validates each symbol table of an image once, and hashes long names once for all of its hash tables.
     pub fn new(alloc: Global, image: &Image<'a>, i: usize) -> Result<Hash<'a>, Fault>
         requires { i < length image.now.sections }
         ensures validated { let f = sections_of image.now in
