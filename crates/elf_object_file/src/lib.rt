@@ -9,4 +9,4 @@ mod laws;
 mod object_file;
 
 pub use laws::{denoted_object, laid_objects, one_layout, sound_object, written_object};
-pub use object_file::{prove_read_back, write_object, write_object_with_ends};
+pub use object_file::{prove_read_back, write_object};

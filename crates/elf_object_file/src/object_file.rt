@@ -6,7 +6,6 @@ ghost use Rattle.elf_object_reader.specs.Denotes.{Denotes};
 ghost use Rattle.elf_table_symbols.specs.Sections.{sections_of};
 
 use elf_image_type::Image;
-use elf_object_layout::ObjectWithEnds;
 use elf_object_type::Object;
 use elf_object_writer::{ObjectWriteFault, write_layout};
 use std::alloc::Global;
@@ -34,20 +33,8 @@ pub fn write_object<W: Write>(
 ) -> Result<(), ObjectWriteFault>
     ensures { IsObjectWritten object.now (W.contents writer.old) (W.contents writer.new) result }
 {
-    write_object_with_ends(alloc, &ObjectWithEnds::without_ends(object), writer)
-}
-
-/// The same of an object of whose symbols' names it is known where they end in the string table that they were read from. Names that share
-/// their bytes there are compared by their lengths, however long they are.
-pub fn write_object_with_ends<W: Write>(
-    alloc: Global,
-    source: &ObjectWithEnds<'_, '_>,
-    writer: &mut W,
-) -> Result<(), ObjectWriteFault>
-    ensures { IsObjectWritten source.now.object (W.contents writer.old) (W.contents writer.new) result }
-{
-    source.object().prove_rules();
-    write_layout(alloc, source, writer)
+    object.prove_rules();
+    write_layout(alloc, object, writer)
 }
 
 /// Proves that an object's file is read back as the object: `file` is what [`write_object`] wrote, `image` its image, and `read` the object

@@ -2,4 +2,5 @@
 mod CanonicalLayout
 mod SectionsLeftOut
 mod PlainSections
+mod NameEnds
 pub mod Public

@@ -373,7 +373,7 @@ names_behind : (o : ObjectValue) (far : Bool) →
 names_behind o true = refl
 names_behind o false = refl
 
-section_names_are : (o : ObjectValue) (far : Bool) → has_index_table o ≡ far → section_names o ≡ map (λ s. s.name) o.sections ++ last_names far
+pub section_names_are : (o : ObjectValue) (far : Bool) → has_index_table o ≡ far → section_names o ≡ map (λ s. s.name) o.sections ++ last_names far
 unfolding section_names sections_before_names
 section_names_are o far is =
     let behind = symbol_table_section o ∷ ((if has_index_table o then index_table_section o ∷ [] else []) ++ (strings (codes ".strtab") (symbol_names o) ∷ [])) in

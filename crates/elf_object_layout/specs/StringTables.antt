@@ -5,11 +5,6 @@ use Rattle.elf_object_layout.specs.declared.name_tables.NameTables.{NameTables}
 use Rattle.elf_object_strings.specs.StringTable.{SharesTails, name_offset, string_table}
 use Rattle.elf_object_type.specs.Object.{ObjectValue}
 
--- an object, and the ends of its symbols' names that are known
-pub record ObjectWithEndsValue : Type 0 where
-  pub object : ObjectValue
-  pub symbol_ends : List ℕ
-
 -- their bytes, and where each name begins
 pub record AreNameTables (o : ObjectValue) (tables : NameTables) : Type 0 where
   pub strings : tables.strings.bytes.items ≡ string_table (symbol_names o)

@@ -7,7 +7,7 @@ ghost use Rattle.elf_object_type.specs.ObjectView.{body_value, section_value};
 ghost use Rattle.elf_object_type.specs.ObjectRules.{IsWrongBitsType};
 ghost use Rattle.elf_extent.specs.Place.{EndsFit, Least};
 
-use crate::name_tables::{NameTables, ObjectWithEnds, has_index_table};
+use crate::name_tables::{NameTables, has_index_table};
 use elf_extent::{OutOfMemory, PlaceFault, place};
 use elf_field::abi::*;
 use elf_image_rules::MAX_LEN;
@@ -200,7 +200,7 @@ pub fn lay_out(alloc: Global, object: &Object<'_>) -> Result<Layout, LayoutFault
     ensures err { IfErr result (IsLayoutFault object.now) }
 {
     object.prove_rules();
-    let tables = NameTables::new(alloc, &ObjectWithEnds::without_ends(object))?;
+    let tables = NameTables::new(alloc, object)?;
     lay_out_with(alloc, object, &tables)
 }
 

@@ -13,4 +13,4 @@ mod name_tables;
 
 pub use layout::{Layout, LayoutFault, RECORD_ALIGNMENT, content_part, lay_out, lay_out_with};
 pub use left_out::{LeftOut, symbol_table};
-pub use name_tables::{NameTables, ObjectWithEnds};
+pub use name_tables::NameTables;

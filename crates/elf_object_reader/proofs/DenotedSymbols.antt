@@ -1,9 +1,9 @@
 -- The symbols of the object that a file denotes keep rules 7 to 9 of objects: symbol q is entry q + 1. Its name is a string. If the file
 -- breaks no rule, the section it is in is kept by rule 75, and local symbols come first by rule 47.
 use Rattle.std.proofs.Common.{◌≡◌, ℕ, ◌+◌, ◌*◌, ◌<◌, ◌≤◌, List, get_or, length, ap, ◌∙◌, arith, ◌-◌, zero, suc, Bool, true, false, not, cond, min, [], ◌∷◌, drop, take, map, refl, sym, Option, None, Some, inl, inr, subst, ◌⊎◌}
-use Rattle.std.specs.Prelude.{◌/◌, ◌%◌, ◌==◌, ◌||◌, slice_range, if◌then◌else◌, nat_lt, Contains}
-use Rattle.std.specs.List.{before_first, list_any, prefix_len, range_with_len}
-use Rattle.std.proofs.lemmas.List.{drop-drop, drop-take, length-drop, take-take, get_or-drop, get_or-map, get_or_past, length-map}
+use Rattle.std.specs.Prelude.{◌/◌, ◌%◌, ◌==◌, slice_range, Contains}
+use Rattle.std.specs.List.{before_first, prefix_len, range_with_len}
+use Rattle.std.proofs.lemmas.List.{drop-drop, drop-take, length-drop, take-take, get_or-drop, get_or-map, length-map}
 use Rattle.std.proofs.lemmas.List.Folds.{length-prefix_len}
 use Rattle.std.proofs.lemmas.List.FromFn.{get_or-map-range_with_len, length-map-range_with_len}
 use Rattle.std.proofs.lemmas.List.Sums.{prefix_len-le-length}
@@ -15,17 +15,14 @@ use Rattle.elf_field.specs.declared.number.Order.{Order}
 use Rattle.elf_field.specs.declared.sym.Sym.{Sym}
 use Rattle.elf_image_rules.proofs.Public.{FirstIn-behind, FirstIn-front}
 use Rattle.elf_image_rules.specs.Rows.{FirstIn}
-use Rattle.elf_image_rules.specs.Rules.{MAX_LEN}
 use Rattle.elf_image_type.specs.ImageView.{string}
 use Rattle.elf_object_reader.proofs.FileRules.{places_sound, symbols_sound}
 use Rattle.elf_object_layout.proofs.Public.{not_kept_past}
 use Rattle.elf_object_reader.proofs.KeptTypes.{no_zero_in_string, position_there}
 use Rattle.elf_object_layout.specs.SectionsLeftOut.{left_out, symbol_table, is_kept}
-use Rattle.elf_object_reader.specs.Denotes.{Denotes, has_long_name, useful_ends, name_end, symbol_denoted, symbol_end, symbol_ends, symbols_denoted, place_denoted, relocation_denoted}
+use Rattle.elf_object_reader.specs.Denotes.{Denotes, symbol_denoted, symbols_denoted, place_denoted, relocation_denoted}
 use Rattle.elf_object_reader.specs.FileRules.{block_end, IsSymbolOutside, file_rules, rules_of_symbols, symbol_outside_rules}
 use Rattle.elf_object_layout.specs.declared.left_out.LeftOut.{LeftOut}
-use Rattle.elf_object_strings.proofs.Public.{tails_none, tails_of_table}
-use Rattle.elf_object_strings.specs.StringTable.{AreEndsIn, AreTails}
 use Rattle.elf_object_type.specs.Object.{SymbolValue, ObjectValue, IsPast, no_symbol, symbol_at, table_count, table_relocation, table_relocations}
 use Rattle.elf_object_type.specs.ObjectRules.{misplaced_local, place_position, wrong_place, zero_in_symbol_name}
 use Rattle.elf_object_type.specs.ObjectView.{symbol_value}
@@ -229,8 +226,7 @@ end_within table at le =
     let own = string_length table at in
     omega arith
 
--- The name of symbol j of an object is the string at the `st_name` of entry j + 1 of the symbol table. So the ends of the names are ends of
--- strings in one table, and of two names with one end the longer one ends with the other (`tails_of_table`).
+-- The name of symbol j of an object is the string at the `st_name` of entry j + 1 of the symbol table.
 
 abbrev pub names_of : List SymbolValue → List (List ℕ)
 names_of symbols = map (λ (s : SymbolValue). s.name) symbols
@@ -273,58 +269,6 @@ name_read left f t j read d are lt =
     ∙ ap (λ (symbols : List SymbolValue). get_or (names_of symbols) j []) are
     ∙ name_denoted left f t j (omega arith)
     ∙ ap (λ (k : ℕ). string (symbol_parts f t).names (sym_at (order f) (content f t) (24 * k)).st_name) next
-
--- an end that is known
-known_end : (offset : ℕ) (name : List ℕ) → 0 < name_end offset name → name_end offset name ≡ offset + length name + 1
-known_end offset name some = by (nat_lt (offset + length name) MAX_LEN) some where
-  by : (b : Bool) → 0 < (if b then offset + length name + 1 else 0) → (if b then offset + length name + 1 else 0) ≡ offset + length name + 1
-  by true some = refl
-  by false some = absurd (omega arith)
-
-ends_denoted : (left : LeftOut) (f : Sections) (t : ℕ) →
-    AreEndsIn (symbol_parts f t).names (names_of (symbols_denoted left f (Some t))) (symbol_ends f (Some t))
-ends_denoted left f t i some =
-    let n = length (symbols_of f t) - 1 in
-    elim (cases_lt i n) [
-      | inl lt ↦
-          let offset = (sym_at (order f) (content f t) (24 * (1 + i))).st_name in
-          let name = name_denoted left f t i lt in
-          let is : get_or (symbol_ends f (Some t)) i 0 ≡ symbol_end f t (1 + i) = get_or-map-range_with_len (symbol_end f t) 1 n i (1 + i) 0 lt refl in
-          let known = known_end offset (string (symbol_parts f t).names offset) (subst (λ (e : ℕ). 0 < e) is some) in
-          (offset, name, is ∙ known ∙ ap (λ (s : List ℕ). offset + length s + 1) (sym name))
-      | inr past ↦
-          let none : get_or (symbol_ends f (Some t)) i 0 ≡ 0 = get_or_past (symbol_ends f (Some t)) i 0 (omega (arith, length-map-range_with_len (symbol_end f t) 1 n)) in
-          absurd (omega arith)
-    ]
-
-tails_of_symbols : (left : LeftOut) (f : Sections) (t : Option ℕ) → AreTails (names_of (symbols_denoted left f t)) (symbol_ends f t)
-tails_of_symbols left f None = tails_none []
-tails_of_symbols left f (Some t) =
-    tails_of_table (symbol_parts f t).names (names_of (symbols_denoted left f (Some t))) (symbol_ends f (Some t)) (ends_denoted left f t)
-
-tails_denoted : (f : Sections) (o : ObjectValue) → Denotes f o → AreTails (names_of o.symbols) (symbol_ends f (symbol_table f))
-tails_denoted f o denotes =
-    subst (λ (symbols : List SymbolValue). AreTails (names_of symbols) (symbol_ends f (symbol_table f))) (sym denotes.symbols)
-    (tails_of_symbols (left_out f) f (symbol_table f))
-
-pub useful_tails : (f : Sections) (o : ObjectValue) → Denotes f o → AreTails (names_of o.symbols) (useful_ends o.symbols f)
-useful_tails f o denotes = by (list_any has_long_name o.symbols) where
-  by : (b : Bool) → AreTails (names_of o.symbols) (if b then symbol_ends f (symbol_table f) else [])
-  by true = tails_denoted f o denotes
-  by false = tails_none (names_of o.symbols)
-
--- the ends are those of all names, or none
-pub useful_all : (symbols : List SymbolValue) (f : Sections) → list_any has_long_name symbols ≡ true →
-    useful_ends symbols f ≡ symbol_ends f (symbol_table f)
-useful_all symbols f is = rw is refl
-
-pub useful_none : (symbols : List SymbolValue) (f : Sections) → list_any has_long_name symbols ≡ false → useful_ends symbols f ≡ []
-useful_none symbols f is = rw is refl
-
--- a test of the images of a list
-pub list_any_of_map : {X Y : Type 0} (p : Y → Bool) (f : X → Y) (xs : List X) → list_any p (map f xs) ≡ list_any (λ x. p (f x)) xs
-list_any_of_map p f [] = refl
-list_any_of_map p f (x ∷ xs) = ap (λ b. p (f x) || b) (list_any_of_map p f xs)
 
 -- symbol q of the object is symbol q + 1 of the symbol table in section t
 pub record IsSymbolOf (f : Sections) (o : ObjectValue) (q t : ℕ) : Type 0 where

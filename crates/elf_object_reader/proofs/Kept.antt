@@ -88,6 +88,12 @@ mapped_next {X} {V} view D p i items x done same is =
     sym (map-append D (filter p (range_with_len 0 i)) (i ∷ [])) ∙
     ap (λ (is : List ℕ). map D is) (sym (filter_next p i ∙ ap (λ (xs : List ℕ). filter p (range_with_len 0 i) ++ xs) one))
 
+-- numbers, which have no view
+pub taken_next : (D : ℕ → ℕ) (p : ℕ → Bool) (i : ℕ) (items : List ℕ) (x : ℕ) →
+    items ≡ map D (filter p (range_with_len 0 i)) → x ≡ D i → p i ≡ true → items ++ x ∷ [] ≡ map D (filter p (range_with_len 0 (i + 1)))
+taken_next D p i items x done same is =
+    sym (map-id (items ++ x ∷ [])) ∙ mapped_next (λ (y : ℕ). y) D p i items x (map-id items ∙ done) same is
+
 pub mapped_passed : {V : Type 0} (D : ℕ → V) (p : ℕ → Bool) (i : ℕ) → p i ≡ false →
     map D (filter p (range_with_len 0 i)) ≡ map D (filter p (range_with_len 0 (i + 1)))
 mapped_passed D p i is =

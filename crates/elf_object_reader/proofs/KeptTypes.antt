@@ -127,6 +127,11 @@ neither true y is = cc
 pub differs : (x y : ℕ) → (x == y) ≡ false → x ≡ y → ⊥
 differs x y test same = let both : true ≡ false = sym (eq-eqb x y same) ∙ test in cc
 
+-- it has a type
+pub kept_not_null : (left : LeftOut) (f : Sections) (i : ℕ) → is_kept left f i ≡ true → ((section f i).sh_type == SHT_NULL) ≡ false
+unfolding is_kept
+kept_not_null left f i is = (neither ((section f i).sh_type == SHT_NULL) _ is).0
+
 pub record IsKeptSection (left : LeftOut) (f : Sections) (i : ℕ) : Type 0 where
   pub typed : (section f i).sh_type ≡ SHT_NULL → ⊥
   pub above : i ≡ 0 → ⊥

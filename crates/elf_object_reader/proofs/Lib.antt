@@ -2,6 +2,7 @@
 pub mod Kept
 pub mod FileRules
 pub mod DenotedSymbols
+pub mod NameTails
 pub mod KeptTypes
 pub mod ObjectKept
 pub mod Public

@@ -1,17 +1,14 @@
 -- The object that a relocatable file denotes. (gABI chapter 4: ELF Header, Sections, Symbol Table, Relocation, Section Groups.)
-use Rattle.std.specs.Prelude.{ℕ, ◌==◌, ◌||◌, if◌then◌else◌, Bool, Option, None, Some, List, filter, length, ◌≡◌, ◌+◌, ◌-◌, ◌*◌, nat_lt, [], bit_and, drop, map, pos, slice_index, unwrap_or}
-use Rattle.std.specs.List.{list_any, range_with_len}
-use Rattle.elf_field.specs.Abi.{SHT_GROUP, SHT_NOBITS, SHT_NULL, SHT_REL, SHT_RELA, EI_ABIVERSION, EI_OSABI, GRP_COMDAT, SHF_INFO_LINK, SYM_SIZE}
-use Rattle.elf_field.specs.Entries.{sym_at}
+use Rattle.std.specs.Prelude.{ℕ, ◌==◌, ◌||◌, if◌then◌else◌, Option, None, Some, List, filter, length, ◌≡◌, ◌+◌, ◌-◌, ◌*◌, [], bit_and, drop, map, pos, slice_index, unwrap_or}
+use Rattle.std.specs.List.{range_with_len}
+use Rattle.elf_field.specs.Abi.{SHT_GROUP, SHT_NOBITS, SHT_NULL, SHT_REL, SHT_RELA, EI_ABIVERSION, EI_OSABI, GRP_COMDAT, SHF_INFO_LINK}
 use Rattle.elf_field.specs.declared.shdr.Shdr.{Shdr}
 use Rattle.elf_image_outline.specs.Image.{value_names}
-use Rattle.elf_image_rules.specs.Rules.{MAX_LEN}
 use Rattle.elf_image_type.specs.ImageView.{string}
 use Rattle.elf_object_reader.specs.declared.object_file.BodyKind.TheVariants.{Bits, NoBits, Relocs, Group}
 use Rattle.elf_object_reader.specs.declared.object_file.BodyKind.{BodyKind}
 use Rattle.elf_object_layout.specs.SectionsLeftOut.{is_kept, left_out, symbol_table}
 use Rattle.elf_object_layout.specs.declared.left_out.LeftOut.{LeftOut}
-use Rattle.elf_object_strings.specs.StringTable.{SHORT_NAME}
 use Rattle.elf_object_type.specs.Object.{symbol_reference, BodyValue, bits, no_bits, relocs, group, ObjectValue, SectionValue, SymbolValue}
 use Rattle.elf_object_type.specs.declared.parts.Info.{Info}
 use Rattle.elf_object_type.specs.declared.parts.Place.{Place}
@@ -19,7 +16,7 @@ use Rattle.elf_object_type.specs.declared.relocations.Relocation.{Relocation}
 use Rattle.elf_table_lists.specs.Groups.{group_of}
 use Rattle.elf_table_lists.specs.Relocations.{has_addends, relocations_of}
 use Rattle.elf_table_symbols.specs.Sections.{Sections, count, section, content, order}
-use Rattle.elf_table_symbols.specs.Symbols.{index_table, symbol_parts, symbols_of}
+use Rattle.elf_table_symbols.specs.Symbols.{index_table, symbols_of}
 use Rattle.elf_table_symbols.specs.declared.symbols.Place.TheVariants.{Undefined, Absolute, Common, Reserved, Section}
 use Rattle.elf_table_symbols.specs.declared.symbols.Place as table_place
 use Rattle.elf_table_symbols.specs.Symbols as table_symbols
@@ -45,11 +42,15 @@ body_kind type =
     else (if (type == SHT_RELA) || (type == SHT_REL) then Relocs
     else (if type == SHT_GROUP then Group else Bits))
 
--- the name of section i: a string of the section name string table
+-- the section name string table
+abbrev pub section_name_table : Sections → List ℕ
+section_name_table f = value_names f.header f.headers f.contents
+
+-- the name of section i: a string of it
 abbrev pub section_name_of : Sections → ℕ → List ℕ
 section_name_of f i =
     let s = section f i in
-    if s.sh_type == SHT_NULL then [] else string (value_names f.header f.headers f.contents) s.sh_name
+    if s.sh_type == SHT_NULL then [] else string (section_name_table f) s.sh_name
 
 -- section k as a position: index 0 is none
 abbrev pub section_reference : LeftOut → Sections → ℕ → Option ℕ
@@ -144,28 +145,3 @@ pub record Denotes (f : Sections) (o : ObjectValue) : Type 0 where
 -- and no other one
 abbrev pub DenotesOnly : Sections → ObjectValue → Type 0
 DenotesOnly f o = Denotes f o × ((other : ObjectValue) → Denotes f other → other ≡ o)
-
--- ---- where the names of the symbols end in the string table
-
--- the end of a name at an offset of a string table: the offset after it, plus 1; 0 where no file is that long
-abbrev pub name_end : ℕ → List ℕ → ℕ
-name_end offset name = if nat_lt (offset + length name) MAX_LEN then offset + length name + 1 else 0
-
--- that of symbol j of the symbol table in section t
-abbrev pub symbol_end : Sections → ℕ → ℕ → ℕ
-symbol_end f t j =
-    let offset = (sym_at (order f) (content f t) (SYM_SIZE * j)).st_name in
-    name_end offset (string (symbol_parts f t).names offset)
-
--- those of the symbols from symbol 1 on; none where there is no symbol table
-abbrev pub symbol_ends : Sections → Option ℕ → List ℕ
-symbol_ends f None = []
-symbol_ends f (Some t) = map (symbol_end f t) (range_with_len 1 (length (symbols_of f t) - 1))
-
--- the name is longer than a short one
-abbrev pub has_long_name : SymbolValue → Bool
-has_long_name symbol = nat_lt SHORT_NAME (length symbol.name)
-
--- where the name of each symbol ends, if one of them is long; else no ends
-abbrev pub useful_ends : List SymbolValue → Sections → List ℕ
-useful_ends symbols f = if list_any has_long_name symbols then symbol_ends f (symbol_table f) else []

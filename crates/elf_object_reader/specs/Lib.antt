@@ -1,3 +1,4 @@
 -- The words of this crate's contracts.
 pub mod Denotes
 pub mod FileRules
+pub mod NameEnds

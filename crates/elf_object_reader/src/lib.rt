@@ -9,6 +9,7 @@
 
 mod file_rules;
 mod laws;
+mod name_ends;
 mod object_file;
 mod read_bodies;
 mod read_symbols;
@@ -17,4 +18,4 @@ pub mod rules;
 
 pub use laws::{one_file_fault, one_object};
 pub use object_file::BodyKind;
-pub use reading::{object_of, object_with_ends};
+pub use reading::object_of;

@@ -1,7 +1,7 @@
 //! The sections of a file as those of an object (gABI chapter 4, Sections, Relocation, Section Groups).
 ghost use Rattle.std.specs.Prelude.{◌≡◌, ◌<◌, IfOk, length, map, true};
 ghost use Rattle.elf_object_layout.specs.SectionsLeftOut.{is_kept};
-ghost use Rattle.elf_object_reader.specs.Denotes.{body_denoted, info_denoted, link_denoted, plain_info as plain_info_of, relocation_denoted, section_denoted, body_kind, kept, position_of};
+ghost use Rattle.elf_object_reader.specs.Denotes.{body_denoted, info_denoted, link_denoted, plain_info as plain_info_of, relocation_denoted, section_denoted, section_name_of, body_kind, kept, position_of};
 ghost use Rattle.elf_object_reader.specs.FileRules.{sections_of_file};
 ghost use Rattle.elf_object_type.specs.ObjectView.{body_value, section_value};
 ghost use Rattle.elf_table_lists.specs.Groups.{group_of};
@@ -16,6 +16,13 @@ use elf_table_all::Group;
 use std::alloc::{AllocError, Global};
 
 impl<'r, 'i, 'a> KeptSection<'r, 'i, 'a> {
+    /// Its name.
+    fn name(&self) -> &'a [u8]
+        ensures { result.now ≡ section_name_of (sections_of_file self.now.reader.now.file) self.now.index }
+    {
+        self.reader.names.string(self.header.sh_name)
+    }
+
     /// What it links to.
     fn link(&self, kind: BodyKind) -> Option<usize>
         ensures { let file = self.now.reader.now.file in result ≡ link_denoted file.left (sections_of_file file) self.now.header kind }
@@ -104,12 +111,11 @@ impl<'r, 'i, 'a> KeptSection<'r, 'i, 'a> {
         ensures { let file = self.now.reader.now.file in
             IfOk result (λ s. section_value s ≡ section_denoted file.left (sections_of_file file) self.now.index) }
     {
-        let reader = self.reader;
         let header = self.header;
         let kind = BodyKind::of(header.sh_type);
         let body = self.read_body(alloc)?;
         Ok(Section {
-            name: reader.file.image.name(self.index),
+            name: self.name(),
             flags: header.sh_flags,
             addr: header.sh_addr,
             align: header.sh_addralign,

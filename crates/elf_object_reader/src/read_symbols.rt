@@ -1,13 +1,12 @@
 //! The symbols of a file as those of an object (gABI chapter 4, Symbol Table).
-ghost use Rattle.std.specs.List.{list_any, range_with_len};
+ghost use Rattle.std.specs.List.{range_with_len};
 ghost use Rattle.std.specs.Prelude.{◌≡◌, ◌≤◌, ℕ, ◌+◌, ◌/◌, IfOk, length, map, slice_range, ◌<◌, ◌*◌, Some, drop, get_or};
 ghost use Rattle.elf_image_type.specs.ImageView.{string};
 ghost use Rattle.elf_object_reader.specs.FileRules.{BLOCK, block_end, sections_of_file};
 ghost use Rattle.elf_field.specs.Entries.{sym_at};
-ghost use Rattle.elf_object_layout.specs.SectionsLeftOut.{left_out, symbol_table};
-ghost use Rattle.elf_object_reader.specs.Denotes.{has_long_name, name_end, useful_ends, place_denoted, symbol_denoted, symbol_ends, symbols_denoted};
+ghost use Rattle.elf_object_reader.specs.Denotes.{place_denoted, symbol_denoted, symbols_denoted};
 ghost use Rattle.elf_object_type.specs.ObjectView.{symbol_value};
-ghost use Rattle.elf_table_symbols.specs.Sections.{content, order, section, sections_of};
+ghost use Rattle.elf_table_symbols.specs.Sections.{content, order, section};
 ghost use Rattle.elf_table_symbols.specs.Symbols.{symbol_parts};
 ghost use Rattle.elf_table_symbols.specs.SymbolView.{no_symbol_entry};
 
@@ -15,11 +14,7 @@ use crate::object_file::FileSymbols;
 use crate::reading::ObjectReader;
 use elf_field::abi::*;
 use elf_field::{Sym, get_at};
-use elf_image_rules::MAX_LEN;
-use elf_image_type::Image;
 use elf_image_type::strings::string_at;
-use elf_object_layout::symbol_table;
-use elf_object_strings::SHORT_NAME;
 use elf_object_type::{Place, Symbol};
 use std::alloc::{AllocError, Global};
 
@@ -196,72 +191,4 @@ impl<'f, 'i, 'a> FileSymbols<'f, 'i, 'a> {
             SYM_SIZE as usize * j,
         )
     }
-}
-
-/// For each symbol that was read of an image, in their order, where its name ends in the string table. If no name is long, the list is empty:
-/// only the ends of long names save time.
-pub(crate) fn useful_ends(
-    alloc: Global,
-    image: &Image<'_>,
-    symbols: &[Symbol<'_>],
-) -> Result<Vec<u32>, AllocError>
-    requires { let f = sections_of image.now in map symbol_value symbols.now ≡ symbols_denoted (left_out f) f (symbol_table f) }
-    ensures { let f = sections_of image.now in IfOk result (λ ends. ends.items ≡ useful_ends (map symbol_value symbols.now) f) }
-{
-    if has_long_name(symbols) {
-        symbol_ends(alloc, image, symbols)
-    } else {
-        Ok(Vec::new(alloc))
-    }
-}
-
-/// Whether a symbol has a long name.
-fn has_long_name(symbols: &[Symbol<'_>]) -> bool
-    ensures { result ≡ list_any (λ symbol. has_long_name (symbol_value symbol)) symbols.now }
-{
-    symbols.iter().any(|symbol| symbol.name.len() > SHORT_NAME)
-}
-
-/// For each symbol that was read of an image, in their order, where its name ends in the string table.
-fn symbol_ends(
-    alloc: Global,
-    image: &Image<'_>,
-    symbols: &[Symbol<'_>],
-) -> Result<Vec<u32>, AllocError>
-    requires { let f = sections_of image.now in map symbol_value symbols.now ≡ symbols_denoted (left_out f) f (symbol_table f) }
-    ensures { let f = sections_of image.now in IfOk result (λ ends. ends.items ≡ symbol_ends f (symbol_table f)) }
-{
-    match symbol_table(image) {
-        Some(t) => table_ends(alloc, image, t, symbols),
-        None => Ok(Vec::new(alloc)),
-    }
-}
-
-/// The same of the symbol table in section `t`.
-fn table_ends(
-    alloc: Global,
-    image: &Image<'_>,
-    t: usize,
-    symbols: &[Symbol<'_>],
-) -> Result<Vec<u32>, AllocError>
-    requires there { t < length image.now.sections }
-    requires read { let f = sections_of image.now in map symbol_value symbols.now ≡ symbols_denoted (left_out f) f (Some t) }
-    ensures { IfOk result (λ ends. ends.items ≡ symbol_ends (sections_of image.now) (Some t)) }
-{
-    let order = image.order();
-    let table = image.content(t);
-    let mut ends = Vec::with_capacity(alloc, symbols.len())?;
-    for j in 0..symbols.len() {
-        let entry: Sym = get_at(order, table, SYM_SIZE as usize * (j + 1));
-        ends.push(name_end(entry.st_name, symbols[j].name))?;
-    }
-    Ok(ends)
-}
-
-/// Where a name at an offset of a string table ends: the offset after it, plus 1; 0 where no file is that long.
-fn name_end(offset: u32, name: &[u8]) -> u32
-    ensures { result ≡ name_end offset name.now }
-{
-    let after = offset as u64 + name.len() as u64;
-    if after < MAX_LEN { after as u32 + 1 } else { 0 }
 }

@@ -1,25 +1,25 @@
 //! A relocatable file read as an object (gABI chapter 4).
-ghost use Rattle.std.specs.Prelude.{◌≡◌, None, ◌<◌, true, length, ◌+◌, IfOk, IfErr, map};
+ghost use Rattle.std.specs.Prelude.{◌≡◌, None, ◌<◌, true, length, ◌+◌, IfOk, IfErr};
 ghost use Rattle.elf_image_rules.specs.KeepsRules.{unbroken_prop};
 ghost use Rattle.elf_image_rules.specs.Rows.{FirstIn};
 ghost use Rattle.elf_object_layout.specs.SectionsLeftOut.{is_kept};
-ghost use Rattle.elf_object_reader.specs.Denotes.{section_reference, position_of, Denotes, DenotesOnly, useful_ends};
+ghost use Rattle.elf_object_reader.specs.Denotes.{section_name_table, section_reference, position_of, Denotes, DenotesOnly};
 ghost use Rattle.elf_object_reader.specs.FileRules.{file_rules, AreSectionPositions, sections_of_file, front_rules};
 ghost use Rattle.elf_table_symbols.specs.Sections.{sections_of, section};
 ghost use Rattle.elf_image_stream.specs.declared.fault.Fault.TheVariants.{OutOfMemory};
-ghost use Rattle.elf_object_strings.specs.StringTable.{AreTails};
-ghost use Rattle.elf_object_type.specs.ObjectView.{value_of};
+ghost use Rattle.elf_object_type.specs.ObjectView.{HasNameEnds, value_of};
 ghost use Rattle.elf_table_symbols.specs.Verdicts.{IsOnlyValidatedBehind, IsValidatedBehind, OfItsFile};
 
 use crate::file_rules::validate_front;
+use crate::name_ends::{useful_section_ends, useful_symbol_ends};
 use crate::object_file::ObjectFile;
-use crate::read_symbols::useful_ends;
+use crate::read_symbols::StringBlocks;
 use elf_field::Shdr;
 use elf_field::abi::*;
 use elf_image_stream::Fault;
 use elf_image_type::Image;
 use elf_object_layout::LeftOut;
-use elf_object_type::{Object, ObjectParts, kept_object};
+use elf_object_type::{NameEnds, Object, ObjectParts, kept_object};
 use elf_table_all::Tables;
 use std::alloc::{AllocError, Global};
 
@@ -32,6 +32,9 @@ pub(crate) struct ObjectReader<'i, 'a> {
     pub(crate) file: ObjectFile<'i, 'a>,
     /// For each section its position, and a last one for any section that is not there.
     pub(crate) positions: Vec<usize>,
+    /// The section name string table.
+    pub(crate) names: StringBlocks<'a>,
+    ghost own_names: { names.table.now ≡ section_name_table (sections_of file.image.now) },
     ghost sound: { FirstIn (file_rules (sections_of file.image.now)) None } by { unbroken_prop _ },
     ghost own_positions: { AreSectionPositions file.left (sections_of file.image.now) positions.items },
 }
@@ -101,40 +104,22 @@ impl<'i, 'a> ObjectFile<'i, 'a> {
 /// [`Fault::Rule`] is the first rule that is broken, at its lowest offset: 70 to 74 ([`rules`](crate::rules)); then those of the symbol
 /// table, where there is one, and 75; then those of each relocation section and each group that is kept, in the order of their indexes;
 /// then 76 to 79. [`Fault::OutOfMemory`] comes only if an allocation failed, and none of 70 to 74 is broken. No other fault comes. It
-/// takes memory for each section header, symbol, relocation and member. Its tables take log n steps at most for each entry, and each name
-/// is read to its end.
+/// takes memory for each section header, symbol, relocation and member. Its tables take log n steps at most for each entry, and no name is
+/// read further than to the end of a block of 4,096 bytes.
 pub fn object_of<'a>(alloc: Global, image: &Image<'a>) -> Result<Object<'a>, Fault>
     ensures validated { let f = sections_of image.now in
         IsValidatedBehind (front_rules f) (file_rules f) (λ o. Denotes f o) result }
     ensures file { OfItsFile image.now (λ f. IsOnlyValidatedBehind (front_rules f) (file_rules f) (DenotesOnly f) result) }
 {
     image.prove_stands();
-    let parts = parts_of(alloc, image)?;
-    Ok(kept_object(parts))
+    let (parts, ends) = parts_of(alloc, image)?;
+    Ok(kept_object(parts, ends))
 }
 
-/// The same object, and for each of its symbols, in their order, where its name ends in the string table that it was read from: the offset
-/// after it, plus 1; 0 if that offset is not below 2^30, the length of the longest file. Of two symbols with one such end the longer name
-/// ends with the shorter one. If no name is longer than 64 bytes, the list is empty, since a string table is made of short names without their
-/// ends. Otherwise it takes 4 bytes of memory a symbol more.
-pub fn object_with_ends<'a>(
-    alloc: Global,
-    image: &Image<'a>,
-) -> Result<(Object<'a>, Vec<u32>), Fault>
+/// The parts of the object that the image denotes, and where their names end.
+fn parts_of<'a>(alloc: Global, image: &Image<'a>) -> Result<(ObjectParts<'a>, NameEnds), Fault>
     ensures { let f = sections_of image.now in
-        IsValidatedBehind (front_rules f) (file_rules f)
-        (λ (o, ends). Denotes f o × (ends.items ≡ useful_ends o.symbols f) × AreTails (map (λ s. s.name) o.symbols) ends.items)
-        result }
-{
-    let object = object_of(alloc, image)?;
-    let ends = useful_ends(alloc, image, object.symbols())?;
-    Ok((object, ends))
-}
-
-/// The parts of the object that the image denotes.
-fn parts_of<'a>(alloc: Global, image: &Image<'a>) -> Result<ObjectParts<'a>, Fault>
-    ensures { let f = sections_of image.now in
-        IsValidatedBehind (front_rules f) (file_rules f) (λ parts. Denotes f (value_of parts)) result }
+        IsValidatedBehind (front_rules f) (file_rules f) (λ (parts, ends). Denotes f (value_of parts) × HasNameEnds (value_of parts) ends) result }
 {
     let left = LeftOut::of(image);
     validate_front(image, left.symbol_table)?;
@@ -148,19 +133,31 @@ fn parts_of<'a>(alloc: Global, image: &Image<'a>) -> Result<ObjectParts<'a>, Fau
     read_parts(alloc, file)
 }
 
-/// The parts of the object that a file denotes which breaks no rule. [`Fault::OutOfMemory`] is the only error.
-fn read_parts<'a>(alloc: Global, file: ObjectFile<'_, 'a>) -> Result<ObjectParts<'a>, Fault>
+/// The parts of the object that a file denotes which breaks no rule, and where their names end. [`Fault::OutOfMemory`] is the only error.
+fn read_parts<'a>(
+    alloc: Global,
+    file: ObjectFile<'_, 'a>,
+) -> Result<(ObjectParts<'a>, NameEnds), Fault>
     requires { FirstIn (file_rules (sections_of_file file)) None }
-    ensures ok { IfOk result (λ parts. Denotes (sections_of_file file.entry) (value_of parts)) }
+    ensures ok { IfOk result (λ (parts, ends). Denotes (sections_of_file file.entry) (value_of parts) × HasNameEnds (value_of parts) ends) }
     ensures err { IfErr result (λ fault. fault ≡ OutOfMemory) }
 {
     let positions = file.positions(alloc)?;
-    let reader = ObjectReader { file, positions };
+    let names = StringBlocks::new(alloc, section_name_table(file.image))?;
+    let reader = ObjectReader {
+        file,
+        positions,
+        names,
+    };
     let sections = reader.read_sections(alloc)?;
     let symbols = reader.read_symbols(alloc)?;
     let image = reader.file.image;
+    let ends = NameEnds {
+        symbols: useful_symbol_ends(alloc, image, &symbols)?,
+        sections: useful_section_ends(alloc, &reader, &sections)?,
+    };
     let header = image.header();
-    Ok(ObjectParts {
+    let parts = ObjectParts {
         order: image.order(),
         osabi: header.e_ident[EI_OSABI],
         abi: header.e_ident[EI_ABIVERSION],
@@ -168,5 +165,18 @@ fn read_parts<'a>(alloc: Global, file: ObjectFile<'_, 'a>) -> Result<ObjectParts
         flags: header.e_flags,
         sections,
         symbols,
-    })
+    };
+    Ok((parts, ends))
+}
+
+/// The section name string table of an image; without one the empty list.
+fn section_name_table<'a>(image: &Image<'a>) -> &'a [u8]
+    ensures { result.now ≡ section_name_table (sections_of image.now) }
+{
+    image.prove_stands();
+    let index = image.name_table() as usize;
+    if index == 0 {
+        return &[];
+    }
+    image.content(index)
 }

@@ -1,5 +1,7 @@
 -- What contracts see of an object, its sections and its symbols.
-use Rattle.std.specs.Prelude.{map}
+use Rattle.std.specs.Prelude.{◌≤◌, length, map}
+use Rattle.elf_object_strings.specs.StringTable.{AreTails}
+use Rattle.elf_object_type.specs.declared.object.NameEnds.{NameEnds}
 use Rattle.elf_object_type.specs.declared.parts.ObjectParts.{ObjectParts}
 use Rattle.elf_object_type.specs.declared.parts.Body.{Body}
 use Rattle.elf_object_type.specs.declared.parts.Body.TheVariants.{Bits, NoBits, Relocs, Group}
@@ -45,3 +47,9 @@ value_of p = record {
   sections = map section_value p.sections.items;
   symbols = map symbol_value p.symbols.items;
 }
+
+-- of two names of symbols, or of sections, with one end the longer one ends with the other
+pub record HasNameEnds (o : ObjectValue) (ends : NameEnds) : Type 0 where
+  pub symbols : AreTails (map (λ s. s.name) o.symbols) ends.symbols.items
+  pub sections : AreTails (map (λ s. s.name) o.sections) ends.sections.items
+  pub fits : length ends.sections.items ≤ length o.sections

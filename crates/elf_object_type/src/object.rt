@@ -1,7 +1,8 @@
 //! The object: parts that break no rule.
-ghost use Rattle.std.specs.Prelude.{◌≡◌, ◌↔◌, IfErr, IfOk, IsTrue, OnOk, map};
+ghost use Rattle.std.specs.Prelude.{◌≡◌, ◌≤◌, ◌↔◌, IfErr, IfOk, IsTrue, OnOk, length, map};
+ghost use Rattle.elf_object_strings.specs.StringTable.{AreTails};
 ghost use Rattle.elf_object_type.specs.ObjectRules.{IsObject, IsObjectFault};
-ghost use Rattle.elf_object_type.specs.ObjectView.{section_value, symbol_value, value_of};
+ghost use Rattle.elf_object_type.specs.ObjectView.{HasNameEnds, section_value, symbol_value, value_of};
 ghost use Rattle.elf_object_type.specs.Object.{ObjectFits};
 
 use crate::object_rules::validate;
@@ -48,11 +49,22 @@ impl<T: Drop> From<AllocFailed<T>> for ObjectFault {
     }
 }
 
+/// Where the names of symbols and of sections end in the string tables that they were read from: for each symbol, or section, the offset
+/// after its name, plus 1; 0, or none, if that is not known.
+#[derive(Debug, Drop)]
+pub struct NameEnds {
+    /// Those of the symbols, in their order.
+    pub symbols: Vec<u32>,
+    /// Those of the sections, in their order, as many as there are sections at most.
+    pub sections: Vec<u32>,
+}
+
 /// A relocatable object: parts that break none of the nine object rules ([`rules`](crate::rules)), of which it makes sure.
 /// Names and bytes borrow from where they were read. No accessor takes memory.
 #[derive(Debug, Drop)]
 pub struct Object<'a> {
     parts: ObjectParts<'a>,
+    ends: NameEnds,
 }
 
 impl<'a> Model for Object<'a> {
@@ -61,12 +73,12 @@ impl<'a> Model for Object<'a> {
     ghost Value = { ObjectValue };
 
     ghost use Rattle.elf_object_type.specs.ObjectRules.{IsObject};
-    ghost use Rattle.elf_object_type.specs.ObjectView.{value_of};
+    ghost use Rattle.elf_object_type.specs.ObjectView.{HasNameEnds, value_of};
     ghost use Rattle.elf_object_type.specs.Object.{ObjectFits};
 
     ghost view = { λ a. value_of a.parts };
 
-    ghost invariant = { λ a. IsObject (value_of a.parts) × ObjectFits (value_of a.parts) };
+    ghost invariant = { λ a. IsObject (value_of a.parts) × ObjectFits (value_of a.parts) × HasNameEnds (value_of a.parts) a.ends };
 }
 
 impl PartialEq for Object<'_> {
@@ -105,7 +117,11 @@ impl<'a> Object<'a> {
     {
         validate(alloc, &parts)?;
         prove_parts(&parts);
-        Ok(Object { parts })
+        let ends = NameEnds {
+            symbols: Vec::new(alloc),
+            sections: Vec::new(alloc),
+        };
+        Ok(Object { parts, ends })
     }
 
     /// Proves that no object rule is broken, that each number fits its field in a file, and that names and bits are bytes. A contract does
@@ -167,11 +183,28 @@ impl<'a> Object<'a> {
     }
 }
 
-/// The object of these parts, of which the caller knows that they break no rule.
-pub fn kept_object<'a>(parts: ObjectParts<'a>) -> Object<'a>
-    requires { IsObject (value_of parts) }
+/// The object of these parts, of which the caller knows that they break no rule, and that of two names with one end the longer one ends with
+/// the other.
+pub fn kept_object<'a>(parts: ObjectParts<'a>, ends: NameEnds) -> Object<'a>
+    requires rules { IsObject (value_of parts) }
+    requires ends { HasNameEnds (value_of parts) ends }
     ensures { result ≡ value_of parts.entry }
 {
     prove_parts(&parts);
-    Object { parts }
+    Object { parts, ends }
+}
+
+/// Where the names of an object's symbols end in the string table that they were read from, as far as that is known.
+pub fn symbol_ends<'o>(object: &'o Object<'_>) -> &'o [u32]
+    ensures { AreTails (map (λ symbol. symbol.name) object.now.symbols) result.now }
+{
+    &object.ends.symbols
+}
+
+/// Where the names of an object's sections end in the string table that they were read from, as far as that is known.
+pub fn section_ends<'o>(object: &'o Object<'_>) -> &'o [u32]
+    ensures tails { AreTails (map (λ section. section.name) object.now.sections) result.now }
+    ensures fits { length result.now ≤ length object.now.sections }
+{
+    &object.ends.sections
 }

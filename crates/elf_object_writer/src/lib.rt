@@ -1,7 +1,7 @@
 //! An object written: [`write_layout`] writes its canonical layout, the one list of bytes that stands for it (gABI chapter 4).
 //!
 //! ```
-//! write_layout(alloc, &ObjectWithEnds::without_ends(&object), &mut writer)?;
+//! write_layout(alloc, &object, &mut writer)?;
 //! ```
 #![tactic(auto)]
 

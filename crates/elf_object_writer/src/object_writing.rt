@@ -13,7 +13,8 @@ use elf_field::abi::*;
 use elf_image_outline::{write_entries, write_records};
 use elf_image_stream::WriteFault;
 use elf_image_stream::output::write_zeros;
-use elf_object_layout::{LayoutFault, ObjectWithEnds};
+use elf_object_layout::LayoutFault;
+use elf_object_type::Object;
 use std::alloc::Global;
 use std::io::Write;
 use thiserror::Error;
@@ -206,12 +207,12 @@ pub enum ObjectWriteFault {
 /// of [`lay_out`](elf_object_layout::lay_out), and is linear in the bytes written.
 pub fn write_layout<W: Write>(
     alloc: Global,
-    source: &ObjectWithEnds<'_, '_>,
+    object: &Object<'_>,
     writer: &mut W,
 ) -> Result<(), ObjectWriteFault>
-    ensures { IsLayoutWritten source.now.object (W.contents writer.old) (W.contents writer.new) result }
+    ensures { IsLayoutWritten object.now (W.contents writer.old) (W.contents writer.new) result }
 {
-    match PlacedObject::new(alloc, source) {
+    match PlacedObject::new(alloc, object) {
         Ok(placed) => write_out(alloc, &placed, writer),
         Err(LayoutFault::TooLong) => Err(ObjectWriteFault::TooLong),
         Err(LayoutFault::OutOfMemory) => Err(ObjectWriteFault::OutOfMemory),

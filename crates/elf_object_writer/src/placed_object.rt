@@ -4,7 +4,7 @@ ghost use Rattle.elf_object_layout.specs.Laid.{IsLayoutFault, name_table_at, pla
 ghost use Rattle.elf_object_writer.specs.PlacedObject.{IsPlacedObject, IsSectionAt, IsThere, is_there_prop};
 ghost use Rattle.elf_object_strings.specs.StringTable.{name_offset, string_table};
 
-use elf_object_layout::{Layout, LayoutFault, NameTables, ObjectWithEnds, lay_out_with};
+use elf_object_layout::{Layout, LayoutFault, NameTables, lay_out_with};
 use elf_object_type::Object;
 use std::alloc::Global;
 use std::marker::Model;
@@ -48,14 +48,13 @@ impl<'o, 'a> PlacedObject<'o, 'a> {
     /// The object in its layout. All the memory that is needed is taken here.
     pub(crate) fn new(
         alloc: Global,
-        source: &ObjectWithEnds<'o, 'a>,
+        object: &'o Object<'a>,
     ) -> Result<PlacedObject<'o, 'a>, LayoutFault>
-        ensures ok { IfOk result (λ placed. placed.object ≡ source.now.object) }
-        ensures err { IfErr result (IsLayoutFault source.now.object) }
+        ensures ok { IfOk result (λ placed. placed.object ≡ object.now) }
+        ensures err { IfErr result (IsLayoutFault object.now) }
     {
-        let object = source.object();
         object.prove_rules();
-        let tables = NameTables::new(alloc, source)?;
+        let tables = NameTables::new(alloc, object)?;
         match lay_out_with(alloc, object, &tables) {
             Ok(layout) => Ok(PlacedObject {
                 object,

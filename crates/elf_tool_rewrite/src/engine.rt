@@ -7,9 +7,9 @@ ghost use Rattle.elf_tool_check.specs.declared.calls.Verdict.TheVariants.{Done};
 
 use elf_image_stream::Fault;
 use elf_image_type::{Image, parse};
-use elf_object_file::write_object_with_ends;
-use elf_object_layout::ObjectWithEnds;
-use elf_object_reader::object_with_ends;
+use elf_object_file::write_object;
+use elf_object_reader::object_of;
+use elf_object_type::Object;
 use elf_object_writer::ObjectWriteFault;
 use elf_tool_check::{Refusal, ToolFault, Verdict, read_input};
 use std::alloc::Global;
@@ -67,10 +67,8 @@ fn rewrite_image<W: Write>(
 ) -> Result<Verdict, ToolFault>
     ensures { Prints (SectionsSay (sections_of image.now)) (W.contents writer.old) (W.contents writer.new) result }
 {
-    match object_with_ends(alloc, image) {
-        Ok((object, ends)) => {
-            rewrite_object(alloc, &ObjectWithEnds::new(&object, &ends), writer)
-        }
+    match object_of(alloc, image) {
+        Ok(object) => rewrite_object(alloc, &object, writer),
         Err(Fault::Rule { rule, at }) => Ok(refused(rule, at)),
         Err(Fault::OutOfMemory) => Err(ToolFault::OutOfMemory),
         // Nor while an image is read.
@@ -80,12 +78,12 @@ fn rewrite_image<W: Write>(
 
 fn rewrite_object<W: Write>(
     alloc: Global,
-    source: &ObjectWithEnds<'_, '_>,
+    object: &Object<'_>,
     writer: &mut W,
 ) -> Result<Verdict, ToolFault>
-    ensures { Prints (ObjectSays source.now.object) (W.contents writer.old) (W.contents writer.new) result }
+    ensures { Prints (ObjectSays object.now) (W.contents writer.old) (W.contents writer.new) result }
 {
-    match write_object_with_ends(alloc, source, writer) {
+    match write_object(alloc, object, writer) {
         Ok(()) => Ok(Verdict::Done),
         Err(ObjectWriteFault::TooLong) => Ok(Verdict::Refused(Refusal::TooLong)),
         Err(ObjectWriteFault::OutOfMemory) => Err(ToolFault::OutOfMemory),

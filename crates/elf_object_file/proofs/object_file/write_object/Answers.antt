@@ -1,8 +1,7 @@
-use Rattle.std.proofs.Common.{ap}
-use Rattle.elf_object_layout.specs.StringTables.{ObjectWithEndsValue}
+use Rattle.elf_object_file.proofs.ObjectFile.{file_written}
 use Rattle.elf_object_file.proofs.object_file.write_object.Goals as goal
 
 pub returns : goal.returns
 returns g c =
-    let same = ap (λ (o : ObjectWithEndsValue). o.object) c.without_ends.ensures in
-    rw same at c.write_object_with_ends.ensures
+    file_written c.args.object.now c.prove_rules.ensures.kept c.prove_rules.ensures.fits (g.W.Write.contents c.args.writer.now)
+    (g.W.Write.contents c.write_layout.new.writer) c.write_layout.result c.write_layout.ensures

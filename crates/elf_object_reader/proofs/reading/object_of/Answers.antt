@@ -1,6 +1,6 @@
 -- A file that breaks no rule denotes an object that breaks none (`object_kept`), and no other one (`one_object`). The sections of the image
 -- are those of its bytes (`its_file`), so all of this holds of the one list of bytes that represents the image.
-use Rattle.std.proofs.Common.{◌≡◌, Err, Ok, Result, rules}
+use Rattle.std.proofs.Common.{Err, Ok, Result, rules}
 use Rattle.elf_image_stream.specs.declared.fault.Fault.{Fault}
 use Rattle.elf_image_stream.specs.declared.fault.Fault.TheVariants.{Io, OutOfMemory, Rule}
 use Rattle.elf_image_type.proofs.Public.{image_is_sound}
@@ -15,11 +15,11 @@ use Rattle.elf_object_type.specs.ObjectView.{value_of}
 use Rattle.elf_object_reader.proofs.ObjectKept.{object_kept, one_object}
 use Rattle.elf_object_reader.proofs.reading.object_of.Goals as goal
 
-pub kept_object-requires : goal.kept_object-requires
-kept_object-requires c =
+pub kept_object-requires-clause-rules : goal.kept_object-requires-clause-rules
+kept_object-requires-clause-rules c =
     let v = c.args.image.now in
     let sound = image_is_sound v c.prove_stands.ensures.0 c.prove_stands.ensures.1 in
-    object_kept v (value_of c.in_ok-parts.parts) sound c.in_ok-parts.ensures.0 c.in_ok-parts.ensures.1
+    object_kept v (value_of c.in_ok-parts.parts) sound c.in_ok-parts.ensures.0 c.in_ok-parts.ensures.1.0
 
 denoted_only : (f : Sections) (result : Result ObjectValue Fault) → IsValidatedBehind (front_rules f) (file_rules f) (Denotes f) result →
     IsValidatedBehind (front_rules f) (file_rules f) (DenotesOnly f) result

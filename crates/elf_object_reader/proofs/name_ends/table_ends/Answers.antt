@@ -7,13 +7,13 @@ use Rattle.elf_field.specs.Entries.{sym_at}
 use Rattle.elf_field.specs.declared.number.Order.{Order}
 use Rattle.elf_field.specs.declared.sym.Sym.{Sym}
 use Rattle.elf_object_layout.specs.SectionsLeftOut.{left_out}
-use Rattle.elf_object_reader.specs.Denotes.{name_end, symbol_end}
+use Rattle.elf_object_reader.specs.NameEnds.{name_end, symbol_end}
 use Rattle.elf_object_type.specs.Object.{SymbolValue}
 use Rattle.elf_object_type.specs.ObjectView.{symbol_value}
 use Rattle.elf_table_symbols.specs.Sections.{content, order, sections_of}
 use Rattle.elf_table_symbols.specs.Symbols.{symbols_of}
 use Rattle.elf_object_reader.proofs.DenotedSymbols.{symbol_within, all_but_one, name_read, next_there}
-use Rattle.elf_object_reader.proofs.read_symbols.table_ends.Goals as goal
+use Rattle.elf_object_reader.proofs.name_ends.table_ends.Goals as goal
 
 pub get_at-entry-requires : goal.get_at-entry-requires
 get_at-entry-requires c =
