@@ -178,8 +178,9 @@ def copy_parts(crate: str, folder: str) -> None:
             shutil.copytree(f"{crate}/{part}", f"{folder}/{name}", dirs_exist_ok=True)
 
 
-def try_all(left: list[Edit], folder_of: FolderOf) -> list[tuple[Edit, str]]:
-    """Tries the bugs of a crate, as many at a time as it can: how each ended."""
+def try_all(left: list[Edit], folder_of: FolderOf, is_shown: bool) -> list[tuple[Edit, str]]:
+    """Tries the bugs of a crate, as many at a time as it can: how each ended. Where all bugs are
+    planted, which takes an hour and more, it says so at once."""
     ends: list[tuple[Edit, str]] = []
     alone = False
     crate = f"{TOP}/crates/{left[0].crate}"
@@ -189,7 +190,11 @@ def try_all(left: list[Edit], folder_of: FolderOf) -> list[tuple[Edit, str]]:
             shutil.rmtree(f"{folder}/src", ignore_errors=True)
             shutil.copytree(f"{crate}/src", f"{folder}/src")
             ended = planted(left[:1] if alone else pick(left), folder, folder_of)
-            ends += [(bug, end) for bug, end in ended.items() if end]
+            decided = [(bug, end) for bug, end in ended.items() if end]
+            if is_shown:
+                for bug, end in decided:
+                    print(f"{bug.crate}: {bug.name}: {end}", flush=True)
+            ends += decided
             alone = not any(ended.values())
             left = [bug for bug in left if not ended.get(bug)]
     return ends
@@ -246,7 +251,9 @@ def try_bugs(tally: Tally, crates: list[str], options: Options) -> None:
     # Some crates at a time, those with most bugs first, so that none of these is alone at the end.
     bugs.sort(key=len, reverse=True)
     with ThreadPoolExecutor(min(4, PROCESSORS)) as pool:
-        for tried in as_completed([pool.submit(try_all, it, folder_of) for it in bugs]):
+        is_shown = plants_all(options)
+        tries = [pool.submit(try_all, it, folder_of, is_shown) for it in bugs]
+        for tried in as_completed(tries):
             count_ends(tally, tried.result())
 
 

@@ -23,10 +23,11 @@ README_LINES = 160
 SCREEN = 30
 PROOF_LINES = 30
 COMMANDS = "    $ ./elfmap check ", "    $ rt ci"
-DEFINITIONS = "docs/generated/DEFINITIONS.md"
-TABLES = {DEFINITIONS, "docs/GUARANTEES.md"}
+# Pages that have comments of the crates.
+OF_COMMENTS = {"docs/generated/DEFINITIONS.md", "docs/generated/LEMMAS.md"}
+TABLES = {*OF_COMMENTS, "docs/GUARANTEES.md"}
 # Words for which the pages have others: refuse, return or print, after, again, what others made.
-# Code may have them, and DEFINITIONS, which has comments of the crates.
+# Code may have them, and comments of the crates.
 UNUSUAL = re.compile(r"\b(?:reject\w*|told|tells?|behind|anew|strangers?)\b", re.I)
 # How a page of docs/generated/ begins.
 GENERATED = re.compile(
@@ -77,7 +78,7 @@ def try_decisions(tally: Tally) -> None:
 def try_words(tally: Tally, path: str, text: str) -> None:
     """A page has the usual words, and begins with who makes it, if a tool does."""
     prose = re.sub(r"`[^`]*`", "", CODE.sub("\n", text))
-    unusual = [] if path == DEFINITIONS else sorted(UNUSUAL.findall(prose))
+    unusual = [] if path in OF_COMMENTS else sorted(UNUSUAL.findall(prose))
     tally.check(not unusual, f"{path} has {unusual}, for which the pages have other words")
     made = GENERATED.match(text)
     why = f"{path}: its first line says {made and made[0]!r} of who makes it"

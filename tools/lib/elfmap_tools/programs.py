@@ -30,6 +30,7 @@ from . import (
     instructions,
     launcher,
     laws,
+    lemmas_page,
     library,
     linked_elsewhere,
     linked_kinds,
@@ -196,6 +197,11 @@ RELEASE = [
         "definitions",
         "write docs/generated/DEFINITIONS.md, from the comments in crates/*/specs/",
         definitions_page.write_definitions,
+    ),
+    Command(
+        "lemmas",
+        "write docs/generated/LEMMAS.md, from the comments in crates/*/proofs/",
+        lemmas_page.write_lemmas,
     ),
 ]
 
