@@ -9,7 +9,7 @@ import re
 from collections import Counter
 from collections.abc import Iterable, Iterator, Sequence
 from pathlib import Path
-from typing import NamedTuple, Optional, Union
+from typing import NamedTuple, Optional, TypedDict, Union
 
 from elfmap._link_words import OF_ONE_FILE
 from elfmap._rules import LINK_RULES, RULES
@@ -79,6 +79,20 @@ class Unread(NamedTuple):
     reason: str
 
 
+class Summary(TypedDict):
+    """The numbers of a run; those of known deviations by their names."""
+
+    checked: int
+    findings: int
+    files_with_findings: int
+    suppressed: int
+    known_deviations: dict[str, int]
+    not_elf: int
+    class_32: int
+    not_regular: int
+    unreadable: int
+
+
 class Report:
     """What a run, or a part of it, has found."""
 
@@ -88,6 +102,8 @@ class Report:
         self.class_32 = 0
         self.irregular = 0
         self.suppressed = 0
+        # Known deviations, by their names.
+        self.known = Counter[str]()
         self.findings: list[Finding] = []
         self.unreadable: list[Unread] = list(unreadable)
         # The files and members that were checked, where a format wants them.
@@ -99,6 +115,7 @@ class Report:
         self.class_32 += other.class_32
         self.irregular += other.irregular
         self.suppressed += other.suppressed
+        self.known += other.known
         self.findings += other.findings
         self.unreadable += other.unreadable
         self.names += other.names
@@ -109,12 +126,13 @@ class Report:
         self.unreadable.sort()
         self.names.sort()
 
-    def summary(self) -> dict[str, int]:
+    def summary(self) -> Summary:
         return {
             "checked": self.checked,
             "findings": len(self.findings),
             "files_with_findings": len({it.path for it in self.findings}),
             "suppressed": self.suppressed,
+            "known_deviations": dict(sorted(self.known.items())),
             "not_elf": self.no_elf,
             "class_32": self.class_32,
             "not_regular": self.irregular,

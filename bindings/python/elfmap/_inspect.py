@@ -9,6 +9,7 @@ from typing import NamedTuple
 from elfmap._archives import Content, Contents, is_archive, members, printed
 from elfmap._checks import TOO_LONG_AS_OBJECT, Checks, Fault
 from elfmap._findings import Finding, Report, Rule, Unread
+from elfmap._hints import producers
 from elfmap._link_words import Linked, explain_alone
 from elfmap._sources import Source, Unreadable, opened, standard_input
 from elfmap._walk import Named, reason_of_foreign
@@ -25,7 +26,8 @@ _TOO_LONG = (
 class Depth(NamedTuple):
     """How much of a file is checked, and what is reported: of each name in a sentence at most so
     many letters, and of sections also their names by themselves. Whether a file that is named may
-    be no ELF file.
+    be no ELF file. Whether known deviations are findings, and whether segments of debug files may
+    pass the end.
     """
 
     tables: bool = False
@@ -36,6 +38,8 @@ class Depth(NamedTuple):
     most_letters: int = MOST_LETTERS
     names_sections: bool = True
     skips_named: bool = True
+    is_strict: bool = True
+    debug_files: bool = False
 
 
 class Inspector:
@@ -43,7 +47,8 @@ class Inspector:
 
     def __init__(self, depth: Depth) -> None:
         self._depth = depth
-        self._checks = Checks(depth.tables, depth.objects)
+        how = depth.is_strict, depth.debug_files
+        self._checks = Checks(depth.tables, depth.objects, *how)
         self._contents = Contents(depth.follows_thin)
         self._report = Report()
 
@@ -94,25 +99,28 @@ class Inspector:
 
     def _elf(self, it: Content) -> None:
         faults = self._checks.faults(it.source)
+        self._report.known += self._checks.known
         if self._depth.keeps_names:
             self._report.names.append(it.path)
         if not faults:
             return
         words = Words(it.source, self._depth.most_letters)
-        names_sections = self._depth.names_sections
-        found = [_finding(it, words, fault, names_sections) for fault in faults]
+        found = [_finding(it, words, fault, self._depth) for fault in faults]
         self._report.findings += found
 
 
-def _finding(content: Content, words: Words, fault: Fault, names_sections: bool) -> Finding:
+def _finding(content: Content, words: Words, fault: Fault, depth: Depth) -> Finding:
     path, file, source = content
     rule = Rule(fault.is_of_link, fault.rule)
     if fault.rule == TOO_LONG_AS_OBJECT:
         return Finding(path, 0, rule, *_TOO_LONG, (), file, source.start)
     if fault.is_of_link:
         told = explain_alone(Linked("", words), fault.rule, fault.at)
+    elif fault.reading:
+        told = fault.reading.told(words, fault.rule, fault.table, depth.most_letters)
     else:
         told = explain(words, fault.rule, fault.at, fault.table)
     name = rule.table[rule.number][0]
-    sections = tuple(map(words.section_name, told.sections)) if names_sections else ()
-    return Finding(path, fault.at, rule, name, told.message, sections, file, source.start)
+    message = "; ".join((told.message, *producers(words, fault.rule, fault.at)))
+    sections = tuple(map(words.section_name, told.sections)) if depth.names_sections else ()
+    return Finding(path, fault.at, rule, name, message, sections, file, source.start)

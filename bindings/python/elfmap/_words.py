@@ -107,6 +107,9 @@ LONGEST_NAME = 4096
 LONGEST_LETTER = 4
 # What is escaped in a path: no byte of a letter of ASCII that can be printed.
 _ESCAPED_BYTE = re.compile(rb"\\x([01][0-9a-f]|7f|[89a-f][0-9a-f])")
+# By the names of so many sections, and so many bytes of each, it is seen who made a file.
+_MOST_FIRST = 64
+_FIRST_LETTERS = 16
 # Notes have no index: more than these are not counted.
 _MOST_NOTES = 100_000
 
@@ -230,6 +233,12 @@ class Words:
         name = self.name(self.names, self.section(index, "sh_name"))
         return printable(name) or f"section {index}"
 
+    @cached_property
+    def first_names(self) -> list[bytes]:
+        """The names of the first sections, and of each its first letters."""
+        first = itertools.islice(self.headers(), _MOST_FIRST)
+        return [self.name(self.names, it[1], _FIRST_LETTERS) for it in first]
+
     def symbol(self, table: int, index: int, field: str) -> int:
         """A field of a symbol, 0 where there is none."""
         at, width = SYMBOL[field]
@@ -295,8 +304,12 @@ class Words:
             words.append(f"signed by {self.symbol_words(link, info)}")
         return "; ".join(words)
 
+    def shown_content(self, index: int) -> tuple[int, int]:
+        """The same, as words have it."""
+        return self.content(index)
+
     def content_words(self, index: int, at: int) -> str:
-        start, end = self.content(index)
+        start, end = self.shown_content(index)
         place = f"the content of {self.section_words(index)} [{start:#x}, {end:#x})"
         return f"{place}: {entry_words(self, index, at)}"
 

@@ -114,6 +114,17 @@ def _add_checks(parser: Parser) -> None:
         action="store_true",
         help="check what `elfmap rewrite` and `link` need of an object by itself",
     )
+    depths = parser.add_mutually_exclusive_group()
+    depths.add_argument(
+        "--strict",
+        action="store_true",
+        help="report known deviations too, which are only counted otherwise",
+    )
+    depths.add_argument(
+        "--debug-files",
+        action="store_true",
+        help="segments of files of debug information (eu-strip -f) may pass the end of the file",
+    )
 
 
 def _add_suppressions(parser: Parser) -> None:
@@ -255,6 +266,8 @@ class Run:
             # A baseline has them too.
             names_sections=is_json or bool(it.baseline or it.write_baseline),
             skips_named=it.skip,
+            is_strict=it.strict,
+            debug_files=it.debug_files,
         )
         return Inspector(depth)
 

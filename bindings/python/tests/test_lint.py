@@ -575,6 +575,7 @@ class FormatTest(Case):
             findings=2,
             files_with_findings=2,
             suppressed=0,
+            known_deviations={},
             not_elf=2,
             class_32=0,
             not_regular=0,

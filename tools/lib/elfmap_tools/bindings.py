@@ -13,11 +13,15 @@ from elfmap import _library
 from .header import STRUCTS, calls, calls_in, structs, structs_in
 from .library import BOTH, FOLDER, PACKERS
 from .package_tests import count_run, unittests
-from .requirements import ELF_H, JSONSCHEMA, JUNITPARSER
+from .requirements import ELF_H, JSONSCHEMA, JUNITPARSER, MACHINES, SANITIZERS
 from .suite import Tally, Test
 from .tree import TOP, Options, read_text, said
 
-BINDERS = f"{PACKERS} cargo fish git mypy pre-commit {ELF_H} {JSONSCHEMA} {JUNITPARSER}"
+# What makes the files that deviate from the rules in a known way.
+LINKERS = [f"{MACHINES[it]}-ld" for it in ("alpha", "mips64", "riscv64", "s390x", "sparc64")]
+PRODUCERS = " ".join([*LINKERS, "cc", "eu-strip", "strip", SANITIZERS])
+READERS = f"{ELF_H} {JSONSCHEMA} {JUNITPARSER}"
+BINDERS = f"{PACKERS} cargo fish git mypy pre-commit {READERS} {PRODUCERS}"
 # What Python declares of a struct: its fields, each with its type of ctypes.
 PythonStructs = dict[str, list[tuple[str, Any]]]
 

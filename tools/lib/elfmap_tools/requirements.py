@@ -29,12 +29,12 @@ SANITIZERS = "/usr/lib/llvm-*/lib/clang/*/lib/linux/libclang_rt.asan-x86_64.a"
 # that have the name of their package.
 COMMANDS = {
     "binaryen": "wasm-opt",
-    "binutils": "ar as ld nm objcopy readelf",
+    "binutils": "ar as ld nm objcopy readelf strip",
     "binutils-x86-64-linux-gnu": "x86_64-linux-gnu-as",
     "cargo-web": "cargo",
     "chromium-driver": "chromedriver",
     "dpkg": "dpkg-deb",
-    "elfutils": "eu-elflint",
+    "elfutils": "eu-elflint eu-strip",
     "g++": "c++ g++",
     "gcc": "cc gcc",
     "libclang-rt-14-dev": SANITIZERS,
