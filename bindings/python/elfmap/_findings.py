@@ -167,11 +167,13 @@ def _pattern(globs: Sequence[bytes]) -> Optional[re.Pattern[bytes]]:
     return re.compile(text.encode("latin-1"))
 
 
+# The rules that a finding may be of.
+ALL_RULES = [*(Rule(False, it) for it in RULES), *(Rule(True, it) for it in OF_ONE_FILE)]
+
+
 def _words_of_rules() -> Iterator[tuple[str, Rule]]:
-    """Each rule that a finding may be of, by its name and by its number."""
-    of_files = [Rule(False, it) for it in RULES]
-    of_link = [Rule(True, it) for it in OF_ONE_FILE]
-    for rule in of_files + of_link:
+    """Each of them, by its name and by its number."""
+    for rule in ALL_RULES:
         yield rule.table[rule.number][0], rule
         yield _plain(str(rule.key)), rule
 

@@ -23,6 +23,7 @@ from typing import Any, BinaryIO, Optional
 from elfmap import __version__, _library
 from elfmap._commands import DONE, FOUND, UNREADABLE, USAGE, Parser, complain, failure, run_script
 from elfmap._findings import (
+    ALL_RULES,
     BadWord,
     Baseline,
     Finding,
@@ -59,6 +60,11 @@ def _parser() -> Parser:
         epilog=_STATUSES,
     )
     parser.add_argument("--version", action="version", version=f"%(prog)s {__version__}")
+    parser.add_argument(
+        "--list-rules",
+        action="store_true",
+        help="print the rules that findings are of: number, name and sentence",
+    )
     _add_paths(parser)
     _add_checks(parser)
     _add_suppressions(parser)
@@ -99,9 +105,9 @@ def _add_paths(parser: Parser) -> None:
     )
     add(
         "--class32",
-        choices=("skip", "fail"),
-        default="skip",
-        help="skip files of class 32, or report them (default: skip)",
+        choices=("warn", "skip", "fail"),
+        default="warn",
+        help="skip files of class 32 with a warning, without, or report them (default: warn)",
     )
 
 
@@ -156,6 +162,7 @@ def _add_output(parser: Parser) -> None:
         help="end each record with a zero byte, and print paths as they are",
     )
     add("-o", dest="output", metavar="FILE", help="write to FILE, completely or not at all")
+    add("-q", "--quiet", action="store_true", help="print no report: the status says it")
     add(
         "-j",
         dest="jobs",
@@ -170,8 +177,8 @@ def _add_output(parser: Parser) -> None:
 class Progress:
     """How many files were checked, on a terminal alone: by tqdm where it is installed."""
 
-    def __init__(self) -> None:
-        self._is_shown = sys.stderr.isatty()
+    def __init__(self, is_quiet: bool = False) -> None:
+        self._is_shown = sys.stderr.isatty() and not is_quiet
         self._next = time.monotonic() + 0.3
         self._bar = _bar() if self._is_shown else None
 
@@ -212,7 +219,7 @@ class Run:
         self._ignored = Ignored(options.ignore)
         self._baseline = Baseline.read(options.baseline) if options.baseline else None
         self._jobs = options.jobs or len(os.sched_getaffinity(0))
-        self._progress = Progress()
+        self._progress = Progress(options.quiet)
         self.report = Report()
         self._check_words()
 
@@ -316,6 +323,10 @@ class Run:
 
         for lost in self.report.unreadable:
             complain(PROGRAM, one_line(lost.path) + b": " + lost.reason.encode())
+        if self.report.class_32 and self._options.class32 == "warn":
+            complain(PROGRAM, _class_32_words(self.report.class_32).encode())
+        if self._options.quiet and self._options.output is None:
+            return
         end = b"\0" if self._options.zero else b"\n"
         with Output(self._options.output) as it:
             for part in _formats.FORMATS[self._options.format](self.report, end):
@@ -328,6 +339,11 @@ class Run:
             complain(PROGRAM, b"no ELF file was checked")
             return FOUND
         return FOUND if self.report.findings else DONE
+
+
+def _class_32_words(count: int) -> str:
+    lead = "1 file of class 32 was" if count == 1 else f"{count} files of class 32 were"
+    return f"{lead} not checked; --class32=fail reports such files, --class32=skip is silent"
 
 
 class Output:
@@ -366,15 +382,27 @@ class Output:
                 os.unlink(self._made)
 
 
+def _list_rules(options: argparse.Namespace) -> None:
+    """Prints each rule that `--ignore` takes: its number, its name and its sentence."""
+    end = "\0" if options.zero else "\n"
+    with Output(options.output) as it:
+        for rule in ALL_RULES:
+            name, sentence, _ = rule.table[rule.number]
+            it.write(f"{rule.key} {name}: {sentence}{end}".encode("utf-8"))
+
+
 def main(words: Optional[Sequence[str]] = None) -> int:
     """Runs the program, and returns its status."""
     options = _parser().in_any_order(words, "paths")
     try:
-        run = Run(options)
+        run = None if options.list_rules else Run(options)
     except BadWord as fault:
         complain(PROGRAM, str(fault).encode("utf-8", "surrogateescape"))
         return USAGE
     try:
+        if not run:
+            _list_rules(options)
+            return DONE
         run.check()
         run.tell()
     except BrokenPipeError:
@@ -382,7 +410,7 @@ def main(words: Optional[Sequence[str]] = None) -> int:
     except OSError as fault:
         complain(PROGRAM, failure(fault))
         return UNREADABLE
-    return run.status()
+    return run.status() if run else DONE
 
 
 def script() -> None:

@@ -476,6 +476,13 @@ class FindingTest(Case):
         status, out, err = self.explain(stdin=lines)
         self.assertEqual((status, err, out.count("section 2 .data [0x72, 0x76)")), (0, "", 5), out)
 
+    def test_the_second_member_of_a_name(self):
+        self.put(
+            lib__a=b"!<arch>\n" + archive_member(b"x.o", GOOD) + archive_member(b"x.o", SHARING)
+        )
+        found = self.said(stdin=FINDING.replace(b"bad.o", b"lib.a(x.o#2)"))
+        self.assertIn("section 2 .data [0x72, 0x76)", found)
+
     def test_members_that_a_thin_archive_names_in_another(self):
         front = b"!<thin>\n" + archive_member(b"/", b"lib.a/\n")
         origin = GNU.index(archive_member(b"/0", SHARING, b""))

@@ -719,10 +719,19 @@ class FormatTest(Case):
         self.assertEqual((uri[:8], unquote_to_bytes(uri[7:])), ("file:///", os.fsencode(path)))
 
     def test_junit_of_members_of_one_name(self):
-        """A path is one test case, with all that is said of it."""
+        """Each is a test case."""
         self.put(thin__a=thin(b"none.o", b"none.o"))
+        cases = ElementTree.fromstring(self.lint("--format", "junit", "thin.a")[1])[0]
+        names = {it.get("name") for it in cases}
+        self.assertEqual(names, {"thin.a(none.o)", "thin.a(none.o#2)"})
+        self.assertEqual({it[0].get("message") for it in cases}, {"no such file or directory"})
+
+    def test_junit_of_one_path(self):
+        """A path is one test case, with all that is said of it."""
+        table = archive_member(b"/", b"none.a/\n") + archive_member(b"/0:8", b"", b"") * 2
+        self.put(thin__a=b"!<thin>\n" + table)
         (case,) = ElementTree.fromstring(self.lint("--format", "junit", "thin.a")[1])[0]
-        self.assertEqual((case.get("name"), len(case)), ("thin.a(none.o)", 1))
+        self.assertEqual((case.get("name"), len(case)), ("thin.a(none.a)", 1))
         self.assertEqual(case[0].get("message"), "; ".join(["no such file or directory"] * 2))
 
     def test_junit_of_many_findings(self):
@@ -825,6 +834,17 @@ class OptionTest(Case):
         lines = self.told("--class32=fail", "a/b/narrow")
         self.assertTrue(lines[0].startswith("a/b/narrow: offset 0x4: WRONG_CLASS (4): "), lines)
 
+    def test_what_is_said_of_class_32(self):
+        more = b"--class32=fail reports such files, --class32=skip is silent\n"
+        said = b"elfmap-lint: 1 file of class 32 was not checked; " + more
+        self.assertEqual(self.lint("-q", "a"), (1, b"", said))
+        self.put(other=CLASS_32)
+        said = b"elfmap-lint: 2 files of class 32 were not checked; " + more
+        self.assertEqual(self.lint("--class32=warn", "a", "other")[2], said)
+        self.assertEqual(self.lint("--class32=skip", "a", "other")[2], b"")
+        self.assertEqual(self.lint("--class32=fail", "a", "other")[2], b"")
+        self.assertEqual(self.lint("a/bad.o")[2], b"")
+
     def test_ignored(self):
         summary = b"0 findings in 0 of 2 ELF files, 2 suppressed; skipped: 1 of class 32"
         for rule in ("33", "SHARED_BYTE", "shared_byte", "shared-byte"):
@@ -858,6 +878,7 @@ class OptionTest(Case):
         """It is an error, and not skipped as one of a directory is, unless that is asked for."""
         foreign = b"it is neither an ELF file nor an archive; --skip skips it"
         empty = b"it is empty; --skip skips it"
+        silent = "--class32=skip"
         self.put(**{"a/text": b"no ELF file", "a/short": b"\x7fEL", "a/empty": b""})
         unread = b"0 findings in 0 of 0 ELF files; 1 unreadable\n"
         skipped = b"0 findings in 0 of 0 ELF files; skipped: 1 not ELF\n"
@@ -866,8 +887,8 @@ class OptionTest(Case):
             self.assertEqual(self.lint(f"a/{name}"), (3, unread, lost))
             self.assertEqual(self.lint("--skip", f"a/{name}"), (0, skipped, b""))
             # It is named, whatever directory has it too.
-            self.assertEqual(self.lint("a", f"a/{name}")[::2], (3, lost))
-            self.assertEqual(self.lint("-j3", f"a/{name}", "a")[::2], (3, lost))
+            self.assertEqual(self.lint(silent, "a", f"a/{name}")[::2], (3, lost))
+            self.assertEqual(self.lint("-j3", silent, f"a/{name}", "a")[::2], (3, lost))
             self.assertEqual(self.lint("--exclude", name, f"a/{name}")[0], 0)
             content = Path(f"a/{name}").read_bytes()
             lost = b"elfmap-lint: -: " + reason + b"\n"
@@ -879,7 +900,8 @@ class OptionTest(Case):
         self.assertEqual(self.lint("--skip", "--files0-from", "names")[0], 1)
         # By one of its hard links, of which the first one is in a directory.
         os.link("a/text", "z")
-        self.assertEqual(self.lint("a", "z")[::2], (3, b"elfmap-lint: a/text: " + foreign + b"\n"))
+        lost = b"elfmap-lint: a/text: " + foreign + b"\n"
+        self.assertEqual(self.lint(silent, "a", "z")[::2], (3, lost))
         # What is in an archive is not named, and an ELF file of 32 bits is one.
         self.put(lib__a=GNU)
         self.assertEqual(self.lint("--ignore", "33", "lib.a", "a/b/narrow")[0], 0)
@@ -980,7 +1002,7 @@ class OptionTest(Case):
 
     def test_an_output_file(self):
         lines = self.lint("a")[1]
-        self.assertEqual(self.lint("-o", "out", "a"), (1, b"", b""))
+        self.assertEqual(self.lint("-o", "out", "--class32=skip", "a"), (1, b"", b""))
         self.assertEqual(Path("out").read_bytes(), lines)
         self.assertEqual(stat.S_IMODE(os.stat("out").st_mode) & 0o600, 0o600)
 
@@ -1007,6 +1029,37 @@ class OptionTest(Case):
         self.assertEqual(Path("out").read_bytes(), b"before")
         self.assertEqual(sorted(os.listdir()), ["a", "out"])
         self.assertEqual(self.lint("-o", "none/out", "a")[0], 3)
+
+    def test_quiet(self):
+        self.put(bad__o=SHARING, good__o=GOOD, none=b"none")
+        self.assertEqual(self.lint("-q", "good.o"), (0, b"", b""))
+        self.assertEqual(self.lint("--quiet", "bad.o"), (1, b"", b""))
+        status, out, said = self.lint("-q", "bad.o", "none")
+        self.assertEqual((status, out), (3, b""))
+        self.assertTrue(said.startswith(b"elfmap-lint: none: it is neither an ELF file nor"))
+        # A report for a file is written.
+        self.assertEqual(self.lint("-q", "-o", "report.txt", "bad.o"), (1, b"", b""))
+        self.assertIn(SHARED, Path("report.txt").read_bytes())
+
+    def test_the_list_of_rules(self):
+        """Each line has what `--ignore` takes, and the sentence of docs/RULES.md."""
+        status, out, said = self.lint("--list-rules")
+        self.assertEqual((status, said), (0, b""))
+        found = re.findall(r"^([\w-]+) ([A-Z_0-9]+): the (?:file|table|link) ", out.decode(), re.M)
+        self.assertEqual(len(found), len(out.splitlines()))
+        keys = [key for key, _ in found]
+        numbers = [*range(1, 34), *range(40, 80)]
+        expected = [*map(str, numbers), *(f"link-{it}" for it in range(3, 8))]
+        self.assertEqual(keys, expected)
+        page = (build.REPOSITORY / "docs/RULES.md").read_text()
+        for key, name in found:
+            self.assertEqual(_findings.rule_of(key), _findings.rule_of(name))
+            number = key.rpartition("-")[2]
+            kind = "link" if number != key else r"(?:image|table|object)"
+            self.assertRegex(page, rf'<a id="{kind}-{number}"></a>{number} \| `\w+`, `{name}`')
+        self.assertEqual(self.lint("--list-rules", "-0")[1].count(b"\0"), len(found))
+        self.lint("--list-rules", "-o", "rules.txt")
+        self.assertEqual(Path("rules.txt").read_bytes(), out)
 
     def test_a_list_of_paths(self):
         names = b"a/bad.o\0a/b\0"
@@ -1187,6 +1240,23 @@ class ArchiveTest(Case):
 
     def test_names_of_bsd(self):
         self.assertEqual(self.members(BSD), ([(LONG, SHARING), (b"good.o", GOOD)], True))
+
+    def test_members_of_one_name(self):
+        """The second one has a number, and no two members have the same path."""
+        names = b"x.o", b"good.o", b"x.o", b"x.o#2", b"x.o"
+        rows = [archive_member(it, GOOD if it == b"good.o" else SHARING) for it in names]
+        self.put(lib__a=b"!<arch>\n" + b"".join(rows))
+        found = [it.partition(": ")[0] for it in self.told("lib.a")[:-1]]
+        expected = ["lib.a(x.o#2#2)", "lib.a(x.o#2)", "lib.a(x.o#3)", "lib.a(x.o)"]
+        self.assertEqual(sorted(found), sorted(expected))
+        status, out, _ = self.lint("--ignore", "33:lib.a(x.o#3)", "lib.a")
+        self.assertEqual((status, out.count(SHARED)), (1, 3))
+        self.lint("--write-baseline", "known.txt", "lib.a")
+        self.assertEqual(self.lint("--baseline", "known.txt", "lib.a")[0], 0)
+        # One that is repaired leaves the others known.
+        rows[2] = archive_member(b"x.o", GOOD)
+        self.put(lib__a=b"!<arch>\n" + b"".join(rows))
+        self.assertEqual(self.lint("--baseline", "known.txt", "lib.a")[0], 0)
 
     def test_indexes_are_no_members(self):
         """Those of GNU, also of 64 bits, and those of BSD, also with a long name."""
