@@ -192,5 +192,9 @@ def printed(archive: bytes, member: Member) -> bytes:
     return b"%s(%s)" % (archive, member.label)
 
 
+# How a file begins that is checked, or whose members are.
+MAGICS = (b"\x7fELF", MAGIC, THIN_MAGIC)
+
+
 def is_archive(source: Source) -> bool:
     return source[:8] in (MAGIC, THIN_MAGIC)

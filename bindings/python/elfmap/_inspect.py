@@ -6,12 +6,19 @@ from collections.abc import Iterator
 from contextlib import contextmanager
 from typing import NamedTuple
 
-from elfmap._archives import Content, Contents, is_archive, members, printed
+from elfmap._archives import MAGICS, Content, Contents, is_archive, members, printed
 from elfmap._checks import TOO_LONG_AS_OBJECT, Checks, Fault
 from elfmap._findings import Finding, Report, Rule, Unread
 from elfmap._hints import producers
 from elfmap._link_words import Linked, explain_alone
-from elfmap._sources import Source, Unreadable, opened, standard_input
+from elfmap._sources import (
+    Source,
+    Unreadable,
+    decompressed,
+    is_compressed,
+    opened,
+    standard_input,
+)
 from elfmap._walk import Named, reason_of_foreign
 from elfmap._words import MOST_LETTERS, Words, explain
 
@@ -27,7 +34,7 @@ class Depth(NamedTuple):
     """How much of a file is checked, and what is reported: of each name in a sentence at most so
     many letters, and of sections also their names by themselves. Whether a file that is named may
     be no ELF file. Whether known deviations are findings, and whether segments of debug files may
-    pass the end.
+    pass the end. Whether files that are compressed are read.
     """
 
     tables: bool = False
@@ -40,6 +47,7 @@ class Depth(NamedTuple):
     skips_named: bool = True
     is_strict: bool = True
     debug_files: bool = False
+    decompresses: bool = False
 
 
 class Inspector:
@@ -77,6 +85,13 @@ class Inspector:
             self._report.unreadable.append(Unread(path, "there is no memory for it"))
 
     def _file(self, path: bytes, source: Source, is_named: bool) -> None:
+        if self._depth.decompresses and is_compressed(path, source):
+            with decompressed(source, MAGICS) as it:
+                self._plain_file(path, it, is_named)
+        else:
+            self._plain_file(path, source, is_named)
+
+    def _plain_file(self, path: bytes, source: Source, is_named: bool) -> None:
         if not is_archive(source):
             if is_named and not self._depth.skips_named and source[:4] != _MAGIC:
                 raise Unreadable(reason_of_foreign(len(source)))

@@ -35,14 +35,22 @@ from contextlib import ExitStack, suppress
 from typing import Any, BinaryIO, NamedTuple, Optional
 
 from elfmap import __version__
-from elfmap._archives import Content, Contents, Member, is_archive, members, printed
+from elfmap._archives import MAGICS, Content, Contents, Member, is_archive, members, printed
 from elfmap._checks import Checks
 from elfmap._commands import USAGE, UNREADABLE, Parser, complain, is_open, run_script
 from elfmap._findings import Rule
 from elfmap._hints import hints, link_hints
 from elfmap._link_words import OF_ONE_FILE, Linked, link_words
 from elfmap._rules import LINK_RULES, RULES
-from elfmap._sources import Source, Unreadable, opened, reason_of, whole
+from elfmap._sources import (
+    Source,
+    Unreadable,
+    decompressed,
+    is_compressed,
+    opened,
+    reason_of,
+    whole,
+)
 from elfmap._words import MOST_OWNERS, Words, found_at, one_line, original_path, printable
 
 PROGRAM = "elfmap-explain"
@@ -116,7 +124,7 @@ class Files:
         # In text what can't be printed of a path is escaped.
         for own in dict.fromkeys((path, original_path(path))):
             if os.path.lexists(own):
-                return Content(path, own, stack.enter_context(opened(own)))
+                return Content(path, own, _read(own, stack))
             archive = _archive_of(own)
             member = self._member(own, archive, stack) if archive else None
             if member:
@@ -127,7 +135,7 @@ class Files:
 
     def _member(self, path: bytes, archive: bytes, stack: ExitStack) -> Optional[Content]:
         """The first member of this path: an archive may have several."""
-        source = stack.enter_context(opened(archive))
+        source = _read(archive, stack)
         if self._members[0] != archive:
             self._members = archive, *_members_of(source, archive)
         _, named, others = self._members
@@ -142,6 +150,14 @@ class Files:
             if content.path == path:
                 return content
         return None
+
+
+def _read(path: bytes, stack: ExitStack) -> Source:
+    """The bytes that a finding of a file is about: of one that is compressed what is in it."""
+    source = stack.enter_context(opened(path))
+    if is_compressed(path, source):
+        source = stack.enter_context(decompressed(source, MAGICS))
+    return source
 
 
 def _members_of(source: Source, path: bytes) -> tuple[dict[bytes, Member], list[Member]]:

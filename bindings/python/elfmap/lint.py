@@ -99,6 +99,11 @@ def _add_paths(parser: Parser) -> None:
         help="read the members of a thin archive also outside of its directory",
     )
     add(
+        "--decompress",
+        action="store_true",
+        help="read .gz and .xz files as what is compressed in them",
+    )
+    add(
         "--skip",
         action="store_true",
         help="skip a PATH that is empty or no ELF file too, as files of directories are skipped",
@@ -275,6 +280,7 @@ class Run:
             skips_named=it.skip,
             is_strict=it.strict,
             debug_files=it.debug_files,
+            decompresses=it.decompress,
         )
         return Inspector(depth)
 

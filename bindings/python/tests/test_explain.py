@@ -5,6 +5,7 @@ The cases have the answers of the program: `tools/test cases` compares them with
 """
 
 import contextlib
+import gzip
 import json
 import os
 import re
@@ -482,6 +483,14 @@ class FindingTest(Case):
         )
         found = self.said(stdin=FINDING.replace(b"bad.o", b"lib.a(x.o#2)"))
         self.assertIn("section 2 .data [0x72, 0x76)", found)
+
+    def test_compressed_files(self):
+        """What is compressed is explained, also of a member."""
+        lib = b"!<arch>\n" + archive_member(b"x.o", SHARING)
+        self.put(bad__ko__gz=gzip.compress(SHARING), lib__a__gz=gzip.compress(lib))
+        for name in (b"bad.ko.gz", b"lib.a.gz(x.o)"):
+            found = self.said(stdin=FINDING.replace(b"bad.o", name))
+            self.assertIn("section 2 .data [0x72, 0x76)", found)
 
     def test_members_that_a_thin_archive_names_in_another(self):
         front = b"!<thin>\n" + archive_member(b"/", b"lib.a/\n")

@@ -5,8 +5,10 @@ format: SARIF 2.1.0, the layouts of archives.
 """
 
 import contextlib
+import gzip
 import io
 import json
+import lzma
 import os
 import re
 import shutil
@@ -1060,6 +1062,49 @@ class OptionTest(Case):
         self.assertEqual(self.lint("--list-rules", "-0")[1].count(b"\0"), len(found))
         self.lint("--list-rules", "-o", "rules.txt")
         self.assertEqual(Path("rules.txt").read_bytes(), out)
+
+    def test_compressed_files(self):
+        for module, end in ((gzip, "gz"), (lzma, "xz")):
+            os.mkdir(end)
+            sound = dict(bad__ko=SHARING, good__ko=GOOD, lib__a=GNU, text=b"no ELF file", none=b"")
+            for name, content in sound.items():
+                self.put(**{f"{end}/{name}__{end}": module.compress(content)})
+            # What has another name, and what is not compressed.
+            self.put(**{f"{end}/other": module.compress(SHARING), f"{end}/plain__{end}": SHARING})
+            lines = [
+                f"{end}/bad.ko.{end}: ".encode() + SHARED,
+                f"{end}/lib.a.{end}(".encode() + LONG + b"): " + SHARED,
+                f"{end}/plain.{end}: ".encode() + SHARED,
+            ]
+            last = b"3 findings in 3 of 5 ELF files; skipped: 4 not ELF"
+            self.assertSaid(["--decompress", end], 1, [*lines, last])
+            last = b"1 finding in 1 of 1 ELF file; skipped: 6 not ELF"
+            self.assertSaid([end], 1, [lines[2], last])
+            name = f"{end}/text.{end}"
+            self.assertEqual(self.lint("--decompress", "--skip", name)[0], 0)
+            self.assertEqual(self.lint("--decompress", name)[0], 3)
+
+    def test_compressed_files_that_are_broken(self):
+        for module, end in ((gzip, "gz"), (lzma, "xz")):
+            whole = module.compress(SHARING + os.urandom(5000))
+            wrong = bytearray(whole)
+            wrong[len(whole) // 2] ^= 0xFF
+            for content in (whole[:-20], whole[:20], bytes(wrong)):
+                self.put(**{f"bad__{end}": content})
+                status, _, said = self.lint("--decompress", f"bad.{end}")
+                self.assertEqual(status, 3)
+                lead = f"elfmap-lint: bad.{end}: it can't be decompressed: ".encode()
+                self.assertTrue(said.startswith(lead), said)
+        with mock.patch.dict(sys.modules, lzma=None):
+            self.assertIn(b"this Python has no module lzma", self.lint("--decompress", "bad.xz")[2])
+
+    def test_a_compressed_file_that_is_too_long(self):
+        """No more is read than shows it; and of what is no ELF file only how it begins."""
+        for content, size in ((GOOD, 100), (b"text" * 99, 8)):
+            self.put(long__gz=gzip.compress(content))
+            with mock.patch.object(_sources, "LONGEST", 100), _sources.opened(b"long.gz") as it:
+                with _sources.decompressed(it, _archives.MAGICS) as found:
+                    self.assertEqual((len(found), found[:]), (size, content[:size]))
 
     def test_a_list_of_paths(self):
         names = b"a/bad.o\0a/b\0"
