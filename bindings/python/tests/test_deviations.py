@@ -14,7 +14,7 @@ import unittest
 from unittest import mock
 from xml.etree import ElementTree
 
-from elfmap import _deviations, build
+from elfmap import _deviations, _hints, _words, build
 
 from tests.made import BROKEN_SYMBOLS, GOOD, NAMES, Made, setUpModule, symbols, text  # noqa: F401
 from tests.test_lint import Case
@@ -471,6 +471,12 @@ class ReportTest(DeviationCase):
         )
         self.assertEqual((status, out.splitlines()[-1]), (1, line))
 
+    def test_several_processes(self):
+        for number in range(100):
+            self.put(**{f"{number}__o": mips(number % 2)[0]})
+        line = b"0 findings in 0 of 100 ELF files; known deviations: 100 mips-relocation-info"
+        self.assertSaid(["--tables", "-j3", "."], 0, [line])
+
     def test_strict(self):
         self.put_files()
         status, out, _ = self.lint("--tables", "--strict", ".")
@@ -550,6 +556,12 @@ class ProducerTest(DeviationCase):
             lines = self.report(made.data)[0]
             self.assertEqual([it["rule"] for it in lines], [44])
             self.assertEqual(self.U_BOOT in lines[0]["message"], is_u_boot)
+
+    def test_words_of_explain(self):
+        made = Made((b"__u_boot_list", 1, b"1", {}))
+        found = list(_hints.hints(_words.Words(bytes(made.data)), "a.o", 44, 100))
+        self.assertEqual(len(found), 1)
+        self.assertTrue(found[0].startswith(self.U_BOOT))
 
     def test_another_rule(self):
         made = Made(text(), symbols(3, (1, GLOBAL, 99)), NAMES, (b"__u_boot_list", 1, b"1", {}))
