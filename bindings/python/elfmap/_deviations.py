@@ -62,6 +62,24 @@ _MOST_HASHED = 1 << 20
 _RESERVED_COUNT = 0xFF00
 
 
+class Header(NamedTuple):
+    """A section header."""
+
+    sh_name: int
+    sh_type: int
+    sh_flags: int
+    sh_addr: int
+    sh_offset: int
+    sh_size: int
+    sh_link: int
+    sh_info: int
+    sh_addralign: int
+    sh_entsize: int
+
+
+_HEADER = "2I4Q2I2Q"
+
+
 class Mended(Source):
     """A copy of a file in which some bytes are put right, and which may be longer. Only those bytes
     are held; all others are read from the file."""
@@ -132,10 +150,14 @@ class Mended(Source):
 
     # ---- Its sections
 
-    def content(self, index: int) -> Optional[bytes]:
-        """The content of a section, if it is not too large."""
-        start, end = self.words.content(index)
-        return self[start:end] if end - start <= _MOST_BYTES else None
+    def section(self, index: int) -> Header:
+        at = self.words.table + 64 * index
+        return Header._make(struct.unpack(self.words.order + _HEADER, self[at : at + 64]))
+
+    def content(self, it: Header) -> Optional[bytes]:
+        """The content of a table, if it is not too large."""
+        is_small = it.sh_size <= _MOST_BYTES
+        return self[it.sh_offset : it.sh_offset + it.sh_size] if is_small else None
 
     def numbers(self, kind: str, content: bytes) -> Column:
         """Bytes as numbers of a type of the module array."""
@@ -212,7 +234,7 @@ class Mended(Source):
         end = begin + 64 * (count + 2)
         if end + 25 >= LONGEST:
             return 0
-        header = struct.Struct(f"{it.order}2I4Q2I2Q")
+        header = struct.Struct(it.order + _HEADER)
         symbols = header.pack(0, SYMTAB, 0, 0, end, 24, count + 1, 1, 0, 24)
         strings = header.pack(0, STRTAB, 0, 0, end + 24, 1, 0, 0, 0, 0)
         headers = self[it.table : it.table + 64 * count]
@@ -241,31 +263,31 @@ class _MendedWords(Words):
 def _mips_relocation_info(copy: Mended, index: int) -> bool:
     """The supplement for MIPS orders the bytes of `r_info` in little-endian files by fields: the
     symbol, a special symbol, and three types."""
-    it = copy.words
-    content = copy.content(index)
-    if it.machine != _MIPS or it.order == ">" or content is None:
+    it = copy.section(index)
+    content = copy.content(it)
+    if copy.words.machine != _MIPS or copy.words.order == ">" or content is None:
         return False
-    size = ENTRY_SIZES[it.section(index, "sh_type")]
+    size = ENTRY_SIZES[it.sh_type]
     mended = bytearray(content)
     for to, origin in enumerate(_MIPS_ORDER, 8):
         mended[to::size] = content[8 + origin :: size]
-    copy.write(it.content(index)[0], mended)
+    copy.write(it.sh_offset, mended)
     return True
 
 
 def _notes_of_8(copy: Mended, index: int) -> bool:
     """Notes with the alignment 8 have descriptors and ends that are multiples of 8."""
-    it = copy.words
-    content = copy.content(index)
-    if it.section(index, "sh_addralign") != 8 or content is None:
+    it = copy.section(index)
+    content = copy.content(it)
+    if it.sh_addralign != 8 or content is None:
         return False
+    sizes = struct.Struct(f"{copy.words.order}2I")
     packed = bytearray()
     # Where each note begins in the copy, and where in the content.
     starts: list[tuple[int, int]] = []
     at = 0
     while at < len(content):
-        sizes = content[at : at + 8]
-        name, size = struct.unpack(f"{it.order}2I", sizes.ljust(8, b"\0"))
+        name, size = sizes.unpack(content[at : at + 8].ljust(8, b"\0"))
         begin = at + (12 + name + 7) // 8 * 8
         end = begin + (size + 7) // 8 * 8
         if len(content) < max(at + 12, end):
@@ -274,12 +296,11 @@ def _notes_of_8(copy: Mended, index: int) -> bool:
         packed += content[at : at + 12 + name] + bytes(-name % 4)
         packed += content[begin : begin + size] + bytes(-size % 4)
         at = end
-    first, end = it.content(index)
-    copy.write(first, packed)
+    copy.write(it.sh_offset, packed)
     copy.set_field(index, "sh_size", len(packed))
 
     def place(at: int) -> int:
-        begin, origin = starts[bisect_right(starts, (at - first, end)) - 1]
+        begin, origin = starts[bisect_right(starts, (at - it.sh_offset, it.sh_size)) - 1]
         return at - begin + origin
 
     copy.move(index, place)
@@ -288,21 +309,18 @@ def _notes_of_8(copy: Mended, index: int) -> bool:
 
 def _hash_of_8_bytes(copy: Mended, index: int) -> bool:
     """The supplements for s390x and Alpha have hash tables of words of 8 bytes."""
-    it = copy.words
-    content = copy.content(index)
-    is_known = it.machine in (_S390, _ALPHA) and it.section(index, "sh_type") == HASH
-    if not is_known or it.section(index, "sh_entsize") != 8 or content is None:
-        return False
-    if len(content) % 8:
+    it = copy.section(index)
+    content = copy.content(it)
+    is_known = copy.words.machine in (_S390, _ALPHA) and it.sh_type == HASH
+    if not is_known or it.sh_entsize != 8 or it.sh_size % 8 or content is None:
         return False
     words = copy.numbers("Q", content)
     if max(words, default=0) >> 32:
         return False
-    first, _ = it.content(index)
-    copy.write(first, copy.bytes_of(array.array("I", words)))
+    copy.write(it.sh_offset, copy.bytes_of(array.array("I", words)))
     copy.set_field(index, "sh_size", 4 * len(words))
     copy.set_field(index, "sh_entsize", 4)
-    copy.move(index, lambda at: first + (at - first) // 4 * 8)
+    copy.move(index, lambda at: it.sh_offset + (at - it.sh_offset) // 4 * 8)
     return True
 
 
@@ -310,24 +328,25 @@ def _hash_without_locals(copy: Mended, index: int) -> bool:
     """A hash table serves names that other files refer to. So no chain needs the LOCAL symbols, nor
     registers of SPARC V9. Those that are on no chain, and have the chain word 0, are put at the
     front of the chains of their names."""
-    it = copy.words
-    link = it.section(index, "sh_link")
-    content = copy.content(index)
-    symbols = copy.content(link)
+    it = copy.section(index)
+    table = copy.section(it.sh_link)
+    content = copy.content(it)
+    symbols = copy.content(table)
     if content is None or symbols is None:
         return False
     words = copy.numbers("I", content)
     kinds = symbols[4::24]
-    left = [at for at in _off_chains(words) if _may_be_left_out(it.machine, kinds[at])]
-    names = [struct.unpack_from(f"{it.order}I", symbols, 24 * at)[0] for at in left]
-    hashes = copy.hashes(it.section(link, "sh_link"), names)
+    left = [at for at in _off_chains(words) if _may_be_left_out(copy.words.machine, kinds[at])]
+    name = struct.Struct(f"{copy.words.order}I")
+    names = [name.unpack_from(symbols, 24 * at)[0] for at in left]
+    hashes = copy.hashes(table.sh_link, names)
     if not left or hashes is None:
         return False
     for symbol, value in zip(left, hashes):
         bucket = 2 + value % words[0]
         words[2 + words[0] + symbol] = words[bucket]
         words[bucket] = symbol
-    copy.write(it.content(index)[0], copy.bytes_of(words))
+    copy.write(it.sh_offset, copy.bytes_of(words))
     return True
 
 
@@ -360,17 +379,15 @@ def _hashed(name: bytes) -> int:
 def _relocations_without_symbols(copy: Mended, index: int) -> bool:
     """A static program without a symbol table has relocations of symbol 0 alone, as IRELATIVE. They
     are linked to a symbol table that has no other symbol."""
-    it = copy.words
-    kind = it.section(index, "sh_type")
-    content = copy.content(index)
-    is_known = kind in (RELA, REL) and it.number(16, 2) in _EXECUTABLES and content is not None
-    if not is_known or it.section(index, "sh_link") or content is None:
+    it = copy.section(index)
+    content = copy.content(it)
+    is_known = it.sh_type in (RELA, REL) and copy.words.number(16, 2) in _EXECUTABLES
+    if not is_known or it.sh_link or it.sh_info >= copy.count or content is None:
         return False
-    if it.section(index, "sh_info") >= copy.count or len(content) % ENTRY_SIZES[kind]:
-        return False
-    is_first = it.order == ">" or it.machine == _MIPS
+    # The symbol is the upper half of `r_info`, or the first one.
+    is_first = copy.words.order == ">" or copy.words.machine == _MIPS
     places = range(8, 12) if is_first else range(12, 16)
-    if any(any(content[at :: ENTRY_SIZES[kind]]) for at in places):
+    if any(any(content[at :: ENTRY_SIZES[it.sh_type]]) for at in places):
         return False
     link = copy.symbol_table()
     if link:
