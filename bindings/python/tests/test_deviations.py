@@ -14,7 +14,7 @@ import unittest
 from unittest import mock
 from xml.etree import ElementTree
 
-from elfmap import _deviations, _hints, _words, build
+from elfmap import _checks, _deviations, _hints, _words, build
 
 from tests.made import BROKEN_SYMBOLS, GOOD, NAMES, Made, setUpModule, symbols, text  # noqa: F401
 from tests.test_lint import Case
@@ -531,6 +531,73 @@ class ReportTest(DeviationCase):
         part = page.partition("\n### Known deviations\n")[2].partition("\n#")[0]
         rows = [it.split("`")[1] for it in part.splitlines() if it.startswith("| `")]
         self.assertEqual(sorted(rows), sorted(it.name for it in _deviations.DEVIATIONS))
+
+
+class LongFileTest(DeviationCase):
+    """Tables beyond what is read whole, and tables that are checked some at a time."""
+
+    def made(self, front):
+        """A file of which three tables deviate, one of them twice, and two tables are broken."""
+        relocation = struct.pack("<QI4Bq", 8, 1, 0, 0, 18, 3, 0)
+        wrong = struct.pack("<QI4Bq", 8, 9, 0, 0, 18, 3, 0)
+        of_none = struct.pack("<QI4Bq", 8, 0, 0, 0, 18, 3, 0)
+        to_symbols = dict(link=2, info=1, entsize=24)
+        hashed = hash_table([4, 3], [0] * 5)
+        return Made(
+            text(content=bytes(front)),
+            symbols(3, *ROWS, info=3),
+            STRINGS,
+            (b".rela.a", 4, relocation, to_symbols),
+            (b".note", NOTE, notes((b"qt-project!\0", b"ab")), dict(align=8)),
+            (b".rela.b", 4, relocation + wrong, to_symbols),
+            (b".hash", 5, hashed, dict(link=2, entsize=4)),
+            (b".rela.c", 4, of_none, dict(link=0, info=1, entsize=24)),
+            (b".note.cut", NOTE, b"1234", dict(align=8)),
+        )
+
+    def test_however_it_is_read(self):
+        for front in (4, 1 << 16, 200_000):
+            made = self.made(front)
+            data = program(made, MIPS, DYN)
+            at = (54, made.starts[6] + 24 + 8), (59, made.starts[9])
+            known = {
+                "hash-without-locals": 1,
+                "mips-relocation-info": 2,
+                "notes-of-8": 1,
+                "relocations-without-symbols": 1,
+            }
+            strict = [(54, made.starts[4] + 8), (54, made.starts[6] + 8), (59, made.starts[9])]
+            strict += [(59, made.starts[5] + 28), (69, made.starts[7] + 4 * 5)]
+            strict += [(44, made.at(8, "link"))]
+            for most in (1, 50, 1 << 24):
+                with mock.patch.object(_checks, "_MOST_AT_ONCE", most):
+                    lines, found = self.report(data)
+                    self.assertEqual([(it["rule"], it["offset"]) for it in lines], list(at))
+                    self.assertEqual(found, known)
+                    lines, _ = self.report(data, "--strict")
+                    found = [(it["rule"], it["offset"]) for it in lines]
+                    self.assertEqual(sorted(found), sorted(strict))
+
+    def test_a_table_that_is_too_large(self):
+        data = program(self.made(4), MIPS, DYN)
+        with mock.patch.object(_deviations, "_MOST_BYTES", 20):
+            self.assertEqual(self.report(data), self.report(data, "--strict"))
+
+    def test_too_many_sections(self):
+        """The copy has no room for the headers of two more."""
+        data = program(without_symbols(IRELATIVE), kind=EXEC)
+        with mock.patch.object(_deviations, "_RESERVED_COUNT", 7):
+            self.assertEqual(self.report(data), self.report(data, "--strict"))
+        with mock.patch.object(_deviations, "_RESERVED_COUNT", 8):
+            self.assertEqual(self.report(data), ([], {"relocations-without-symbols": 2}))
+
+    def test_a_file_of_almost_the_longest_size(self):
+        """The copy has no room for what it adds."""
+        data = program(without_symbols(IRELATIVE), kind=EXEC)
+        end = len(data) + 64 * 7 + 25
+        for more, is_known in ((0, True), (-1, False)):
+            with mock.patch.object(_deviations, "LONGEST", end + 1 + more):
+                self.assertEqual(not self.report(data)[0], is_known)
 
 
 class ProducerTest(DeviationCase):
