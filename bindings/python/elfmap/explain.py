@@ -32,12 +32,14 @@ import stat
 import textwrap
 from collections.abc import Iterable, Iterator, Sequence
 from contextlib import ExitStack, suppress
+from itertools import chain
 from typing import Any, BinaryIO, NamedTuple, Optional
 
 from elfmap import __version__
 from elfmap._archives import MAGICS, Content, Contents, Member, is_archive, members, printed
 from elfmap._checks import Checks
 from elfmap._commands import USAGE, UNREADABLE, Parser, complain, is_open, run_script
+from elfmap._deviations import DEVIATIONS
 from elfmap._findings import Rule
 from elfmap._hints import hints, link_hints
 from elfmap._link_words import OF_ONE_FILE, Linked, link_words
@@ -61,6 +63,7 @@ _FINDING = re.compile(
     rb"(?P<name>[A-Z_0-9]+) \((?P<link>link )?(?P<rule>\d{1,3})\): ",
     re.S,
 )
+_DEVIATION = re.compile(rb"\(known deviation ([a-z0-9-]+)\)")
 _LINK_RULE = re.compile(r"link-([0-9]{1,3})")
 _FIRST_WORD = re.compile(r"file|refused")
 _WORD = re.compile(r"refused|\d+")
@@ -221,7 +224,7 @@ class Explainer:
             found = self._refusal(int(refusal[1] or 0), numbers)
         elif finding:
             lead = finding.words()
-            found = self._finding(finding)
+            found = chain(self._finding(finding), _readings(line))
         else:
             return ""
         self.count += 1
@@ -292,6 +295,14 @@ class Explainer:
             return
         causes = link_hints(self._named, rule, file, index, entry)
         yield from _link_lines(rule, link_words(self._named, rule, file, index, entry), causes)
+
+
+def _readings(line: bytes) -> Iterator[str]:
+    """How elfmap-lint has read what a finding is about, where the file deviates in a known way."""
+    names = {it.decode() for it in _DEVIATION.findall(line)}
+    for it in DEVIATIONS:
+        if it.name in names:
+            yield f"elfmap-lint read a copy in which that is put right ({it.name}): {it.words}"
 
 
 def _of_link_alone(file: Linked, rule: int, at: int) -> Iterator[str]:

@@ -10,11 +10,12 @@ import os
 import shutil
 import struct
 import subprocess
+import tempfile
 import unittest
 from unittest import mock
 from xml.etree import ElementTree
 
-from elfmap import _checks, _deviations, _hints, _words, build
+from elfmap import _checks, _deviations, _hints, _words, build, explain
 
 from tests.made import BROKEN_SYMBOLS, GOOD, NAMES, Made, setUpModule, symbols, text  # noqa: F401
 from tests.test_lint import Case
@@ -531,6 +532,23 @@ class ReportTest(DeviationCase):
         part = page.partition("\n### Known deviations\n")[2].partition("\n#")[0]
         rows = [it.split("`")[1] for it in part.splitlines() if it.startswith("| `")]
         self.assertEqual(sorted(rows), sorted(it.name for it in _deviations.DEVIATIONS))
+
+
+class ExplainTest(DeviationCase):
+    def test_a_finding_in_a_table_that_deviates(self):
+        self.put(bad__o=mips(1, 2)[0])
+        for words in ([], ["--format", "jsonl"]):
+            found = self.lint("--tables", *words, "bad.o")[1].splitlines()[0]
+            with tempfile.TemporaryFile() as it:
+                with explain.Files() as files:
+                    explain.Explainer([], files).tell([found], it)
+                it.seek(0)
+                told = " ".join(it.read().decode().split())
+            self.assertIn("WRONG_RELOCATION_SYMBOL: the table is refused", told)
+            reading = (
+                "(mips-relocation-info): `r_info` is read as the processor supplement for MIPS"
+            )
+            self.assertIn(reading, told)
 
 
 class LongFileTest(DeviationCase):
