@@ -657,15 +657,19 @@ def has(*tools):
     return all(map(shutil.which, tools))
 
 
-CODE = ".globl work\n.type work,%s\nwork: .quad 0\n.data\n.globl value\nvalue: .quad work\n"
+CODE = b".globl work\nwork: .quad 0\n.data\n.globl value\nvalue: .quad work\n"
+REGISTER = b".register %g7, __thread_self\n"
+# Debian's u-boot-qemu and libc6-mips64el-cross.
+U_BOOT = "/usr/lib/u-boot/{}/uboot.elf"
+MIPS_LIBC = "/usr/mips64el-linux-gnuabi64/lib/libdl.so.2"
 
 
 class ToolchainTest(DeviationCase):
     """Files that real toolchains make."""
 
-    def linked(self, target, *options, emulation=()):
+    def linked(self, target, *options, emulation=(), code=CODE):
         """A shared library of one function and one variable, and its object."""
-        self.put(a__s=(CODE % ("%function" if "arm" in target else "@function")).encode())
+        self.put(a__s=code)
         subprocess.run([f"{target}-as", *options, "-o", "a.o", "a.s"], check=True)
         link = [f"{target}-ld", *emulation, "-shared", "--hash-style=sysv"]
         subprocess.run([*link, "-o", "a.so", "a.o"], check=True)
@@ -698,11 +702,31 @@ class ToolchainTest(DeviationCase):
     def test_sparc64(self):
         self.linked("sparc64-linux-gnu")
         self.assertEqual(self.known("a.so"), {"hash-without-locals": 1})
+        # The table leaves out the register too, which is GLOBAL.
+        self.linked("sparc64-linux-gnu", code=REGISTER + CODE)
+        self.assertEqual(self.known("a.so"), {"hash-without-locals": 1})
 
     @unittest.skipUnless(has("riscv64-linux-gnu-ld"), "binutils for riscv64 is not installed")
     def test_riscv64(self):
         self.linked("riscv64-linux-gnu")
         self.assertEqual(self.known("a.so"), {"hash-without-locals": 1})
+
+    @unittest.skipUnless(os.path.exists(MIPS_LIBC), "libc6-mips64el-cross is not installed")
+    def test_the_c_library_for_mips(self):
+        known = {"hash-without-locals": 1, "mips-relocation-info": 1}
+        self.assertEqual(self.known(MIPS_LIBC), known)
+
+    @unittest.skipUnless(os.path.exists(U_BOOT.format("qemu_arm64")), "U-Boot is not installed")
+    def test_u_boot(self):
+        riscv64 = U_BOOT.format("qemu-riscv64")
+        self.assertEqual(self.known(riscv64), {"hash-without-locals": 1})
+        # Its hash table has no symbol table either, and is no relocation section.
+        words = ["--tables", "--format", "jsonl", U_BOOT.format("qemu_arm64")]
+        finding, summary = map(json.loads, self.lint(*words)[1].splitlines())
+        self.assertEqual((finding["rule"], finding["sections"][0]), (44, ".hash"))
+        self.assertIn(ProducerTest.U_BOOT, finding["message"])
+        known = summary["summary"]["known_deviations"]
+        self.assertEqual(known, {"relocations-without-symbols": 2})
 
     @unittest.skipUnless(glob.glob(SANITIZERS), "clang's runtimes are not installed")
     def test_the_runtimes_of_clang(self):

@@ -13,13 +13,21 @@ from elfmap import _library
 from .header import STRUCTS, calls, calls_in, structs, structs_in
 from .library import BOTH, FOLDER, PACKERS
 from .package_tests import count_run, unittests
-from .requirements import ELF_H, JSONSCHEMA, JUNITPARSER, MACHINES, SANITIZERS
+from .requirements import (
+    ELF_H,
+    JSONSCHEMA,
+    JUNITPARSER,
+    MACHINES,
+    MIPS_LIBC,
+    SANITIZERS,
+    U_BOOT,
+)
 from .suite import Tally, Test
 from .tree import TOP, Options, read_text, said
 
-# What makes the files that deviate from the rules in a known way.
+# What makes files that deviate from the rules in a known way, and some such files.
 LINKERS = [f"{MACHINES[it]}-ld" for it in ("alpha", "mips64", "riscv64", "s390x", "sparc64")]
-PRODUCERS = " ".join([*LINKERS, "cc", "eu-strip", "strip", SANITIZERS])
+PRODUCERS = " ".join([*LINKERS, "cc", "eu-strip", "strip", MIPS_LIBC, SANITIZERS, U_BOOT])
 READERS = f"{ELF_H} {JSONSCHEMA} {JUNITPARSER}"
 BINDERS = f"{PACKERS} cargo fish git mypy pre-commit {READERS} {PRODUCERS}"
 # What Python declares of a struct: its fields, each with its type of ctypes.

@@ -13,6 +13,8 @@ from .tree import run
 
 ELF_H = "/usr/include/elf.h"
 KLIBC = "/usr/lib/klibc/lib/libc.a"
+MIPS_LIBC = "/usr/mips64el-linux-gnuabi64/lib/libdl.so.2"
+U_BOOT = "/usr/lib/u-boot/qemu_arm64/uboot.elf"
 # What Debian's python3 imports.
 IMPORTED = "/usr/lib/python3/dist-packages/{}/__init__.py"
 JINJA2 = IMPORTED.format("jinja2")
@@ -39,6 +41,7 @@ COMMANDS = {
     "gcc": "cc gcc",
     "libclang-rt-14-dev": SANITIZERS,
     "libc6-dev": ELF_H,
+    "libc6-mips64el-cross": MIPS_LIBC,
     "libklibc-dev": KLIBC,
     "lld": "ld.lld",
     "lld-19": "ld.lld-19",
@@ -53,6 +56,7 @@ COMMANDS = {
     "python3-setuptools": SETUPTOOLS,
     "python3-wheel": WHEEL,
     "rustc-web": "rustc",
+    "u-boot-qemu": U_BOOT,
     "util-linux": "prlimit unshare",
 }
 PACKAGES = {
