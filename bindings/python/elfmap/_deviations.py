@@ -87,12 +87,14 @@ class Mended(Source):
     def __init__(self, source: Source) -> None:
         super().__init__(source.handle, source.start, len(source))
         self._source = source
+        self._length = len(source)
         # Bytes that are put right, by where they begin. None of them overlap.
         self._pieces: dict[int, bytearray] = {}
         self._starts: list[int] = []
         # Of a table whose bytes have moved: from where in the copy to where in the file.
         self._places: dict[int, Callable[[int], int]] = {}
         self._no_symbols = 0
+        self._shown: Optional[_MendedWords] = None
         # By a string table and an offset in it.
         self._hashes: dict[tuple[int, int], int] = {}
         self._left_to_hash = _MOST_HASHED
@@ -104,16 +106,15 @@ class Mended(Source):
 
     def __getitem__(self, place: slice) -> bytes:
         start, end, _ = place.indices(self._size)
-        found = self._source[start : min(end, len(self._source))]
-        pieces = list(self._pieces_in(start, end))
-        if not pieces and end <= len(self._source):
+        found = self._source[start : min(end, self._length)]
+        if end <= self._length and next(self._pieces_in(start, end), None) is None:
             return found
         content = bytearray(found.ljust(max(end - start, 0), b"\0"))
         self._put(memoryview(content), start)
         return bytes(content)
 
     def read_into(self, room: memoryview, at: int) -> None:
-        count = min(max(len(self._source) - at, 0), len(room))
+        count = min(max(self._length - at, 0), len(room))
         self._source.read_into(room[:count], at)
         room[count:] = bytes(len(room) - count)
         self._put(room, at)
@@ -199,9 +200,12 @@ class Mended(Source):
         in the copy, and all else as it is in the file."""
         if index is None:
             return explain(Words(self, most), rule, at)
-        if self._holds(index, at):
-            return explain(_MendedWords(self, file, most), rule, at, index)
-        return explain(file, rule, self.place(index, at), index)
+        if not self._holds(index, at):
+            return explain(file, rule, self.place(index, at), index)
+        # One for all findings: it remembers what it has seen of other sections.
+        if self._shown is None:
+            self._shown = _MendedWords(self, file, most)
+        return explain(self._shown, rule, at, index)
 
     def hashes(self, strings: int, names: list[int]) -> Optional[list[int]]:
         """The hashes of names of a string table; None if all names of the file are too long."""

@@ -596,6 +596,17 @@ class LongFileTest(DeviationCase):
                     found = [(it["rule"], it["offset"]) for it in lines]
                     self.assertEqual(sorted(found), sorted(strict))
 
+    def test_many_tables_that_are_broken(self):
+        """What is remembered of a file is found once, and not for each finding."""
+        wrong = struct.pack("<QI4Bq", 8, 9, 0, 0, 18, 3, 0)
+        row = (b".rela", 4, wrong, dict(link=2, info=1, entsize=24))
+        made = Made(text(), symbols(3, (1, GLOBAL, 1)), NAMES, *[row] * 30)
+        own = _deviations._MendedWords
+        with mock.patch.object(_deviations, "_MendedWords", wraps=own) as words:
+            lines, known = self.report(program(made, MIPS))
+        self.assertEqual(([it["rule"] for it in lines], known), ([54] * 30, {}))
+        words.assert_called_once()
+
     def test_a_table_that_is_too_large(self):
         data = program(self.made(4), MIPS, DYN)
         with mock.patch.object(_deviations, "_MOST_BYTES", 20):
