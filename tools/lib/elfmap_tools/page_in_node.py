@@ -2,9 +2,11 @@
 cases/ and of changed copies of them is what `elfmap show` prints, line by line, but for the lines
 of groups."""
 
+import glob
 import json
 import os
 import random
+import re
 
 from .changes import fuzzed
 from .reference import verdict
@@ -36,8 +38,20 @@ def files_for_node(room: str, count: int) -> list[str]:
     return files
 
 
+def scripts_in_node(tally: Tally) -> None:
+    """The tests of the page's scripts that need neither a module nor a browser."""
+    ran = said("node", "--test", *sorted(glob.glob(f"{TOP}/page/tests/*.js")))
+    passed, failed = (
+        sum(int(it) for it in re.findall(rf"^# {word} (\d+)$", ran.stdout, re.M))
+        for word in ("pass", "fail")
+    )
+    is_whole = passed and not failed and ran.returncode == 0
+    tally.count(max(passed + failed, 1), [] if is_whole else [ran.stdout])
+
+
 def in_node(tally: Tally, room: str, count: int) -> None:
     """What the page's reader tells of files is what `elfmap show` prints."""
+    scripts_in_node(tally)
     files = files_for_node(room, count)
     layout_path = write(f"{room}/layout.json", json.dumps(layout()))
     script = ["node", f"{TOP}/cases/sources/page_reads_as_show.js", module(), layout_path]
