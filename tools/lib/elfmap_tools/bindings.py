@@ -12,7 +12,7 @@ from elfmap import _library
 
 from .header import STRUCTS, calls, calls_in, structs, structs_in
 from .library import BOTH, FOLDER, PACKERS
-from .package_tests import count_run, unittests
+from .package_tests import count_run, skipped_tests, unittests
 from .requirements import ELF_H, JSONSCHEMA, JUNITPARSER
 from .suite import Tally, Test
 from .tree import TOP, Options, read_text, said
@@ -87,6 +87,7 @@ def declarations(tally: Tally) -> None:
 )
 def try_bindings(tally: Tally, options: Options) -> None:
     declarations(tally)
+    skipped_tests(tally)
     unittests(tally)
     folders = {"CARGO_HOME": f"{tally.folder}/cargo", "CARGO_TARGET_DIR": f"{tally.folder}/target"}
     env = os.environ | folders | {"ELFMAP_LIB_DIR": FOLDER, "CARGO_INCREMENTAL": "0"}
