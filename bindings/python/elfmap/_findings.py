@@ -14,6 +14,7 @@ from typing import NamedTuple, Optional, Union
 from elfmap._link_words import OF_ONE_FILE
 from elfmap._rules import LINK_RULES, RULES
 from elfmap._sources import reason_of
+from elfmap._words import printable
 
 
 class Rule(NamedTuple):
@@ -159,7 +160,7 @@ def _words_of_rules() -> Iterator[tuple[str, Rule]]:
 
 
 def _plain(word: str) -> str:
-    """A name or a number, however it is written."""
+    """A name in capitals, with `_` for `-`; or a number without zeros in front."""
     return word.lstrip("0") if word.isdecimal() else word.upper().replace("-", "_")
 
 
@@ -212,9 +213,9 @@ class Baseline:
             entries = json.loads(Path(path).read_bytes())["findings"]
             return cls((it["path"], it["rule"], tuple(it["sections"])) for it in entries)
         except OSError as fault:
-            raise BadWord(f"{path}: {reason_of(fault)}") from None
+            raise BadWord(f"{printable(os.fsencode(path))}: {reason_of(fault)}") from None
         except (ValueError, KeyError, TypeError, RecursionError):
-            raise BadWord(f"{path} is no baseline") from None
+            raise BadWord(f"{printable(os.fsencode(path))} is no baseline") from None
 
     def match(self, finding: Finding) -> bool:
         own = known(finding)

@@ -12,7 +12,7 @@ from urllib.parse import quote_from_bytes
 
 from elfmap import __version__
 from elfmap._findings import Finding, Known, Report, Rule, Unread, known
-from elfmap._words import one_line, printable
+from elfmap._words import one_line, printable, visible
 
 # What ends a record: a line feed, or a zero byte.
 Format = Callable[[Report, bytes], Iterable[bytes]]
@@ -101,10 +101,10 @@ def _command(level: str, path: bytes, title: str, message: str) -> bytes:
     def escaped(words: str, more: str = "") -> str:
         return "".join(f"%{ord(it):02X}" if it in "%\r\n" + more else it for it in words)
 
-    # Those signs are escaped as the file's own, so that it is found. Others that can't be printed
-    # are not.
+    # Those signs are escaped as the file's own, and a backslash is as it is, so that the file is
+    # found. One with others that can't be printed is not.
     own = escaped(path.decode("utf-8", "surrogateescape"), ":,")
-    file = printable(own.encode("utf-8", "surrogateescape"))
+    file = visible(own.encode("utf-8", "surrogateescape")).decode("utf-8")
     words = f"file={file},title={escaped(title, ':,')}::{escaped(message)}"
     return _encoded(f"::{level} {words}")
 

@@ -10,7 +10,7 @@ from typing import Optional
 
 from elfmap._link_words import UNDEFINED_NAME, Linked
 from elfmap._names import machine_words, relocation_types, section_type
-from elfmap._words import SECTION, Words, one_line
+from elfmap._words import SECTION, Words, visible
 
 TOO_SHORT = 2
 WRONG_MAGIC = 3
@@ -118,10 +118,10 @@ def _address_significance(words: Words, path: str, at: int) -> Iterator[str]:
 
 def _shell_word(path: bytes) -> str:
     """A path as a word of a command for bash, zsh or ksh, in letters that can be printed."""
-    if one_line(path) == path:
+    if visible(path) == path:
         return shlex.quote(os.fsdecode(path))
     quoted = _QUOTED.sub(rb"\\\g<0>", path)
-    return f"$'{one_line(quoted).decode()}'"
+    return f"$'{visible(quoted).decode()}'"
 
 
 def link_hints(

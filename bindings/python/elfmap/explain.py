@@ -112,18 +112,15 @@ class Files:
         stack.close()
 
     def _content(self, path: bytes, stack: ExitStack) -> Content:
-        why = "no such file or directory"
-        # In text what can't be printed of a path is escaped.
-        for own in dict.fromkeys((path, original_path(path))):
-            if os.path.lexists(own):
-                return Content(path, own, stack.enter_context(opened(own)))
-            archive = _archive_of(own)
-            member = self._member(own, archive, stack) if archive else None
-            if member:
-                return member
-            if archive:
-                why = "the archive has no such member"
-        raise Unreadable(why)
+        if os.path.lexists(path):
+            return Content(path, path, stack.enter_context(opened(path)))
+        archive = _archive_of(path)
+        member = self._member(path, archive, stack) if archive else None
+        if member:
+            return member
+        raise Unreadable(
+            "the archive has no such member" if archive else "no such file or directory"
+        )
 
     def _member(self, path: bytes, archive: bytes, stack: ExitStack) -> Optional[Content]:
         """The first member of this path: an archive may have several."""
@@ -169,10 +166,12 @@ def _archive_of(path: bytes) -> Optional[bytes]:
 
 
 class Explainer:
-    """Explains lines of the program about given files, and findings about any."""
+    """Explains lines of the program about given files, and findings about any. Of records, which
+    end by a zero byte, the paths are as they are."""
 
-    def __init__(self, named: Sequence[Linked], files: Files) -> None:
+    def __init__(self, named: Sequence[Linked], files: Files, of_records: bool = False) -> None:
         self._named = named
+        self._of_records = of_records
         self._files = files
         self._filled = textwrap.TextWrapper(
             WIDTH, subsequent_indent="  ", break_long_words=False, break_on_hyphens=False
@@ -198,7 +197,7 @@ class Explainer:
     def explain(self, line: bytes) -> str:
         """The words for a line; none where it is no refusal and no finding."""
         refusal = _REFUSAL.match(line.strip())
-        finding = None if refusal else finding_in(line)
+        finding = None if refusal else finding_in(line, self._of_records)
         if refusal:
             lead = printable(line.strip())
             numbers = [int(it) for it in refusal[2].split()]
@@ -293,12 +292,13 @@ def _link_lines(rule: int, place: str, causes: Iterable[str]) -> Iterator[str]:
     yield from (f"what to do: {advice}", Rule(True, rule).place)
 
 
-def finding_in(line: bytes) -> Optional[Finding]:
-    """The finding of elfmap-lint in a line of text, or of JSON."""
+def finding_in(line: bytes, of_records: bool) -> Optional[Finding]:
+    """The finding of elfmap-lint in a line or a record of text, or of JSON."""
     found = _FINDING.match(line)
     if found:
+        path = found["path"] if of_records else original_path(found["path"])
         rule = Rule(bool(found["link"]), int(found["rule"]))
-        return Finding(found["path"], int(found["offset"], 16), rule, found["name"].decode())
+        return Finding(path, int(found["offset"], 16), rule, found["name"].decode())
     if line.lstrip()[:1] != b"{":
         return None
     try:
@@ -440,7 +440,7 @@ def main(words: Optional[Sequence[str]] = None) -> int:
         except Unreadable as fault:
             complain(PROGRAM, fault.reason.encode("utf-8", "surrogateescape"))
             return UNREADABLE
-        explainer = Explainer(named, stack.enter_context(Files()))
+        explainer = Explainer(named, stack.enter_context(Files()), options.zero)
         lines = records(b"\0" if options.zero else b"\n") if is_read else iter([line])
         return _explain_all(explainer, lines, "standard input refuses nothing; " if is_read else "")
     return UNREADABLE

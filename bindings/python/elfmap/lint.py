@@ -365,7 +365,7 @@ def main(words: Optional[Sequence[str]] = None) -> int:
         run.check()
         run.tell()
     except BrokenPipeError:
-        pass  # The reader has gone.
+        raise
     except OSError as fault:
         complain(PROGRAM, failure(fault))
         return UNREADABLE

@@ -294,7 +294,7 @@ class ArgumentsTest(unittest.TestCase):
         of_module = {name for name, it in every.items() if not isinstance(it, (type, str))}
         public = {name: it for name, it in vars(elfmap.File).items() if name[0] != "_"}
         of_file = {name for name, it in public.items() if not isinstance(it, property)}
-        self.assertEqual(of_module - self.OTHERS, self.OF_BYTES.keys() - {"File", "refused_tables"})
+        self.assertEqual(of_module - self.OTHERS, self.OF_BYTES.keys() - {"File"})
         self.assertEqual(of_file - self.OTHERS, self.OF_SECTIONS.keys())
 
     def test_contents(self):

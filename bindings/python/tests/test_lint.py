@@ -963,6 +963,19 @@ class OptionTest(Case):
         self.lint("--write-baseline", "known.json", "a")
         self.assertEqual(self.lint("--baseline", "known.json", "a")[0], 0)
 
+    def test_a_baseline_of_names_that_look_alike(self):
+        """A section has an escape in its name, another one what it looks like."""
+        names = (b"\x1b", b"\\x1b", b"\x80", "\x80".encode(), b"\\x80")
+        data = (b".data", 1, b"\1\2\3\4", {})
+        files = {it: Made(text(it), data).with_field(2, "offset", 0x72) for it in names}
+        for known in names:
+            Path("x.o").write_bytes(files[known])
+            self.lint("--write-baseline", "known.json", "x.o")
+            for name in names:
+                Path("x.o").write_bytes(files[name])
+                status = self.lint("--baseline", "known.json", "x.o")[0]
+                self.assertEqual(status, int(name != known), (known, name))
+
     def test_what_is_no_baseline(self):
         for content in (
             b"",
