@@ -52,7 +52,9 @@ test("the last view is drawn, also if an earlier one is answered later", async (
     page.script("zoom(0, 64)");
     await settled();
     assert.deepEqual(page.labels("map"), ["the ELF header: 64 bytes from 0x0"]);
-    while (page.asked.length) await page.answer([section(".text")]);
+    await page.answer([section(".text")]);
+    // It asks for no more.
+    assert.equal(page.asked.length, 0);
     assert.deepEqual(page.labels("map"), ["the ELF header: 64 bytes from 0x0"]);
     assert.equal(page.by_id("map-scale").children[1].textContent, "0x40");
 });
@@ -134,6 +136,7 @@ test("a gap is cut where segments begin and end", () => {
     assert.deepEqual(pieces([load(0, 80, 20), load(1, 90, 20)]), [[64, 16, null], [80, 10, 0], [90, 10, 0], [100, 10, 1], [110, 54, null]]);
     // One that takes memory alone cuts nothing.
     assert.deepEqual(pieces([load(0, 100, 0)]), [[64, 100, null]]);
+    assert.deepEqual(pieces([load(0, 80, 40), load(1, 100, 0)]), [[64, 16, null], [80, 40, 0], [120, 44, null]]);
 });
 
 test("the parts have the colours of what they hold", () => {
@@ -142,7 +145,8 @@ test("the parts have the colours of what they hold", () => {
     assert.deepEqual([2, 3, 5, 11, 18].map((it) => kind(it, 2)), Array(5).fill("symbols and strings"));
     assert.deepEqual([4, 9].map((it) => kind(it, 2)), Array(2).fill("relocations"));
     assert.deepEqual([6, 7, 14, 15, 16, 17].map((it) => kind(it, 3)), Array(6).fill("other"));
-    assert.deepEqual([6, 4, 3, 1, 2, 0].map((it) => kind(1, it)), ["code", "code", "data", "data", "constants", "other"]);
+    assert.deepEqual([7, 6, 5, 4].map((it) => kind(1, it)), Array(4).fill("code"));
+    assert.deepEqual([3, 1, 2, 0].map((it) => kind(1, it)), ["data", "data", "constants", "other"]);
     assert.equal(page.script("kind_of_part(null)"), "gap");
     assert.deepEqual([0, 1, 2].map((it) => page.script(`kind_of_part(${it})`)), Array(3).fill("header and tables"));
     assert.deepEqual([5, 7, 6, 4, 0].map((it) => page.script(`kind_of_segment({ p_flags: ${it} })`)), ["code", "code", "data", "constants", "constants"]);
@@ -227,10 +231,12 @@ test("the bytes of the last place that was asked for are drawn", async () => {
     await settled();
     const [first, second] = page.asked.splice(0);
     page.asked.push(second);
-    await page.answer(new Uint8Array(512));
+    await page.answer(new Uint8Array(512).fill(2));
     page.asked.push(first);
-    await page.answer(new Uint8Array(512));
+    await page.answer(new Uint8Array(512).fill(1));
     assert.equal(page.by_id("bytes-words").textContent, "Bytes 0x1000 to 0x11ff of 5,000 bytes");
+    const [, digits] = page.by_id("bytes").tBodies[0].children[0].children;
+    assert.equal(digits.children.at(-1).slice(0, 5), "02 02");
 });
 
 test("rows come a hundred at a time", async () => {

@@ -21,6 +21,7 @@ test("a name is text, and what can't be seen of it is escaped", () => {
         ["\x00\x1b\x1f\x7f", "\\x00\\x1b\\x1f\\x7f"],
         ["\u0080\u009f\u00a0", "\\u0080\\u009f\u00a0"],
         ["\u202e\u2066\u2028\ufeff", "\\u202e\\u2066\\u2028\\ufeff"],
+        ["\ufeffn", "\\ufeffn"],
         ["\\x1b", "\\\\x1b"],
         ["😀", "😀"],
     ]) assert.equal(words_of(bytes(name)), shown);
@@ -31,11 +32,14 @@ test("a name is text, and what can't be seen of it is escaped", () => {
 test("two names differ in print", () => {
     const pieces = ["\\", "x", "1", "b", "u", "0", "8", 0x1b, 0x80, 0xc2].map((it) => bytes(it));
     const shown = new Map();
-    for (let k = 0; k < pieces.length ** 4; k++) {
-        const name = Buffer.concat([0, 1, 2, 3].map((it) => pieces[Math.floor(k / pieces.length ** it) % pieces.length]));
-        const words = words_of(new Uint8Array(name));
-        assert.equal(shown.get(words) ?? name.toString("hex"), name.toString("hex"));
-        shown.set(words, name.toString("hex"));
+    let names = [Buffer.alloc(0)];
+    for (let length = 1; length <= 4; length++) {
+        names = names.flatMap((it) => pieces.map((piece) => Buffer.concat([it, piece])));
+        for (const name of names) {
+            const words = words_of(new Uint8Array(name));
+            assert.equal(shown.get(words) ?? name.toString("hex"), name.toString("hex"));
+            shown.set(words, name.toString("hex"));
+        }
     }
 });
 
@@ -101,4 +105,32 @@ test("the field of an entry that holds an offset", () => {
     assert.deepEqual(found("relocation", 16, 24), ["r_addend of ", 24]);
     assert.deepEqual(found("entry", 8, 16), ["d_un of ", 16]);
     assert.deepEqual(found("word", 0, 4), ["", 4]);
+});
+
+// A worker whose notes have these names, and may take their time.
+function searched(name_of) {
+    const { QUESTIONS, search } = made_worker("QUESTIONS", "search");
+    QUESTIONS.notes = (from) => [{ name: name_of(from), n_type: 5, desc: { start: 0, len: 0 } }];
+    return (count, text) => search("notes", 0, count, text);
+}
+
+test("a search finds what is in any row and column", async () => {
+    const search = searched((k) => (k % 12_345 === 7 ? "Sought" : `name ${k}`));
+    assert.deepEqual([...await search(25_000, "sought")], [7, 12_352, 24_697]);
+    assert.deepEqual([...await search(25_000, "SOUGHT")], [7, 12_352, 24_697]);
+    assert.deepEqual([...await search(12_352, "sought")], [7]);
+    assert.equal((await search(100, "0x5")).length, 100);
+    assert.deepEqual([...await search(100, "no such name")], []);
+});
+
+test("a search ends where a later one begins", async () => {
+    const search = searched((k) => {
+        const end = performance.now() + 60;
+        while (k === 0 && performance.now() < end);
+        return `name ${k}`;
+    });
+    const first = search(10, "name");
+    const second = search(3, "name");
+    assert.equal(await first, null);
+    assert.deepEqual([...await second], [0, 1, 2]);
 });
