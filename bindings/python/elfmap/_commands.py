@@ -9,7 +9,7 @@ import signal
 import sys
 from collections.abc import Callable, Sequence
 from contextlib import suppress
-from typing import NoReturn, Optional, TextIO
+from typing import Any, NoReturn, Optional, TextIO
 
 from elfmap._sources import reason_of
 from elfmap._words import one_line, visible
@@ -25,6 +25,14 @@ class Parser(argparse.ArgumentParser):
         _write(self.format_usage().encode("utf-8", "backslashreplace"))
         complain(self.prog, b"error: " + message.encode("utf-8", "surrogateescape"))
         sys.exit(USAGE)
+
+    def _print_message(self, message: str, file: Any = None) -> None:
+        """Writes the help or the version. If that fails, the command has failed: argparse would go
+        on."""
+        if file is None:
+            _write(message.encode("utf-8", "backslashreplace"))
+        else:
+            file.write(message)
 
     def in_any_order(self, words: Optional[Sequence[str]], operands: str) -> argparse.Namespace:
         """Reads words among which options may be anywhere; after `--` there are none. `operands`

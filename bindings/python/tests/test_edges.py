@@ -237,40 +237,60 @@ class NamesTest(Case):
 
 
 class ExamplesTest(Case):
-    """The example programs print names from files of strangers."""
+    """The example programs: what they print of files, of which others chose the names, and their
+    statuses."""
 
     def setUp(self):
         super().setUp()
-        name = NAME
-        strings = (b".strtab", 3, b"\0" + name + b"\0", {})
-        made = Made(text(NAME), symbols(3, (1, 0x10, 1)), strings)
-        self.put(symbols__o=bytes(made.data))
+        strings = (b".strtab", 3, b"\0" + NAME + b"\0", {})
+        made = Made(text(NAME), symbols(3, (1, 0x10, 1, 0x1234)), strings)
+        self.put(symbols__o=bytes(made.data), bad__o=SHARING)
 
     def printed(self, *words):
-        every = [*words, "symbols.o"]
-        ran = subprocess.run(every, capture_output=True, env=ENVIRONMENT, timeout=60)
-        self.assertEqual((ran.returncode, ran.stderr), (0, b""))
-        return ran.stdout.decode("ascii").splitlines()
+        """The status, the lines, and what is said on standard error."""
+        ran = subprocess.run(words, capture_output=True, env=ENVIRONMENT, timeout=60)
+        return ran.returncode, ran.stdout.decode("ascii").splitlines(), ran.stderr
 
-    def test_python(self):
-        found = self.printed(sys.executable, str(PACKAGE / "examples/symbols.py"))
-        self.assertEqual(found, ["0x0 ", f"0x0 {ESCAPED}"])
-
-    @unittest.skipUnless(shutil.which("cc"), "cc is not installed")
-    def test_c(self):
+    def compiled(self, name):
+        """The program of bindings/c."""
         folder = build.REPOSITORY
         try:
             archive = build.archive()
         except FileNotFoundError as fault:
             raise unittest.SkipTest(str(fault)) from None
-        for name, lines in (
-            ("symbols", ["0x0 ", f"0x0 {ESCAPED}"]),
-            ("sections", ["0x0 ", f"0x33 {ESCAPED}"]),
-        ):
-            sources = [f"{folder}/bindings/c/{name}.c", str(archive)]
-            compiler = ["cc", "-std=c99", f"-I{folder}/include"]
-            subprocess.run([*compiler, *sources, "-o", name], check=True)
-            self.assertEqual(self.printed(f"./{name}")[:2], lines)
+        sources = [f"{folder}/bindings/c/{name}.c", str(archive)]
+        compiler = ["cc", "-std=c99", f"-I{folder}/include"]
+        subprocess.run([*compiler, *sources, "-o", name], check=True)
+        return f"./{name}"
+
+    def test_python(self):
+        script = [sys.executable, str(PACKAGE / "examples/symbols.py")]
+        lines = ["0x0 ", f"0x1234 {ESCAPED}"]
+        self.assertEqual(self.printed(*script, "symbols.o"), (0, lines, b""))
+        self.assertEqual(self.printed(*script, "bad.o"), (1, ["refused 33 114"], b""))
+
+    @unittest.skipUnless(shutil.which("cc"), "cc is not installed")
+    def test_symbols_in_c(self):
+        program = self.compiled("symbols")
+        lines = ["0x0 ", f"0x1234 {ESCAPED}"]
+        self.assertEqual(self.printed(program, "symbols.o"), (0, lines, b""))
+        self.assertEqual(self.printed(program, "bad.o"), (1, ["refused 33 114"], b""))
+        lost = b"symbols: the file can't be read\n"
+        self.assertEqual(self.printed(program, "none"), (3, [], lost))
+        self.assertEqual(self.printed(program), (2, [], b"usage: symbols FILE\n"))
+
+    @unittest.skipUnless(shutil.which("cc"), "cc is not installed")
+    def test_sections_in_c(self):
+        program = self.compiled("sections")
+        size = len(b"\0" + NAME + b"\0")
+        names = [f"0x33 {ESCAPED}", "0x30 .symtab", f"{size:#x} .strtab"]
+        own = 1 + len(NAME) + 1 + len(b".symtab\0.strtab\0.shstrtab\0")
+        lines = ["0x0 ", *names, f"{own:#x} .shstrtab"]
+        self.assertEqual(self.printed(program, "symbols.o"), (0, lines, b""))
+        self.assertEqual(self.printed(program, "bad.o"), (1, ["refused 33 114"], b""))
+        lost = b"sections: the file can't be read\n"
+        self.assertEqual(self.printed(program, "none"), (3, [], lost))
+        self.assertEqual(self.printed(program), (2, [], b"usage: sections FILE\n"))
 
 
 class ReaderTest(Case):

@@ -16,7 +16,7 @@ from pathlib import Path
 import elfmap
 from elfmap import build
 
-from tests.made import Made, symbols, text
+from tests.made import BROKEN_SYMBOLS, GOOD, SHARING, Made, symbols, text
 
 PACKAGE = Path(__file__).resolve().parents[1]
 sys.path.insert(0, str(build.REPOSITORY / "tools" / "lib"))
@@ -176,6 +176,21 @@ class RefusedTest(unittest.TestCase):
         for rule in range(1, 17):
             sentence = elfmap.NotLinked(rule, 0, 0, 0).sentence
             self.assertTrue(sentence.startswith("the link is refused because "))
+
+
+class RefusedTablesTest(unittest.TestCase):
+    def test_they_are_those_that_show_refuses(self):
+        """Section, rule and offset, in the order of sections."""
+        lines = [it.split() for it in elfmap.show(BROKEN_SYMBOLS).splitlines()]
+        shown = [tuple(map(int, it[1:])) for it in lines if it[0] == "refused"]
+        self.assertEqual(elfmap.refused_tables(BROKEN_SYMBOLS), shown)
+        sections = elfmap.parse(BROKEN_SYMBOLS).sections
+        # Symbol 1 is of a section that isn't there, by its st_shndx.
+        own = next(k for k, it in enumerate(sections) if it.sh_type == elfmap.SHT.SYMTAB)
+        self.assertEqual(shown[0], (own, 51, sections[own].sh_offset + 24 + 6))
+        self.assertEqual([section for section, _, _ in shown], [own, own + 2, own + 3])
+        self.assertEqual(elfmap.refused_tables(GOOD), [])
+        self.assertRaises(elfmap.Refused, elfmap.refused_tables, SHARING)
 
 
 class LinkTest(unittest.TestCase):

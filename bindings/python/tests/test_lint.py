@@ -152,6 +152,15 @@ class WordsTest(Case):
         self.assertEqual(line.count(".data [0x40, 0x41)"), 16, line)
         self.assertIn("and of 84 more share byte 0x40; ", line)
 
+    def test_a_byte_of_a_file_of_many_sections(self):
+        """More than there is room for at first."""
+        made = Made(*[(b".data", 1, b"\1", {}) for _ in range(400)])
+        self.put(bad__o=made.with_field(400, "offset", 64), good__o=bytes(made.data))
+        lines = self.told("bad.o", "good.o")
+        shared = "bad.o: offset 0x40: SHARED_BYTE (33): the content of .data [0x40, 0x41) and of"
+        self.assertTrue(lines[0].startswith(shared), lines)
+        self.assertEqual(lines[1:], ["1 finding in 1 of 2 ELF files"])
+
     def test_a_byte_of_the_header(self):
         self.put(bad__o=Made(text()).with_field(1, "offset", 0x3F))
         owners = "the ELF header [0x0, 0x40) and the content of .text [0x3f, 0x72) share byte 0x3f"
@@ -241,6 +250,16 @@ class DepthTest(Case):
             " 0x63; "
         )
         self.assertTrue(lines[0].startswith(words), lines[0])
+
+    def test_a_symbol_table_after_what_links_to_it(self):
+        """The fault is that of the symbols all the same."""
+        strings = (b".strtab", 3, b"\0f\0", {})
+        bad = Made(text(), relocations(3, 1), symbols(4, (1, 0x10, 99)), strings)
+        self.put(bad__o=bytes(bad.data))
+        lines = self.told("--tables", "bad.o")
+        self.assertEqual(len(lines), 2)
+        self.assertIn("the content of section 3 .symtab ", lines[0])
+        self.assertNotIn(".rela.text", lines[0])
 
     def test_each_table_with_its_own_fault(self):
         parts = [
@@ -379,6 +398,8 @@ class DepthTest(Case):
         for words in (["--tables"], ["--object"]):
             lines = self.told(*words, "bad.o")
             self.assertTrue(lines[0].startswith(front), lines)
+            with mock.patch.object(_checks, "_MOST_AT_ONCE", 0):
+                self.assertEqual(self.told(*words, "-j1", "bad.o"), lines)
 
     def test_more_sections_than_the_header_counts(self):
         """0xff01 sections: their count, and the index of the names, are in section header 0. The
@@ -414,6 +435,14 @@ class DepthTest(Case):
                 f"many.o: offset {at:#x}: WRONG_SECTION_ALIGNMENT (22): {words}"
             )
         )
+
+    def test_the_end_of_section_names_after_what_is_read_whole(self):
+        made = Made(text(content=bytes(1 << 17)))
+        end = made.names + len(b"\0.text\0.shstrtab\0")
+        for at in (made.names, end - 1):
+            self.put(bad__o=made.with_bytes(at, b"x"))
+            words = f"bad.o: offset {at:#x}: UNCLOSED_NAME_TABLE (31): "
+            self.assertTrue(self.told("bad.o")[0].startswith(words))
 
     def test_program_headers_after_what_is_read_whole(self):
         start = 1 << 17
@@ -694,6 +723,9 @@ class FormatTest(Case):
             [sections, [member, *sections]],
         )
         self.assertEqual({it["level"] for it in results}, {"error"})
+        regions = [it["locations"][0]["physicalLocation"]["region"] for it in results]
+        starts = [0, Path("a/lib.a").read_bytes().index(SHARING)]
+        self.assertEqual(regions, [dict(byteOffset=it + 0x72, byteLength=1) for it in starts])
 
     def test_sarif_of_sections_of_one_name(self):
         """The schema asks for locations that differ."""
@@ -1266,6 +1298,19 @@ class ArchiveTest(Case):
         self.assertEqual(
             found["locations"][0]["physicalLocation"]["artifactLocation"]["uri"], "a/b/bad.o"
         )
+
+    def test_the_sizes_in_a_thin_archive(self):
+        """They are those of the files. No content is between the headers."""
+        names = (b"bad.o", b"good.o", b"worse.o")
+        table = b"".join(it + b"/\n" for it in names)
+        starts = [table.index(it + b"/\n") for it in names]
+        header = archive_member(b"", bytes(len(SHARING)), b"")[:60]
+        headers = b"".join(b"/%-15d" % it + header[16:] for it in starts)
+        thin_one = b"!<thin>\n" + archive_member(b"/", table) + headers
+        self.put(thin__a=thin_one, bad__o=SHARING, good__o=GOOD, worse__o=SHARING)
+        found = [it.partition(": ")[0] for it in self.told("thin.a")]
+        self.assertEqual(found[:2], ["thin.a(bad.o)", "thin.a(worse.o)"])
+        self.assertEqual(found[2:], ["2 findings in 2 of 3 ELF files"])
 
     def test_a_thin_archive_of_files_elsewhere(self):
         os.makedirs("a")

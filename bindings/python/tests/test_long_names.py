@@ -278,7 +278,9 @@ class EscapeTest(Case):
     def test_two_names_differ_in_print(self):
         """A name may have what an escape looks like."""
         pieces = (b"\\", b"x", b"1", b"b", b"u", b"0", b"8", b"n", b"\x1b", b"\x80", b"\xc2", b"\n")
-        names = {b"".join(it) for it in itertools.product(pieces, repeat=4)}
+        counts = range(1, 5)
+        made = (it for count in counts for it in itertools.product(pieces, repeat=count))
+        names = {b"".join(it) for it in made}
         for printed in (printable, one_line):
             self.assertEqual(len({printed(it) for it in names}), len(names))
         for it in names:

@@ -121,6 +121,17 @@ class ClosedTest(FolderCase):
         data.append(0)
         file.close()
 
+    def test_the_bytes_of_a_refused_file_are_free(self):
+        """Also while the error is looked at."""
+        data = bytearray(SHARING)
+        try:
+            elfmap.parse(data)
+        except elfmap.Refused as refused:
+            data.append(0)
+            self.assertEqual((refused.rule, len(data)), (33, len(SHARING) + 1))
+        else:
+            self.fail("it is not refused")
+
     def test_what_is_closed(self):
         file = elfmap.parse(NOTED)
         sections = file.sections
@@ -234,7 +245,7 @@ class NotLinkedTest(unittest.TestCase):
     def test_names_about_as_long_as_what_is_read_at_once(self):
         for length in (4095, 4096, 4097, 1 << 16, (1 << 16) + 1):
             name = b"n" * length
-            strings = (b".strtab", 3, b"\0" + name + b"\0more", {})
+            strings = (b".strtab", 3, b"\0" + name + b"\0more\0", {})
             found = self.refused(bytes(Made(text(), symbols(3, (1, 0x10, 0)), strings).data))
             self.assertEqual(found.symbol, name)
 
