@@ -16,7 +16,7 @@ from pathlib import Path
 import elfmap
 from elfmap import build
 
-from tests.made import BROKEN_SYMBOLS, GOOD, SHARING, Made, symbols, text
+from tests.made import BROKEN_SYMBOLS, GOOD, SHARING, Made, relocations, symbols, text
 
 PACKAGE = Path(__file__).resolve().parents[1]
 sys.path.insert(0, str(build.REPOSITORY / "tools" / "lib"))
@@ -469,6 +469,45 @@ class BytesTest(unittest.TestCase):
 
 
 class RecordsTest(unittest.TestCase):
+    def test_contents_and_parts(self):
+        file = elfmap.parse(GOOD)
+        _, code, names = file.sections
+        self.assertEqual((code.name, bytes(code.content)), (b".text", b"\x90" * 0x33))
+        self.assertEqual(bytes(names.content), b"\0.text\0.shstrtab\0")
+        parts = [(0, 64, "header"), (0x40, 0x33, 1), (0x73, 17, 2), (0x84, 4, "gap")]
+        self.assertEqual(file.parts, [*parts, (0x88, 3 * 64, "section headers")])
+
+    def test_a_segment_is_longer_in_memory(self):
+        header = (b"\x7fELF\2\1\1", 2, 62, 1, 0x1000, 64, 0, 0, 64, 56, 1, 0, 0, 0)
+        loaded = (1, 5, 64, 0x1040, 0x1040, 60, 0x2000, 0x1000)
+        data = struct.pack("<16sHHIQQQIHHHHHH", *header) + struct.pack("<IIQQQQQQ", *loaded)
+        file = elfmap.parse(data + b"code" + bytes(100))
+        (segment,) = file.segments
+        self.assertEqual(segment[:-1], loaded)
+        self.assertEqual(bytes(segment.content), data[64:] + b"code")
+        addresses = (0x103F, 0x1040, 0x1078, 0x107B, 0x107C, 0x303F, 0x3040)
+        found = [file.load(it) for it in addresses]
+        self.assertEqual(found, [None, 1, ord("c"), ord("e"), 0, 0, None])
+        parts = [(0, 64, "header"), (64, 56, "program headers"), (120, 104, "gap")]
+        self.assertEqual(file.parts, parts)
+
+    def test_tables_are_of_their_types(self):
+        strings = (b".strtab", 3, b"\0f\0", {})
+        note = (b".note", 7, struct.pack("<3I", 2, 0, 1) + b"f\0\0\0", {})
+        rows = [text(), symbols(3, (1, 0x10, 1)), strings, relocations(2, 1), note]
+        file = elfmap.parse(bytes(Made(*rows).data))
+        sections = range(len(file.sections) + 1)
+        counts = {
+            "symbols": {2: 2},
+            "relocations": {4: 1},
+            "dynamic": {},
+            "notes": {5: 1},
+        }
+        for name, right in counts.items():
+            found = {k: len(getattr(file, name)(k)) for k in sections}
+            self.assertEqual({k: it for k, it in found.items() if it}, right, name)
+        self.assertEqual([k for k in sections if file.columns(k)], [2, 4])
+
     def test_sections_are_a_sequence(self):
         sections = elfmap.parse(small_file()).sections
         self.assertEqual(len(sections), 3)

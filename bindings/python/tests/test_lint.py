@@ -1170,7 +1170,7 @@ class StatusTest(Case):
             [*PROGRAM, "bad.o"], stdout=writing, stderr=subprocess.PIPE, env=ENVIRONMENT
         )
         os.close(writing)
-        self.assertEqual((ran.returncode, ran.stderr), (1, b""))
+        self.assertEqual((ran.returncode, ran.stderr), (128 + signal.SIGPIPE, b""))
 
     def test_a_file_that_can_not_be_read_on(self):
         """Whatever fails while a file is checked, the file is told."""
