@@ -297,6 +297,20 @@ class ReaderTest(Case):
     def test_a_reader_that_has_gone(self):
         """Each command ends silently, with the status of a program that SIGPIPE ends."""
         self.put(good__o=GOOD, bad__o=SHARING)
+        for unbuffered, command, words in self.runs():
+            reading, writing = os.pipe()
+            os.close(reading)
+            script = [sys.executable, "-m", f"elfmap.{command}", *words]
+            env = {**ENVIRONMENT, "PYTHONUNBUFFERED": unbuffered}
+            with open(writing, "wb") as out, self.subTest(command=command, words=words):
+                streams = dict(stdin=subprocess.DEVNULL, stdout=out, stderr=subprocess.PIPE)
+                ran = subprocess.run(script, env=env, timeout=60, **streams)
+                said = [it for it in ran.stderr.splitlines() if b": no such file or " not in it]
+                said = [it for it in said if b": SHARED_BYTE (33): " not in it]
+                self.assertEqual((ran.returncode, said), (128 + signal.SIGPIPE, []))
+
+    def runs(self):
+        """Whether Python is to write at once, a command and its words."""
         for command, words in (
             *((it, ["good.o"]) for it in COMMANDS if it != "same"),
             ("lint", ["bad.o"]),
@@ -306,19 +320,11 @@ class ReaderTest(Case):
             ("gaps", ["none"]),
             ("same", ["good.o", "good.o"]),
             ("same", ["good.o", "bad.o"]),
-            *((it, ["--help"]) for it in COMMANDS),
-            *((it, ["--version"]) for it in COMMANDS),
         ):
-            reading, writing = os.pipe()
-            os.close(reading)
-            script = [sys.executable, "-m", f"elfmap.{command}", *words]
-            with open(writing, "wb") as out, self.subTest(command=command, words=words):
-                ran = subprocess.run(
-                    script, stdout=out, stderr=subprocess.PIPE, env=ENVIRONMENT, timeout=60
-                )
-                said = [it for it in ran.stderr.splitlines() if b": no such file or " not in it]
-                said = [it for it in said if b": SHARED_BYTE (33): " not in it]
-                self.assertEqual((ran.returncode, said), (128 + signal.SIGPIPE, []))
+            yield "", command, words
+        for command in COMMANDS:
+            yield "", command, ["--help"]
+            yield "1", command, ["--version"]
 
     def test_an_end_with_a_text(self):
         """What `sys.exit` is given is the status, or a message."""

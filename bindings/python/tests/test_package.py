@@ -312,6 +312,14 @@ class ColumnsTest(unittest.TestCase):
                 self.assertEqual(file.columns(it), {})
             self.assertTrue(all(memoryview(it).c_contiguous for it in found.values()))
 
+    def test_addends_have_signs(self):
+        entries = struct.pack("<QQqQQq", 0, 1 << 32 | 2, -4, 8, 1 << 32 | 2, 2**63 - 1)
+        rows = (b".rela.text", 4, entries, dict(link=2, info=1, entsize=24))
+        strings = (b".strtab", 3, b"\0f\0", {})
+        file = elfmap.parse(Made(text(), symbols(3, (1, 0x10, 0)), strings, rows).data)
+        self.assertEqual([*file.columns(4)["r_addend"]], [-4, 2**63 - 1])
+        self.assertEqual([it.r_addend for it in file.relocations(4)], [-4, 2**63 - 1])
+
     def test_relocations_without_addends(self):
         entries = struct.pack("<4Q", 8, 1 << 32 | 2, 16, 1 << 32 | 4)
         rows = (b".rel.text", 9, entries, dict(link=2, info=1, entsize=16))

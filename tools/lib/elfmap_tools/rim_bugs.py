@@ -15,11 +15,13 @@ from collections.abc import Callable, Iterable, Iterator
 from concurrent.futures import ThreadPoolExecutor
 from typing import NamedTuple
 
+from .building import built
 from .edits import Edit, bugs_in
-from .library import BOTH, FOLDER, PACKERS, packed
+from .library import FOLDER, PACKERS, packed
 from .page_in_node import different_from_show
 from .requirements import missing
-from .tree import PROCESSORS, PROGRAM, TOP, Texts, read_text, said, write
+from .tree import PROCESSORS, TOP, Texts, read_text, said, write
+from .web_page import module
 
 # A test that takes longer has failed: a bug may make a loop endless.
 MOST_SECONDS = 300
@@ -158,12 +160,21 @@ def without_bugs(part: Part, bugs: list[Edit], tree: str, room: str) -> Iterator
             yield f"{test}: it fails without a bug, or is not there: {ended.stdout[-600:]}"
 
 
+def build_for(name: str, bugs: list[Edit]) -> None:
+    """Builds what the tests of these bugs need, where it is older than its texts."""
+    if name != "page":
+        packed()
+    elif any(it.test == "as_show" for it in bugs):
+        built("elfmap")
+        module()
+
+
 def try_part(name: str, bugs: list[Edit]) -> tuple[list[tuple[Edit, str]], list[str]]:
     """Plants these bugs of a part: how each ended, and what is wrong with the tests that they
     name."""
-    packed()
+    build_for(name, bugs)
     part = PARTS[name]
-    # Each of those that run side by side has a tree of its own, and every so manieth bug.
+    # Each of those that run side by side has a tree of its own, and its share of the bugs.
     shares = [bugs[k :: part.at_once] for k in range(part.at_once)]
     with tempfile.TemporaryDirectory(prefix="mutations-") as room:
         copy_tree(f"{room}/0", part.copied)
