@@ -191,6 +191,8 @@ class RefusedTablesTest(unittest.TestCase):
         self.assertEqual([section for section, _, _ in shown], [own, own + 2, own + 3])
         self.assertEqual(elfmap.refused_tables(GOOD), [])
         self.assertRaises(elfmap.Refused, elfmap.refused_tables, SHARING)
+        # A file that is refused has one line.
+        self.assertEqual(elfmap.show(SHARING), "refused 33 114\n")
 
 
 class LinkTest(unittest.TestCase):
@@ -471,6 +473,9 @@ class BytesTest(unittest.TestCase):
 class RecordsTest(unittest.TestCase):
     def test_contents_and_parts(self):
         file = elfmap.parse(GOOD)
+        header = (b"\x7fELF\2\1\1" + bytes(9), 1, 62, 1, 0, 0, 0x88, 0, 64, 0, 0, 64, 3, 2)
+        self.assertEqual((file.header, file.summary), (header, (len(GOOD), 3, 0)))
+        self.assertEqual(elfmap.check(GOOD), file.summary)
         _, code, names = file.sections
         self.assertEqual((code.name, bytes(code.content)), (b".text", b"\x90" * 0x33))
         self.assertEqual(bytes(names.content), b"\0.text\0.shstrtab\0")
@@ -494,19 +499,25 @@ class RecordsTest(unittest.TestCase):
     def test_tables_are_of_their_types(self):
         strings = (b".strtab", 3, b"\0f\0", {})
         note = (b".note", 7, struct.pack("<3I", 2, 0, 1) + b"f\0\0\0", {})
-        rows = [text(), symbols(3, (1, 0x10, 1)), strings, relocations(2, 1), note]
+        entries = struct.pack("<6Q", 1, 1, 14, 0, 0, 0)
+        dynamic = (b".dynamic", 6, entries, dict(link=3, entsize=16))
+        rows = [text(), symbols(3, (1, 0x12, 1)), strings, relocations(2, 1), note, dynamic]
         file = elfmap.parse(bytes(Made(*rows).data))
         sections = range(len(file.sections) + 1)
         counts = {
             "symbols": {2: 2},
             "relocations": {4: 1},
-            "dynamic": {},
+            "dynamic": {6: 2},
             "notes": {5: 1},
         }
         for name, right in counts.items():
             found = {k: len(getattr(file, name)(k)) for k in sections}
             self.assertEqual({k: it for k, it in found.items() if it}, right, name)
-        self.assertEqual([k for k in sections if file.columns(k)], [2, 4])
+        self.assertEqual([k for k in sections if file.columns(k)], [2, 4, 6])
+        self.assertEqual([*file.dynamic(6)], [(1, 1, b"f"), (14, 0, b"")])
+        symbol = file.symbols(2)[1]
+        self.assertEqual((symbol.name, symbol.binding, symbol.symbol_type), (b"f", 1, 2))
+        self.assertEqual(file.relocations(4)[0], (0, 0, 1, 2))
 
     def test_sections_are_a_sequence(self):
         sections = elfmap.parse(small_file()).sections

@@ -111,6 +111,12 @@ class GapsTest(FolderCase):
             self.assertEqual((status, said), (0, []))
             self.assertEqual(lines[-1], f"{last}; skipped: {count} not ELF")
 
+    def test_excluded(self):
+        self.put(**{"a/a__o": GAPPED, "a/b__o": GAPPED, "c/a__o": GAPPED})
+        for words, count in ((["--exclude", "a.o"], 1), (["--exclude", "a/*"], 1), ([], 3)):
+            summary = self.gaps(*words, "a", "c")[1][-1]
+            self.assertTrue(summary.endswith(f" in {count} ELF file{'s' * (count > 1)}"), summary)
+
     def test_many_sections(self):
         sections = [(b".s", 1, b"\1", {}) for _ in range(500)]
         self.put(a__o=bytes(Made(*sections).data))

@@ -611,6 +611,12 @@ class FormatTest(Case):
         )
         self.assertEqual(lines[3:], [{"summary": counts}])
 
+    def test_jsonl_of_a_member(self):
+        """The offset is one in the member."""
+        lines = [json.loads(it) for it in self.told("--format", "jsonl", "a/lib.a")]
+        self.assertEqual(lines[0]["path"], f"a/lib.a({LONG.decode()})")
+        self.assertEqual(lines[0]["offset"], 0x72)
+
     def test_jsonl_of_a_path_that_is_no_text(self):
         os.rename("a/bad.o", b"a/\xff")
         found = [json.loads(it) for it in self.told("--format", "jsonl", "a")]
@@ -1113,6 +1119,8 @@ class StatusTest(Case):
             (["-j-1", "good.o"], 2),
             (["good.o", "-j-1"], 2),
             (["--jobs", "good.o"], 2),
+            (["--files0-from=-", "-"], 2),
+            (["-0", "--format", "sarif", "good.o"], 2),
             (["-j", "x", "good.o"], 2),
             (["none"], 3),
             (["none", "good.o", "bad.o"], 3),

@@ -494,6 +494,8 @@ class StatusTest(Case):
             ["good.o"],
             ["good.o", "good.o", "good.o"],
             ["--none", "good.o", "good.o"],
+            ["--limit", "-1", "good.o", "good.o"],
+            ["--limit", "x", "good.o", "good.o"],
         ):
             self.assertEqual(self.same(*words)[0], 2)
 
