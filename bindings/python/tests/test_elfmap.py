@@ -571,6 +571,15 @@ class BuildTest(unittest.TestCase):
         self.assertEqual(self.said("-c", self.PROGRAM, XDG_CACHE_HOME=self.room), path)
         self.assertEqual(os.stat(path).st_mtime_ns, made)
 
+    def test_another_library_has_another_place(self):
+        places = []
+        script = "from elfmap import build; print(build.cached())"
+        for content in (b"one", b"another", b"one"):
+            Path(self.room, "libelfmap.a").write_bytes(content)
+            own = dict(ELFMAP_LIB_DIR=self.room, XDG_CACHE_HOME=self.room)
+            places.append(self.said("-c", script, **own))
+        self.assertEqual((places[0] == places[1], places[0] == places[2]), (False, True))
+
     def test_into_a_folder(self):
         path = f"{self.room}/libelfmap.so"
         self.assertEqual(self.said("-m", "elfmap.build", self.room), path)

@@ -28,7 +28,7 @@ MOST_SECONDS = 300
 # What is said of a text that is no program.
 NO_PROGRAM = re.compile(
     r"\b(?:(?:Syntax|Indentation|Name|UnboundLocal|Import|ModuleNotFound|Reference)Error|"
-    r"could not compile|returned non-zero exit status)\b"
+    r"could not compile)\b"
 )
 # Of a folder whose bugs are planted, a test, and a folder that is kept for all of them: how the
 # test ended.
