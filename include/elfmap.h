@@ -330,7 +330,7 @@ bool elfmap_dynamic(const struct elfmap_table *table, const uint8_t *bytes, size
  * index `first` on, one after the other, in the first slots of a buffer of `count` entries. Returns how many these are: all that are below
  * `table->entries` and fit. The other slots are unchanged. Each entry is what the call for one entry returns. If that returns false for a
  * symbol of a table that breaks a rule, no symbol after it is in the buffer. The time of elfmap_symbols also grows with the lengths of the
- * names, which may share bytes.
+ * names, which may share bytes. With a copy of the table in which `strings.len` is 0 it looks for no names, and each is of no bytes.
  */
 uint64_t elfmap_symbols(const struct elfmap_table *table, const uint8_t *bytes, size_t len, uint64_t first, struct elfmap_symbol *buffer,
                         size_t count);

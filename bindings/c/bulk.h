@@ -59,7 +59,10 @@ static void check_many_symbols(const struct elfmap_table *table, struct guarded 
               && buffer[1].st_value == 5 && is_place(buffer[1].name, NAMES_AT + 1, 3) && buffer[1].st_info == 0x12
               && buffer[2].st_size == 7 && is_place(buffer[2].name, NAMES_AT + 5, 6) && buffer[2].section == 70000, "they are right");
     check(elfmap_symbols(table, it.bytes, it.len, UINT64_MAX, buffer, SLOTS) == 0, "none is at the last index");
-    struct elfmap_table cut = *table;
+    struct elfmap_table nameless = *table, cut = *table;
+    nameless.strings.len = 0;
+    check(elfmap_symbols(&nameless, it.bytes, it.len, 1, buffer, SLOTS) == 2 && is_place(buffer[0].name, 0, 0) && buffer[0].st_name == 1
+              && buffer[1].st_name == 5 && buffer[1].section == 70000, "without strings they have no names");
     cut.linked.len = 8;
     check(elfmap_symbols(&cut, it.bytes, it.len, 0, buffer, SLOTS) == 2, "a symbol whose word is missing ends them");
     cut.content.len = 3 * 24 - 1;
