@@ -258,10 +258,13 @@ ListsSymbol b i j r =
 abbrev pub HasRelocation : Table → List ℕ → ℕ → Type 0
 HasRelocation t b j = IsTableOfKind RelocationTable t × (j < relocation_count (has_addends t.sh_type) (slot_bytes b t.content))
 
+-- relocation j by the numbers of a relocation section
+abbrev pub relocation_read : Table → List ℕ → ℕ → Relocation
+relocation_read t b j = relocation_shape (relocation_in (has_addends t.sh_type) (order_named t.ei_data) (slot_bytes b t.content) j)
+
 -- r is relocation j by the numbers of a relocation section; None if it is not there
 abbrev pub ReadsRelocation : Table → List ℕ → ℕ → Option Relocation → Type 0
-ReadsRelocation t b j r =
-    SomeIff r (HasRelocation t b j) (relocation_shape (relocation_in (has_addends t.sh_type) (order_named t.ei_data) (slot_bytes b t.content) j))
+ReadsRelocation t b j r = SomeIff r (HasRelocation t b j) (relocation_read t b j)
 
 -- r is relocation j of the relocation section i; None if it has no more
 abbrev pub ListsRelocation : List ℕ → ℕ → ℕ → Option Relocation → Type 0
@@ -273,9 +276,13 @@ ListsRelocation b i j r =
 abbrev pub HasDynamic : Table → List ℕ → ℕ → Type 0
 HasDynamic t b j = IsTableOfKind DynamicArray t × (j < dynamic_entry_count (slot_bytes b t.content)) × (j < t.entries)
 
+-- entry j by the numbers of a dynamic array
+abbrev pub dynamic_read : Table → List ℕ → ℕ → DynamicEntry
+dynamic_read t b j = dynamic_shape (dynamic_entry (order_named t.ei_data) (slot_bytes b t.content) j)
+
 -- r is entry j by the numbers of a dynamic array; None if it is not there
 abbrev pub ReadsDynamic : Table → List ℕ → ℕ → Option DynamicEntry → Type 0
-ReadsDynamic t b j r = SomeIff r (HasDynamic t b j) (dynamic_shape (dynamic_entry (order_named t.ei_data) (slot_bytes b t.content) j))
+ReadsDynamic t b j r = SomeIff r (HasDynamic t b j) (dynamic_read t b j)
 
 -- r is entry j of the dynamic array in section i; None if it has no more
 abbrev pub ListsDynamic : List ℕ → ℕ → ℕ → Option DynamicEntry → Type 0

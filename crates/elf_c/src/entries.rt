@@ -12,7 +12,7 @@ ghost use Rattle.elf_table_lists.specs.Relocations.{no_relocation_entry, relocat
 ghost use Rattle.elf_table_symbols.specs.Symbols.{entry as entry_of, symbol_entry_in, symbols_of};
 ghost use Rattle.elf_table_symbols.specs.SymbolView.{no_symbol_entry};
 ghost use Rattle.elf_c_parts.specs.Slots.{extent_in};
-ghost use Rattle.elf_c.specs.Tables.{ReadsDynamic, ReadsRelocation, ReadsSymbol, dynamic_shape, relocation_shape, section_index, symbol_record, symbol_told, string_place, IsTableOfKind, IsTableOf, slot_bytes};
+ghost use Rattle.elf_c.specs.Tables.{HasDynamic, HasRelocation, HasSymbol, ReadsDynamic, ReadsRelocation, ReadsSymbol, dynamic_read, dynamic_shape, relocation_read, relocation_shape, symbol_shape, section_index, symbol_record, symbol_told, string_place, IsTableOfKind, IsTableOf, slot_bytes};
 ghost use Rattle.elf_c.specs.Files.{order_named};
 ghost use Rattle.elf_table_hash.specs.HashView.{hash_of_section};
 ghost use Rattle.elf_table_hash.specs.HashTable.{HasSymbolNamed, IsProbed};
@@ -47,6 +47,8 @@ pub extern "C" fn elfmap_symbol(
     ensures section { OnTrue result (symbol.new.st_shndx ≢ shn_xindex → symbol.new.section ≡ symbol.new.st_shndx) }
     ensures named { OnTrue result (symbol.new.name ≡ string_place bytes.now (extent_in table.now.strings) symbol.new.st_name) }
     ensures inside { OnTrue result (symbol.new.name.start + symbol.new.name.len ≤ length bytes.now) }
+    ensures lies { IsTrue result ↔ HasSymbol table.now bytes.now index }
+    ensures read { OnTrue result (symbol.new ≡ symbol_shape table.now bytes.now index) }
     ensures unchanged { OnFalse result (symbol.new ≡ symbol.old) }
 {
     put(symbol_of(table, bytes, index), symbol)
@@ -113,6 +115,8 @@ pub extern "C" fn elfmap_relocation(
     ensures value { (i : ℕ) → IsTableOf RelocationTable table.now bytes.now i →
         OnTrue result (relocation.new ≡ relocation_shape (get_or (relocations_of (sections_in bytes.now) i) index no_relocation_entry)) }
     ensures typed { OnTrue result (IsTableOfKind RelocationTable table.now) }
+    ensures lies { IsTrue result ↔ HasRelocation table.now bytes.now index }
+    ensures read { OnTrue result (relocation.new ≡ relocation_read table.now bytes.now index) }
     ensures unchanged { OnFalse result (relocation.new ≡ relocation.old) }
 {
     put(relocation_of(table, bytes, index), relocation)
@@ -148,6 +152,8 @@ pub extern "C" fn elfmap_dynamic(
     ensures value { (i : ℕ) → IsTableOf DynamicArray table.now bytes.now i →
         OnTrue result (entry.new ≡ dynamic_shape (get_or (dynamic_array_of (sections_in bytes.now) i) index no_dynamic_entry)) }
     ensures typed { OnTrue result (IsTableOfKind DynamicArray table.now) }
+    ensures lies { IsTrue result ↔ HasDynamic table.now bytes.now index }
+    ensures read { OnTrue result (entry.new ≡ dynamic_read table.now bytes.now index) }
     ensures unchanged { OnFalse result (entry.new ≡ entry.old) }
 {
     put(dynamic_of(table, bytes, index), entry)
