@@ -79,6 +79,13 @@ struct elfmap_file {
     uint8_t ei_data;     /* the data encoding: 1 is ELFDATA2LSB, 2 is ELFDATA2MSB */
 };
 
+/* In which record of an owner a byte is, and in which field of it. */
+struct elfmap_place {
+    uint64_t entry;              /* the index of the record among those of the owner */
+    struct elfmap_extent record; /* where the record is in the file */
+    struct elfmap_extent field;  /* where the field is in the record */
+};
+
 /* The ELF header. */
 struct elfmap_header {
     uint8_t e_ident[16];
@@ -200,14 +207,14 @@ bool elfmap_verdict_in(const uint8_t *bytes, size_t len, struct elfmap_extent *b
 bool elfmap_parts(const uint8_t *bytes, size_t len, struct elfmap_part *buffer, size_t count, uint64_t *parts, struct elfmap_fault *fault);
 
 /*
- * ---- The records. Each call returns true and fills in its last argument, or returns false and leaves it unchanged. None of them changes
- * the bytes or the file. The time of a call does not grow with the file, but with the length of a name, and in elfmap_load with the count
- * of program headers.
+ * ---- The records. Each call, but elfmap_sections, returns true and fills in its last argument, or returns false and leaves it unchanged.
+ * None of them changes the bytes or the file. The time of a call does not grow with the file, but with the length of a name, in elfmap_load
+ * with the count of program headers, in elfmap_owner with that of section headers, and in elfmap_sections with what fits in the buffer.
  *
- * These calls do not validate. If bytes break a rule, elfmap_file, elfmap_header, elfmap_section and elfmap_segment return what is where
- * the header says, if that lies in the file. The claims for elfmap_load and elfmap_name are about files that break none of rules 1 to 32.
- * `file` must be what elfmap_file made of the same bytes. With other numbers in it, or with other bytes, elfmap_section and elfmap_segment
- * use these numbers, and the results of elfmap_load and elfmap_name have no meaning. Even then no call reads outside of the bytes.
+ * These calls do not validate. If bytes break a rule, all but elfmap_load and elfmap_name return what is where the header and the section
+ * headers say, if that lies in the file. The claims for elfmap_load and elfmap_name are about files that break none of rules 1 to 32.
+ * `file` must be what elfmap_file made of the same bytes. With other numbers in it, or with other bytes, the results of elfmap_load and
+ * elfmap_name have no meaning, and the other calls use these numbers. Even then no call reads outside of the bytes.
  */
 
 /*
@@ -224,6 +231,13 @@ bool elfmap_header(const uint8_t *bytes, size_t len, struct elfmap_header *heade
  * in the file. If the file breaks none of rules 1 to 32, they do for each such index.
  */
 bool elfmap_section(const struct elfmap_file *file, const uint8_t *bytes, size_t len, uint64_t index, struct elfmap_section *section);
+
+/*
+ * Many of them at once: the section headers from index `first` on, one after the other, in the first slots of a buffer of `count` section
+ * headers. Returns how many these are: all that are below `file->sections`, lie in the file, and fit. The other slots are unchanged.
+ */
+uint64_t elfmap_sections(const struct elfmap_file *file, const uint8_t *bytes, size_t len, uint64_t first, struct elfmap_section *buffer,
+                         size_t count);
 
 /*
  * Program header `index`: the one at `file->e_phoff + 56 * index`. True exactly if `index` is below `file->segments` and these 56 bytes lie
@@ -248,12 +262,35 @@ bool elfmap_load(const struct elfmap_file *file, const uint8_t *bytes, size_t le
 bool elfmap_name(const struct elfmap_file *file, const uint8_t *bytes, size_t len, uint64_t index, struct elfmap_extent *name);
 
 /*
- * ---- The tables. As above each call returns true and fills in its last argument, or returns false and leaves it unchanged. It reads
- * nothing outside of the bytes. A table is sound if it breaks none of rules 40 to 69. These calls do not test them; elfmap_refused_tables
- * does. The claims below are about sound tables in files that break none of rules 1 to 32. Of a table that breaks a rule the calls return
- * the entries that lie in the file, but no symbol whose `st_shndx` is SHN_XINDEX (0xffff) and for which the index table has no word.
- * `table` must be what elfmap_table made of the same bytes. With other numbers in it a result has no meaning. But each call returns false
- * for a table of another kind than its own, by `sh_type`; only elfmap_string, which has no kind of its own, reads the strings of any table.
+ * The lowest owner from `first` on that has the byte at `offset`: ELFMAP_HEADER, ELFMAP_SECTION_HEADERS, ELFMAP_PROGRAM_HEADERS, or
+ * ELFMAP_CONTENTS + i for the content of section i. True exactly if there is one. A byte of a file that breaks rule 33 may have any number
+ * of owners; elfmap_parts names the only one of a file that breaks none. The header takes 64 bytes, each table as many headers as `file`
+ * counts, and a content what its section header says: nothing if the type is SHT_NULL (0) or SHT_NOBITS (8), or if the section header does
+ * not lie in the file. The bytes of a table or content need not lie in the file.
+ *
+ *     for (uint64_t owner = 0; elfmap_owner(&file, bytes, len, offset, owner, &owner); owner++)
+ *         printf("owner %llu\n", (unsigned long long) owner);
+ */
+bool elfmap_owner(const struct elfmap_file *file, const uint8_t *bytes, size_t len, uint64_t offset, uint64_t first, uint64_t *owner);
+
+/*
+ * The record of an owner that has the byte at `offset`, and the field of the record that has it. The records of an owner follow one another
+ * from its first byte on: the header is one, and a table has its headers. By the type of its section header, a content has symbols
+ * (SHT_SYMTAB 2, SHT_DYNSYM 11), relocations (SHT_RELA 4, SHT_REL 9), entries of a dynamic array (SHT_DYNAMIC 6), or words of 4 bytes
+ * (SHT_HASH 5, SHT_GROUP 17, SHT_SYMTAB_SHNDX 18). Each byte of e_ident is a field of its own. True exactly if the owner has the byte, and
+ * has such records. The last record may pass the end of the owner, and that of the file.
+ */
+bool elfmap_place(const struct elfmap_file *file, const uint8_t *bytes, size_t len, uint64_t offset, uint64_t owner,
+                  struct elfmap_place *place);
+
+/*
+ * ---- The tables. As above each call, but the three that fill a buffer, returns true and fills in its last argument, or returns false and
+ * leaves it unchanged. It reads nothing outside of the bytes. A table is sound if it breaks none of rules 40 to 69. These calls do not test
+ * them; elfmap_refused_tables does. The claims below are about sound tables in files that break none of rules 1 to 32. Of a table that
+ * breaks a rule the calls return the entries that lie in the file, but no symbol whose `st_shndx` is SHN_XINDEX (0xffff) and for which the
+ * index table has no word. `table` must be what elfmap_table made of the same bytes. With other numbers in it a result has no meaning. But
+ * each call returns false, or no entry, for a table of another kind than its own, by `sh_type`; only elfmap_string, which has no kind of
+ * its own, reads the strings of any table.
  *
  *     struct elfmap_table table;
  *     struct elfmap_symbol symbol;
@@ -287,6 +324,20 @@ bool elfmap_relocation(const struct elfmap_table *table, const uint8_t *bytes, s
 
 /* Entry `index` of a dynamic array, before the first one with tag DT_NULL. True exactly if `index` is below `table->entries`. */
 bool elfmap_dynamic(const struct elfmap_table *table, const uint8_t *bytes, size_t len, uint64_t index, struct elfmap_dynamic *entry);
+
+/*
+ * Many of them at once: the symbols of a symbol table, the relocations of a relocation section, or the entries of a dynamic array, from
+ * index `first` on, one after the other, in the first slots of a buffer of `count` entries. Returns how many these are: all that are below
+ * `table->entries` and fit. The other slots are unchanged. Each entry is what the call for one entry returns. If that returns false for a
+ * symbol of a table that breaks a rule, no symbol after it is in the buffer. The time of elfmap_symbols also grows with the lengths of the
+ * names, which may share bytes. With a copy of the table in which `strings.len` is 0 it looks for no names, and each is of no bytes.
+ */
+uint64_t elfmap_symbols(const struct elfmap_table *table, const uint8_t *bytes, size_t len, uint64_t first, struct elfmap_symbol *buffer,
+                        size_t count);
+uint64_t elfmap_relocations(const struct elfmap_table *table, const uint8_t *bytes, size_t len, uint64_t first,
+                            struct elfmap_relocation *buffer, size_t count);
+uint64_t elfmap_dynamics(const struct elfmap_table *table, const uint8_t *bytes, size_t len, uint64_t first,
+                         struct elfmap_dynamic *buffer, size_t count);
 
 /*
  * Where the string at an offset of `table->strings` is, without its closing zero. Use it for an entry of a dynamic array whose value is the

@@ -22,9 +22,11 @@ const FIRST_SECTION = 3;
 const KIND_TITLES = { sections: "Sections", segments: "Segments", symbols: "Symbols", relocations: "Relocations", dynamic: "Dynamic", notes: "Notes" };
 
 const $ = (id) => document.getElementById(id);
-// `turn` grows with each file. `is_drawn` is true from when all of a sound file is drawn until the next file comes.
+// `turn` grows with each file, `zooms` with each view of the map, and `rows` with each view of a table: what comes for an older one is not
+// drawn. `is_drawn` is true from when all of a sound file is drawn, but the findings, until the next file comes. `sections` has those
+// sections whose parts were drawn, by their owners.
 const state = { open: null, parts: [], loads: [], range: [0, 0], part: null, kind: "sections", table: 0, row: 0, found: null, shown: -1, at: 0,
-    marked: [0, 0], turn: 0, is_drawn: false };
+    marked: [0, 0], turn: 0, zooms: 0, rows: 0, is_drawn: false, sections: new Map() };
 
 // ---- The worker
 
@@ -110,7 +112,7 @@ async function open_file(file) {
 
 // Nothing of the page is about the file before: neither what is drawn, nor what was typed, nor the name in the chooser.
 function forget_file() {
-    Object.assign(state, { open: null, is_drawn: false, parts: [], loads: [], part: null, kind: "", table: 0 });
+    Object.assign(state, { open: null, is_drawn: false, parts: [], loads: [], part: null, kind: "", table: 0, sections: new Map() });
     $("main").hidden = true;
     document.title = "elfmap";
     for (const id of ["memory-words", "bytes-words", "table-words"]) $(id).textContent = "";
@@ -135,11 +137,11 @@ async function show_file() {
         await open_table(file.sections ? "sections" : "segments", 0, 0);
     }
     await show_bytes(start - start % 16, [start, start + length]);
-    if (!fault) await ask("findings").then(show_findings, ({ message }) => { $("findings-words").textContent = `The tables are not checked: ${message}.`; });
     document.body.dataset.took = state.open.took.toFixed(1);
     state.is_drawn = !fault;
     // The window may have changed meanwhile.
     if (state.is_drawn && $("map").clientWidth !== state.width) await redraw_bars();
+    if (!fault) await ask("findings").then(show_findings, ({ message }) => { $("findings-words").textContent = `The tables are not checked: ${message}.`; });
 }
 
 // ---- The verdict
@@ -223,13 +225,23 @@ function field_at(offset) {
 // ---- The map
 
 async function zoom(from, to) {
+    const own = ++state.zooms;
     state.range = [from, Math.max(to, from + 1)];
     state.width = $("map").clientWidth;
-    const runs = runs_of_parts();
-    const owners = [...new Set(runs.filter((it) => it.count === 1).map((it) => it.part.owner).filter((it) => it >= FIRST_SECTION))];
-    const sections = new Map();
-    for (const owner of owners) sections.set(owner, (await ask("sections", owner - FIRST_SECTION, 1))[0]);
-    draw_bar("map", runs.map((run) => map_button(run, sections)));
+    const owners = new Set(runs_of_parts().filter((it) => it.count === 1).map((it) => it.part.owner).filter((it) => it >= FIRST_SECTION));
+    for (const owner of owners) {
+        if (state.sections.has(owner)) continue;
+        const [section] = await ask("sections", owner - FIRST_SECTION, 1);
+        state.sections.set(owner, section);
+        if (own !== state.zooms) return;
+    }
+    draw_map();
+}
+
+// Draws the range with the names that are known.
+function draw_map() {
+    const [from, to] = state.range;
+    draw_bar("map", runs_of_parts().map(map_button));
     $("map-scale").replaceChildren(element("span", hex(state.range[0])), element("span", hex(state.range[1])));
     $("legend").replaceChildren(...Object.entries(LEGEND).map(([words, colour]) => element("li", null, {}, coloured(colour), words)));
     show_part_words();
@@ -300,6 +312,7 @@ function kind_of_segment({ p_flags }) {
 function kind_of_part(owner, section) {
     if (owner === null) return "gap";
     if (owner < FIRST_SECTION) return "header and tables";
+    if (!section) return "other";
     if ([2, 3, 5, 11, 18].includes(section.sh_type)) return "symbols and strings";
     if ([4, 9].includes(section.sh_type)) return "relocations";
     if ([6, 7, 14, 15, 16, 17].includes(section.sh_type)) return "other";
@@ -314,11 +327,11 @@ function colour_of_part({ owner, segment }, section) {
 function owner_words({ owner, segment }, section) {
     if (segment) return `segment ${segment.index}, ${segment_flags(segment.p_flags)}, in no section`;
     if (owner === null) return "a gap: no record says whose these bytes are";
-    return OWNERS[owner] ?? `section ${owner - FIRST_SECTION} ${section.name || "(no name)"}`;
+    return OWNERS[owner] ?? `section ${owner - FIRST_SECTION} ${section ? section.name || "(no name)" : "…"}`;
 }
 
-function map_button(run, sections) {
-    const section = sections.get(run.part.owner);
+function map_button(run) {
+    const section = state.sections.get(run.part.owner);
     const words = run.count > 1 ? `${run.count.toLocaleString("en")} parts` : owner_words(run.part, section);
     const colour = run.count > 1 ? COLOURS["several parts"] : colour_of_part(run.part, section);
     const told = `${words}: ${counted(run.end - run.start, "byte")} from ${hex(run.start)}`;
@@ -362,7 +375,7 @@ async function choose_part(part, told, whole) {
 }
 
 function show_part_words() {
-    $("map-words").textContent = state.part?.told ?? `${counted(state.open.parts, "part")}. Choose one to see its bytes.`;
+    $("map-words").textContent = state.part?.told ?? `${counted(state.parts.length, "part")}. Choose one to see its bytes.`;
 }
 
 // The buttons are beside the words, which change with what the mouse is over and are read aloud.
@@ -455,11 +468,13 @@ function show_choice(kind, section) {
 
 async function show_rows(table) {
     const { kind, found } = state;
+    const own = ++state.rows;
     const count = found ? found.length : table.entries;
     const end = Math.min(state.row + ROWS_A_TIME, count);
     const rows = found
         ? (await Promise.all(found.slice(state.row, end).map((it) => ask(kind, it, 1, state.table)))).flat()
         : await ask(kind, state.row, end - state.row, state.table);
+    if (own !== state.rows) return;
     $("table").tHead.replaceChildren(element("tr", null, {}, ...["index", ...COLUMNS[kind].map(([title]) => title)].map((it) => element("th", it, { scope: "col" }))));
     $("table").tBodies[0].replaceChildren(...rows.map((row) => table_row(kind, row)));
     const all = table.entries.toLocaleString("en");
@@ -528,9 +543,10 @@ function show_range(start, length) {
 async function show_bytes(at, marked) {
     const { length } = state.open;
     const line = line_length();
-    state.at = Math.max(0, Math.min(at, Math.max(0, length - 1)));
-    state.marked = marked;
-    const bytes = await ask("bytes", state.at, line * LINES_A_TIME);
+    const front = Math.max(0, Math.min(at, Math.max(0, length - 1)));
+    Object.assign(state, { at: front, marked });
+    const bytes = await ask("bytes", front, line * LINES_A_TIME);
+    if (front !== state.at || marked !== state.marked) return;
     const lines = [];
     for (let k = 0; k < bytes.length; k += line) lines.push(bytes_line(state.at + k, bytes.subarray(k, k + line)));
     $("bytes").tBodies[0].replaceChildren(...lines);
@@ -583,9 +599,12 @@ $("offset").onkeydown = (event) => void (event.key === "Enter" && go_to_offset()
 $("bytes-back").onclick = () => show_bytes(state.at - line_length() * LINES_A_TIME, state.marked);
 $("bytes-on").onclick = () => show_bytes(state.at + line_length() * LINES_A_TIME, state.marked);
 
+// At once, with the names that are known: the worker may be busy, and gives those that lack when it is free.
 async function redraw_bars() {
-    await zoom(...state.range);
+    state.width = $("map").clientWidth;
+    draw_map();
     show_memory();
+    await zoom(...state.range);
 }
 
 // While a file is read there is nothing to draw: what is drawn at its end has the width that the window has then.

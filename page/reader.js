@@ -243,33 +243,32 @@ class Reader {
 
 // A byte order mark is a character of a name, as any other: the decoder would drop one at the start.
 const UTF8 = new TextDecoder("utf-8", { fatal: true, ignoreBOM: true });
+const LONE_HALF = 0xdc00;
 
-// Bytes as text: UTF-8 where they are that, and each byte that can't be seen as \xHH.
+// Bytes as text: UTF-8 where they are that; what can't be seen is escaped, and each byte that is no UTF-8 is \xHH. A backslash is written
+// twice: so two names differ on the page too.
 function words_of(bytes) {
-    if (bytes.length < 256 && bytes.every((it) => it >= 32 && it < 127)) return String.fromCharCode(...bytes);
+    if (bytes.length < 256 && bytes.every((it) => it >= 32 && it < 127 && it !== 92)) return String.fromCharCode(...bytes);
     return visible(decoded(bytes));
 }
 
+// Bytes that are no UTF-8 become what no UTF-8 is decoded to: the lower halves of pairs, alone.
 function decoded(bytes) {
     try {
         return UTF8.decode(bytes);
     } catch {
-        return Array.from(bytes, (it) => String.fromCharCode(it)).join("").replace(/[\x80-\xff]/g, escaped);
+        return Array.from(bytes, (it) => String.fromCharCode(it < 128 ? it : LONE_HALF + it)).join("");
     }
 }
 
-// Bytes as characters, of which none is a part of an escape: a list, or of ASCII a text.
+// Bytes as characters, of which none is a part of an escape: a list, or of ASCII and of no UTF-8 a text.
 function characters_of(bytes) {
-    try {
-        const text = UTF8.decode(bytes);
-        return text.length === bytes.length ? text : Array.from(text);
-    } catch {
-        return Array.from(bytes, (it) => (it < 128 ? String.fromCharCode(it) : escaped(String.fromCharCode(it))));
-    }
+    const text = decoded(bytes);
+    return text.length === bytes.length ? text : Array.from(text);
 }
 
 function visible(text) {
-    return text.replace(/[\x00-\x1f\x7f\u2028\u2029\u202a-\u202e\u2066-\u2069\ufeff]/g, escaped);
+    return text.replace(/[\x00-\x1f\\\x7f-\x9f\u2028\u2029\u202a-\u202e\u2066-\u2069\ufeff\udc80-\udcff]/gu, escaped);
 }
 
 // Where the last character of bytes that were cut begins, so that none is cut in two; their end where that is of ASCII, or no UTF-8.
@@ -280,6 +279,9 @@ function character_end(bytes) {
 }
 
 function escaped(character) {
+    if (character === "\\") return "\\\\";
     const code = character.charCodeAt(0);
-    return code < 256 ? `\\x${code.toString(16).padStart(2, "0")}` : `\\u${code.toString(16)}`;
+    // A byte of ASCII, or one that is no UTF-8. The character U+0080 is not the byte 0x80.
+    const byte = code < 128 ? code : code - LONE_HALF;
+    return byte >= 0 && byte < 256 ? `\\x${byte.toString(16).padStart(2, "0")}` : `\\u${code.toString(16).padStart(4, "0")}`;
 }

@@ -19,6 +19,11 @@ static uint8_t *read_whole(const char *path, size_t *len) {
     return bytes;
 }
 
+static void dump_bytes(const uint8_t *bytes, struct elfmap_extent place) {
+    for (uint64_t k = 0; k < place.len; k++)
+        printf("%02x", (unsigned) bytes[place.start + k]);
+}
+
 static void dump_verdict(const char *how, bool is_kept, struct elfmap_fault fault) {
     if (is_kept)
         printf("%s kept\n", how);
@@ -45,6 +50,18 @@ static bool dump_verdicts(const uint8_t *bytes, size_t len) {
     return is_kept;
 }
 
+/* Whether a part belongs to its owner alone, at its first byte and at its last one: a gap to none. */
+static bool is_owned(const struct elfmap_file *file, const uint8_t *bytes, size_t len, struct elfmap_part part) {
+    const uint64_t ends[] = {part.start, part.start + part.len - 1};
+    bool is_right = true;
+    for (int k = 0; k < 2; k++) {
+        uint64_t owner = ELFMAP_GAP;
+        bool is_found = elfmap_owner(file, bytes, len, ends[k], 0, &owner);
+        is_right = is_right && owner == part.owner && (!is_found || !elfmap_owner(file, bytes, len, ends[k], owner + 1, &owner));
+    }
+    return is_right;
+}
+
 /* The parts, and the verdict by rooms for them: an empty one, one that is short by a part, and one that is as large as is wanted. */
 static void dump_parts(const uint8_t *bytes, size_t len) {
     struct elfmap_fault fault = {0, 0};
@@ -59,8 +76,12 @@ static void dump_parts(const uint8_t *bytes, size_t len) {
         stop("malloc");
     dump_verdict("parts in less", elfmap_parts(bytes, len, room, wanted - 1, &parts, &fault), fault);
     dump_verdict("parts in enough", elfmap_parts(bytes, len, room, wanted, &parts, &fault), fault);
-    for (uint64_t k = 0; k < parts; k++)
-        printf("part %" PRIu64 " %" PRIu64 " %" PRIu64 "\n", room[k].start, room[k].len, room[k].owner);
+    struct elfmap_file file;
+    bool has_numbers = elfmap_file(bytes, len, &file);
+    for (uint64_t k = 0; k < parts; k++) {
+        printf("part %" PRIu64 " %" PRIu64 " %" PRIu64, room[k].start, room[k].len, room[k].owner);
+        printf(has_numbers && is_owned(&file, bytes, len, room[k]) ? "\n" : " by its owner it is another one\n");
+    }
     free(room);
 }
 
@@ -78,19 +99,31 @@ static void dump_header(const struct elfmap_file *file, const uint8_t *bytes, si
            (unsigned) h.e_phentsize, (unsigned) h.e_phnum, (unsigned) h.e_shentsize, (unsigned) h.e_shnum, (unsigned) h.e_shstrndx);
 }
 
-static void dump_records(const struct elfmap_file *file, const uint8_t *bytes, size_t len) {
-    struct elfmap_section s;
-    struct elfmap_segment p;
+/* So many entries are read at once in one of the two dumps of a file, and one by one in the other. */
+enum { AT_ONCE = 3 };
+
+static void dump_section(struct elfmap_section s) {
+    printf("section %" PRIu32 " %" PRIu32 " %" PRIu64 " %" PRIu64 " %" PRIu64 " %" PRIu64 " %" PRIu32 " %" PRIu32 " %" PRIu64 " %" PRIu64
+           " ", s.sh_name, s.sh_type, s.sh_flags, s.sh_addr, s.sh_offset, s.sh_size, s.sh_link, s.sh_info, s.sh_addralign, s.sh_entsize);
+}
+
+static void dump_sections(const struct elfmap_file *file, const uint8_t *bytes, size_t len, bool at_once) {
+    struct elfmap_section block[AT_ONCE];
     struct elfmap_extent name;
-    for (uint64_t i = 0; elfmap_section(file, bytes, len, i, &s); i++) {
-        printf("section %" PRIu32 " %" PRIu32 " %" PRIu64 " %" PRIu64 " %" PRIu64 " %" PRIu64 " %" PRIu32 " %" PRIu32 " %" PRIu64
-               " %" PRIu64 " ", s.sh_name, s.sh_type, s.sh_flags, s.sh_addr, s.sh_offset, s.sh_size, s.sh_link, s.sh_info,
-               s.sh_addralign, s.sh_entsize);
-        if (elfmap_name(file, bytes, len, i, &name))
-            for (uint64_t k = 0; k < name.len; k++)
-                printf("%02x", (unsigned) bytes[name.start + k]);
-        printf("\n");
+    uint64_t count = 1;
+    for (uint64_t i = 0; count; i += count) {
+        count = at_once ? elfmap_sections(file, bytes, len, i, block, AT_ONCE) : elfmap_section(file, bytes, len, i, block);
+        for (uint64_t k = 0; k < count; k++) {
+            dump_section(block[k]);
+            if (elfmap_name(file, bytes, len, i + k, &name))
+                dump_bytes(bytes, name);
+            printf("\n");
+        }
     }
+}
+
+static void dump_segments(const struct elfmap_file *file, const uint8_t *bytes, size_t len) {
+    struct elfmap_segment p;
     for (uint64_t j = 0; elfmap_segment(file, bytes, len, j, &p); j++)
         printf("segment %" PRIu32 " %" PRIu32 " %" PRIu64 " %" PRIu64 " %" PRIu64 " %" PRIu64 " %" PRIu64 " %" PRIu64 "\n", p.p_type,
                p.p_flags, p.p_offset, p.p_vaddr, p.p_paddr, p.p_filesz, p.p_memsz, p.p_align);
@@ -112,40 +145,53 @@ static void dump_loaded(const struct elfmap_file *file, const uint8_t *bytes, si
     }
 }
 
-static void dump_bytes(const uint8_t *bytes, struct elfmap_extent place) {
-    for (uint64_t k = 0; k < place.len; k++)
-        printf("%02x", (unsigned) bytes[place.start + k]);
+static void dump_symbol(const uint8_t *bytes, struct elfmap_symbol s) {
+    printf("symbol %" PRIu32 " %u %u %u %" PRIu64 " %" PRIu64 " %" PRIu32 " ", s.st_name, (unsigned) s.st_info, (unsigned) s.st_other,
+           (unsigned) s.st_shndx, s.st_value, s.st_size, s.section);
+    dump_bytes(bytes, s.name);
+    printf("\n");
 }
 
-static void dump_symbols(const struct elfmap_table *table, const uint8_t *bytes, size_t len) {
-    struct elfmap_symbol s;
-    for (uint64_t j = 0; j < table->entries; j++) {
-        if (!elfmap_symbol(table, bytes, len, j, &s))
-            continue;
-        printf("symbol %" PRIu32 " %u %u %u %" PRIu64 " %" PRIu64 " %" PRIu32 " ", s.st_name, (unsigned) s.st_info, (unsigned) s.st_other,
-               (unsigned) s.st_shndx, s.st_value, s.st_size, s.section);
-        dump_bytes(bytes, s.name);
-        printf("\n");
+/* The symbols: one that is not there, as its word in the index table is missing, is passed over. */
+static void dump_symbols(const struct elfmap_table *table, const uint8_t *bytes, size_t len, bool at_once) {
+    struct elfmap_symbol block[AT_ONCE];
+    uint64_t size = at_once ? AT_ONCE : 1, count;
+    for (uint64_t j = 0; j < table->entries; j += count < size ? count + 1 : count) {
+        count = at_once ? elfmap_symbols(table, bytes, len, j, block, size) : elfmap_symbol(table, bytes, len, j, block);
+        for (uint64_t k = 0; k < count; k++)
+            dump_symbol(bytes, block[k]);
     }
 }
 
-static void dump_relocations(const struct elfmap_table *table, const uint8_t *bytes, size_t len) {
-    struct elfmap_relocation r;
-    for (uint64_t j = 0; elfmap_relocation(table, bytes, len, j, &r); j++)
-        printf("relocation %" PRIu64 " %" PRId64 " %" PRIu32 " %" PRIu32 "\n", r.r_offset, r.r_addend, r.symbol, r.relocation_type);
+static void dump_relocations(const struct elfmap_table *table, const uint8_t *bytes, size_t len, bool at_once) {
+    struct elfmap_relocation block[AT_ONCE], *r;
+    uint64_t count = 1;
+    for (uint64_t j = 0; count; j += count) {
+        count = at_once ? elfmap_relocations(table, bytes, len, j, block, AT_ONCE) : elfmap_relocation(table, bytes, len, j, block);
+        for (r = block; r < block + count; r++)
+            printf("relocation %" PRIu64 " %" PRId64 " %" PRIu32 " %" PRIu32 "\n", r->r_offset, r->r_addend, r->symbol,
+                   r->relocation_type);
+    }
 }
 
-/* The entries of a dynamic array, and what each would name if its value were the offset of a string. */
-static void dump_dynamic(const struct elfmap_table *table, const uint8_t *bytes, size_t len) {
-    struct elfmap_dynamic e;
+/* An entry of a dynamic array, and what it would name if its value were the offset of a string. */
+static void dump_entry(const struct elfmap_table *table, const uint8_t *bytes, size_t len, struct elfmap_dynamic e) {
     struct elfmap_extent text;
-    for (uint64_t j = 0; elfmap_dynamic(table, bytes, len, j, &e); j++) {
-        printf("dynamic %" PRId64 " %" PRIu64 " ", e.d_tag, e.d_un);
-        if (elfmap_string(table, bytes, len, e.d_un, &text))
-            dump_bytes(bytes, text);
-        else
-            printf("none");
-        printf("\n");
+    printf("dynamic %" PRId64 " %" PRIu64 " ", e.d_tag, e.d_un);
+    if (elfmap_string(table, bytes, len, e.d_un, &text))
+        dump_bytes(bytes, text);
+    else
+        printf("none");
+    printf("\n");
+}
+
+static void dump_dynamic(const struct elfmap_table *table, const uint8_t *bytes, size_t len, bool at_once) {
+    struct elfmap_dynamic block[AT_ONCE];
+    uint64_t count = 1;
+    for (uint64_t j = 0; count; j += count) {
+        count = at_once ? elfmap_dynamics(table, bytes, len, j, block, AT_ONCE) : elfmap_dynamic(table, bytes, len, j, block);
+        for (uint64_t k = 0; k < count; k++)
+            dump_entry(table, bytes, len, block[k]);
     }
 }
 
@@ -199,7 +245,7 @@ static void dump_found(const struct elfmap_table *table, const uint8_t *bytes, s
     }
 }
 
-static void dump_tables(const struct elfmap_file *file, const uint8_t *bytes, size_t len) {
+static void dump_tables(const struct elfmap_file *file, const uint8_t *bytes, size_t len, bool at_once) {
     struct elfmap_table t;
     for (uint64_t i = 0; i < file->sections; i++) {
         if (!elfmap_table(file, bytes, len, i, &t))
@@ -208,11 +254,11 @@ static void dump_tables(const struct elfmap_file *file, const uint8_t *bytes, si
                t.content.start, t.content.len, t.linked.start, t.linked.len, t.strings.start, t.strings.len, t.entries, t.sh_type,
                (unsigned) t.ei_data);
         if (t.sh_type == SYMTAB || t.sh_type == DYNSYM)
-            dump_symbols(&t, bytes, len);
+            dump_symbols(&t, bytes, len, at_once);
         else if (t.sh_type == RELA || t.sh_type == REL)
-            dump_relocations(&t, bytes, len);
+            dump_relocations(&t, bytes, len, at_once);
         else if (t.sh_type == DYNAMIC)
-            dump_dynamic(&t, bytes, len);
+            dump_dynamic(&t, bytes, len, at_once);
         else if (t.sh_type == NOTE)
             dump_notes(&t, bytes, len);
         else if (t.sh_type == HASH)
@@ -231,9 +277,10 @@ static void dump_file(const char *path) {
         dump_parts(it.bytes, it.len);
         if (elfmap_file(it.bytes, it.len, &file) && is_kept) {
             dump_header(&file, it.bytes, it.len);
-            dump_records(&file, it.bytes, it.len);
+            dump_sections(&file, it.bytes, it.len, at_end);
+            dump_segments(&file, it.bytes, it.len);
             dump_loaded(&file, it.bytes, it.len);
-            dump_tables(&file, it.bytes, it.len);
+            dump_tables(&file, it.bytes, it.len, at_end);
         }
         give_back(it);
     }

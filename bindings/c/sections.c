@@ -22,10 +22,13 @@ static uint8_t *bytes_of(const char *path, size_t *len) {
     return bytes;
 }
 
-/* Ends a line with a name. Bytes that are not printable ASCII are escaped, because a terminal may obey them. */
+/*
+ * Ends a line with a name. Bytes that are not printable ASCII are escaped, because a terminal may obey them. A backslash is written twice:
+ * so two names differ in print too.
+ */
 static void tell_name(const uint8_t *name, uint64_t len) {
     for (uint64_t k = 0; k < len; k++)
-        printf(name[k] >= ' ' && name[k] <= '~' ? "%c" : "\\x%02x", name[k]);
+        printf(name[k] == '\\' ? "\\%c" : name[k] >= ' ' && name[k] <= '~' ? "%c" : "\\x%02x", name[k]);
     putchar('\n');
 }
 

@@ -315,9 +315,15 @@ static void check_any_numbers(void) {
             struct elfmap_file file = {table, table, UINT64_MAX, UINT64_MAX, name_table, (uint8_t) k};
             struct elfmap_section section;
             struct elfmap_segment segment;
+            struct elfmap_section sections[2];
             struct elfmap_extent name;
+            struct elfmap_place place;
+            uint64_t owner;
             uint8_t byte;
             elfmap_section(&file, it.bytes, it.len, index, &section);
+            elfmap_sections(&file, it.bytes, it.len, index, sections, 2);
+            elfmap_owner(&file, it.bytes, it.len, index, name_table, &owner);
+            elfmap_place(&file, it.bytes, it.len, index, name_table, &place);
             elfmap_load(&file, it.bytes, it.len, index, &byte);
             elfmap_segment(&file, it.bytes, it.len, index, &segment);
             if (elfmap_name(&file, it.bytes, it.len, index, &name))
@@ -588,12 +594,17 @@ static void check_any_tables(void) {
             struct elfmap_table table = {part, part, part, UINT64_MAX, kinds[k % 5], (uint8_t) (k % 3)}, other;
             struct elfmap_file file = {start, size, UINT64_MAX, UINT64_MAX, 0, (uint8_t) (k % 3)};
             struct elfmap_symbol symbol;
-            struct elfmap_relocation relocation;
-            struct elfmap_dynamic entry;
+            struct elfmap_symbol symbols[2];
+            struct elfmap_relocation relocation, relocations[2];
+            struct elfmap_dynamic entry, entries[2];
             struct elfmap_note note;
             elfmap_table(&file, it.bytes, it.len, index, &other);
             elfmap_relocation(&table, it.bytes, it.len, index, &relocation);
+            elfmap_relocations(&table, it.bytes, it.len, index, relocations, 2);
             elfmap_dynamic(&table, it.bytes, it.len, index, &entry);
+            elfmap_dynamics(&table, it.bytes, it.len, index, entries, 2);
+            for (uint64_t done = elfmap_symbols(&table, it.bytes, it.len, index, symbols, 2); done > 0; done--)
+                is_inside = is_inside && lies_in(symbols[done - 1].name, it.len);
             is_inside = is_inside && (!elfmap_symbol(&table, it.bytes, it.len, index, &symbol) || lies_in(symbol.name, it.len))
                 && (!elfmap_string(&table, it.bytes, it.len, index, &place) || lies_in(place, it.len))
                 && (!elfmap_note(&table, it.bytes, it.len, index, &note) || (lies_in(note.name, it.len) && lies_in(note.desc, it.len)))
@@ -646,7 +657,9 @@ static void check_descending(void) {
     free(bytes);
 }
 
+#include "bulk.h"
 #include "dump.h"
+#include "owners.h"
 
 int main(int count, char **words) {
     for (int k = 1; k < count; k++)
@@ -663,6 +676,13 @@ int main(int count, char **words) {
     check_records(true);
     check_unchanged();
     check_any_numbers();
+    for (int is_big = 0; is_big < 2; is_big++) {
+        check_owners(is_big);
+        check_shared(is_big);
+        check_places(is_big);
+        check_many(is_big);
+    }
+    check_no_places();
     check_tables(false);
     check_tables(true);
     check_find(false);

@@ -2,11 +2,13 @@
 // page_reads_as_show.js MODULE LAYOUT FILE..: of each file what the page's reader and its check of tables tell of it, in the lines that
 // `elfmap show` prints; for tools/test page to compare. Groups that break no rule have no lines here. Run by node.
 const fs = require("fs");
+const path = require("path");
 const vm = require("vm");
 
 const [, , module_path, layout_path, ...paths] = process.argv;
 const LAYOUT = JSON.parse(fs.readFileSync(layout_path, "utf8"));
-const page = `${__dirname}/../../page`;
+// Beside the folder by which this script was named, also where that is a link.
+const page = path.resolve(__dirname, "../../page");
 const scripts = ["words.js", "reader.js", "tables.js"].map((it) => fs.readFileSync(`${page}/${it}`, "utf8")).join("\n");
 // Classes and constants of a script are no properties of its global object: the last line gives what is used here.
 const { Reader, Tables, TABLE_RULES, KINDS, STRING_TAGS, hex } = vm.runInThisContext(

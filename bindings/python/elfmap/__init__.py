@@ -23,9 +23,7 @@ import pickle
 from collections.abc import Callable, Iterable, Iterator, Sequence
 from typing import TYPE_CHECKING, Any, NamedTuple, Optional, TypeVar, Union
 
-from elfmap import _library
-from elfmap._columns import LAYOUTS, Column, columns
-from elfmap._rules import LINK_RULES, RULES
+from elfmap import _columns, _library, _rules
 
 # They are names of this module too. In `__all__` they would make `help` ten times as long.
 from elfmap.constants import (
@@ -63,6 +61,7 @@ __all__ = [
     "map",
     "open",
     "parse",
+    "refused_tables",
     "rewrite",
     "show",
 ]
@@ -72,12 +71,12 @@ __version__ = "0.1.0"
 if TYPE_CHECKING:
     from _typeshed import ReadableBuffer
 
-    Bytes = ReadableBuffer
+    _Bytes = ReadableBuffer
 else:
-    Bytes = Union[bytes, bytearray, memoryview, mmap.mmap, array.array]
-Text = Union[str, bytes]
-AnyPath = Union[str, bytes, os.PathLike[str], os.PathLike[bytes]]
-Record = TypeVar("Record")
+    _Bytes = Union[bytes, bytearray, memoryview, mmap.mmap, array.array]
+_Text = Union[str, bytes]
+_AnyPath = Union[str, bytes, os.PathLike[str], os.PathLike[bytes]]
+_Record = TypeVar("_Record")
 
 # How many extents the first buffer has: enough for a file with 61 sections.
 _SMALL_ROOM = 64
@@ -113,12 +112,12 @@ class Refused(ValueError):
     @property
     def name(self) -> str:
         """The name of the rule, as `SHARED_BYTE`."""
-        return RULES.get(self.rule, _UNKNOWN)[0]
+        return _rules.RULES.get(self.rule, _UNKNOWN)[0]
 
     @property
     def sentence(self) -> str:
         """What the rule refuses, in the words of docs/RULES.md."""
-        return RULES.get(self.rule, _UNKNOWN)[1]
+        return _rules.RULES.get(self.rule, _UNKNOWN)[1]
 
     def __str__(self) -> str:
         place = f"rule {self.rule} ({self.name}) at offset {self.offset}"
@@ -146,12 +145,12 @@ class NotLinked(ValueError):
     @property
     def name(self) -> str:
         """The name of the rule, as `BAD_OPTIONS`."""
-        return LINK_RULES.get(self.rule, _UNKNOWN)[0]
+        return _rules.LINK_RULES.get(self.rule, _UNKNOWN)[0]
 
     @property
     def sentence(self) -> str:
         """What the rule refuses, in the words of docs/RULES.md."""
-        return LINK_RULES.get(self.rule, _UNKNOWN)[1]
+        return _rules.LINK_RULES.get(self.rule, _UNKNOWN)[1]
 
     def __str__(self) -> str:
         place = f"entry {self.entry} of {self.index} in file {self.file}"
@@ -335,7 +334,7 @@ def _with_contents(kind: Any, fields: list[Any], views: list[int]) -> Any:
     return kind._make(values)
 
 
-class _Read(Sequence[Record]):
+class _Read(Sequence[_Record]):
     """Records that are read when they are asked for. They are pickled as a list."""
 
     def __repr__(self) -> str:
@@ -345,10 +344,10 @@ class _Read(Sequence[Record]):
         return list, ([*self],)
 
 
-class _Records(_Read[Record]):
+class _Records(_Read[_Record]):
     """Records that are read by their index; of a broken table some can't be."""
 
-    def __init__(self, count: int, read: Callable[[int], Optional[Record]]) -> None:
+    def __init__(self, count: int, read: Callable[[int], Optional[_Record]]) -> None:
         self._indices = range(count)
         self._read = read
 
@@ -363,10 +362,10 @@ class _Records(_Read[Record]):
             raise IndexError("the table has no entry of this index")
         return found
 
-    def __iter__(self) -> Iterator[Record]:
+    def __iter__(self) -> Iterator[_Record]:
         return self._found(self._indices)
 
-    def _found(self, indices: range) -> Iterator[Record]:
+    def _found(self, indices: range) -> Iterator[_Record]:
         return (it for it in builtins.map(self._read, indices) if it is not None)
 
 
@@ -418,7 +417,7 @@ class File:
     it is loaded.
     """
 
-    def __init__(self, data: Bytes) -> None:
+    def __init__(self, data: _Bytes) -> None:
         self._view = _view_of(data)
         self._address = _library.address_of(self._view)
         try:
@@ -518,7 +517,7 @@ class File:
 
         return _Notes(read)
 
-    def columns(self, section: int) -> dict[str, Column]:
+    def columns(self, section: int) -> dict[str, _columns.Column]:
         """The numbers of a symbol table, relocation section or dynamic array: an array for each
         field.
 
@@ -526,14 +525,14 @@ class File:
         numpy.asarray takes one without a copy. A section without such a table has no arrays. The
         fields are those of the records, without names and the `section` of a symbol.
         """
-        table = self._table(section, tuple(LAYOUTS))
+        table = self._table(section, tuple(_columns.LAYOUTS))
         if not table:
             return {}
-        layout = LAYOUTS[table.sh_type]
+        layout = _columns.LAYOUTS[table.sh_type]
         content = self._at(table.content.start, table.entries * layout.size)
-        return dict(columns(layout, content, table.ei_data == _DATA_MSB))
+        return dict(_columns.columns(layout, content, table.ei_data == _DATA_MSB))
 
-    def find(self, section: int, name: Text) -> Optional[int]:
+    def find(self, section: int, name: _Text) -> Optional[int]:
         """The index of the symbol of this name, by the hash table in a section."""
         words = _text(name, "a name")
         symbol = ctypes.c_uint32()
@@ -603,11 +602,11 @@ class File:
         types: tuple[int, ...],
         call: str,
         kind: type,
-        made: Callable[[Any, Any], Record],
-    ) -> Sequence[Record]:
+        made: Callable[[Any, Any], _Record],
+    ) -> Sequence[_Record]:
         table = self._table(section, types)
 
-        def read(index: int) -> Optional[Record]:
+        def read(index: int) -> Optional[_Record]:
             it = kind()
             is_there = self._call(call, index, it, of=(table,))
             return made(table, it) if is_there else None
@@ -640,7 +639,7 @@ def _part(it: _library.Part) -> Part:
     return Part(it.start, it.len, "gap" if it.owner == _GAP else owner)
 
 
-def parse(data: Bytes) -> File:
+def parse(data: _Bytes) -> File:
     """Validates the bytes by all rules, in n log n steps, and copies none of them.
 
     Raises Refused with the first rule that they break, and the lowest offset at which
@@ -650,7 +649,7 @@ def parse(data: Bytes) -> File:
     return File(data)
 
 
-def open(path: AnyPath) -> File:
+def open(path: _AnyPath) -> File:
     """Reads the file of this path into memory, and validates it as `parse` does.
 
     Raises OSError where it can't be read. Nothing is mapped: the file may change meanwhile.
@@ -658,7 +657,7 @@ def open(path: AnyPath) -> File:
     return parse(_read(path))
 
 
-def _read(path: AnyPath) -> bytes:
+def _read(path: _AnyPath) -> bytes:
     """The bytes of a file; of one that is longer than any that keeps the rules, the first ones."""
     with builtins.open(os.fspath(path), "rb") as it:
         # As many bytes of memory are taken as are asked for.
@@ -669,7 +668,7 @@ def _read(path: AnyPath) -> bytes:
     return b"".join(piece for piece in pieces if piece)
 
 
-def check(data: Bytes) -> Summary:
+def check(data: _Bytes) -> Summary:
     """Counts bytes, sections and segments of a file; raises Refused as `parse` does."""
     return parse(data).summary
 
@@ -677,7 +676,7 @@ def check(data: Bytes) -> Summary:
 # ---- The engines
 
 
-def show(data: Bytes) -> str:
+def show(data: _Bytes) -> str:
     """The lines of `elfmap show` on a file, also on one that is refused."""
     status, outcome, text = _said("elfmap_show", *_bytes_of(data))
     if status not in (_library.DONE, _library.REFUSED):
@@ -685,7 +684,7 @@ def show(data: Bytes) -> str:
     return text.decode("ascii")
 
 
-def refused_tables(data: Bytes) -> list[tuple[int, int, int]]:
+def refused_tables(data: _Bytes) -> list[tuple[int, int, int]]:
     """The tables of a file that break a rule: section, first rule broken, lowest offset.
 
     Raises Refused where the file itself breaks a rule. Takes no memory for the entries of
@@ -699,7 +698,7 @@ def refused_tables(data: Bytes) -> list[tuple[int, int, int]]:
     return found
 
 
-def rewrite(data: Bytes) -> bytes:
+def rewrite(data: _Bytes) -> bytes:
     """The object that a relocatable file denotes, as a file in canonical layout.
 
     Raises Refused, or TooLong where it is longer than 2^30 bytes.
@@ -708,12 +707,12 @@ def rewrite(data: Bytes) -> bytes:
 
 
 def link(
-    files: Iterable[Bytes],
-    rules: Text,
+    files: Iterable[_Bytes],
+    rules: _Text,
     *,
     base: int = 0x400000,
     page: int = 0x1000,
-    entry: Text = b"_start",
+    entry: _Text = b"_start",
 ) -> bytes:
     """The executable of these objects, by the relocation rules of a text.
 
@@ -727,7 +726,7 @@ def link(
     return _done(*_said("elfmap_link", *words), contents, start[0])
 
 
-def map(files: Iterable[Bytes], rules: Text, *, base: int = 0x400000, page: int = 0x1000) -> str:
+def map(files: Iterable[_Bytes], rules: _Text, *, base: int = 0x400000, page: int = 0x1000) -> str:
     """The lines of `elfmap map` on these objects, and their relocated bytes by the rules.
 
     Raises what `link` does.
@@ -737,7 +736,7 @@ def map(files: Iterable[Bytes], rules: Text, *, base: int = 0x400000, page: int 
     return _done(*_said("elfmap_map", *words), contents).decode("ascii")
 
 
-def _view_of(data: Bytes) -> memoryview:
+def _view_of(data: _Bytes) -> memoryview:
     """The bytes that are in one piece, whatever numbers they are taken for."""
     if isinstance(data, (str, os.PathLike)):
         raise TypeError(
@@ -749,7 +748,7 @@ def _view_of(data: Bytes) -> memoryview:
         raise TypeError("bytes in one piece are wanted") from None
 
 
-def _bytes_of(data: Bytes) -> tuple[Any, int]:
+def _bytes_of(data: _Bytes) -> tuple[Any, int]:
     view = _view_of(data)
     # The array holds the view as long as it is there itself.
     return _Borrowed(_library.address_of(view), view), len(view)
@@ -763,7 +762,7 @@ class _Borrowed(ctypes.c_void_p):
         self.view = view
 
 
-def _text(words: Text, what: str) -> tuple[bytes, int]:
+def _text(words: _Text, what: str) -> tuple[bytes, int]:
     """The bytes of a name or a text, also of one that Python got by surrogateescape."""
     if not isinstance(words, (str, bytes)):
         raise TypeError(f"str or bytes are wanted for {what}, and no {type(words).__name__}")
@@ -790,7 +789,7 @@ def _linked(contents: list[memoryview], base: int, page: int) -> tuple[Any, ...]
     return joined, len(joined), places, len(contents), options
 
 
-def _views_of(files: Iterable[Bytes]) -> list[memoryview]:
+def _views_of(files: Iterable[_Bytes]) -> list[memoryview]:
     """The bytes of each file. Those of one file are no files: each of them would be taken for
     one."""
     if isinstance(files, (str, os.PathLike)) or _has_bytes(files):
@@ -850,7 +849,8 @@ def _failure(
 def _symbol_of(
     rule: int, file: int, index: int, entry: int, contents: Sequence[memoryview], start: bytes
 ) -> Optional[bytes]:
-    """The name of the symbol that a rule of the link is about."""
+    """The name of the symbol that a rule of the link is about; None also if there is no memory for
+    it."""
     # What it needs is not imported with the package.
     from elfmap._link_words import NO_ENTRY, refused_symbol
 
@@ -858,4 +858,6 @@ def _symbol_of(
         return start
     if file >= len(contents):
         return None
-    return refused_symbol(contents[file].tobytes(), rule, index, entry)
+    with contextlib.suppress(MemoryError):
+        return refused_symbol(contents[file], rule, index, entry)
+    return None

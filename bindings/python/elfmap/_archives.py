@@ -34,7 +34,8 @@ class Member(NamedTuple):
     """A member, and where its bytes are: in the archive, or in the file `path`.
 
     `header` is where its own header is. Of a member in another archive that a thin one
-    names, `origin` is where the header is there.
+    names, `origin` is where the header is there. `label` is the name, or for the second one
+    of a name `name#2`: no two members have the same.
     """
 
     name: bytes
@@ -43,6 +44,7 @@ class Member(NamedTuple):
     size: int
     path: Optional[bytes] = None
     origin: Optional[int] = None
+    label: bytes = b""
 
 
 class Damaged(Unreadable):
@@ -58,6 +60,9 @@ class _Archive:
         self.is_thin = source[:8] == THIN_MAGIC
         self._folder = os.path.dirname(path)
         self._names: Optional[tuple[int, int]] = None
+        self._labels: set[bytes] = set()
+        # How many members of a name there are, if there is more than one.
+        self._counts: dict[bytes, int] = {}
 
     def members(self) -> Iterator[Member]:
         at = 8
@@ -72,8 +77,17 @@ class _Archive:
             elif not is_special:
                 member = self._member(name, at, size)
                 if not member.name.startswith(_BSD_INDEX):
-                    yield member
+                    yield member._replace(label=self._label(member))
             at = end + end % 2
+
+    def _label(self, member: Member) -> bytes:
+        # What names a member in another archive is told apart by the name there.
+        label = member.name
+        while member.origin is None and label in self._labels:
+            self._counts[member.name] = self._counts.get(member.name, 1) + 1
+            label = b"%s#%d" % (member.name, self._counts[member.name])
+        self._labels.add(label)
+        return label
 
     def _header(self, at: int) -> tuple[bytes, int]:
         header = self.source[at : at + _HEADER]
@@ -153,7 +167,7 @@ class Contents:
                 return
             inner = self._at(file, member.path, member.origin)
             with self.opened(member.path, file, inner) as content:
-                yield content._replace(path=b"%s(%s(%s))" % (archive, member.name, inner.name))
+                yield content._replace(path=b"%s(%s(%s))" % (archive, member.name, inner.label))
 
     def _at(self, source: Source, path: bytes, origin: int) -> Member:
         """The member whose header is at the origin."""
@@ -174,8 +188,12 @@ def _is_below(path: bytes, archive: bytes) -> bool:
 
 
 def printed(archive: bytes, member: Member) -> bytes:
-    """The path of a member, as `lib.a(member.o)`."""
-    return b"%s(%s)" % (archive, member.name)
+    """The path of a member, as `lib.a(member.o)`, or `lib.a(member.o#2)`."""
+    return b"%s(%s)" % (archive, member.label)
+
+
+# How a file begins that is checked, or whose members are.
+MAGICS = (b"\x7fELF", MAGIC, THIN_MAGIC)
 
 
 def is_archive(source: Source) -> bool:

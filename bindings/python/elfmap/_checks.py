@@ -9,16 +9,27 @@ on any other byte.
 So that memory is bounded by the largest table, and not by all of them, tables of many bytes
 are checked some at a time: all other tables have another type meanwhile. A table's verdict
 depends on those alone that it links to, and on index tables of its symbols.
+
+Known deviations are put right in a copy, which is checked like the file (_deviations.py).
 """
 
 from __future__ import annotations
 
 import ctypes
 import struct
+from collections import Counter
 from collections.abc import Iterator
 from typing import NamedTuple, Optional
 
 from elfmap import _library
+from elfmap._deviations import (
+    DEBUG_SEGMENTS,
+    SEGMENT_PAST_END,
+    Mending,
+    Reading,
+    Rows,
+    debug_copy,
+)
 from elfmap._link_words import OF_ONE_FILE, Linked
 from elfmap._sources import LONGEST, Room, Source, Unreadable
 from elfmap._words import DYNSYM, SYMTAB, SYMTAB_SHNDX, Words
@@ -46,6 +57,7 @@ class Fault(NamedTuple):
     at: int
     table: Optional[int] = None
     is_of_link: bool = False
+    reading: Optional[Reading] = None
 
 
 class Table(NamedTuple):
@@ -121,31 +133,38 @@ class _Needs:
 class Checks:
     """Checks one file after another, in the same memory."""
 
-    def __init__(self, tables: bool, objects: bool) -> None:
+    def __init__(
+        self, tables: bool, objects: bool, is_strict: bool = True, debug_files: bool = False
+    ) -> None:
         self._tables = tables
         self._objects = objects
+        self._is_strict = is_strict
+        self._debug_files = debug_files
         self._library = _library.library()
         self._room = Room()
         self._extents = (_library.Extent * _LEAST_EXTENTS)()
         self._text = bytearray(_LEAST_TEXT if tables else 0)
-        # Whether tables in the memory have another type than in the file.
-        self._is_masked = False
+        # Whether the memory has other bytes than the file.
+        self._is_changed = False
+        # What known deviations the last file has, by their names.
+        self.known = Counter[str]()
 
     def faults(self, source: Source) -> list[Fault]:
         """What the file breaks: of the image the first rule, or else of each table."""
-        size = min(len(source), LONGEST)
-        self._is_masked = False
-        self._load(source, size)
-        refused = self._image(size)
+        self.known = Counter()
+        refused, judged = self._image_fault(source)
         if refused or not (self._tables or self._objects):
             return [refused] if refused else []
-        whole = batch_of(self._sections(size))
-        found = self._table_faults(source, size, whole) if self._tables else []
+        whole = batch_of(self._sections(len(judged)))
+        found = self._table_faults(judged, whole) if self._tables else []
         if not self._objects:
             return found
+        # The commands for objects know no deviations.
+        self._is_changed |= judged is not source
+        size = len(source)
         self._read_batch(source, size, whole)
         fault = self._object_fault(size) or self._link_fault(source, size)
-        if fault and fault not in (it._replace(table=None) for it in found):
+        if fault and fault not in (it._replace(table=None, reading=None) for it in found):
             found.append(fault)
         return found
 
@@ -213,9 +232,9 @@ class Checks:
 
     def _read_batch(self, source: Source, size: int, batch: Batch) -> None:
         """Reads the contents of tables, and gives all other tables another type."""
-        if batch.others or self._is_masked:
+        if batch.others or self._is_changed:
             self._load(source, size)
-        self._is_masked = bool(batch.others)
+        self._is_changed = bool(batch.others)
         file = self._file(size)
         word = struct.Struct(f"{_order(file)}I")
         for it in batch.others:
@@ -224,6 +243,25 @@ class Checks:
             self._read(source, size, it.start, it.size)
 
     # ---- The verdicts
+
+    def _image_fault(self, source: Source) -> tuple[Optional[Fault], Source]:
+        """The rule of images that the file breaks, and what its tables are read from: the file, or
+        a copy."""
+        size = min(len(source), LONGEST)
+        self._is_changed = False
+        self._load(source, size)
+        refused = self._image(size)
+        is_known = self._debug_files and refused and refused.rule == SEGMENT_PAST_END
+        copy = debug_copy(source) if is_known else None
+        if not copy:
+            return refused, source
+        self._load(copy, len(copy))
+        refused = self._image(len(copy))
+        if refused:
+            reading = Reading(copy, refused.at, (DEBUG_SEGMENTS,))
+            return refused._replace(reading=reading), source
+        self.known[DEBUG_SEGMENTS.name] += 1
+        return None, copy
 
     def _image(self, size: int) -> Optional[Fault]:
         if len(self._extents) > _MOST_EXTENTS:
@@ -236,19 +274,39 @@ class Checks:
             self._extents = (_library.Extent * fault.at)()
         return None
 
-    def _table_faults(self, source: Source, size: int, whole: Batch) -> list[Fault]:
+    def _table_faults(self, source: Source, whole: Batch) -> list[Fault]:
         """The faults of tables, each once: the first table of those that share it."""
         groups: dict[tuple[int, int], list[int]] = {}
+        readings: dict[int, Reading] = {}
         for batch in batches(whole, _MOST_AT_ONCE):
-            self._read_batch(source, size, batch)
-            own = {it.section for it in batch.shown}
-            for section, rule, at in self._refused(size):
-                if section in own:
-                    groups.setdefault((rule, at), []).append(section)
+            self._read_batch(source, len(source), batch)
+            rows = self._rows(len(source), batch)
+            if rows and not self._is_strict:
+                mending = self._mended(source, batch, rows)
+                rows = mending.left()
+                readings.update(mending.readings())
+                self.known.update(mending.known())
+            for section, fault in rows.items():
+                groups.setdefault(fault, []).append(section)
         if not groups:
             return []
         words = Words(source)
-        return [Fault(rule, at, _owner(words, it)) for (rule, at), it in groups.items()]
+        owners = [(rule, at, _owner(words, it)) for (rule, at), it in groups.items()]
+        return [Fault(*it, reading=readings.get(it[2])) for it in owners]
+
+    def _rows(self, size: int, batch: Batch) -> Rows:
+        own = {it.section for it in batch.shown}
+        return {it: (rule, at) for it, rule, at in self._refused(size) if it in own}
+
+    def _mended(self, source: Source, batch: Batch, rows: Rows) -> Mending:
+        """What is left of the rows once known deviations are put right, one after another."""
+        mending = Mending(source, rows)
+        while mending.mend():
+            self._is_changed = True
+            self._read_batch(mending.copy, len(mending.copy), batch)
+            mending.judge(self._rows(len(mending.copy), batch))
+            self._is_changed = True
+        return mending
 
     def _refused(self, size: int) -> Iterator[tuple[int, int, int]]:
         """The tables that break a rule: a section, the rule and the offset."""

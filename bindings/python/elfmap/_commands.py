@@ -9,10 +9,10 @@ import signal
 import sys
 from collections.abc import Callable, Sequence
 from contextlib import suppress
-from typing import NoReturn, Optional, TextIO
+from typing import Any, NoReturn, Optional, TextIO
 
 from elfmap._sources import reason_of
-from elfmap._words import one_line
+from elfmap._words import one_line, visible
 
 DONE, FOUND, USAGE, UNREADABLE = range(4)
 
@@ -26,6 +26,14 @@ class Parser(argparse.ArgumentParser):
         complain(self.prog, b"error: " + message.encode("utf-8", "surrogateescape"))
         sys.exit(USAGE)
 
+    def _print_message(self, message: str, file: Any = None) -> None:
+        """Writes the help or the version. If that fails, the command has failed: argparse would go
+        on."""
+        if file is None:
+            _write(message.encode("utf-8", "backslashreplace"))
+        else:
+            file.write(message)
+
     def in_any_order(self, words: Optional[Sequence[str]], operands: str) -> argparse.Namespace:
         """Reads words among which options may be anywhere; after `--` there are none. `operands`
         names the others."""
@@ -37,8 +45,9 @@ class Parser(argparse.ArgumentParser):
 
 
 def complain(program: str, words: bytes) -> None:
-    """Prints a message on standard error, with what can't be printed escaped."""
-    _write(b"\n".join(map(one_line, (program.encode() + b": " + words).split(b"\n"))) + b"\n")
+    """Prints a message, whose names are escaped, on standard error. What else can't be printed is
+    escaped here."""
+    _write(b"\n".join(map(visible, (program.encode() + b": " + words).split(b"\n"))) + b"\n")
 
 
 def _write(message: bytes) -> None:
@@ -69,9 +78,10 @@ def run_script(program: str, main: Callable[[], int]) -> NoReturn:
 
 
 def _status(program: str, main: Callable[[], int]) -> int:
-    """The status of a run. A reader that closes the pipe ends it silently."""
+    """The status of a run. A reader that closes the pipe ends it silently, with the status that the
+    shell has for a program that SIGPIPE ends."""
     try:
-        status = _ended(main)
+        status = _ended(program, main)
         sys.stdout.flush()
     except KeyboardInterrupt:
         status = 128 + signal.SIGINT
@@ -93,11 +103,15 @@ def _drop_unwritten(stream: TextIO, number: int) -> None:
             os.dup2(os.open(os.devnull, os.O_WRONLY), number)
 
 
-def _ended(main: Callable[[], int]) -> int:
+def _ended(program: str, main: Callable[[], int]) -> int:
+    """The status with which a command ends, also by `sys.exit`; a text there is its message."""
     try:
         return main()
     except SystemExit as end:
-        return end.code if isinstance(end.code, int) else DONE
+        if end.code is None or isinstance(end.code, int):
+            return end.code or DONE
+        complain(program, str(end.code).encode("utf-8", "surrogateescape"))
+        return UNREADABLE
 
 
 def _occupy_closed() -> None:

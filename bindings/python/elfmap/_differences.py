@@ -12,7 +12,7 @@ from collections.abc import Callable, Hashable, Iterable, Iterator, Sequence
 from itertools import zip_longest
 from typing import NamedTuple, Optional, TypeVar, Union
 
-from elfmap import Bytes, File, Relocation, Section, Symbol
+from elfmap import File, Relocation, Section, Symbol, _Bytes as Bytes
 from elfmap._names import machine_words, relocation_types, section_type
 from elfmap._words import LONGEST_LETTER, MOST_LETTERS, printable
 

@@ -9,11 +9,12 @@ import re
 from collections import Counter
 from collections.abc import Iterable, Iterator, Sequence
 from pathlib import Path
-from typing import NamedTuple, Optional, Union
+from typing import NamedTuple, Optional, TypedDict, Union
 
 from elfmap._link_words import OF_ONE_FILE
 from elfmap._rules import LINK_RULES, RULES
 from elfmap._sources import reason_of
+from elfmap._words import printable
 
 
 class Rule(NamedTuple):
@@ -79,6 +80,20 @@ class Unread(NamedTuple):
     reason: str
 
 
+class Summary(TypedDict):
+    """The numbers of a run; those of known deviations by their names."""
+
+    checked: int
+    findings: int
+    files_with_findings: int
+    suppressed: int
+    known_deviations: dict[str, int]
+    not_elf: int
+    class_32: int
+    not_regular: int
+    unreadable: int
+
+
 class Report:
     """What a run, or a part of it, has found."""
 
@@ -88,6 +103,8 @@ class Report:
         self.class_32 = 0
         self.irregular = 0
         self.suppressed = 0
+        # Known deviations, by their names.
+        self.known = Counter[str]()
         self.findings: list[Finding] = []
         self.unreadable: list[Unread] = list(unreadable)
         # The files and members that were checked, where a format wants them.
@@ -99,6 +116,7 @@ class Report:
         self.class_32 += other.class_32
         self.irregular += other.irregular
         self.suppressed += other.suppressed
+        self.known += other.known
         self.findings += other.findings
         self.unreadable += other.unreadable
         self.names += other.names
@@ -109,12 +127,13 @@ class Report:
         self.unreadable.sort()
         self.names.sort()
 
-    def summary(self) -> dict[str, int]:
+    def summary(self) -> Summary:
         return {
             "checked": self.checked,
             "findings": len(self.findings),
             "files_with_findings": len({it.path for it in self.findings}),
             "suppressed": self.suppressed,
+            "known_deviations": dict(sorted(self.known.items())),
             "not_elf": self.no_elf,
             "class_32": self.class_32,
             "not_regular": self.irregular,
@@ -149,17 +168,19 @@ def _pattern(globs: Sequence[bytes]) -> Optional[re.Pattern[bytes]]:
     return re.compile(text.encode("latin-1"))
 
 
+# The rules that a finding may be of.
+ALL_RULES = [*(Rule(False, it) for it in RULES), *(Rule(True, it) for it in OF_ONE_FILE)]
+
+
 def _words_of_rules() -> Iterator[tuple[str, Rule]]:
-    """Each rule that a finding may be of, by its name and by its number."""
-    of_files = [Rule(False, it) for it in RULES]
-    of_link = [Rule(True, it) for it in OF_ONE_FILE]
-    for rule in of_files + of_link:
+    """Each of them, by its name and by its number."""
+    for rule in ALL_RULES:
         yield rule.table[rule.number][0], rule
         yield _plain(str(rule.key)), rule
 
 
 def _plain(word: str) -> str:
-    """A name or a number, however it is written."""
+    """A name in capitals, with `_` for `-`; or a number without zeros in front."""
     return word.lstrip("0") if word.isdecimal() else word.upper().replace("-", "_")
 
 
@@ -212,9 +233,9 @@ class Baseline:
             entries = json.loads(Path(path).read_bytes())["findings"]
             return cls((it["path"], it["rule"], tuple(it["sections"])) for it in entries)
         except OSError as fault:
-            raise BadWord(f"{path}: {reason_of(fault)}") from None
+            raise BadWord(f"{printable(os.fsencode(path))}: {reason_of(fault)}") from None
         except (ValueError, KeyError, TypeError, RecursionError):
-            raise BadWord(f"{path} is no baseline") from None
+            raise BadWord(f"{printable(os.fsencode(path))} is no baseline") from None
 
     def match(self, finding: Finding) -> bool:
         own = known(finding)

@@ -12,7 +12,7 @@ from urllib.parse import quote_from_bytes
 
 from elfmap import __version__
 from elfmap._findings import Finding, Known, Report, Rule, Unread, known
-from elfmap._words import one_line, printable
+from elfmap._words import one_line, printable, visible
 
 # What ends a record: a line feed, or a zero byte.
 Format = Callable[[Report, bytes], Iterable[bytes]]
@@ -20,12 +20,8 @@ _TOO_SHORT = Rule(False, 2)
 # The number is another one if another thing is hashed.
 _FINGERPRINT = "elfmapFinding/v1"
 _SARIF_SCHEMA = "https://json.schemastore.org/sarif-2.1.0.json"
-# What is counted of files that are skipped, and how it is called.
-_SKIPPED = (
-    ("not_elf", "not ELF"),
-    ("class_32", "of class 32"),
-    ("not_regular", "not regular"),
-)
+# How files are called that are skipped: those that are no ELF files, of class 32, and no files.
+_SKIPPED = ("not ELF", "of class 32", "not regular")
 
 
 def _encoded(text: str) -> bytes:
@@ -38,11 +34,15 @@ def counted(count: int, what: str) -> str:
 
 def summary_words(report: Report) -> str:
     it = report.summary()
-    skipped = ", ".join(f"{it[key]} {what}" for key, what in _SKIPPED if it[key])
+    counts = (it["not_elf"], it["class_32"], it["not_regular"])
+    skipped = ", ".join(f"{count} {what}" for count, what in zip(counts, _SKIPPED) if count)
+    known = ", ".join(f"{count} {name}" for name, count in it["known_deviations"].items())
     files = counted(it["checked"], "ELF file")
     words = f"{counted(it['findings'], 'finding')} in {it['files_with_findings']} of {files}"
     if it["suppressed"]:
         words += f", {it['suppressed']} suppressed"
+    if known:
+        words += f"; known deviations: {known}"
     if skipped:
         words += f"; skipped: {skipped}"
     if it["unreadable"]:
@@ -101,10 +101,10 @@ def _command(level: str, path: bytes, title: str, message: str) -> bytes:
     def escaped(words: str, more: str = "") -> str:
         return "".join(f"%{ord(it):02X}" if it in "%\r\n" + more else it for it in words)
 
-    # Those signs are escaped as the file's own, so that it is found. Others that can't be printed
-    # are not.
+    # Those signs are escaped as the file's own, and a backslash is as it is, so that the file is
+    # found. One with others that can't be printed is not.
     own = escaped(path.decode("utf-8", "surrogateescape"), ":,")
-    file = printable(own.encode("utf-8", "surrogateescape"))
+    file = visible(own.encode("utf-8", "surrogateescape")).decode("utf-8")
     words = f"file={file},title={escaped(title, ':,')}::{escaped(message)}"
     return _encoded(f"::{level} {words}")
 
@@ -208,6 +208,11 @@ def junit(report: Report, end: bytes) -> Iterator[bytes]:
     counts = f'tests="{len(names)}" failures="{len(findings)}" errors="{len(unreadable)}"'
     yield b'<?xml version="1.0" encoding="UTF-8"?>\n'
     yield _encoded(f'<testsuites {counts}>\n<testsuite name="elfmap-lint" {counts}>\n')
+    if report.known:
+        yield b"<properties>\n"
+        for name, count in sorted(report.known.items()):
+            yield _encoded(f'<property name="known_deviations.{name}" value="{count}"/>\n')
+        yield b"</properties>\n"
     for path in names:
         yield _encoded(_testcase(path, findings.get(path, []), unreadable.get(path, [])))
     yield b"</testsuite>\n</testsuites>\n"

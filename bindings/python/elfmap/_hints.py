@@ -8,9 +8,10 @@ import shlex
 from collections.abc import Iterator, Sequence
 from typing import Optional
 
+from elfmap._deviations import SEGMENT_PAST_END, is_debug_file
 from elfmap._link_words import UNDEFINED_NAME, Linked
 from elfmap._names import machine_words, relocation_types, section_type
-from elfmap._words import SECTION, Words, one_line
+from elfmap._words import SECTION, SHARED_BYTE, Words, visible
 
 TOO_SHORT = 2
 WRONG_MAGIC = 3
@@ -20,6 +21,7 @@ NOT_RELOCATABLE = 70
 _OF_SECTION_TABLE = (12, NOT_NULL, 15)
 _KEPT_LINK = 78
 _KEPT_INFO = 79
+_WRONG_LINK = 44
 NO_RULE = 12
 _ADDRSIG = "LLVM_ADDRSIG"
 # What has another meaning within $'..'.
@@ -42,6 +44,19 @@ _FILE_TYPES = {
     2: "an executable",
     3: "a shared object or a position-independent executable",
     4: "a core file",
+}
+_HEADER_SIZE = 64
+# The first letters of a section's name that show who made a file that breaks a rule, and why it
+# does: a section over the ELF header, and a link to a table that isn't there.
+_PRODUCERS = {
+    SHARED_BYTE: (
+        b".guile.",
+        "Guile made it, whose compiler gives a section to the ELF header and the program headers",
+    ),
+    _WRONG_LINK: (
+        b"__u_boot_list",
+        "U-Boot made it, whose linker script leaves out tables that others link to",
+    ),
 }
 # Names that compilers refer to by themselves, and the option without which they do.
 _NAMES = {
@@ -69,6 +84,18 @@ def hints(
         yield f"the file is {kind}: an object is what cc -c writes"
     elif rule in (_KEPT_LINK, _KEPT_INFO):
         yield from _address_significance(words, path, at)
+    yield from producers(words, rule, at)
+
+
+def producers(words: Words, rule: int, at: int) -> Iterator[str]:
+    """Who made a file that breaks a rule of files at an offset, where its sections show it."""
+    if rule == SEGMENT_PAST_END and is_debug_file(words):
+        yield "it is a file of debug information, which elfmap-lint accepts with --debug-files"
+    if rule not in _PRODUCERS or rule == SHARED_BYTE and at >= _HEADER_SIZE:
+        return
+    start, hint = _PRODUCERS[rule]
+    if any(it.startswith(start) for it in words.first_names):
+        yield hint
 
 
 def _foreign(words: Words) -> Iterator[str]:
@@ -118,10 +145,10 @@ def _address_significance(words: Words, path: str, at: int) -> Iterator[str]:
 
 def _shell_word(path: bytes) -> str:
     """A path as a word of a command for bash, zsh or ksh, in letters that can be printed."""
-    if one_line(path) == path:
+    if visible(path) == path:
         return shlex.quote(os.fsdecode(path))
     quoted = _QUOTED.sub(rb"\\\g<0>", path)
-    return f"$'{one_line(quoted).decode()}'"
+    return f"$'{visible(quoted).decode()}'"
 
 
 def link_hints(

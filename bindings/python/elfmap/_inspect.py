@@ -6,11 +6,19 @@ from collections.abc import Iterator
 from contextlib import contextmanager
 from typing import NamedTuple
 
-from elfmap._archives import Content, Contents, is_archive, members, printed
+from elfmap._archives import MAGICS, Content, Contents, is_archive, members, printed
 from elfmap._checks import TOO_LONG_AS_OBJECT, Checks, Fault
 from elfmap._findings import Finding, Report, Rule, Unread
+from elfmap._hints import producers
 from elfmap._link_words import Linked, explain_alone
-from elfmap._sources import Source, Unreadable, opened, standard_input
+from elfmap._sources import (
+    Source,
+    Unreadable,
+    decompressed,
+    is_compressed,
+    opened,
+    standard_input,
+)
 from elfmap._walk import Named, reason_of_foreign
 from elfmap._words import MOST_LETTERS, Words, explain
 
@@ -25,7 +33,8 @@ _TOO_LONG = (
 class Depth(NamedTuple):
     """How much of a file is checked, and what is reported: of each name in a sentence at most so
     many letters, and of sections also their names by themselves. Whether a file that is named may
-    be no ELF file.
+    be no ELF file. Whether known deviations are findings, and whether segments of debug files may
+    pass the end. Whether files that are compressed are read.
     """
 
     tables: bool = False
@@ -36,6 +45,9 @@ class Depth(NamedTuple):
     most_letters: int = MOST_LETTERS
     names_sections: bool = True
     skips_named: bool = True
+    is_strict: bool = True
+    debug_files: bool = False
+    decompresses: bool = False
 
 
 class Inspector:
@@ -43,7 +55,8 @@ class Inspector:
 
     def __init__(self, depth: Depth) -> None:
         self._depth = depth
-        self._checks = Checks(depth.tables, depth.objects)
+        how = depth.is_strict, depth.debug_files
+        self._checks = Checks(depth.tables, depth.objects, *how)
         self._contents = Contents(depth.follows_thin)
         self._report = Report()
 
@@ -72,6 +85,13 @@ class Inspector:
             self._report.unreadable.append(Unread(path, "there is no memory for it"))
 
     def _file(self, path: bytes, source: Source, is_named: bool) -> None:
+        if self._depth.decompresses and is_compressed(path, source):
+            with decompressed(source, MAGICS) as it:
+                self._plain_file(path, it, is_named)
+        else:
+            self._plain_file(path, source, is_named)
+
+    def _plain_file(self, path: bytes, source: Source, is_named: bool) -> None:
         if not is_archive(source):
             if is_named and not self._depth.skips_named and source[:4] != _MAGIC:
                 raise Unreadable(reason_of_foreign(len(source)))
@@ -94,25 +114,28 @@ class Inspector:
 
     def _elf(self, it: Content) -> None:
         faults = self._checks.faults(it.source)
+        self._report.known += self._checks.known
         if self._depth.keeps_names:
             self._report.names.append(it.path)
         if not faults:
             return
         words = Words(it.source, self._depth.most_letters)
-        names_sections = self._depth.names_sections
-        found = [_finding(it, words, fault, names_sections) for fault in faults]
+        found = [_finding(it, words, fault, self._depth) for fault in faults]
         self._report.findings += found
 
 
-def _finding(content: Content, words: Words, fault: Fault, names_sections: bool) -> Finding:
+def _finding(content: Content, words: Words, fault: Fault, depth: Depth) -> Finding:
     path, file, source = content
     rule = Rule(fault.is_of_link, fault.rule)
     if fault.rule == TOO_LONG_AS_OBJECT:
         return Finding(path, 0, rule, *_TOO_LONG, (), file, source.start)
     if fault.is_of_link:
         told = explain_alone(Linked("", words), fault.rule, fault.at)
+    elif fault.reading:
+        told = fault.reading.told(words, fault.rule, fault.table, depth.most_letters)
     else:
         told = explain(words, fault.rule, fault.at, fault.table)
     name = rule.table[rule.number][0]
-    sections = tuple(map(words.section_name, told.sections)) if names_sections else ()
-    return Finding(path, fault.at, rule, name, told.message, sections, file, source.start)
+    message = "; ".join((told.message, *producers(words, fault.rule, fault.at)))
+    sections = tuple(map(words.section_name, told.sections)) if depth.names_sections else ()
+    return Finding(path, fault.at, rule, name, message, sections, file, source.start)

@@ -109,6 +109,15 @@ class Linked:
         offset = self.words.symbol(self.symbols, position + 1, "st_name")
         return self.words.name(self._strings, offset, most)
 
+    def whole_name(self, position: int) -> bytes:
+        """The name of the symbol at a position. Of its string table little more is read."""
+        most = LONGEST_NAME
+        name = self.raw_name(position, most)
+        while len(name) == most:
+            most *= 16
+            name = self.raw_name(position, most)
+        return name
+
     def first_definition(self, name: bytes) -> Optional[int]:
         """The first symbol that is a global definition of a name."""
         offsets = set(islice(self._offsets_of(name), _MOST_OFFSETS)) if name else set()
@@ -198,15 +207,28 @@ class Linked:
         return f"{self.path}, {self.words.section_words(index)}: {own}"
 
 
-def refused_symbol(data: bytes, rule: int, index: int, entry: int) -> Optional[bytes]:
+class _Viewed:
+    """The bytes of a view, of which those alone are copied that are asked for."""
+
+    def __init__(self, view: memoryview) -> None:
+        self._view = view
+
+    def __len__(self) -> int:
+        return len(self._view)
+
+    def __getitem__(self, place: slice) -> bytes:
+        return bytes(self._view[place])
+
+
+def refused_symbol(data: memoryview, rule: int, index: int, entry: int) -> Optional[bytes]:
     """The whole name of the symbol of a file that a rule of the link is about; None if there is
     none."""
-    file = Linked("", Words(data))
+    file = Linked("", Words(_Viewed(data)))
     if rule in _OF_SYMBOLS:
-        return file.raw_name(index, len(data))
+        return file.whole_name(index)
     at = file.relocation(index, entry) if rule in _OF_RELOCATIONS else -1
     symbol = file.words.number(at + 8, 8) >> 32 if at >= 0 else 0
-    return file.raw_name(symbol - 1, len(data)) if symbol else None
+    return file.whole_name(symbol - 1) if symbol else None
 
 
 def explain_alone(file: Linked, rule: int, at: int) -> Told:

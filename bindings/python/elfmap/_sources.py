@@ -6,12 +6,13 @@ whatever its size. A read of it returns too few bytes, which is an error like an
 
 from __future__ import annotations
 
+import importlib
 import mmap
 import os
 import stat
-from collections.abc import Iterator
+from collections.abc import Callable, Iterator
 from contextlib import contextmanager
-from typing import Optional
+from typing import Any, Optional
 
 from elfmap import _library
 
@@ -23,6 +24,9 @@ _BLOCK = 1 << 16
 _MOST_BLOCKS = 16
 _NORESERVE = getattr(mmap, "MAP_NORESERVE", 0x4000)
 _LEAST_ROOM = 1 << 20
+# How the names of compressed files end, and how these begin.
+_COMPRESSED = {b".gz": b"\x1f\x8b", b".xz": b"\xfd7zXZ\0"}
+_MAGIC_SIZE = 8
 
 
 class Unreadable(Exception):
@@ -122,16 +126,63 @@ def standard_input() -> Source:
 def whole(reader: int) -> Source:
     """All that can be read from an open file, in memory."""
     handle = os.memfd_create("what was read")
-    size = 0
+    try:
+        size = _copied(lambda most: os.read(reader, most), handle)
+    except OSError as fault:
+        raise Unreadable(reason_of(fault)) from None
+    return Source(handle, 0, size)
+
+
+def _copied(read: Callable[[int], bytes], handle: int, size: int = 0) -> int:
+    """Writes what is read behind so many bytes of a file, up to the longest one: its length."""
     while size < LONGEST:
-        try:
-            content = os.read(reader, min(1 << 20, LONGEST - size))
-        except OSError as fault:
-            raise Unreadable(reason_of(fault)) from None
+        content = read(min(1 << 20, LONGEST - size))
         if not content:
             break
         size += os.pwrite(handle, content, size)
-    return Source(handle, 0, size)
+    return size
+
+
+def is_compressed(path: bytes, source: Source) -> bool:
+    """Whether a file has the name and the first bytes of one that gzip or xz compressed."""
+    return any(path.endswith(end) and source[: len(it)] == it for end, it in _COMPRESSED.items())
+
+
+@contextmanager
+def decompressed(source: Source, wanted: tuple[bytes, ...]) -> Iterator[Source]:
+    """What was compressed, in memory: all of it if it begins with one of these, or else its first
+    bytes."""
+    handle = os.memfd_create("what was decompressed")
+    try:
+        yield Source(handle, 0, _decompress(source, wanted, handle))
+    finally:
+        os.close(handle)
+
+
+def _decompress(source: Source, wanted: tuple[bytes, ...], handle: int) -> int:
+    module, broken = _compression(source)
+    try:
+        with os.fdopen(os.dup(source.handle), "rb") as raw:
+            raw.seek(source.start)
+            with module.open(raw) as it:
+                first = it.read(_MAGIC_SIZE)
+                size = os.pwrite(handle, first, 0)
+                return _copied(it.read, handle, size) if first.startswith(wanted) else size
+    except (OSError, EOFError, broken) as fault:
+        reason = reason_of(fault) if isinstance(fault, OSError) else str(fault)
+        raise Unreadable(f"it can't be decompressed: {reason.lower()}") from None
+
+
+def _compression(source: Source) -> tuple[Any, type[Exception]]:
+    """The module that decompresses it, and what that raises. Most runs need none, and not every
+    Python has lzma."""
+    name, fault = ("gzip", "zlib") if source[:2] == _COMPRESSED[b".gz"] else ("lzma", "lzma")
+    try:
+        module = importlib.import_module(name)
+        broken = vars(importlib.import_module(fault))
+    except ImportError:
+        raise Unreadable(f"it can't be decompressed: this Python has no module {name}") from None
+    return module, broken.get("LZMAError") or broken["error"]
 
 
 class Room:

@@ -105,8 +105,12 @@ _HEADERS_AT_ONCE = 1024
 MOST_LETTERS = 200
 LONGEST_NAME = 4096
 LONGEST_LETTER = 4
-# What is escaped in a path: no byte of a letter of ASCII that can be printed.
-_ESCAPED_BYTE = re.compile(rb"\\x([01][0-9a-f]|7f|[89a-f][0-9a-f])")
+# What is escaped in a path: a backslash, and bytes, of which none is a letter of ASCII that can be
+# printed.
+_ESCAPED_BYTE = re.compile(rb"\\(?:\\|x([01][0-9a-f]|7f|[89a-f][0-9a-f]))")
+# By the names of so many sections, and so many bytes of each, it is seen who made a file.
+_MOST_FIRST = 64
+_FIRST_LETTERS = 16
 # Notes have no index: more than these are not counted.
 _MOST_NOTES = 100_000
 
@@ -230,6 +234,12 @@ class Words:
         name = self.name(self.names, self.section(index, "sh_name"))
         return printable(name) or f"section {index}"
 
+    @cached_property
+    def first_names(self) -> list[bytes]:
+        """The names of the first sections, and of each its first letters."""
+        first = itertools.islice(self.headers(), _MOST_FIRST)
+        return [self.name(self.names, it[1], _FIRST_LETTERS) for it in first]
+
     def symbol(self, table: int, index: int, field: str) -> int:
         """A field of a symbol, 0 where there is none."""
         at, width = SYMBOL[field]
@@ -295,8 +305,12 @@ class Words:
             words.append(f"signed by {self.symbol_words(link, info)}")
         return "; ".join(words)
 
+    def shown_content(self, index: int) -> tuple[int, int]:
+        """The same, as words have it."""
+        return self.content(index)
+
     def content_words(self, index: int, at: int) -> str:
-        start, end = self.content(index)
+        start, end = self.shown_content(index)
         place = f"the content of {self.section_words(index)} [{start:#x}, {end:#x})"
         return f"{place}: {entry_words(self, index, at)}"
 
@@ -334,31 +348,41 @@ class Words:
 
 def printable(name: bytes, most: Optional[int] = None) -> str:
     """A name in letters that can be printed, or its first ones, and … for the rest. A byte that is
-    no UTF-8 is a letter too."""
+    no UTF-8 is a letter too. A backslash is written twice: so two names differ in print too."""
     letters = name.decode("utf-8", "surrogateescape")
     # Letters are cut, and then escaped: no escape is cut in two.
     front = letters[:most]
-    if not front.isprintable():
-        front = front.translate({ord(it): _escape(it) for it in set(front) if not it.isprintable()})
+    if "\\" in front or not front.isprintable():
+        escapes = {ord(it): _escape(it) for it in set(front) if it == "\\" or not it.isprintable()}
+        front = front.translate(escapes)
     return front if most is None or len(letters) <= most else f"{front}…"
 
 
 def _escape(letter: str) -> str:
+    code = ord(letter)
     # As the decoder writes a byte that is no UTF-8.
-    is_byte = 0xDC80 <= ord(letter) <= 0xDCFF
-    return f"\\x{ord(letter) & 0xFF:02x}" if is_byte else ascii(letter)[1:-1]
+    if 0xDC80 <= code <= 0xDCFF:
+        return f"\\x{code & 0xFF:02x}"
+    # The letter U+0080 is not the byte 0x80.
+    return f"\\u{code:04x}" if 0x80 <= code <= 0xFF else ascii(letter)[1:-1]
 
 
 def one_line(path: bytes) -> bytes:
     """A path in letters that can be printed. Of any other letter, and of what is no UTF-8, each
-    byte is escaped as `\\xNN`."""
-    letters = path.decode("utf-8", "surrogateescape")
-    return path if letters.isprintable() else "".join(map(_in_bytes, letters)).encode("utf-8")
+    byte is escaped as `\\xNN`, and a backslash is written twice."""
+    return visible(path.replace(b"\\", b"\\\\"))
+
+
+def visible(words: bytes) -> bytes:
+    """Words in letters that can be printed, as a path is escaped, but with each backslash as it is:
+    the names in them may be escaped already."""
+    letters = words.decode("utf-8", "surrogateescape")
+    return words if letters.isprintable() else "".join(map(_in_bytes, letters)).encode("utf-8")
 
 
 def original_path(line: bytes) -> bytes:
     """The path that `one_line` makes this of."""
-    return _ESCAPED_BYTE.sub(lambda it: bytes([int(it[1], 16)]), line)
+    return _ESCAPED_BYTE.sub(lambda it: bytes([int(it[1], 16)]) if it[1] else b"\\", line)
 
 
 def _in_bytes(letter: str) -> str:

@@ -32,17 +32,27 @@ import stat
 import textwrap
 from collections.abc import Iterable, Iterator, Sequence
 from contextlib import ExitStack, suppress
+from itertools import chain
 from typing import Any, BinaryIO, NamedTuple, Optional
 
 from elfmap import __version__
-from elfmap._archives import Content, Contents, Member, is_archive, members, printed
+from elfmap._archives import MAGICS, Content, Contents, Member, is_archive, members, printed
 from elfmap._checks import Checks
 from elfmap._commands import USAGE, UNREADABLE, Parser, complain, is_open, run_script
+from elfmap._deviations import DEVIATIONS
 from elfmap._findings import Rule
 from elfmap._hints import hints, link_hints
 from elfmap._link_words import OF_ONE_FILE, Linked, link_words
 from elfmap._rules import LINK_RULES, RULES
-from elfmap._sources import Source, Unreadable, opened, reason_of, whole
+from elfmap._sources import (
+    Source,
+    Unreadable,
+    decompressed,
+    is_compressed,
+    opened,
+    reason_of,
+    whole,
+)
 from elfmap._words import MOST_OWNERS, Words, found_at, one_line, original_path, printable
 
 PROGRAM = "elfmap-explain"
@@ -53,6 +63,7 @@ _FINDING = re.compile(
     rb"(?P<name>[A-Z_0-9]+) \((?P<link>link )?(?P<rule>\d{1,3})\): ",
     re.S,
 )
+_DEVIATION = re.compile(rb"\(known deviation ([a-z0-9-]+)\)")
 _LINK_RULE = re.compile(r"link-([0-9]{1,3})")
 _FIRST_WORD = re.compile(r"file|refused")
 _WORD = re.compile(r"refused|\d+")
@@ -112,22 +123,19 @@ class Files:
         stack.close()
 
     def _content(self, path: bytes, stack: ExitStack) -> Content:
-        why = "no such file or directory"
-        # In text what can't be printed of a path is escaped.
-        for own in dict.fromkeys((path, original_path(path))):
-            if os.path.lexists(own):
-                return Content(path, own, stack.enter_context(opened(own)))
-            archive = _archive_of(own)
-            member = self._member(own, archive, stack) if archive else None
-            if member:
-                return member
-            if archive:
-                why = "the archive has no such member"
-        raise Unreadable(why)
+        if os.path.lexists(path):
+            return Content(path, path, _read(path, stack))
+        archive = _archive_of(path)
+        member = self._member(path, archive, stack) if archive else None
+        if member:
+            return member
+        raise Unreadable(
+            "the archive has no such member" if archive else "no such file or directory"
+        )
 
     def _member(self, path: bytes, archive: bytes, stack: ExitStack) -> Optional[Content]:
         """The first member of this path: an archive may have several."""
-        source = stack.enter_context(opened(archive))
+        source = _read(archive, stack)
         if self._members[0] != archive:
             self._members = archive, *_members_of(source, archive)
         _, named, others = self._members
@@ -142,6 +150,14 @@ class Files:
             if content.path == path:
                 return content
         return None
+
+
+def _read(path: bytes, stack: ExitStack) -> Source:
+    """The bytes that a finding of a file is about: of one that is compressed what is in it."""
+    source = stack.enter_context(opened(path))
+    if is_compressed(path, source):
+        source = stack.enter_context(decompressed(source, MAGICS))
+    return source
 
 
 def _members_of(source: Source, path: bytes) -> tuple[dict[bytes, Member], list[Member]]:
@@ -169,10 +185,12 @@ def _archive_of(path: bytes) -> Optional[bytes]:
 
 
 class Explainer:
-    """Explains lines of the program about given files, and findings about any."""
+    """Explains lines of the program about given files, and findings about any. Of records, which
+    end by a zero byte, the paths are as they are."""
 
-    def __init__(self, named: Sequence[Linked], files: Files) -> None:
+    def __init__(self, named: Sequence[Linked], files: Files, of_records: bool = False) -> None:
         self._named = named
+        self._of_records = of_records
         self._files = files
         self._filled = textwrap.TextWrapper(
             WIDTH, subsequent_indent="  ", break_long_words=False, break_on_hyphens=False
@@ -198,14 +216,14 @@ class Explainer:
     def explain(self, line: bytes) -> str:
         """The words for a line; none where it is no refusal and no finding."""
         refusal = _REFUSAL.match(line.strip())
-        finding = None if refusal else finding_in(line)
+        finding = None if refusal else finding_in(line, self._of_records)
         if refusal:
             lead = printable(line.strip())
             numbers = [int(it) for it in refusal[2].split()]
             found = self._refusal(int(refusal[1] or 0), numbers)
         elif finding:
             lead = finding.words()
-            found = self._finding(finding)
+            found = chain(self._finding(finding), _readings(line))
         else:
             return ""
         self.count += 1
@@ -278,6 +296,14 @@ class Explainer:
         yield from _link_lines(rule, link_words(self._named, rule, file, index, entry), causes)
 
 
+def _readings(line: bytes) -> Iterator[str]:
+    """How elfmap-lint has read what a finding is about, where the file deviates in a known way."""
+    names = {it.decode() for it in _DEVIATION.findall(line)}
+    for it in DEVIATIONS:
+        if it.name in names:
+            yield f"elfmap-lint read a copy in which that is put right ({it.name}): {it.words}"
+
+
 def _of_link_alone(file: Linked, rule: int, at: int) -> Iterator[str]:
     if rule in OF_ONE_FILE:
         place = file.own_words(rule, file.index_at(rule, at))
@@ -293,12 +319,13 @@ def _link_lines(rule: int, place: str, causes: Iterable[str]) -> Iterator[str]:
     yield from (f"what to do: {advice}", Rule(True, rule).place)
 
 
-def finding_in(line: bytes) -> Optional[Finding]:
-    """The finding of elfmap-lint in a line of text, or of JSON."""
+def finding_in(line: bytes, of_records: bool) -> Optional[Finding]:
+    """The finding of elfmap-lint in a line or a record of text, or of JSON."""
     found = _FINDING.match(line)
     if found:
+        path = found["path"] if of_records else original_path(found["path"])
         rule = Rule(bool(found["link"]), int(found["rule"]))
-        return Finding(found["path"], int(found["offset"], 16), rule, found["name"].decode())
+        return Finding(path, int(found["offset"], 16), rule, found["name"].decode())
     if line.lstrip()[:1] != b"{":
         return None
     try:
@@ -440,7 +467,7 @@ def main(words: Optional[Sequence[str]] = None) -> int:
         except Unreadable as fault:
             complain(PROGRAM, fault.reason.encode("utf-8", "surrogateescape"))
             return UNREADABLE
-        explainer = Explainer(named, stack.enter_context(Files()))
+        explainer = Explainer(named, stack.enter_context(Files()), options.zero)
         lines = records(b"\0" if options.zero else b"\n") if is_read else iter([line])
         return _explain_all(explainer, lines, "standard input refuses nothing; " if is_read else "")
     return UNREADABLE

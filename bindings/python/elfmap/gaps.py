@@ -5,7 +5,8 @@
 A gap is a run of bytes that is in no header, no table and no section. Each line has its
 length, its file and place, the parts before and after it, and whether it has bytes that are
 not zero. The longest gap comes first. The status is 0, 2 for a usage error, and 3 if a file
-can't be read or is refused. The other files are read all the same.
+can't be read or is refused, or if a file that is named is no ELF file. The other files are
+read all the same.
 """
 
 from __future__ import annotations
@@ -55,8 +56,8 @@ class Gap(NamedTuple):
 class Finder(Inspector):
     """Finds the gaps of one file after another, and keeps the longest of them."""
 
-    def __init__(self, most: int) -> None:
-        super().__init__(Depth())
+    def __init__(self, most: int, skips_named: bool) -> None:
+        super().__init__(Depth(skips_named=skips_named))
         self._most = most
         self.longest: list[Gap] = []
         self.count = self.bytes = 0
@@ -100,7 +101,10 @@ def _parser() -> Parser:
             "Lists the longest gaps of ELF-64 files: bytes that are in no header, no table and no"
             " section."
         ),
-        epilog="Status: 0 done, 2 usage, 3 something can't be read or is refused.",
+        epilog=(
+            "Status: 0 done, 2 usage, 3 something can't be read or is refused, or a PATH is no ELF"
+            " file."
+        ),
     )
     add = parser.add_argument
     add("--version", action="version", version=f"%(prog)s {__version__}")
@@ -113,6 +117,11 @@ def _parser() -> Parser:
         help="skip files and directories of such names",
     )
     add("--most", metavar="N", type=int, default=_MOST, help=f"print N gaps (default: {_MOST})")
+    add(
+        "--skip",
+        action="store_true",
+        help="skip a PATH that is empty or no ELF file too, as files of directories are skipped",
+    )
     return parser
 
 
@@ -139,9 +148,10 @@ def main(words: Optional[Sequence[str]] = None) -> int:
     if wrong:
         complain(PROGRAM, wrong.encode())
         return USAGE
-    finder = Finder(options.most)
+    finder = Finder(options.most, options.skip)
     report = Report()
-    for found in Walk([os.fsencode(it) for it in options.paths], Globs(options.exclude), report):
+    paths = [os.fsencode(it) for it in options.paths]
+    for found in Walk(paths, Globs(options.exclude), report, options.skip):
         report.add(finder.files([found.path]))
     report.sort()
     for lost in report.unreadable:

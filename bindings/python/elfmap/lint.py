@@ -23,6 +23,7 @@ from typing import Any, BinaryIO, Optional
 from elfmap import __version__, _library
 from elfmap._commands import DONE, FOUND, UNREADABLE, USAGE, Parser, complain, failure, run_script
 from elfmap._findings import (
+    ALL_RULES,
     BadWord,
     Baseline,
     Finding,
@@ -59,6 +60,11 @@ def _parser() -> Parser:
         epilog=_STATUSES,
     )
     parser.add_argument("--version", action="version", version=f"%(prog)s {__version__}")
+    parser.add_argument(
+        "--list-rules",
+        action="store_true",
+        help="print the rules that findings are of: number, name and sentence",
+    )
     _add_paths(parser)
     _add_checks(parser)
     _add_suppressions(parser)
@@ -93,15 +99,20 @@ def _add_paths(parser: Parser) -> None:
         help="read the members of a thin archive also outside of its directory",
     )
     add(
+        "--decompress",
+        action="store_true",
+        help="read .gz and .xz files as what is compressed in them",
+    )
+    add(
         "--skip",
         action="store_true",
         help="skip a PATH that is empty or no ELF file too, as files of directories are skipped",
     )
     add(
         "--class32",
-        choices=("skip", "fail"),
-        default="skip",
-        help="skip files of class 32, or report them (default: skip)",
+        choices=("warn", "skip", "fail"),
+        default="warn",
+        help="skip files of class 32 with a warning, without, or report them (default: warn)",
     )
 
 
@@ -113,6 +124,17 @@ def _add_checks(parser: Parser) -> None:
         "--object",
         action="store_true",
         help="check what `elfmap rewrite` and `link` need of an object by itself",
+    )
+    depths = parser.add_mutually_exclusive_group()
+    depths.add_argument(
+        "--strict",
+        action="store_true",
+        help="report known deviations too, which are only counted otherwise",
+    )
+    depths.add_argument(
+        "--debug-files",
+        action="store_true",
+        help="segments of files of debug information (eu-strip -f) may pass the end of the file",
     )
 
 
@@ -145,6 +167,7 @@ def _add_output(parser: Parser) -> None:
         help="end each record with a zero byte, and print paths as they are",
     )
     add("-o", dest="output", metavar="FILE", help="write to FILE, completely or not at all")
+    add("-q", "--quiet", action="store_true", help="print no report: the status says it")
     add(
         "-j",
         dest="jobs",
@@ -159,8 +182,8 @@ def _add_output(parser: Parser) -> None:
 class Progress:
     """How many files were checked, on a terminal alone: by tqdm where it is installed."""
 
-    def __init__(self) -> None:
-        self._is_shown = sys.stderr.isatty()
+    def __init__(self, is_quiet: bool = False) -> None:
+        self._is_shown = sys.stderr.isatty() and not is_quiet
         self._next = time.monotonic() + 0.3
         self._bar = _bar() if self._is_shown else None
 
@@ -201,7 +224,7 @@ class Run:
         self._ignored = Ignored(options.ignore)
         self._baseline = Baseline.read(options.baseline) if options.baseline else None
         self._jobs = options.jobs or len(os.sched_getaffinity(0))
-        self._progress = Progress()
+        self._progress = Progress(options.quiet)
         self.report = Report()
         self._check_words()
 
@@ -255,6 +278,9 @@ class Run:
             # A baseline has them too.
             names_sections=is_json or bool(it.baseline or it.write_baseline),
             skips_named=it.skip,
+            is_strict=it.strict,
+            debug_files=it.debug_files,
+            decompresses=it.decompress,
         )
         return Inspector(depth)
 
@@ -303,6 +329,10 @@ class Run:
 
         for lost in self.report.unreadable:
             complain(PROGRAM, one_line(lost.path) + b": " + lost.reason.encode())
+        if self.report.class_32 and self._options.class32 == "warn":
+            complain(PROGRAM, _class_32_words(self.report.class_32).encode())
+        if self._options.quiet and self._options.output is None:
+            return
         end = b"\0" if self._options.zero else b"\n"
         with Output(self._options.output) as it:
             for part in _formats.FORMATS[self._options.format](self.report, end):
@@ -315,6 +345,11 @@ class Run:
             complain(PROGRAM, b"no ELF file was checked")
             return FOUND
         return FOUND if self.report.findings else DONE
+
+
+def _class_32_words(count: int) -> str:
+    lead = "1 file of class 32 was" if count == 1 else f"{count} files of class 32 were"
+    return f"{lead} not checked; --class32=fail reports such files, --class32=skip is silent"
 
 
 class Output:
@@ -353,23 +388,35 @@ class Output:
                 os.unlink(self._made)
 
 
+def _list_rules(options: argparse.Namespace) -> None:
+    """Prints each rule that `--ignore` takes: its number, its name and its sentence."""
+    end = "\0" if options.zero else "\n"
+    with Output(options.output) as it:
+        for rule in ALL_RULES:
+            name, sentence, _ = rule.table[rule.number]
+            it.write(f"{rule.key} {name}: {sentence}{end}".encode("utf-8"))
+
+
 def main(words: Optional[Sequence[str]] = None) -> int:
     """Runs the program, and returns its status."""
     options = _parser().in_any_order(words, "paths")
     try:
-        run = Run(options)
+        run = None if options.list_rules else Run(options)
     except BadWord as fault:
         complain(PROGRAM, str(fault).encode("utf-8", "surrogateescape"))
         return USAGE
     try:
+        if not run:
+            _list_rules(options)
+            return DONE
         run.check()
         run.tell()
     except BrokenPipeError:
-        pass  # The reader has gone.
+        raise
     except OSError as fault:
         complain(PROGRAM, failure(fault))
         return UNREADABLE
-    return run.status()
+    return run.status() if run else DONE
 
 
 def script() -> None:

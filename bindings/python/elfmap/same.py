@@ -205,7 +205,7 @@ class Run:
         compared = image_differences if is_image else object_differences
         self._differ(name, compared(self._sides, one, other))
 
-    def _canonical(self, it: Content, is_image: bool) -> Optional[elfmap.Bytes]:
+    def _canonical(self, it: Content, is_image: bool) -> Optional[elfmap._Bytes]:
         """The bytes to compare; none where the file is refused, which is printed."""
         content = whole_content(it.source)
         try:

@@ -76,7 +76,7 @@ class FishTest(FolderCase):
             ("elfmap-lint --format ", formats),
             ("elfmap-lint --format s", {"sarif"}),
             ("elfmap-lint --format=", {f"--format={it}" for it in formats}),
-            ("elfmap-lint --class32 ", {"skip", "fail"}),
+            ("elfmap-lint --class32 ", {"warn", "skip", "fail"}),
             ("elfmap-lint --tables ", FILES),
             ("elfmap-lint file.o --ta", {"--tables"}),
             ("elfmap-lint --baseline ", FILES),

@@ -5,13 +5,14 @@ import contextlib
 import io
 import os
 import shutil
+import signal
 import subprocess
 import sys
 import unittest
 from pathlib import Path
 from unittest import mock
 
-from elfmap import _words, build, lint
+from elfmap import _commands, _words, build, lint
 
 from tests.made import (
     ENVIRONMENT,
@@ -28,11 +29,11 @@ from tests.made import (
 )  # noqa: F401
 
 COMMANDS = "explain", "gaps", "lint", "picture", "same"
-# Escape, a control character of one letter, a mark that turns the direction of a line, and a byte
-# that is no UTF-8.
-NAME = b"\x1b[31m\xc2\x9b1m\xe2\x80\xae\xff"
-# As UTF-8 they are the bytes 1b, c2 9b, e2 80 ae, and ff.
-ESCAPED = r"\x1b[31m\xc2\x9b1m\xe2\x80\xae\xff"
+# Escape, a control character of one letter, a mark that turns the direction of a line, a byte that
+# is no UTF-8, and what looks like an escape.
+NAME = b"\x1b[31m\xc2\x9b1m\xe2\x80\xae\xff\\x1b"
+# As UTF-8 they are the bytes 1b, c2 9b, e2 80 ae, and ff. A backslash is written twice.
+ESCAPED = r"\x1b[31m\xc2\x9b1m\xe2\x80\xae\xff\\x1b"
 
 
 class Case(FolderCase):
@@ -181,10 +182,9 @@ class NamesTest(Case):
 
     def test_a_path_in_text(self):
         self.assertEqual(_words.one_line(NAME).decode(), ESCAPED)
-        for path in (NAME, b"plain", "naïve ✓".encode(), b"\x00\x7f\x80\n"):
+        for path in (NAME, b"plain", "naïve ✓".encode(), b"\x00\x7f\x80\n", b"a\\x1b", b"\\\\"):
             self.assertEqual(_words.original_path(_words.one_line(path)), path)
-        # What a path has itself is taken for an escape.
-        self.assertEqual(_words.original_path(_words.one_line(b"a\\x1b")), b"a\x1b")
+        self.assertEqual(_words.one_line(b"a\\x1b"), b"a\\\\x1b")
         status, out, _ = self.ran("lint", self.bad)
         self.assertTrue(out.startswith(f"{ESCAPED}.o: offset 0x72: ".encode()), out)
         self.assertEqual(self.ran("lint", "-0", self.bad)[1].partition(b": ")[0], self.bad)
@@ -198,6 +198,24 @@ class NamesTest(Case):
                 of_paths = words if "-0" in words else ()
                 status, out, err = self.ran("explain", *of_paths, stdin=found)
                 self.assertEqual((status, err, out.count(b"what to do")), (0, b"", 1), out)
+
+    def test_paths_that_look_alike_are_two(self):
+        """One file has an escape in its name, the other one what it looks like."""
+        Path("a\x1b.o").write_bytes(SHARING)
+        Path("a\\x1b.o").write_bytes(GOOD[:-1])
+        for path, told in (
+            ("a\x1b.o", r"a\x1b.o: offset 0x72: "),
+            (r"a\x1b.o", r"a\\x1b.o: offset 0x28: "),
+        ):
+            out = self.ran("lint", path)[1]
+            self.assertEqual(out[: len(told)].decode(), told)
+            explained = self.ran("explain", stdin=out)[1].decode()
+            self.assertTrue(explained.startswith(told), explained)
+            self.assertEqual("SHARED_BYTE: " in explained, "0x72" in told)
+        status, _, err = self.ran("lint", r"none\x1b")
+        self.assertEqual(
+            (status, err), (3, b"elfmap-lint: none\\\\x1b: no such file or directory\n")
+        )
 
     def test_a_path_for_a_shell(self):
         """What is to be typed names the file: a shell undoes the escapes."""
@@ -219,40 +237,108 @@ class NamesTest(Case):
 
 
 class ExamplesTest(Case):
-    """The example programs print names from files of strangers."""
+    """The example programs: what they print of files, of which others chose the names, and their
+    statuses."""
 
     def setUp(self):
         super().setUp()
-        name = NAME.replace(b"\xff", b"") + b"\xff"
-        strings = (b".strtab", 3, b"\0" + name + b"\0", {})
-        made = Made(text(NAME), symbols(3, (1, 0x10, 1)), strings)
-        self.put(symbols__o=bytes(made.data))
+        strings = (b".strtab", 3, b"\0" + NAME + b"\0", {})
+        made = Made(text(NAME), symbols(3, (1, 0x10, 1, 0x1234)), strings)
+        self.put(symbols__o=bytes(made.data), bad__o=SHARING)
 
     def printed(self, *words):
-        every = [*words, "symbols.o"]
-        ran = subprocess.run(every, capture_output=True, env=ENVIRONMENT, timeout=60)
-        self.assertEqual((ran.returncode, ran.stderr), (0, b""))
-        return ran.stdout.decode("ascii").splitlines()
+        """The status, the lines, and what is said on standard error."""
+        ran = subprocess.run(words, capture_output=True, env=ENVIRONMENT, timeout=60)
+        return ran.returncode, ran.stdout.decode("ascii").splitlines(), ran.stderr
 
-    def test_python(self):
-        found = self.printed(sys.executable, str(PACKAGE / "examples/symbols.py"))
-        self.assertEqual(found, ["0x0 ", f"0x0 {ESCAPED}"])
-
-    @unittest.skipUnless(shutil.which("cc"), "cc is not installed")
-    def test_c(self):
+    def compiled(self, name):
+        """The program of bindings/c."""
         folder = build.REPOSITORY
         try:
             archive = build.archive()
         except FileNotFoundError as fault:
             raise unittest.SkipTest(str(fault)) from None
-        for name, lines in (
-            ("symbols", ["0x0 ", f"0x0 {ESCAPED}"]),
-            ("sections", ["0x0 ", f"0x33 {ESCAPED}"]),
+        sources = [f"{folder}/bindings/c/{name}.c", str(archive)]
+        compiler = ["cc", "-std=c99", f"-I{folder}/include"]
+        subprocess.run([*compiler, *sources, "-o", name], check=True)
+        return f"./{name}"
+
+    def test_python(self):
+        script = [sys.executable, str(PACKAGE / "examples/symbols.py")]
+        lines = ["0x0 ", f"0x1234 {ESCAPED}"]
+        self.assertEqual(self.printed(*script, "symbols.o"), (0, lines, b""))
+        self.assertEqual(self.printed(*script, "bad.o"), (1, ["refused 33 114"], b""))
+
+    @unittest.skipUnless(shutil.which("cc"), "cc is not installed")
+    def test_symbols_in_c(self):
+        program = self.compiled("symbols")
+        lines = ["0x0 ", f"0x1234 {ESCAPED}"]
+        self.assertEqual(self.printed(program, "symbols.o"), (0, lines, b""))
+        self.assertEqual(self.printed(program, "bad.o"), (1, ["refused 33 114"], b""))
+        lost = b"symbols: the file can't be read\n"
+        self.assertEqual(self.printed(program, "none"), (3, [], lost))
+        self.assertEqual(self.printed(program), (2, [], b"usage: symbols FILE\n"))
+
+    @unittest.skipUnless(shutil.which("cc"), "cc is not installed")
+    def test_sections_in_c(self):
+        program = self.compiled("sections")
+        size = len(b"\0" + NAME + b"\0")
+        names = [f"0x33 {ESCAPED}", "0x30 .symtab", f"{size:#x} .strtab"]
+        own = 1 + len(NAME) + 1 + len(b".symtab\0.strtab\0.shstrtab\0")
+        lines = ["0x0 ", *names, f"{own:#x} .shstrtab"]
+        self.assertEqual(self.printed(program, "symbols.o"), (0, lines, b""))
+        self.assertEqual(self.printed(program, "bad.o"), (1, ["refused 33 114"], b""))
+        lost = b"sections: the file can't be read\n"
+        self.assertEqual(self.printed(program, "none"), (3, [], lost))
+        self.assertEqual(self.printed(program), (2, [], b"usage: sections FILE\n"))
+
+
+class ReaderTest(Case):
+    def test_a_reader_that_has_gone(self):
+        """Each command ends silently, with the status of a program that SIGPIPE ends."""
+        self.put(good__o=GOOD, bad__o=SHARING)
+        for unbuffered, command, words in self.runs():
+            reading, writing = os.pipe()
+            os.close(reading)
+            script = [sys.executable, "-m", f"elfmap.{command}", *words]
+            env = {**ENVIRONMENT, "PYTHONUNBUFFERED": unbuffered}
+            with open(writing, "wb") as out, self.subTest(command=command, words=words):
+                streams = dict(stdin=subprocess.DEVNULL, stdout=out, stderr=subprocess.PIPE)
+                ran = subprocess.run(script, env=env, timeout=60, **streams)
+                said = [it for it in ran.stderr.splitlines() if b": no such file or " not in it]
+                said = [it for it in said if b": SHARED_BYTE (33): " not in it]
+                self.assertEqual((ran.returncode, said), (128 + signal.SIGPIPE, []))
+
+    def runs(self):
+        """Whether Python is to write at once, a command and its words."""
+        for command, words in (
+            *((it, ["good.o"]) for it in COMMANDS if it != "same"),
+            ("lint", ["bad.o"]),
+            ("lint", ["none"]),
+            ("lint", ["--format", "sarif", "bad.o"]),
+            ("explain", ["refused", "33", "114", "bad.o"]),
+            ("gaps", ["none"]),
+            ("same", ["good.o", "good.o"]),
+            ("same", ["good.o", "bad.o"]),
         ):
-            sources = [f"{folder}/bindings/c/{name}.c", str(archive)]
-            compiler = ["cc", "-std=c99", f"-I{folder}/include"]
-            subprocess.run([*compiler, *sources, "-o", name], check=True)
-            self.assertEqual(self.printed(f"./{name}")[:2], lines)
+            yield "", command, words
+        for command in COMMANDS:
+            yield "", command, ["--help"]
+            yield "1", command, ["--version"]
+
+    def test_an_end_with_a_text(self):
+        """What `sys.exit` is given is the status, or a message."""
+        for given, status, said in (
+            (None, 0, ""),
+            (0, 0, ""),
+            (2, 2, ""),
+            ("why", 3, "elfmap-x: why\n"),
+            ("why\x1b", 3, "elfmap-x: why\\x1b\n"),
+        ):
+            words = io.StringIO()
+            with contextlib.redirect_stderr(words), self.assertRaises(SystemExit) as raised:
+                _commands.run_script("elfmap-x", lambda it=given: sys.exit(it))
+            self.assertEqual((raised.exception.code, words.getvalue()), (status, said))
 
 
 class CallerTest(FolderCase):

@@ -16,7 +16,7 @@ from pathlib import Path
 import elfmap
 from elfmap import build
 
-from tests.made import Made, symbols, text
+from tests.made import BROKEN_SYMBOLS, GOOD, SHARING, Made, relocations, symbols, text
 
 PACKAGE = Path(__file__).resolve().parents[1]
 sys.path.insert(0, str(build.REPOSITORY / "tools" / "lib"))
@@ -178,6 +178,23 @@ class RefusedTest(unittest.TestCase):
             self.assertTrue(sentence.startswith("the link is refused because "))
 
 
+class RefusedTablesTest(unittest.TestCase):
+    def test_they_are_those_that_show_refuses(self):
+        """Section, rule and offset, in the order of sections."""
+        lines = [it.split() for it in elfmap.show(BROKEN_SYMBOLS).splitlines()]
+        shown = [tuple(map(int, it[1:])) for it in lines if it[0] == "refused"]
+        self.assertEqual(elfmap.refused_tables(BROKEN_SYMBOLS), shown)
+        sections = elfmap.parse(BROKEN_SYMBOLS).sections
+        # Symbol 1 is of a section that isn't there, by its st_shndx.
+        own = next(k for k, it in enumerate(sections) if it.sh_type == elfmap.SHT.SYMTAB)
+        self.assertEqual(shown[0], (own, 51, sections[own].sh_offset + 24 + 6))
+        self.assertEqual([section for section, _, _ in shown], [own, own + 2, own + 3])
+        self.assertEqual(elfmap.refused_tables(GOOD), [])
+        self.assertRaises(elfmap.Refused, elfmap.refused_tables, SHARING)
+        # A file that is refused has one line.
+        self.assertEqual(elfmap.show(SHARING), "refused 33 114\n")
+
+
 class LinkTest(unittest.TestCase):
     """What a program of the repository links is linked here too."""
 
@@ -294,7 +311,7 @@ class ArgumentsTest(unittest.TestCase):
         of_module = {name for name, it in every.items() if not isinstance(it, (type, str))}
         public = {name: it for name, it in vars(elfmap.File).items() if name[0] != "_"}
         of_file = {name for name, it in public.items() if not isinstance(it, property)}
-        self.assertEqual(of_module - self.OTHERS, self.OF_BYTES.keys() - {"File", "refused_tables"})
+        self.assertEqual(of_module - self.OTHERS, self.OF_BYTES.keys() - {"File"})
         self.assertEqual(of_file - self.OTHERS, self.OF_SECTIONS.keys())
 
     def test_contents(self):
@@ -454,6 +471,54 @@ class BytesTest(unittest.TestCase):
 
 
 class RecordsTest(unittest.TestCase):
+    def test_contents_and_parts(self):
+        file = elfmap.parse(GOOD)
+        header = (b"\x7fELF\2\1\1" + bytes(9), 1, 62, 1, 0, 0, 0x88, 0, 64, 0, 0, 64, 3, 2)
+        self.assertEqual((file.header, file.summary), (header, (len(GOOD), 3, 0)))
+        self.assertEqual(elfmap.check(GOOD), file.summary)
+        _, code, names = file.sections
+        self.assertEqual((code.name, bytes(code.content)), (b".text", b"\x90" * 0x33))
+        self.assertEqual(bytes(names.content), b"\0.text\0.shstrtab\0")
+        parts = [(0, 64, "header"), (0x40, 0x33, 1), (0x73, 17, 2), (0x84, 4, "gap")]
+        self.assertEqual(file.parts, [*parts, (0x88, 3 * 64, "section headers")])
+
+    def test_a_segment_is_longer_in_memory(self):
+        header = (b"\x7fELF\2\1\1", 2, 62, 1, 0x1000, 64, 0, 0, 64, 56, 1, 0, 0, 0)
+        loaded = (1, 5, 64, 0x1040, 0x1040, 60, 0x2000, 0x1000)
+        data = struct.pack("<16sHHIQQQIHHHHHH", *header) + struct.pack("<IIQQQQQQ", *loaded)
+        file = elfmap.parse(data + b"code" + bytes(100))
+        (segment,) = file.segments
+        self.assertEqual(segment[:-1], loaded)
+        self.assertEqual(bytes(segment.content), data[64:] + b"code")
+        addresses = (0x103F, 0x1040, 0x1078, 0x107B, 0x107C, 0x303F, 0x3040)
+        found = [file.load(it) for it in addresses]
+        self.assertEqual(found, [None, 1, ord("c"), ord("e"), 0, 0, None])
+        parts = [(0, 64, "header"), (64, 56, "program headers"), (120, 104, "gap")]
+        self.assertEqual(file.parts, parts)
+
+    def test_tables_are_of_their_types(self):
+        strings = (b".strtab", 3, b"\0f\0", {})
+        note = (b".note", 7, struct.pack("<3I", 2, 0, 1) + b"f\0\0\0", {})
+        entries = struct.pack("<6Q", 1, 1, 14, 0, 0, 0)
+        dynamic = (b".dynamic", 6, entries, dict(link=3, entsize=16))
+        rows = [text(), symbols(3, (1, 0x12, 1)), strings, relocations(2, 1), note, dynamic]
+        file = elfmap.parse(bytes(Made(*rows).data))
+        sections = range(len(file.sections) + 1)
+        counts = {
+            "symbols": {2: 2},
+            "relocations": {4: 1},
+            "dynamic": {6: 2},
+            "notes": {5: 1},
+        }
+        for name, right in counts.items():
+            found = {k: len(getattr(file, name)(k)) for k in sections}
+            self.assertEqual({k: it for k, it in found.items() if it}, right, name)
+        self.assertEqual([k for k in sections if file.columns(k)], [2, 4, 6])
+        self.assertEqual([*file.dynamic(6)], [(1, 1, b"f"), (14, 0, b"")])
+        symbol = file.symbols(2)[1]
+        self.assertEqual((symbol.name, symbol.binding, symbol.symbol_type), (b"f", 1, 2))
+        self.assertEqual(file.relocations(4)[0], (0, 0, 1, 2))
+
     def test_sections_are_a_sequence(self):
         sections = elfmap.parse(small_file()).sections
         self.assertEqual(len(sections), 3)
@@ -505,6 +570,15 @@ class BuildTest(unittest.TestCase):
         made = os.stat(path).st_mtime_ns
         self.assertEqual(self.said("-c", self.PROGRAM, XDG_CACHE_HOME=self.room), path)
         self.assertEqual(os.stat(path).st_mtime_ns, made)
+
+    def test_another_library_has_another_place(self):
+        places = []
+        script = "from elfmap import build; print(build.cached())"
+        for content in (b"one", b"another", b"one"):
+            Path(self.room, "libelfmap.a").write_bytes(content)
+            own = dict(ELFMAP_LIB_DIR=self.room, XDG_CACHE_HOME=self.room)
+            places.append(self.said("-c", script, **own))
+        self.assertEqual((places[0] == places[1], places[0] == places[2]), (False, True))
 
     def test_into_a_folder(self):
         path = f"{self.room}/libelfmap.so"

@@ -5,9 +5,11 @@ The cases have the answers of the program: `tools/test cases` compares them with
 """
 
 import contextlib
+import gzip
 import json
 import os
 import re
+import resource
 import struct
 import subprocess
 import sys
@@ -132,6 +134,9 @@ class LineTest(Case):
         ):
             status, out, _ = self.explain(*words, stdin=stdin)
             self.assertEqual((status, out[: len(expected)]), (0, expected))
+        of_file = f"file 0 {expected}"
+        status, out, _ = self.explain(*"file 0 refused 33 114 bad.o".split())
+        self.assertEqual((status, out[: len(of_file)]), (0, of_file))
 
     def test_files_on_a_terminal(self):
         """Without lines the files are checked, by the library."""
@@ -182,10 +187,31 @@ class LineTest(Case):
         place = r"offset \d+ \(0x[0-9a-f]+\): (?:the content of .*?\): )?(.*?) what to do"
         return re.search(place, found)[1]
 
+    def test_a_section_after_the_first_1024(self):
+        """The headers are read some at a time."""
+        made = Made(*[(b".s", 1, b"\1", {}) for _ in range(1100)])
+        self.put(a__o=bytes(made.data))
+        for index in (1023, 1024, 1025, 1100):
+            at = made.starts[index]
+            found = explained(f"refused 33 {at}", ["a.o"])
+            words = f"the content of section {index} .s [{at:#x}, {at + 1:#x}): byte 0: 0x01"
+            self.assertIn(words, found)
+
+    def test_a_content_around_another_one(self):
+        """Of a byte those contents are told that hold it: not one that ended before, and also one
+        that began much earlier."""
+        made = Made((b".long", 1, bytes(0x100), {}), (b".inner", 1, bytes(0x10), {}))
+        Path("a.o").write_bytes(made.with_field(2, "offset", 0x50))
+        long = "the content of section 1 .long [0x40, 0x140)"
+        inner = "the content of section 2 .inner [0x50, 0x60)"
+        for at, has_inner in ((0x4F, False), (0x50, True), (0x5F, True), (0x60, False)):
+            found = explained(f"refused 33 {at}", ["a.o"])
+            self.assertEqual((long in found, inner in found), (True, has_inner), hex(at))
+
     def test_the_parts_of_notes(self):
         """Names and descriptors are padded to four bytes; each note has 12 bytes before them."""
         first = struct.pack("<3I", 4, 5, 1) + b"abc\0" + b"12345\0\0\0"
-        second = struct.pack("<3I", 2, 0, 3) + b"d\0\0\0"
+        second = struct.pack("<3I", 2, 4, 3) + b"d\0\0\0" + b"1234"
         made = Made(text(), (b".note", 7, first + second, {}))
         start = made.starts[2]
         for at, words in (
@@ -198,6 +224,9 @@ class LineTest(Case):
             (23, "note 0: its descriptor"),
             (24, "note 1: namesz, which is 2"),
             (36, "note 1: its name"),
+            (39, "note 1: its name"),
+            (40, "note 1: its descriptor"),
+            (43, "note 1: its descriptor"),
         ):
             self.assertEqual(self.place(made, start + at), words, at)
 
@@ -263,6 +292,12 @@ class LineTest(Case):
             found = link_words([before, *others], 8, 2, 0, 0)
             words = f"two definitions of main, {second}; {path} has it at symbol 1"
             self.assertEqual(found, words)
+        made = Made(text(), symbols(3, *[(1, 0x10, 1)] * 2), (b".strtab", 3, b"\0main\0", {}))
+        twice = Linked("a.o", _words.Words(bytes(made.data)))
+        lead = "two definitions of main, the second one at symbol"
+        for symbol, words in ((1, "2 of a.o; a.o has it at symbol 1"), (0, "1 of a.o; an earlier")):
+            found = link_words([twice], 8, 0, symbol, 0)
+            self.assertTrue(found.startswith(f"{lead} {words}"), found)
 
     def test_statuses(self):
         for words in (
@@ -476,6 +511,21 @@ class FindingTest(Case):
         status, out, err = self.explain(stdin=lines)
         self.assertEqual((status, err, out.count("section 2 .data [0x72, 0x76)")), (0, "", 5), out)
 
+    def test_the_second_member_of_a_name(self):
+        self.put(
+            lib__a=b"!<arch>\n" + archive_member(b"x.o", GOOD) + archive_member(b"x.o", SHARING)
+        )
+        found = self.said(stdin=FINDING.replace(b"bad.o", b"lib.a(x.o#2)"))
+        self.assertIn("section 2 .data [0x72, 0x76)", found)
+
+    def test_compressed_files(self):
+        """What is compressed is explained, also of a member."""
+        lib = b"!<arch>\n" + archive_member(b"x.o", SHARING)
+        self.put(bad__ko__gz=gzip.compress(SHARING), lib__a__gz=gzip.compress(lib))
+        for name in (b"bad.ko.gz", b"lib.a.gz(x.o)"):
+            found = self.said(stdin=FINDING.replace(b"bad.o", name))
+            self.assertIn("section 2 .data [0x72, 0x76)", found)
+
     def test_members_that_a_thin_archive_names_in_another(self):
         front = b"!<thin>\n" + archive_member(b"/", b"lib.a/\n")
         origin = GNU.index(archive_member(b"/0", SHARING, b""))
@@ -495,6 +545,9 @@ class FindingTest(Case):
 
     def test_many_files(self):
         """More than may be open at once, at least a hundred findings a second."""
+        soft, hard = resource.getrlimit(resource.RLIMIT_NOFILE)
+        self.addCleanup(resource.setrlimit, resource.RLIMIT_NOFILE, (soft, hard))
+        resource.setrlimit(resource.RLIMIT_NOFILE, (128, hard))
         count = 1000
         for number in range(count):
             self.put(**{f"{number}__o": SHARING})

@@ -90,6 +90,33 @@ class GapsTest(FolderCase):
         for words in ([], ["--most", "-1", "good.o"], ["--none", "good.o"]):
             self.assertEqual(self.gaps(*words)[0], 2)
 
+    def test_a_named_file_that_is_no_elf_file(self):
+        """It is an error, as in elfmap-lint; in a directory, or with --skip, it is skipped."""
+        self.put(**{"text": b"no ELF file", "empty": b"", "a/text": b"no ELF file", "a/empty": b""})
+        self.put(good__o=GOOD, lib__a=b"!<arch>\n" + archive_member(b"text", b"no ELF file"))
+        told = {
+            "text": "it is neither an ELF file nor an archive; --skip skips it",
+            "empty": "it is empty; --skip skips it",
+        }
+        last = "1 gap of 4 bytes in 1 ELF file"
+        for name, reason in told.items():
+            status, lines, said = self.gaps("good.o", name)
+            self.assertEqual((status, said), (3, [f"elfmap-gaps: {name}: {reason}"]))
+            self.assertEqual(lines[-1], last)
+            found = self.gaps("--skip", "good.o", name)
+            self.assertEqual((found[0], found[2]), (0, []))
+            self.assertEqual(found[1][-1], f"{last}; skipped: 1 not ELF")
+        for words, count in ((["a"], 2), (["lib.a"], 1)):
+            status, lines, said = self.gaps("good.o", *words)
+            self.assertEqual((status, said), (0, []))
+            self.assertEqual(lines[-1], f"{last}; skipped: {count} not ELF")
+
+    def test_excluded(self):
+        self.put(**{"a/a__o": GAPPED, "a/b__o": GAPPED, "c/a__o": GAPPED})
+        for words, count in ((["--exclude", "a.o"], 1), (["--exclude", "a/*"], 1), ([], 3)):
+            summary = self.gaps(*words, "a", "c")[1][-1]
+            self.assertTrue(summary.endswith(f" in {count} ELF file{'s' * (count > 1)}"), summary)
+
     def test_many_sections(self):
         sections = [(b".s", 1, b"\1", {}) for _ in range(500)]
         self.put(a__o=bytes(Made(*sections).data))

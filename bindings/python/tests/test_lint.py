@@ -5,8 +5,10 @@ format: SARIF 2.1.0, the layouts of archives.
 """
 
 import contextlib
+import gzip
 import io
 import json
+import lzma
 import os
 import re
 import shutil
@@ -152,6 +154,15 @@ class WordsTest(Case):
         self.assertEqual(line.count(".data [0x40, 0x41)"), 16, line)
         self.assertIn("and of 84 more share byte 0x40; ", line)
 
+    def test_a_byte_of_a_file_of_many_sections(self):
+        """More than there is room for at first."""
+        made = Made(*[(b".data", 1, b"\1", {}) for _ in range(400)])
+        self.put(bad__o=made.with_field(400, "offset", 64), good__o=bytes(made.data))
+        lines = self.told("bad.o", "good.o")
+        shared = "bad.o: offset 0x40: SHARED_BYTE (33): the content of .data [0x40, 0x41) and of"
+        self.assertTrue(lines[0].startswith(shared), lines)
+        self.assertEqual(lines[1:], ["1 finding in 1 of 2 ELF files"])
+
     def test_a_byte_of_the_header(self):
         self.put(bad__o=Made(text()).with_field(1, "offset", 0x3F))
         owners = "the ELF header [0x0, 0x40) and the content of .text [0x3f, 0x72) share byte 0x3f"
@@ -241,6 +252,16 @@ class DepthTest(Case):
             " 0x63; "
         )
         self.assertTrue(lines[0].startswith(words), lines[0])
+
+    def test_a_symbol_table_after_what_links_to_it(self):
+        """The fault is that of the symbols all the same."""
+        strings = (b".strtab", 3, b"\0f\0", {})
+        bad = Made(text(), relocations(3, 1), symbols(4, (1, 0x10, 99)), strings)
+        self.put(bad__o=bytes(bad.data))
+        lines = self.told("--tables", "bad.o")
+        self.assertEqual(len(lines), 2)
+        self.assertIn("the content of section 3 .symtab ", lines[0])
+        self.assertNotIn(".rela.text", lines[0])
 
     def test_each_table_with_its_own_fault(self):
         parts = [
@@ -379,6 +400,8 @@ class DepthTest(Case):
         for words in (["--tables"], ["--object"]):
             lines = self.told(*words, "bad.o")
             self.assertTrue(lines[0].startswith(front), lines)
+            with mock.patch.object(_checks, "_MOST_AT_ONCE", 0):
+                self.assertEqual(self.told(*words, "-j1", "bad.o"), lines)
 
     def test_more_sections_than_the_header_counts(self):
         """0xff01 sections: their count, and the index of the names, are in section header 0. The
@@ -414,6 +437,14 @@ class DepthTest(Case):
                 f"many.o: offset {at:#x}: WRONG_SECTION_ALIGNMENT (22): {words}"
             )
         )
+
+    def test_the_end_of_section_names_after_what_is_read_whole(self):
+        made = Made(text(content=bytes(1 << 17)))
+        end = made.names + len(b"\0.text\0.shstrtab\0")
+        for at in (made.names, end - 1):
+            self.put(bad__o=made.with_bytes(at, b"x"))
+            words = f"bad.o: offset {at:#x}: UNCLOSED_NAME_TABLE (31): "
+            self.assertTrue(self.told("bad.o")[0].startswith(words))
 
     def test_program_headers_after_what_is_read_whole(self):
         start = 1 << 17
@@ -575,12 +606,19 @@ class FormatTest(Case):
             findings=2,
             files_with_findings=2,
             suppressed=0,
+            known_deviations={},
             not_elf=2,
             class_32=0,
             not_regular=0,
             unreadable=1,
         )
         self.assertEqual(lines[3:], [{"summary": counts}])
+
+    def test_jsonl_of_a_member(self):
+        """The offset is one in the member."""
+        lines = [json.loads(it) for it in self.told("--format", "jsonl", "a/lib.a")]
+        self.assertEqual(lines[0]["path"], f"a/lib.a({LONG.decode()})")
+        self.assertEqual(lines[0]["offset"], 0x72)
 
     def test_jsonl_of_a_path_that_is_no_text(self):
         os.rename("a/bad.o", b"a/\xff")
@@ -694,6 +732,9 @@ class FormatTest(Case):
             [sections, [member, *sections]],
         )
         self.assertEqual({it["level"] for it in results}, {"error"})
+        regions = [it["locations"][0]["physicalLocation"]["region"] for it in results]
+        starts = [0, Path("a/lib.a").read_bytes().index(SHARING)]
+        self.assertEqual(regions, [dict(byteOffset=it + 0x72, byteLength=1) for it in starts])
 
     def test_sarif_of_sections_of_one_name(self):
         """The schema asks for locations that differ."""
@@ -718,10 +759,19 @@ class FormatTest(Case):
         self.assertEqual((uri[:8], unquote_to_bytes(uri[7:])), ("file:///", os.fsencode(path)))
 
     def test_junit_of_members_of_one_name(self):
-        """A path is one test case, with all that is said of it."""
+        """Each is a test case."""
         self.put(thin__a=thin(b"none.o", b"none.o"))
+        cases = ElementTree.fromstring(self.lint("--format", "junit", "thin.a")[1])[0]
+        names = {it.get("name") for it in cases}
+        self.assertEqual(names, {"thin.a(none.o)", "thin.a(none.o#2)"})
+        self.assertEqual({it[0].get("message") for it in cases}, {"no such file or directory"})
+
+    def test_junit_of_one_path(self):
+        """A path is one test case, with all that is said of it."""
+        table = archive_member(b"/", b"none.a/\n") + archive_member(b"/0:8", b"", b"") * 2
+        self.put(thin__a=b"!<thin>\n" + table)
         (case,) = ElementTree.fromstring(self.lint("--format", "junit", "thin.a")[1])[0]
-        self.assertEqual((case.get("name"), len(case)), ("thin.a(none.o)", 1))
+        self.assertEqual((case.get("name"), len(case)), ("thin.a(none.a)", 1))
         self.assertEqual(case[0].get("message"), "; ".join(["no such file or directory"] * 2))
 
     def test_junit_of_many_findings(self):
@@ -824,6 +874,17 @@ class OptionTest(Case):
         lines = self.told("--class32=fail", "a/b/narrow")
         self.assertTrue(lines[0].startswith("a/b/narrow: offset 0x4: WRONG_CLASS (4): "), lines)
 
+    def test_what_is_said_of_class_32(self):
+        more = b"--class32=fail reports such files, --class32=skip is silent\n"
+        said = b"elfmap-lint: 1 file of class 32 was not checked; " + more
+        self.assertEqual(self.lint("-q", "a"), (1, b"", said))
+        self.put(other=CLASS_32)
+        said = b"elfmap-lint: 2 files of class 32 were not checked; " + more
+        self.assertEqual(self.lint("--class32=warn", "a", "other")[2], said)
+        self.assertEqual(self.lint("--class32=skip", "a", "other")[2], b"")
+        self.assertEqual(self.lint("--class32=fail", "a", "other")[2], b"")
+        self.assertEqual(self.lint("a/bad.o")[2], b"")
+
     def test_ignored(self):
         summary = b"0 findings in 0 of 2 ELF files, 2 suppressed; skipped: 1 of class 32"
         for rule in ("33", "SHARED_BYTE", "shared_byte", "shared-byte"):
@@ -857,6 +918,7 @@ class OptionTest(Case):
         """It is an error, and not skipped as one of a directory is, unless that is asked for."""
         foreign = b"it is neither an ELF file nor an archive; --skip skips it"
         empty = b"it is empty; --skip skips it"
+        silent = "--class32=skip"
         self.put(**{"a/text": b"no ELF file", "a/short": b"\x7fEL", "a/empty": b""})
         unread = b"0 findings in 0 of 0 ELF files; 1 unreadable\n"
         skipped = b"0 findings in 0 of 0 ELF files; skipped: 1 not ELF\n"
@@ -865,8 +927,8 @@ class OptionTest(Case):
             self.assertEqual(self.lint(f"a/{name}"), (3, unread, lost))
             self.assertEqual(self.lint("--skip", f"a/{name}"), (0, skipped, b""))
             # It is named, whatever directory has it too.
-            self.assertEqual(self.lint("a", f"a/{name}")[::2], (3, lost))
-            self.assertEqual(self.lint("-j3", f"a/{name}", "a")[::2], (3, lost))
+            self.assertEqual(self.lint(silent, "a", f"a/{name}")[::2], (3, lost))
+            self.assertEqual(self.lint("-j3", silent, f"a/{name}", "a")[::2], (3, lost))
             self.assertEqual(self.lint("--exclude", name, f"a/{name}")[0], 0)
             content = Path(f"a/{name}").read_bytes()
             lost = b"elfmap-lint: -: " + reason + b"\n"
@@ -878,7 +940,8 @@ class OptionTest(Case):
         self.assertEqual(self.lint("--skip", "--files0-from", "names")[0], 1)
         # By one of its hard links, of which the first one is in a directory.
         os.link("a/text", "z")
-        self.assertEqual(self.lint("a", "z")[::2], (3, b"elfmap-lint: a/text: " + foreign + b"\n"))
+        lost = b"elfmap-lint: a/text: " + foreign + b"\n"
+        self.assertEqual(self.lint(silent, "a", "z")[::2], (3, lost))
         # What is in an archive is not named, and an ELF file of 32 bits is one.
         self.put(lib__a=GNU)
         self.assertEqual(self.lint("--ignore", "33", "lib.a", "a/b/narrow")[0], 0)
@@ -963,6 +1026,19 @@ class OptionTest(Case):
         self.lint("--write-baseline", "known.json", "a")
         self.assertEqual(self.lint("--baseline", "known.json", "a")[0], 0)
 
+    def test_a_baseline_of_names_that_look_alike(self):
+        """A section has an escape in its name, another one what it looks like."""
+        names = (b"\x1b", b"\\x1b", b"\x80", "\x80".encode(), b"\\x80")
+        data = (b".data", 1, b"\1\2\3\4", {})
+        files = {it: Made(text(it), data).with_field(2, "offset", 0x72) for it in names}
+        for known in names:
+            Path("x.o").write_bytes(files[known])
+            self.lint("--write-baseline", "known.json", "x.o")
+            for name in names:
+                Path("x.o").write_bytes(files[name])
+                status = self.lint("--baseline", "known.json", "x.o")[0]
+                self.assertEqual(status, int(name != known), (known, name))
+
     def test_what_is_no_baseline(self):
         for content in (
             b"",
@@ -979,7 +1055,7 @@ class OptionTest(Case):
 
     def test_an_output_file(self):
         lines = self.lint("a")[1]
-        self.assertEqual(self.lint("-o", "out", "a"), (1, b"", b""))
+        self.assertEqual(self.lint("-o", "out", "--class32=skip", "a"), (1, b"", b""))
         self.assertEqual(Path("out").read_bytes(), lines)
         self.assertEqual(stat.S_IMODE(os.stat("out").st_mode) & 0o600, 0o600)
 
@@ -1006,6 +1082,80 @@ class OptionTest(Case):
         self.assertEqual(Path("out").read_bytes(), b"before")
         self.assertEqual(sorted(os.listdir()), ["a", "out"])
         self.assertEqual(self.lint("-o", "none/out", "a")[0], 3)
+
+    def test_quiet(self):
+        self.put(bad__o=SHARING, good__o=GOOD, none=b"none")
+        self.assertEqual(self.lint("-q", "good.o"), (0, b"", b""))
+        self.assertEqual(self.lint("--quiet", "bad.o"), (1, b"", b""))
+        status, out, said = self.lint("-q", "bad.o", "none")
+        self.assertEqual((status, out), (3, b""))
+        self.assertTrue(said.startswith(b"elfmap-lint: none: it is neither an ELF file nor"))
+        # A report for a file is written.
+        self.assertEqual(self.lint("-q", "-o", "report.txt", "bad.o"), (1, b"", b""))
+        self.assertIn(SHARED, Path("report.txt").read_bytes())
+
+    def test_the_list_of_rules(self):
+        """Each line has what `--ignore` takes, and the sentence of docs/RULES.md."""
+        status, out, said = self.lint("--list-rules")
+        self.assertEqual((status, said), (0, b""))
+        found = re.findall(r"^([\w-]+) ([A-Z_0-9]+): the (?:file|table|link) ", out.decode(), re.M)
+        self.assertEqual(len(found), len(out.splitlines()))
+        keys = [key for key, _ in found]
+        numbers = [*range(1, 34), *range(40, 80)]
+        expected = [*map(str, numbers), *(f"link-{it}" for it in range(3, 8))]
+        self.assertEqual(keys, expected)
+        page = (build.REPOSITORY / "docs/RULES.md").read_text()
+        for key, name in found:
+            self.assertEqual(_findings.rule_of(key), _findings.rule_of(name))
+            number = key.rpartition("-")[2]
+            kind = "link" if number != key else r"(?:image|table|object)"
+            self.assertRegex(page, rf'<a id="{kind}-{number}"></a>{number} \| `\w+`, `{name}`')
+        self.assertEqual(self.lint("--list-rules", "-0")[1].count(b"\0"), len(found))
+        self.lint("--list-rules", "-o", "rules.txt")
+        self.assertEqual(Path("rules.txt").read_bytes(), out)
+
+    def test_compressed_files(self):
+        for module, end in ((gzip, "gz"), (lzma, "xz")):
+            os.mkdir(end)
+            sound = dict(bad__ko=SHARING, good__ko=GOOD, lib__a=GNU, text=b"no ELF file", none=b"")
+            for name, content in sound.items():
+                self.put(**{f"{end}/{name}__{end}": module.compress(content)})
+            # What has another name, and what is not compressed.
+            self.put(**{f"{end}/other": module.compress(SHARING), f"{end}/plain__{end}": SHARING})
+            lines = [
+                f"{end}/bad.ko.{end}: ".encode() + SHARED,
+                f"{end}/lib.a.{end}(".encode() + LONG + b"): " + SHARED,
+                f"{end}/plain.{end}: ".encode() + SHARED,
+            ]
+            last = b"3 findings in 3 of 5 ELF files; skipped: 4 not ELF"
+            self.assertSaid(["--decompress", end], 1, [*lines, last])
+            last = b"1 finding in 1 of 1 ELF file; skipped: 6 not ELF"
+            self.assertSaid([end], 1, [lines[2], last])
+            name = f"{end}/text.{end}"
+            self.assertEqual(self.lint("--decompress", "--skip", name)[0], 0)
+            self.assertEqual(self.lint("--decompress", name)[0], 3)
+
+    def test_compressed_files_that_are_broken(self):
+        for module, end in ((gzip, "gz"), (lzma, "xz")):
+            whole = module.compress(SHARING + os.urandom(5000))
+            wrong = bytearray(whole)
+            wrong[len(whole) // 2] ^= 0xFF
+            for content in (whole[:-20], whole[:20], bytes(wrong)):
+                self.put(**{f"bad__{end}": content})
+                status, _, said = self.lint("--decompress", f"bad.{end}")
+                self.assertEqual(status, 3)
+                lead = f"elfmap-lint: bad.{end}: it can't be decompressed: ".encode()
+                self.assertTrue(said.startswith(lead), said)
+        with mock.patch.dict(sys.modules, lzma=None):
+            self.assertIn(b"this Python has no module lzma", self.lint("--decompress", "bad.xz")[2])
+
+    def test_a_compressed_file_that_is_too_long(self):
+        """No more is read than shows it; and of what is no ELF file only how it begins."""
+        for content, size in ((GOOD, 100), (b"text" * 99, 8)):
+            self.put(long__gz=gzip.compress(content))
+            with mock.patch.object(_sources, "LONGEST", 100), _sources.opened(b"long.gz") as it:
+                with _sources.decompressed(it, _archives.MAGICS) as found:
+                    self.assertEqual((len(found), found[:]), (size, content[:size]))
 
     def test_a_list_of_paths(self):
         names = b"a/bad.o\0a/b\0"
@@ -1068,6 +1218,8 @@ class StatusTest(Case):
             (["-j-1", "good.o"], 2),
             (["good.o", "-j-1"], 2),
             (["--jobs", "good.o"], 2),
+            (["--files0-from=-", "-"], 2),
+            (["-0", "--format", "sarif", "good.o"], 2),
             (["-j", "x", "good.o"], 2),
             (["none"], 3),
             (["none", "good.o", "bad.o"], 3),
@@ -1125,7 +1277,7 @@ class StatusTest(Case):
             [*PROGRAM, "bad.o"], stdout=writing, stderr=subprocess.PIPE, env=ENVIRONMENT
         )
         os.close(writing)
-        self.assertEqual((ran.returncode, ran.stderr), (1, b""))
+        self.assertEqual((ran.returncode, ran.stderr), (128 + signal.SIGPIPE, b""))
 
     def test_a_file_that_can_not_be_read_on(self):
         """Whatever fails while a file is checked, the file is told."""
@@ -1186,6 +1338,23 @@ class ArchiveTest(Case):
 
     def test_names_of_bsd(self):
         self.assertEqual(self.members(BSD), ([(LONG, SHARING), (b"good.o", GOOD)], True))
+
+    def test_members_of_one_name(self):
+        """The second one has a number, and no two members have the same path."""
+        names = b"x.o", b"good.o", b"x.o", b"x.o#2", b"x.o"
+        rows = [archive_member(it, GOOD if it == b"good.o" else SHARING) for it in names]
+        self.put(lib__a=b"!<arch>\n" + b"".join(rows))
+        found = [it.partition(": ")[0] for it in self.told("lib.a")[:-1]]
+        expected = ["lib.a(x.o#2#2)", "lib.a(x.o#2)", "lib.a(x.o#3)", "lib.a(x.o)"]
+        self.assertEqual(sorted(found), sorted(expected))
+        status, out, _ = self.lint("--ignore", "33:lib.a(x.o#3)", "lib.a")
+        self.assertEqual((status, out.count(SHARED)), (1, 3))
+        self.lint("--write-baseline", "known.txt", "lib.a")
+        self.assertEqual(self.lint("--baseline", "known.txt", "lib.a")[0], 0)
+        # One that is repaired leaves the others known.
+        rows[2] = archive_member(b"x.o", GOOD)
+        self.put(lib__a=b"!<arch>\n" + b"".join(rows))
+        self.assertEqual(self.lint("--baseline", "known.txt", "lib.a")[0], 0)
 
     def test_indexes_are_no_members(self):
         """Those of GNU, also of 64 bits, and those of BSD, also with a long name."""
@@ -1253,6 +1422,19 @@ class ArchiveTest(Case):
         self.assertEqual(
             found["locations"][0]["physicalLocation"]["artifactLocation"]["uri"], "a/b/bad.o"
         )
+
+    def test_the_sizes_in_a_thin_archive(self):
+        """They are those of the files. No content is between the headers."""
+        names = (b"bad.o", b"good.o", b"worse.o")
+        table = b"".join(it + b"/\n" for it in names)
+        starts = [table.index(it + b"/\n") for it in names]
+        header = archive_member(b"", bytes(len(SHARING)), b"")[:60]
+        headers = b"".join(b"/%-15d" % it + header[16:] for it in starts)
+        thin_one = b"!<thin>\n" + archive_member(b"/", table) + headers
+        self.put(thin__a=thin_one, bad__o=SHARING, good__o=GOOD, worse__o=SHARING)
+        found = [it.partition(": ")[0] for it in self.told("thin.a")]
+        self.assertEqual(found[:2], ["thin.a(bad.o)", "thin.a(worse.o)"])
+        self.assertEqual(found[2:], ["2 findings in 2 of 3 ELF files"])
 
     def test_a_thin_archive_of_files_elsewhere(self):
         os.makedirs("a")

@@ -4,6 +4,7 @@ time and memory beside what the library takes.
 """
 
 import contextlib
+import itertools
 import json
 import os
 import struct
@@ -18,7 +19,7 @@ from unittest import mock
 
 from elfmap import _library, build, explain, gaps, lint, same
 from elfmap._differences import Names
-from elfmap._words import printable
+from elfmap._words import one_line, original_path, printable
 
 from tests.made import (
     ENVIRONMENT,
@@ -247,13 +248,15 @@ def front_of(name):
 
 
 class EscapeTest(Case):
-    # Letters that can't be printed, and one that is no escape.
+    # Letters that can't be printed, and the one that begins an escape.
     ESCAPES = {
         b"\x80": "\\x80",
+        "\x80".encode(): "\\u0080",
+        b"\x1b": "\\x1b",
         b"\n": "\\n",
         "\u200b".encode(): "\\u200b",
         "\U000e0001".encode(): "\\U000e0001",
-        b"\\": "\\",
+        b"\\": "\\\\",
     }
 
     def test_letters_that_are_escaped(self):
@@ -271,6 +274,17 @@ class EscapeTest(Case):
                 self.put(a__o=bytes(Made(text(), (name, 1, b"", {})).data))
                 said = self.said(same, "a.o", "b.o")
                 self.assertEqual(said, f"section {words} is only in a.o\ndifferent\n")
+
+    def test_two_names_differ_in_print(self):
+        """A name may have what an escape looks like."""
+        pieces = (b"\\", b"x", b"1", b"b", b"u", b"0", b"8", b"n", b"\x1b", b"\x80", b"\xc2", b"\n")
+        counts = range(1, 5)
+        made = (it for count in counts for it in itertools.product(pieces, repeat=count))
+        names = {b"".join(it) for it in made}
+        for printed in (printable, one_line):
+            self.assertEqual(len({printed(it) for it in names}), len(names))
+        for it in names:
+            self.assertEqual(original_path(one_line(it)), it)
 
     def test_nothing_is_kept_of_letters(self):
         """A process prints those of many files, and each may have other ones."""

@@ -1,6 +1,7 @@
 """What a caller of the package sees beside its answers: pickled records, closed files, constants,
 columns, help and types."""
 
+import ast
 import copy
 import ctypes
 import mmap
@@ -14,12 +15,13 @@ import subprocess
 import sys
 import tempfile
 import time
+import tracemalloc
 import unittest
 from pathlib import Path
 from unittest import mock
 
 import elfmap
-from elfmap import _library, build, constants
+from elfmap import _library, _link_words, build, constants
 
 from tests.made import (
     GOOD,
@@ -118,6 +120,17 @@ class ClosedTest(FolderCase):
                 data.append(0)
         data.append(0)
         file.close()
+
+    def test_the_bytes_of_a_refused_file_are_free(self):
+        """Also while the error is looked at."""
+        data = bytearray(SHARING)
+        try:
+            elfmap.parse(data)
+        except elfmap.Refused as refused:
+            data.append(0)
+            self.assertEqual((refused.rule, len(data)), (33, len(SHARING) + 1))
+        else:
+            self.fail("it is not refused")
 
     def test_what_is_closed(self):
         file = elfmap.parse(NOTED)
@@ -229,6 +242,27 @@ class NotLinkedTest(unittest.TestCase):
         )
         self.assertEqual((found.symbol, str(found).count("n") < 500), (name, True))
 
+    def test_names_about_as_long_as_what_is_read_at_once(self):
+        for length in (4095, 4096, 4097, 1 << 16, (1 << 16) + 1):
+            name = b"n" * length
+            strings = (b".strtab", 3, b"\0" + name + b"\0more\0", {})
+            found = self.refused(bytes(Made(text(), symbols(3, (1, 0x10, 0)), strings).data))
+            self.assertEqual(found.symbol, name)
+
+    def test_the_memory(self):
+        """Of a long file only what is looked at is copied; and where there is no memory for the
+        name, it is the link that is refused all the same."""
+        strings = (b".strtab", 3, b"\0f\0" + bytes(1 << 22), {})
+        made = Made(text(content=bytes(1 << 24)), symbols(3, (1, 0x10, 0)), strings)
+        views = [memoryview(made.data)]
+        tracemalloc.start()
+        self.addCleanup(tracemalloc.stop)
+        self.assertEqual(elfmap._symbol_of(9, 0, 0, 0, views, b""), b"f")
+        self.assertLess(tracemalloc.get_traced_memory()[1], 1 << 20)
+        lacking = mock.patch.object(_link_words, "refused_symbol", side_effect=MemoryError)
+        with lacking:
+            self.assertEqual(self.refused(made.data).symbol, None)
+
 
 class ColumnsTest(unittest.TestCase):
     # The places of the numbers in the lines of the reference implementation, behind the index of
@@ -278,6 +312,14 @@ class ColumnsTest(unittest.TestCase):
                 self.assertEqual(file.columns(it), {})
             self.assertTrue(all(memoryview(it).c_contiguous for it in found.values()))
 
+    def test_addends_have_signs(self):
+        entries = struct.pack("<QQqQQq", 0, 1 << 32 | 2, -4, 8, 1 << 32 | 2, 2**63 - 1)
+        rows = (b".rela.text", 4, entries, dict(link=2, info=1, entsize=24))
+        strings = (b".strtab", 3, b"\0f\0", {})
+        file = elfmap.parse(Made(text(), symbols(3, (1, 0x10, 0)), strings, rows).data)
+        self.assertEqual([*file.columns(4)["r_addend"]], [-4, 2**63 - 1])
+        self.assertEqual([it.r_addend for it in file.relocations(4)], [-4, 2**63 - 1])
+
     def test_relocations_without_addends(self):
         entries = struct.pack("<4Q", 8, 1 << 32 | 2, 16, 1 << 32 | 4)
         rows = (b".rel.text", 9, entries, dict(link=2, info=1, entsize=16))
@@ -289,16 +331,16 @@ class ColumnsTest(unittest.TestCase):
         self.assertEqual([*found["relocation_type"]], [2, 4])
 
     def test_the_time(self):
-        """A microsecond for each entry, with all its fields."""
+        """A microsecond of the processor for each entry, with all its fields."""
         count = 65_012
         strings = (b".strtab", 3, b"\0f\0", {})
         many = relocations(2, *[1] * count)
         file = elfmap.parse(Made(text(), symbols(3, (1, 0x10, 0)), strings, many).data)
         times = []
         for _ in range(3):
-            begun = time.perf_counter()
+            begun = time.process_time()
             found = file.columns(4)
-            times.append(time.perf_counter() - begun)
+            times.append(time.process_time() - begun)
         self.assertEqual({len(it) for it in found.values()}, {count})
         self.assertLess(min(times), count * 1e-6)
 
@@ -378,6 +420,24 @@ class ConstantsTest(unittest.TestCase):
 
 
 class HelpTest(unittest.TestCase):
+    def test_what_is_public_is_listed(self):
+        """What the module defines, or takes from the package, is in `__all__`, is a name of the
+        gABI, or is private; and README.md has it."""
+        listed = {*elfmap.__all__} - {"__version__"}
+        own = set()
+        for it in ast.parse(Path(elfmap.__file__).read_text()).body:
+            if isinstance(it, ast.ImportFrom) and it.module.startswith("elfmap"):
+                own |= {name.asname or name.name for name in it.names}
+            elif isinstance(it, (ast.FunctionDef, ast.ClassDef)):
+                own.add(it.name)
+            elif isinstance(it, ast.Assign):
+                own |= {name.id for name in it.targets}
+        public = {it for it in own if it[0] != "_"} - {*ConstantsTest.NAMES}
+        self.assertEqual(public, listed)
+        read = (PACKAGE / "README.md").read_text()
+        calls = {it for it in listed if it[0].islower()}
+        self.assertEqual({it for it in calls if not re.search(rf"`{it}\(", read)}, set())
+
     def test_it_has_public_names_alone(self):
         shown = pydoc.plain(pydoc.render_doc(elfmap))
         self.assertNotIn("ForwardRef", shown)

@@ -265,6 +265,21 @@ class ObjectTest(Case):
         found = self.differ(rela(1), rela(5))
         self.assertEqual(found, ["section .rela: its target is .text in a.o, and .other in b.o"])
 
+    def test_addends_have_signs(self):
+        def rela(addend):
+            entry = struct.pack("<QQq", 0, 1 << 32 | 2, addend)
+            rows = (b".rela.text", 4, entry, dict(link=2, info=1, entsize=24))
+            return bytes(Made(text(), symbols(3, (1, 0x10, 1)), STRINGS, rows).data)
+
+        lead = "R_X86_64_PC32 at 0x0 of .text to answer"
+        for one, other, first, second in (
+            (-4, 4, "-0x4", "+0x4"),
+            (-(2**63), 2**63 - 1, "-0x8000000000000000", "+0x7fffffffffffffff"),
+        ):
+            words = f"{lead} {first} in a.o, and {lead} {second} in b.o"
+            found = self.differ(rela(one), rela(other))
+            self.assertEqual(found, [f"section .rela.text: relocation 0 is {words}"])
+
     def test_a_group(self):
         def grouped(flags):
             members = [
@@ -479,6 +494,8 @@ class StatusTest(Case):
             ["good.o"],
             ["good.o", "good.o", "good.o"],
             ["--none", "good.o", "good.o"],
+            ["--limit", "-1", "good.o", "good.o"],
+            ["--limit", "x", "good.o", "good.o"],
         ):
             self.assertEqual(self.same(*words)[0], 2)
 
@@ -591,6 +608,11 @@ class TreeTest(Case):
         self.assertDiffer(
             "old",
             "new",
+            lines=[*only, "0 the same, 4 only in old; skipped: 1 not ELF, 1 of class 32"],
+        )
+        self.assertDiffer(
+            "new",
+            "old",
             lines=[*only, "0 the same, 4 only in old; skipped: 1 not ELF, 1 of class 32"],
         )
         lines = [

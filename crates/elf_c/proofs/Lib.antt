@@ -1,3 +1,5 @@
+mod FieldWidths
+mod Listed
 mod ReadFiles
 mod ReadEntries
 mod ReadTables

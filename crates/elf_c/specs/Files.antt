@@ -1,5 +1,5 @@
 -- The numbers of a file that its accessors need, and what they say about it.
-use Rattle.std.specs.Prelude.{◌≡◌, ◌≢◌, ◌<◌, ◌≤◌, ◌+◌, ◌*◌, ◌==◌, if◌then◌else◌, ℕ, List, [], length, slice_index, map}
+use Rattle.std.specs.Prelude.{◌≡◌, ◌≢◌, ◌<◌, ◌≤◌, ◌+◌, ◌*◌, ◌==◌, if◌then◌else◌, ℕ, List, [], Option, SomeIff, length, slice_index, map}
 use Rattle.std.specs.List.{range_with_len}
 use Rattle.elf_c.specs.declared.shapes.File.{File}
 use Rattle.elf_c.specs.declared.shapes.Header.{Header}
@@ -117,6 +117,16 @@ segment_shape p = record {
   p_memsz = p.p_memsz;
   p_align = p.p_align;
 }
+
+-- What is found at an index.
+
+-- r is section header j by the numbers of a file, whatever they are; None if it is not there
+abbrev pub ReadsSection : File → List ℕ → ℕ → Option Section → Type 0
+ReadsSection f b j r = SomeIff r (HasSectionHeader f b j) (section_shape (shdr_at (file_order f) b (f.e_shoff + SHDR_SIZE * j)))
+
+-- r is section header j of a file that breaks none of rules 1 to 32; None if it has no more
+abbrev pub ListsSection : List ℕ → ℕ → Option Section → Type 0
+ListsSection b j r = SomeIff r (j < (file_counts b).sections) (section_shape (sections b (header b) j))
 
 -- The program headers of a file, as a list.
 

@@ -1,6 +1,6 @@
 -- The numbers of a table that the accessors of its entries need, and what they say about it. (gABI chapter 4, Sections, Symbol Table,
 -- Relocation; chapter 5, Note Section, Dynamic Section, Hash Table.)
-use Rattle.std.specs.Prelude.{◌≡◌, ℕ, ◌<◌, List, Option, None, Some, length, slice_index, ◌/◌, ◌+◌, ◌-◌, ◌==◌, ◌||◌, if◌then◌else◌, ◌*◌, ◌%◌, ◌≤◌, [], pos, unwrap_or}
+use Rattle.std.specs.Prelude.{◌≡◌, ℕ, ◌<◌, List, MatchOption, Option, None, Some, SomeIff, get_or, length, slice_index, ◌/◌, ◌+◌, ◌-◌, ◌==◌, ◌||◌, if◌then◌else◌, ◌*◌, ◌%◌, ◌≤◌, [], pos, unwrap_or}
 use Rattle.std.specs.List.{before_first}
 use Rattle.elf_c.specs.Files.{order_named}
 use Rattle.elf_c.specs.declared.shapes.DynamicEntry.{DynamicEntry}
@@ -21,10 +21,11 @@ use Rattle.elf_image_rules.specs.Tables.{bytes_in, content_extent, file_counts, 
 use Rattle.elf_image_type.specs.ImageView.{string}
 use Rattle.elf_table_all.specs.Tables.{table_rules}
 use Rattle.elf_table_hash.specs.HashTable.{words_in}
-use Rattle.elf_table_lists.specs.Dynamic.{dynamic_array_of, dynamic_entries, dynamic_entry_count, is_null_entry}
+use Rattle.elf_table_lists.specs.Dynamic.{dynamic_array_of, dynamic_entries, dynamic_entry, dynamic_entry_count, is_null_entry, no_dynamic_entry}
 use Rattle.elf_table_lists.specs.Notes.{notes_of, notes_in, desc_start, descsz, name_start, namesz, NoteValue, note_end}
-use Rattle.elf_table_lists.specs.Relocations.{relocations_of, has_addends, relocation_count}
+use Rattle.elf_table_lists.specs.Relocations.{relocations_of, has_addends, no_relocation_entry, relocation_count, relocation_in}
 use Rattle.elf_table_symbols.specs.Sections.{Sections, content, count, order, section, sections_in, kind_of}
+use Rattle.elf_table_symbols.specs.SymbolView.{no_symbol_entry}
 use Rattle.elf_table_symbols.specs.Symbols.{index_table, symbols_of, entry_count, entry, word, SymbolEntryValue, place_of}
 use Rattle.elf_table_symbols.specs.declared.table_section.TableKind.TheVariants.{SymbolTable, RelocationTable, NoteSection, DynamicArray, HashTable, SectionGroup}
 use Rattle.elf_table_symbols.specs.declared.table_section.TableKind.{TableKind}
@@ -194,6 +195,22 @@ HasSymbol t b j =
     IsTableOfKind SymbolTable t × (j < entry_count symbols) ×
     ((entry (order_named t.ei_data) symbols j).st_shndx ≡ SHN_XINDEX → WORD_SIZE * j + WORD_SIZE ≤ length (slot_bytes b t.linked))
 
+-- symbol j of a symbol table, by the numbers of the table
+abbrev pub symbol_shape : Table → List ℕ → ℕ → Symbol
+symbol_shape t b j =
+    let o = order_named t.ei_data in
+    let e = entry o (slot_bytes b t.content) j in
+    record {
+      name = string_place b (extent_in t.strings) e.st_name;
+      st_value = e.st_value;
+      st_size = e.st_size;
+      st_name = e.st_name;
+      section = section_index o (slot_bytes b t.linked) e.st_shndx j;
+      st_shndx = e.st_shndx;
+      st_info = e.st_info;
+      st_other = e.st_other;
+    }
+
 -- a relocation: without an addend it is 0
 abbrev pub relocation_shape : listed.Relocation → Relocation
 relocation_shape r = record {
@@ -224,3 +241,51 @@ HasNoteAt t b x =
 -- its name and its descriptor lie in a file of len bytes
 abbrev pub LiesInFile : Note → ℕ → Type 0
 LiesInFile n len = (n.name.start + n.name.len ≤ len) × (n.desc.start + n.desc.len ≤ len)
+
+-- What is found at an index: by the numbers of a table, whatever they are; and in section i of a file, if its table breaks no rule.
+
+-- r is symbol j by the numbers of a symbol table; None if it is not there
+abbrev pub ReadsSymbol : Table → List ℕ → ℕ → Option Symbol → Type 0
+ReadsSymbol t b j r = SomeIff r (HasSymbol t b j) (symbol_shape t b j)
+
+-- r says symbol j of the symbol table in section i; None if it has no more
+abbrev pub ListsSymbol : List ℕ → ℕ → ℕ → Option Symbol → Type 0
+ListsSymbol b i j r =
+    let listed = symbols_of (sections_in b) i in
+    MatchOption r (length listed ≤ j) (λ s. (j < length listed) × (symbol_told b s ≡ get_or listed j no_symbol_entry))
+
+-- a relocation section has an entry j
+abbrev pub HasRelocation : Table → List ℕ → ℕ → Type 0
+HasRelocation t b j = IsTableOfKind RelocationTable t × (j < relocation_count (has_addends t.sh_type) (slot_bytes b t.content))
+
+-- relocation j by the numbers of a relocation section
+abbrev pub relocation_read : Table → List ℕ → ℕ → Relocation
+relocation_read t b j = relocation_shape (relocation_in (has_addends t.sh_type) (order_named t.ei_data) (slot_bytes b t.content) j)
+
+-- r is relocation j by the numbers of a relocation section; None if it is not there
+abbrev pub ReadsRelocation : Table → List ℕ → ℕ → Option Relocation → Type 0
+ReadsRelocation t b j r = SomeIff r (HasRelocation t b j) (relocation_read t b j)
+
+-- r is relocation j of the relocation section i; None if it has no more
+abbrev pub ListsRelocation : List ℕ → ℕ → ℕ → Option Relocation → Type 0
+ListsRelocation b i j r =
+    let listed = relocations_of (sections_in b) i in
+    SomeIff r (j < length listed) (relocation_shape (get_or listed j no_relocation_entry))
+
+-- a dynamic array has an entry j, and no more entries than its numbers say
+abbrev pub HasDynamic : Table → List ℕ → ℕ → Type 0
+HasDynamic t b j = IsTableOfKind DynamicArray t × (j < dynamic_entry_count (slot_bytes b t.content)) × (j < t.entries)
+
+-- entry j by the numbers of a dynamic array
+abbrev pub dynamic_read : Table → List ℕ → ℕ → DynamicEntry
+dynamic_read t b j = dynamic_shape (dynamic_entry (order_named t.ei_data) (slot_bytes b t.content) j)
+
+-- r is entry j by the numbers of a dynamic array; None if it is not there
+abbrev pub ReadsDynamic : Table → List ℕ → ℕ → Option DynamicEntry → Type 0
+ReadsDynamic t b j r = SomeIff r (HasDynamic t b j) (dynamic_read t b j)
+
+-- r is entry j of the dynamic array in section i; None if it has no more
+abbrev pub ListsDynamic : List ℕ → ℕ → ℕ → Option DynamicEntry → Type 0
+ListsDynamic b i j r =
+    let listed = dynamic_array_of (sections_in b) i in
+    SomeIff r (j < length listed) (dynamic_shape (get_or listed j no_dynamic_entry))

@@ -12,7 +12,7 @@ ghost use Rattle.elf_table_lists.specs.Relocations.{no_relocation_entry, relocat
 ghost use Rattle.elf_table_symbols.specs.Symbols.{entry as entry_of, symbol_entry_in, symbols_of};
 ghost use Rattle.elf_table_symbols.specs.SymbolView.{no_symbol_entry};
 ghost use Rattle.elf_c_parts.specs.Slots.{extent_in};
-ghost use Rattle.elf_c.specs.Tables.{HasSymbol, dynamic_shape, relocation_shape, section_index, symbol_record, symbol_told, string_place, IsTableOfKind, IsTableOf, slot_bytes};
+ghost use Rattle.elf_c.specs.Tables.{HasDynamic, HasRelocation, HasSymbol, ReadsDynamic, ReadsRelocation, ReadsSymbol, dynamic_read, dynamic_shape, relocation_read, relocation_shape, symbol_shape, section_index, symbol_record, symbol_told, string_place, IsTableOfKind, IsTableOf, slot_bytes};
 ghost use Rattle.elf_c.specs.Files.{order_named};
 ghost use Rattle.elf_table_hash.specs.HashView.{hash_of_section};
 ghost use Rattle.elf_table_hash.specs.HashTable.{HasSymbolNamed, IsProbed};
@@ -47,6 +47,8 @@ pub extern "C" fn elfmap_symbol(
     ensures section { OnTrue result (symbol.new.st_shndx ≢ shn_xindex → symbol.new.section ≡ symbol.new.st_shndx) }
     ensures named { OnTrue result (symbol.new.name ≡ string_place bytes.now (extent_in table.now.strings) symbol.new.st_name) }
     ensures inside { OnTrue result (symbol.new.name.start + symbol.new.name.len ≤ length bytes.now) }
+    ensures lies { IsTrue result ↔ HasSymbol table.now bytes.now index }
+    ensures read { OnTrue result (symbol.new ≡ symbol_shape table.now bytes.now index) }
     ensures unchanged { OnFalse result (symbol.new ≡ symbol.old) }
 {
     put(symbol_of(table, bytes, index), symbol)
@@ -55,14 +57,10 @@ pub extern "C" fn elfmap_symbol(
 /// Symbol `index` of a symbol table; None if it is no symbol table, or has no such entry, or the index table no word for an entry that
 /// needs one.
 #[tactic(auto, unfolding(elf_table_symbols::specs::Symbols::symbol_entry_in))]
-fn symbol_of(table: &Table, bytes: &[u8], index: u64) -> Option<Symbol>
-    ensures there { IsSome result ↔ HasSymbol table.now bytes.now index }
+pub fn symbol_of(table: &Table, bytes: &[u8], index: u64) -> Option<Symbol>
+    ensures read { ReadsSymbol table.now bytes.now index result }
     ensures value { let t = table.now in let b = bytes.now in IfSome result (λ s. symbol_told b s ≡
         symbol_entry_in (order_named t.ei_data) (slot_bytes b t.content) (slot_bytes b t.strings) (slot_bytes b t.linked) index) }
-    ensures record { let t = table.now in
-        IfSome result (λ s. symbol_record s ≡ entry_of (order_named t.ei_data) (slot_bytes bytes.now t.content) index) }
-    ensures section { IfSome result (λ s. s.st_shndx ≢ shn_xindex → s.section ≡ s.st_shndx) }
-    ensures named { IfSome result (λ s. s.name ≡ string_place bytes.now (extent_in table.now.strings) s.st_name) }
     ensures inside { IfSome result (λ s. s.name.start + s.name.len ≤ length bytes.now) }
 {
     let order = order_of(table.ei_data);
@@ -117,18 +115,27 @@ pub extern "C" fn elfmap_relocation(
     ensures value { (i : ℕ) → IsTableOf RelocationTable table.now bytes.now i →
         OnTrue result (relocation.new ≡ relocation_shape (get_or (relocations_of (sections_in bytes.now) i) index no_relocation_entry)) }
     ensures typed { OnTrue result (IsTableOfKind RelocationTable table.now) }
+    ensures lies { IsTrue result ↔ HasRelocation table.now bytes.now index }
+    ensures read { OnTrue result (relocation.new ≡ relocation_read table.now bytes.now index) }
     ensures unchanged { OnFalse result (relocation.new ≡ relocation.old) }
+{
+    put(relocation_of(table, bytes, index), relocation)
+}
+
+/// Relocation `index` of a relocation section; None if there is none of this index, and for a table of another kind.
+pub fn relocation_of(table: &Table, bytes: &[u8], index: u64) -> Option<Relocation>
+    ensures { ReadsRelocation table.now bytes.now index result }
 {
     let addends = table.sh_type == SHT_RELA;
     let content = bytes_of(bytes, table.content);
     if !is_of_kind(table, TableKind::RelocationTable)
         || index >= relocation_count(addends, content) as u64
     {
-        return false;
+        return None;
     }
     let order = order_of(table.ei_data);
-    *relocation = Relocation::new(&relocation_at(order, addends, content, index as usize));
-    true
+    let relocation = relocation_at(order, addends, content, index as usize);
+    Some(Relocation::new(&relocation))
 }
 
 /// Entry `index` of a dynamic array; false if there is none of this index before the first entry of tag `DT_NULL`, and for a table of
@@ -145,16 +152,25 @@ pub extern "C" fn elfmap_dynamic(
     ensures value { (i : ℕ) → IsTableOf DynamicArray table.now bytes.now i →
         OnTrue result (entry.new ≡ dynamic_shape (get_or (dynamic_array_of (sections_in bytes.now) i) index no_dynamic_entry)) }
     ensures typed { OnTrue result (IsTableOfKind DynamicArray table.now) }
+    ensures lies { IsTrue result ↔ HasDynamic table.now bytes.now index }
+    ensures read { OnTrue result (entry.new ≡ dynamic_read table.now bytes.now index) }
     ensures unchanged { OnFalse result (entry.new ≡ entry.old) }
+{
+    put(dynamic_of(table, bytes, index), entry)
+}
+
+/// Entry `index` of a dynamic array; None if there is none of this index before the first entry of tag `DT_NULL`, and for a table of another
+/// kind.
+pub fn dynamic_of(table: &Table, bytes: &[u8], index: u64) -> Option<DynamicEntry>
+    ensures { ReadsDynamic table.now bytes.now index result }
 {
     let content = bytes_of(bytes, table.content);
     let count = dynamic_entry_count(content) as u64;
     if !is_of_kind(table, TableKind::DynamicArray) || index >= count.min(table.entries) {
-        return false;
+        return None;
     }
     let order = order_of(table.ei_data);
-    *entry = DynamicEntry::new(&dynamic_entry(order, content, index as usize));
-    true
+    Some(DynamicEntry::new(&dynamic_entry(order, content, index as usize)))
 }
 
 /// Where the string at an offset of the table's strings is in the file, without its closing zero; false if the offset is not below their

@@ -3,7 +3,7 @@ ghost use Rattle.std.specs.Prelude.{◌≡◌, ◌≤◌, ◌↔◌, IsTrue, len
 ghost use Rattle.std.specs.Bool.{OnFalse, OnTrue};
 ghost use Rattle.elf_image_rules.specs.Rules.{KeepsRecordRules};
 ghost use Rattle.elf_image_rules.specs.Tables.{header as file_header, file_counts, header, sections, segments, bytes_in, program_header_of};
-ghost use Rattle.elf_c.specs.Files.{HasCounts, file_in, header_shape, HasEntry, IsFileOf, file_order, section_shape, segment_shape, HasName, name_of_section, segments_listed};
+ghost use Rattle.elf_c.specs.Files.{HasCounts, file_in, header_shape, HasEntry, IsFileOf, ReadsSection, file_order, section_shape, segment_shape, HasName, name_of_section, segments_listed};
 ghost use Rattle.elf_field.specs.Abi.{PHDR_SIZE as phdr_size, SHDR_SIZE as shdr_size};
 ghost use Rattle.elf_field.specs.Headers.{phdr_at, shdr_at};
 ghost use Rattle.elf_image_type.specs.ImageView.{string, HasAddress, HaveNoAddress, IsFirstWithAddress, LoadsFirst};
@@ -82,13 +82,15 @@ pub extern "C" fn elfmap_section(
         OnTrue result (section.new ≡ section_shape (shdr_at (file_order f) bytes.now (f.e_shoff + shdr_size * index))) }
     ensures unchanged { OnFalse result (section.new ≡ section.old) }
 {
-    match section_of(file, bytes, index) {
-        Some(entry) => {
-            *section = Section::new(&entry);
-            true
-        }
-        None => false,
-    }
+    put(section_in(file, bytes, index), section)
+}
+
+/// Section header `index` of the file in the shape that C has; None if there is none of this index, or it doesn't lie in the bytes.
+pub fn section_in(file: &File, bytes: &[u8], index: u64) -> Option<Section>
+    ensures { ReadsSection file.now bytes.now index result }
+{
+    let section = section_of(file, bytes, index)?;
+    Some(Section::new(&section))
 }
 
 /// Program header `index` of the file; false if there is none of this index, or it doesn't lie in the bytes.

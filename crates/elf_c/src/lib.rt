@@ -3,13 +3,18 @@
 //!
 //! Nothing here takes memory or keeps a state between two calls. What an accessor needs of a file or of a table is a struct of numbers
 //! ([`File`], [`Table`]), which the caller holds: it may have any numbers, so each accessor tests what it reads against the length of the
-//! bytes. Begin with `verdicts`, then `file`, which makes a [`File`], and `records`, which reads by it.
+//! bytes. Begin with `verdicts`, then `file`, which makes a [`File`] and reads by it. `bulk` reads many entries at once, by the functions
+//! that read one. `owners` and `records` are about the byte at an offset.
 #![tactic(auto)]
 
+mod bulk;
 mod entries;
+mod fields;
 mod file;
 mod notes;
+mod owners;
 mod places;
+mod records;
 mod shapes;
 mod tables;
 mod verdicts;

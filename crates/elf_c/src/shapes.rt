@@ -19,6 +19,18 @@ pub struct Fault {
     pub rule: u16,
 }
 
+/// `struct elfmap_place`: where an offset is in an owner.
+#[repr(C)]
+#[derive(Clone, Copy)]
+pub struct Place {
+    /// Which of the owner's records, from 0.
+    pub entry: u64,
+    /// Where the record is in the file.
+    pub record: Slot,
+    /// Where the field begins in the record, and its width.
+    pub field: Slot,
+}
+
 /// `struct elfmap_file`: what the accessors need of a file.
 #[repr(C)]
 #[derive(Clone, Copy)]

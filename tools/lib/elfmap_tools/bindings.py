@@ -12,12 +12,24 @@ from elfmap import _library
 
 from .header import STRUCTS, calls, calls_in, structs, structs_in
 from .library import BOTH, FOLDER, PACKERS
-from .package_tests import count_run, unittests
-from .requirements import ELF_H, JSONSCHEMA, JUNITPARSER
+from .package_tests import count_run, skipped_tests, unittests
+from .requirements import (
+    ELF_H,
+    JSONSCHEMA,
+    JUNITPARSER,
+    MACHINES,
+    MIPS_LIBC,
+    SANITIZERS,
+    U_BOOT,
+)
 from .suite import Tally, Test
 from .tree import TOP, Options, read_text, said
 
-BINDERS = f"{PACKERS} cargo fish git mypy pre-commit {ELF_H} {JSONSCHEMA} {JUNITPARSER}"
+# What makes files that deviate from the rules in a known way, and some such files.
+LINKERS = [f"{MACHINES[it]}-ld" for it in ("alpha", "mips64", "riscv64", "s390x", "sparc64")]
+PRODUCERS = " ".join([*LINKERS, "cc", "eu-strip", "strip", MIPS_LIBC, SANITIZERS, U_BOOT])
+READERS = f"{ELF_H} {JSONSCHEMA} {JUNITPARSER}"
+BINDERS = f"{PACKERS} cargo fish git mypy pre-commit {READERS} {PRODUCERS}"
 # What Python declares of a struct: its fields, each with its type of ctypes.
 PythonStructs = dict[str, list[tuple[str, Any]]]
 
@@ -87,6 +99,7 @@ def declarations(tally: Tally) -> None:
 )
 def try_bindings(tally: Tally, options: Options) -> None:
     declarations(tally)
+    skipped_tests(tally)
     unittests(tally)
     folders = {"CARGO_HOME": f"{tally.folder}/cargo", "CARGO_TARGET_DIR": f"{tally.folder}/target"}
     env = os.environ | folders | {"ELFMAP_LIB_DIR": FOLDER, "CARGO_INCREMENTAL": "0"}

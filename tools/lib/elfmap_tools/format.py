@@ -71,7 +71,7 @@ def by_black(files: list[str], *words: str) -> bool:
 
 @Test(
     "format",
-    "black over tools/ and the Python package",
+    "black over tools/, bench/, reference/ and the Python package with its tests",
     commands="black",
     options=(flag("write", "format it"),),
 )

@@ -14,10 +14,12 @@ from .tree import LIBRARIES_OF, TOP, Options, read_text, write
 LEMMAS = "docs/generated/LEMMAS.md"
 HEAD = """# Lemmas
 
-`tools/release lemmas` makes the tables of this page. Do not edit them by hand: edit the comment at the head of the lemma file.
+`tools/release lemmas` makes the tables of this page. Do not edit them by hand: edit the comment at
+the head of the lemma file.
 
-A lemma file has what the proofs of several functions share. Its row has its idea, and then the laws and functions of its crate whose proofs
-need it, laws first. Last are the crates above whose proofs name it. [PROOF](../PROOF.md#where-proofs-are) says where proofs are.
+A lemma file has what the proofs of several functions share. Its row has its idea, and then the laws
+and functions of its crate whose proofs need it, laws first. Last are the crates above whose proofs
+name it. [PROOF](../PROOF.md#where-proofs-are) says where proofs are.
 """
 COLUMNS = "| file | idea | its crate's proofs | crates above |\n|---|---|---|---|\n"
 MOST_NAMED = 6

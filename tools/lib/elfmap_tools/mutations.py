@@ -15,84 +15,36 @@ import os
 import re
 import shutil
 import tempfile
-from collections import Counter
 from collections.abc import Iterable
 from concurrent.futures import ThreadPoolExecutor, as_completed
 
 from .building import FolderOf, built_below, checked, gate_folder
+from .edits import Edit, bugs_in
+from .rim_bugs import PARTS, bugs_of_part, lacking_commands, try_part
+from .requirements import words_of
 from .suite import Tally, Test, flag, word
 from .tree import LIBRARIES_OF, PROCESSORS, TOP, Options, read_text, write
 
 ABOUT = (
-    "the check refuses each bug of mutations.txt with 'gate: yes'; of CRATE.., or with --all of "
-    "every crate, each bug"
+    "the check refuses each bug of mutations.txt with 'gate: yes', and tests refuse those of "
+    "bindings/ and page/; of CRATE.., or with --all of every crate, each bug"
 )
 # What the checker prints if it could read the text and came to its end.
 ENDED = re.compile(r"^only=", re.M)
 CRATES = word(
-    "crates", "the crates whose bugs are planted, all of them", nargs="*", metavar="CRATE"
+    "crates",
+    f"the crates, or of these folders, whose bugs are planted, all of them: {', '.join(PARTS)}",
+    nargs="*",
+    metavar="CRATE",
 )
 FIT = "plant none: only say whether each edit fits the text that it changes"
 FLAGS = (flag("all", "plant all bugs"), flag("fit", FIT))
 ONLY = word("--only", "plant the bug of this name alone", metavar="NAME", default="")
 
 
-class Edit:
-    """A bug of mutations.txt, or an edit of must-fail/, which names no function."""
-
-    def __init__(self, crate: str, name: str, text: str, is_bug: bool) -> None:
-        words = re.findall(r"^(.*?): ?(.*)", text, re.M)
-        said = dict(words)
-        own: dict[str, str] = {}
-        self.crate = crate
-        self.name = name
-        self.is_bug = is_bug
-        self.is_for_gate = said.get("gate") == "yes"
-        self.function = f"{crate}::{said['function']}" if "function" in said else ""
-        # Of each line `new:` the file and the old text that were named last, and the text that the
-        # old one comes after.
-        self.pairs: list[tuple[str, str, str, str]] = []
-        for key, text in words:
-            own[key] = text
-            if key == "new":
-                self.pairs.append((own["file"], own.pop("after", ""), own["old"], text))
-
-    def texts(self, folder: str) -> tuple[dict[str, str], str]:
-        """What it makes of the crate's texts in this folder, by file; or why it can't be
-        planted."""
-        made: dict[str, str] = {}
-        for file, after, old, new in self.pairs:
-            if file not in made:
-                if not os.path.isfile(f"{folder}/{file}"):
-                    return {}, f"there is no file {file}"
-                made[file] = read_text(f"{folder}/{file}")
-            text = made[file]
-            if after and text.count(after) != 1:
-                return {}, f"an 'after:' text {times_in(file, text, after)}"
-            front, found, rest = text.partition(after) if after else ("", "", text)
-            if not after and rest.count(old) != 1 or old not in rest:
-                return {}, f"an 'old:' text {times_in(file, rest, old)}"
-            made[file] = front + found + rest.replace(old, new, 1)
-        if not self.pairs or self.is_bug and not self.function:
-            return {}, "it has no 'function:' line, or no pair"
-        return made, ""
-
-
-def times_in(file: str, text: str, wanted: str) -> str:
-    """How often a text is in a file that has to have it once."""
-    return f"stands {text.count(wanted)} times in {file}, and not once"
-
-
 def bugs_of(crate: str) -> list[Edit]:
     """The bugs of a crate."""
-    path = f"{TOP}/crates/{crate}/mutations.txt"
-    if not os.path.isfile(path):
-        return []
-    _, *parts = re.split(r"^\[(.*)\]\n", read_text(path), flags=re.M)
-    twice = [name for name, count in Counter(parts[::2]).items() if count > 1]
-    if twice:
-        raise SystemExit(f"{path}: {twice} are in it twice")
-    return [Edit(crate, name, text, True) for name, text in zip(parts[::2], parts[1::2])]
+    return bugs_in(f"{TOP}/crates/{crate}/mutations.txt", crate)
 
 
 def must_fail_of(crate: str) -> list[Edit]:
@@ -200,19 +152,25 @@ def try_all(left: list[Edit], folder_of: FolderOf, is_shown: bool) -> list[tuple
     return ends
 
 
-def try_fit(tally: Tally, crates: list[str]) -> None:
-    """Each edit of these crates fits the text that it changes."""
-    for crate in crates:
-        for edit in must_fail_of(crate) + bugs_of(crate):
-            _, why = edit.texts(f"{TOP}/crates/{crate}")
-            tally.check(not why, f"{crate}: {edit.name}: {why}")
+def try_fit(tally: Tally, names: list[str]) -> None:
+    """Each edit of these crates and parts fits the text that it changes."""
+    for name in names:
+        folder = name if name in PARTS else f"crates/{name}"
+        for edit in must_fail_of(name) + bugs_of_any(name):
+            _, why = edit.texts(f"{TOP}/{folder}")
+            tally.check(not why, f"{name}: {edit.name}: {why}")
 
 
-def chosen(crates: list[str], options: Options) -> list[list[Edit]]:
-    """The bugs of these crates that are planted, those of each crate together."""
+def bugs_of_any(name: str) -> list[Edit]:
+    """The bugs of a crate, or of a part that is around the crates."""
+    return bugs_of_part(name) if name in PARTS else bugs_of(name)
+
+
+def chosen(names: Iterable[str], options: Options) -> list[list[Edit]]:
+    """The bugs of these crates or parts that are planted, those of each together."""
     found: list[list[Edit]] = []
-    for crate in crates:
-        bugs = bugs_of(crate)
+    for name in names:
+        bugs = bugs_of_any(name)
         if not plants_all(options):
             bugs = [it for it in bugs if it.is_for_gate]
         bugs = [it for it in bugs if options.only in ("", it.name)]
@@ -227,7 +185,7 @@ def plants_all(options: Options) -> bool:
 
 
 def count_ends(tally: Tally, ends: list[tuple[Edit, str]]) -> None:
-    """Counts how the bugs of a crate ended."""
+    """Counts how the bugs of a crate or a part ended."""
     ends.sort(key=lambda it: it[0].name)
     wrong = [f"{bug.crate}: {bug.name}: {end}" for bug, end in ends if end != "refused"]
     tally.count(len(ends), wrong)
@@ -235,12 +193,8 @@ def count_ends(tally: Tally, ends: list[tuple[Edit, str]]) -> None:
     tally.note(f"{crate}: {len(ends) - len(wrong)} of {len(ends)} refused")
 
 
-def try_bugs(tally: Tally, crates: list[str], options: Options) -> None:
-    """The check refuses the bugs of these crates."""
-    bugs = chosen(crates, options)
-    if options.only and not bugs:
-        tally.fail(f"no bug of the name {options.only}")
-        return
+def try_bugs(tally: Tally, bugs: list[list[Edit]], options: Options) -> None:
+    """The check refuses these bugs of crates."""
     folder_of: FolderOf = gate_folder
     if plants_all(options):
         folder_of, lacking = built_below([it[0].crate for it in bugs])
@@ -257,21 +211,39 @@ def try_bugs(tally: Tally, crates: list[str], options: Options) -> None:
             count_ends(tally, tried.result())
 
 
+def try_parts(tally: Tally, bugs: list[list[Edit]]) -> None:
+    """Tests refuse these bugs of the parts that are around the crates."""
+    if lacking := lacking_commands(it[0].crate for it in bugs):
+        tally.fail(words_of(lacking))
+        return
+    for own in bugs:
+        ends, wrong = try_part(own[0].crate, own)
+        count_ends(tally, ends)
+        for it in wrong:
+            tally.fail(f"{own[0].crate}: {it}")
+
+
 @Test("mutations", ABOUT, alone=True, options=(*FLAGS, ONLY, CRATES))
 def try_mutations(tally: Tally, options: Options) -> None:
-    crates = options.crates or sorted(LIBRARIES_OF)
-    unknown = [it for it in crates if it not in LIBRARIES_OF]
+    names = options.crates or [*sorted(LIBRARIES_OF), *PARTS]
+    unknown = [it for it in names if it not in LIBRARIES_OF and it not in PARTS]
     if unknown:
-        tally.fail(f"no crate of crates.txt: {' '.join(unknown)}")
+        tally.fail(f"no crate of crates.txt, and no part with bugs: {' '.join(unknown)}")
         return
     if options.fit:
-        try_fit(tally, crates)
+        try_fit(tally, names)
     else:
-        try_bugs(tally, crates, options)
+        of_crates = chosen((it for it in names if it not in PARTS), options)
+        of_parts = chosen((it for it in names if it in PARTS), options)
+        if options.only and not of_crates + of_parts:
+            tally.fail(f"no bug of the name {options.only}")
+        if of_crates:
+            try_bugs(tally, of_crates, options)
+        try_parts(tally, of_parts)
     if options.crates or options.only:
         return
-    for crate in LIBRARIES_OF:
-        bugs = bugs_of(crate) if crate.startswith("elf_") else []
+    for name in (*LIBRARIES_OF, *PARTS):
+        bugs = bugs_of_any(name) if name.startswith("elf_") or name in PARTS else []
         if bugs:
             is_in_gate = any(it.is_for_gate for it in bugs)
-            tally.check(is_in_gate, f"{crate}: it has no bug with 'gate: yes'")
+            tally.check(is_in_gate, f"{name}: it has no bug with 'gate: yes'")

@@ -61,6 +61,7 @@ NAMES = [
     b"\xff" * 200,
     b"\xff" * 201,
     b"\xef\xbb\xbfn",
+    b"\\x1b\x1b",
 ]
 # Longer than what is shown at once of a name that somebody wants to see, with a character in two
 # parts at the end of the first part, which is a byte order mark.
@@ -148,8 +149,9 @@ def explained(kind: str) -> Iterator[tuple[str, bytes, str]]:
 
 
 def escaped(name: str) -> str:
-    """A name as the page shows it: what no one can see as escapes."""
-    return name.replace("ÿ", "\\xff").replace("\ufeff", "\\ufeff")
+    """A name as the page shows it: what no one can see as escapes, and a backslash twice."""
+    shown = name.replace("\\", "\\\\").replace("\x1b", "\\x1b")
+    return shown.replace("ÿ", "\\xff").replace("\ufeff", "\\ufeff")
 
 
 class InChromium(Browser):
@@ -183,10 +185,15 @@ class InChromium(Browser):
         self.check(self.text("#verdict") == SOUND, f"{path}: {self.text('#verdict')}")
         lines = said(PROGRAM, "show", path).stdout.splitlines()
         parts = sum(it.startswith("part ") for it in lines)
-        self.check(
-            f"{parts} parts." in self.text("#map-words"),
-            f"{path} has {parts} parts: {self.text('#map-words')}",
+        labels = self.value(
+            "[...document.querySelectorAll('#map button')].map((it) => it.ariaLabel)"
         )
+        runs = (re.match(r"([\d,]+) parts: ", it) for it in labels)
+        drawn = sum(int(it[1].replace(",", "")) if it else 1 for it in runs)
+        # Loadable segments may cut gaps.
+        is_counted = f"{drawn:,} parts." in self.text("#map-words") and drawn >= parts
+        words = self.text("#map-words")
+        self.check(is_counted, f"{path} has {parts} parts, and {drawn} are drawn: {words}")
         sections = [it.split()[-1] for it in lines if it.startswith("section ")]
         rows = self.value(f"{ROWS}.map((it) => it.children[1].textContent)")
         self.check(

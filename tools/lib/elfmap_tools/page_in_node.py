@@ -2,9 +2,13 @@
 cases/ and of changed copies of them is what `elfmap show` prints, line by line, but for the lines
 of groups."""
 
+import functools
+import glob
 import json
 import os
 import random
+import re
+import tempfile
 
 from .changes import fuzzed
 from .reference import verdict
@@ -36,18 +40,57 @@ def files_for_node(room: str, count: int) -> list[str]:
     return files
 
 
-def in_node(tally: Tally, room: str, count: int) -> None:
-    """What the page's reader tells of files is what `elfmap show` prints."""
-    files = files_for_node(room, count)
+def scripts_in_node(tally: Tally) -> None:
+    """The tests of the page's scripts that need neither a module nor a browser."""
+    ran = said("node", "--test", *sorted(glob.glob(f"{TOP}/page/tests/*.js")))
+    passed, failed = (
+        sum(int(it) for it in re.findall(rf"^# {word} (\d+)$", ran.stdout, re.M))
+        for word in ("pass", "fail")
+    )
+    is_whole = passed and not failed and ran.returncode == 0
+    tally.count(max(passed + failed, 1), [] if is_whole else [ran.stdout])
+
+
+def told_in_node(tree: str, room: str, files: list[str]) -> dict[str, list[str]]:
+    """What the page's reader in a tree tells of these files."""
     layout_path = write(f"{room}/layout.json", json.dumps(layout()))
-    script = ["node", f"{TOP}/cases/sources/page_reads_as_show.js", module(), layout_path]
+    # Its folder is that of the tree, where it is a link too.
+    script = ["node", "--preserve-symlinks-main", f"{tree}/cases/sources/page_reads_as_show.js"]
     told: dict[str, str] = {}
     for k in range(0, len(files), 500):
-        text = wanted(*script, *files[k : k + 500])
+        text = wanted(*script, module(), layout_path, *files[k : k + 500])
         told |= dict(it.split("\n", 1) for it in f"\n{text}".split("\n-- ")[1:])
-    for path in files:
-        own = told[path].splitlines()
-        shown = said(PROGRAM, "show", path).stdout.splitlines()
-        lines = [it for it in shown if not it.startswith("group ")]
+    return {path: told[path].splitlines() for path in files}
+
+
+def shown_by_program(path: str) -> list[str]:
+    """The lines of `elfmap show`, without those of groups."""
+    lines = said(PROGRAM, "show", path).stdout.splitlines()
+    return [it for it in lines if not it.startswith("group ")]
+
+
+def in_node(tally: Tally, room: str, count: int) -> None:
+    """What the page's reader tells of files is what `elfmap show` prints."""
+    scripts_in_node(tally)
+    for path, own in told_in_node(TOP, room, files_for_node(room, count)).items():
+        lines = shown_by_program(path)
         different = [pair for pair in zip(own, lines) if pair[0] != pair[1]][:2]
         tally.check(own == lines, f"{path}: {different or (len(own), len(lines))}")
+
+
+@functools.cache
+def shown_of_cases(room: str) -> dict[str, list[str]]:
+    """Files of the cases, and what `elfmap show` prints of each."""
+    return {path: shown_by_program(path) for path in files_for_node(room, 0)}
+
+
+def different_from_show(tree: str, room: str) -> str:
+    """What the page's reader in a tree tells otherwise of files of the cases than `elfmap show`;
+    nothing where all is the same."""
+    shown = shown_of_cases(room)
+    try:
+        with tempfile.TemporaryDirectory(dir=room) as own:
+            told = told_in_node(tree, own, [*shown])
+    except SystemExit as fault:
+        return str(fault)
+    return "\n".join(path for path, lines in shown.items() if told[path] != lines)

@@ -3,6 +3,8 @@ what is generated or is all tables (TABLES), and all of them together (WORDS). P
 write are in docs/generated/, and begin with who makes them. Code, headings and the targets of links
 are no prose.
 
+No line has more than COLUMNS columns, but for rows of tables and code.
+
 A fenced block whose first line names a file quotes it: the file has to have these lines. README.md
 has its two commands in the first screen. A proof file of more than PROOF_LINES lines opens with a
 comment, its idea."""
@@ -19,6 +21,7 @@ from .tree import TOP, Options, read_text
 MEDIAN = 18
 LONG_SENTENCE = 30
 WORDS = 30_000
+COLUMNS = 140
 README_LINES = 160
 SCREEN = 30
 PROOF_LINES = 30
@@ -85,6 +88,15 @@ def try_words(tally: Tally, path: str, text: str) -> None:
     tally.check(path.startswith("docs/generated/") == bool(made), why)
 
 
+def try_columns(tally: Tally, path: str, text: str) -> None:
+    """The lines of a page are not too long. A generated page has those that its tool writes."""
+    lines = CODE.sub(lambda it: "\n" * it[0].count("\n"), text).splitlines()
+    prose = ((number, it) for number, it in enumerate(lines, 1) if not it.startswith("|"))
+    long = [number for number, it in prose if len(it) > COLUMNS]
+    is_generated = path.startswith("docs/generated/")
+    tally.check(is_generated or not long, f"{path}: more than {COLUMNS} columns in lines {long}")
+
+
 def words_in(sentence: str) -> int:
     """How many words a sentence has. Code is one word: it is read as a name."""
     return len(re.sub(r"`[^`]*`", "code", sentence).split())
@@ -126,6 +138,7 @@ def try_pages(tally: Tally, options: Options) -> None:
         text = read_text(path)
         total += try_sentences(tally, path, text)
         try_words(tally, path, text)
+        try_columns(tally, path, text)
         try_names(tally, path, text)
     tally.note(f"all pages: {total} words of at most {WORDS}")
     tally.check(total <= WORDS, f"the pages have {total} words, more than {WORDS}")

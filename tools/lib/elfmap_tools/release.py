@@ -30,8 +30,8 @@ MADE = [
 ]
 for command, *_ in COMMANDS:
     MADE += [f"bin/{command}", f"share/man/man1/{command}.1"]
-# What git has and a release has not: the tests of the bindings, and files beside them.
-NOT_RELEASED = re.compile(r"^bindings/(rust|python)/tests/|^bindings/[^/]*$")
+# What git has and a release has not: tests of the bindings, their planted bugs, files beside them.
+NOT_RELEASED = re.compile(r"^bindings/((rust|python)/tests/|[^/]*$|\w+/mutations\.txt$)")
 PLAIN = {"PATH": "/usr/bin:/bin", "LC_ALL": "C.UTF-8", "MANWIDTH": "80"}
 
 

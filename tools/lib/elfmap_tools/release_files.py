@@ -83,16 +83,25 @@ def epoch() -> int:
     return int(given or os.path.getmtime(f"{TOP}/VERSION"))
 
 
+def common_to_all() -> list[str]:
+    """What bindings/python/README.md says of all commands."""
+    text = read_text("bindings/python/README.md")
+    return man.blocks(text.partition("\n## All commands\n")[2].partition("\n## ")[0])
+
+
 def page_of(name: str, module: str, version: str) -> str:
-    """The manual page of a command of the Python package, which is its help, in long lines."""
+    """The manual page of a command of the Python package: its help, in long lines, what all
+    commands have in common, and the other commands."""
     wide = os.environ | {"COLUMNS": "300"}
     help = said(sys.executable, "-B", "-m", module, "--help", folder=PACKAGE, env=wide)
     usage, about, *rest = help.stdout.strip().split("\n\n")
     rows = re.findall(r"^  (\S.*?)(?:  +|\n +)(\S.*)$", "\n".join(rest[:-1]), re.M)
     text = ["# NAME", f"{name} - {about}", "# SYNOPSIS", f"`{usage.removeprefix('usage: ')}`"]
     text += ["# OPTIONS", *(f"`{head}`\n:   {words}" for head, words in rows)]
-    text += ["# EXIT STATUS", rest[-1], "# SEE ALSO", "**elfmap**(1)"]
-    return man.by_pandoc(name, version, text)
+    text += ["# EXIT STATUS", rest[-1], "# ALL COMMANDS", *common_to_all()]
+    others = [it for it in ("elfmap", *(it for it, _, _ in COMMANDS)) if it != name]
+    text += ["# SEE ALSO", ", ".join(f"**{it}**(1)" for it in others)]
+    return man.by_pandoc(name, version, list(map(man.with_tags, text)))
 
 
 def put(path: str, text: str | bytes) -> None:

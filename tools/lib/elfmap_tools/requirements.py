@@ -13,6 +13,8 @@ from .tree import run
 
 ELF_H = "/usr/include/elf.h"
 KLIBC = "/usr/lib/klibc/lib/libc.a"
+MIPS_LIBC = "/usr/mips64el-linux-gnuabi64/lib/libdl.so.2"
+U_BOOT = "/usr/lib/u-boot/qemu_arm64/uboot.elf"
 # What Debian's python3 imports.
 IMPORTED = "/usr/lib/python3/dist-packages/{}/__init__.py"
 JINJA2 = IMPORTED.format("jinja2")
@@ -29,16 +31,17 @@ SANITIZERS = "/usr/lib/llvm-*/lib/clang/*/lib/linux/libclang_rt.asan-x86_64.a"
 # that have the name of their package.
 COMMANDS = {
     "binaryen": "wasm-opt",
-    "binutils": "ar as ld nm objcopy readelf",
+    "binutils": "ar as ld nm objcopy readelf strip",
     "binutils-x86-64-linux-gnu": "x86_64-linux-gnu-as",
     "cargo-web": "cargo",
     "chromium-driver": "chromedriver",
     "dpkg": "dpkg-deb",
-    "elfutils": "eu-elflint",
+    "elfutils": "eu-elflint eu-strip",
     "g++": "c++ g++",
     "gcc": "cc gcc",
     "libclang-rt-14-dev": SANITIZERS,
     "libc6-dev": ELF_H,
+    "libc6-mips64el-cross": MIPS_LIBC,
     "libklibc-dev": KLIBC,
     "lld": "ld.lld",
     "lld-19": "ld.lld-19",
@@ -53,6 +56,7 @@ COMMANDS = {
     "python3-setuptools": SETUPTOOLS,
     "python3-wheel": WHEEL,
     "rustc-web": "rustc",
+    "u-boot-qemu": U_BOOT,
     "util-linux": "prlimit unshare",
 }
 PACKAGES = {

@@ -6,7 +6,7 @@ from .suite import Tally, Test
 from .tree import PACKAGE, TOP, Options, said
 
 
-@Test("types", "mypy --strict over tools/ and the Python package", commands="mypy")
+@Test("types", "mypy --strict over tools/, bench/ and the Python package", commands="mypy")
 def try_types(tally: Tally, options: Options) -> None:
     own = [f"{TOP}/tools/lib/elfmap_tools", *PROGRAMS, f"{TOP}/bench/generated.py", *BENCHMARKS]
     checked = {

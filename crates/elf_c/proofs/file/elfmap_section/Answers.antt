@@ -1,15 +1,16 @@
-use Rattle.std.proofs.Common.{ap, false, ◌∙◌}
-use Rattle.std.specs.Prelude.{IsTrue}
-use Rattle.elf_c.specs.Files.{section_shape}
-use Rattle.elf_c.proofs.ReadFiles.{section_at, section_below}
+use Rattle.elf_c.proofs.Listed.{put_there, put_value, section_listed_as}
 use Rattle.elf_c.proofs.file.elfmap_section.Goals as goal
 
-pub returns-in-Some-clause-value : goal.returns-in-Some-clause-value
-returns-in-Some-clause-value c is =
-    let below = section_below c.args.file.now c.args.bytes.now c.args.index _ is c.in-Some.ensures.read.0 in
-    let at = section_at c.args.file.now c.args.bytes.now c.args.index is below in
-    c.new.ensures ∙ ap section_shape (c.in-Some.ensures.read.1 ∙ at.read)
+pub returns-clause-there : goal.returns-clause-there
+returns-clause-there c is =
+    put_there _ _ _ _ (section_listed_as c.args.file.now c.args.bytes.now c.args.index _ is c.section_in.ensures) c.put.ensures.there
 
-pub returns-in-None-clause-there : goal.returns-in-None-clause-there
-returns-in-None-clause-there c is =
-    (λ (wrong : IsTrue false). cc, λ below. absurd (c.in-None.ensures.read (section_at c.args.file.now c.args.bytes.now c.args.index is below).there))
+pub returns-clause-value : goal.returns-clause-value
+returns-clause-value c is =
+    put_value _ _ _ _ _ (section_listed_as c.args.file.now c.args.bytes.now c.args.index _ is c.section_in.ensures) c.put.ensures.there c.put.ensures.value
+
+pub returns-clause-lies : goal.returns-clause-lies
+returns-clause-lies c = put_there _ _ _ _ c.section_in.ensures c.put.ensures.there
+
+pub returns-clause-read : goal.returns-clause-read
+returns-clause-read c = put_value _ _ _ _ _ c.section_in.ensures c.put.ensures.there c.put.ensures.value

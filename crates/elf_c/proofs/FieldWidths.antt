@@ -1,0 +1,22 @@
+-- The widths of fields, one after the other.
+use Rattle.std.proofs.Common.{◌≡◌, ℕ, ◌+◌, ◌<◌, ◌≤◌, List, [], ◌∷◌, ◌++◌, ap, arith, drop, get_or, take, take-append-drop, length}
+use Rattle.std.proofs.lemmas.List.{take_more}
+use Rattle.elf_field.specs.Record.{width_of}
+
+width-append : (xs ys : List ℕ) → width_of (xs ++ ys) ≡ width_of xs + width_of ys
+width-append [] ys = omega arith
+width-append (x ∷ xs) ys = let tail = width-append xs ys in omega (arith, tail)
+
+-- with one field more
+pub width_more : (ws : List ℕ) (k : ℕ) → k < length ws → width_of (take (k + 1) ws) ≡ width_of (take k ws) + get_or ws k 0
+width_more ws k below =
+    let split = ap width_of (take_more ws k 0 below) in
+    let joined = width-append (take k ws) (get_or ws k 0 ∷ []) in
+    omega (arith, split, joined)
+
+-- some of the fields are no longer than all
+pub width_part : (ws : List ℕ) (k : ℕ) → width_of (take k ws) ≤ width_of ws
+width_part ws k =
+    let whole = ap width_of (take-append-drop k ws) in
+    let joined = width-append (take k ws) (drop k ws) in
+    omega (arith, whole, joined)

@@ -1,0 +1,88 @@
+//! The fields of records: which one a byte of a record is in (gABI chapter 4, ELF Header, Sections, Symbol Table, Relocation; chapter 5,
+//! Program Header, Dynamic Section).
+ghost use Rattle.std.specs.Prelude.{◌≡◌, ◌≤◌, MatchOption};
+ghost use Rattle.elf_c.specs.Fields.{IsFieldAt, record_widths};
+ghost use Rattle.elf_field.specs.Record.{width_of};
+
+use elf_c_parts::Slot;
+
+/// A kind of record.
+#[derive(Clone, Copy, PartialEq, Eq)]
+pub enum RecordKind {
+    /// The ELF header.
+    Ehdr,
+    /// A section header.
+    Shdr,
+    /// A program header.
+    Phdr,
+    /// A symbol.
+    Sym,
+    /// A relocation with an addend.
+    Rela,
+    /// A relocation without one.
+    Rel,
+    /// An entry of a dynamic array.
+    Dyn,
+    /// A word of a group, an index table or a hash table.
+    Word,
+}
+
+// The widths of their fields, one after the other. Each byte of `e_ident` is a field of its own.
+
+const EHDR_WIDTHS: &[u8] = &[
+    1, 1, 1, 1, 1, 1, 1, 1, 1, 1, 1, 1, 1, 1, 1, 1, 2, 2, 4, 8, 8, 8, 4, 2, 2, 2, 2, 2, 2,
+];
+
+const SHDR_WIDTHS: &[u8] = &[4, 4, 8, 8, 8, 8, 4, 4, 8, 8];
+
+const PHDR_WIDTHS: &[u8] = &[4, 4, 8, 8, 8, 8, 8, 8];
+
+const SYM_WIDTHS: &[u8] = &[4, 1, 1, 2, 8, 8];
+
+const RELA_WIDTHS: &[u8] = &[8, 8, 8];
+
+const REL_WIDTHS: &[u8] = &[8, 8];
+
+const DYN_WIDTHS: &[u8] = &[8, 8];
+
+const WORD_WIDTHS: &[u8] = &[4];
+
+/// The field of a record that has its byte at this offset from its beginning; None past its end.
+pub fn field_at(kind: RecordKind, at: u64) -> Option<Slot>
+    ensures { MatchOption result (width_of (record_widths kind) ≤ at) (IsFieldAt (record_widths kind) at) }
+{
+    field_in(widths_of(kind), at)
+}
+
+/// The widths of the fields of a record.
+fn widths_of(kind: RecordKind) -> &'static [u8]
+    ensures widths { result.now ≡ record_widths kind }
+    ensures short { width_of result.now ≤ 64 }
+{
+    match kind {
+        RecordKind::Ehdr => EHDR_WIDTHS,
+        RecordKind::Shdr => SHDR_WIDTHS,
+        RecordKind::Phdr => PHDR_WIDTHS,
+        RecordKind::Sym => SYM_WIDTHS,
+        RecordKind::Rela => RELA_WIDTHS,
+        RecordKind::Rel => REL_WIDTHS,
+        RecordKind::Dyn => DYN_WIDTHS,
+        RecordKind::Word => WORD_WIDTHS,
+    }
+}
+
+/// Of fields of these widths, one after the other, the one that has the byte at this offset; None past their end.
+fn field_in(widths: &[u8], at: u64) -> Option<Slot>
+    requires { width_of widths.now ≤ 64 }
+    ensures { MatchOption result (width_of widths.now ≤ at) (IsFieldAt widths.now at) }
+{
+    let mut start = 0;
+    for k in 0..widths.len() {
+        let len = widths[k] as u64;
+        if at < start + len {
+            return Some(Slot { start, len });
+        }
+        start += len;
+    }
+    None
+}
