@@ -419,7 +419,7 @@ struct elfmap_outcome {
 struct elfmap_options {
     uint64_t base;       /* the address at which placement begins: a multiple of `page`, or rule 1 of the link is broken */
     uint64_t page;       /* each output section begins at a multiple of it: a power of two, or rule 1 is broken */
-    uint32_t uses_rules; /* only for elfmap_map: 0 if there are no relocation rules */
+    uint32_t uses_rules; /* for elfmap_map and elfmap_link_verdict: 0 if there are no relocation rules */
 };
 
 /*
@@ -438,10 +438,26 @@ uint32_t elfmap_show(const uint8_t *bytes, size_t len, uint8_t *buffer, size_t s
 uint32_t elfmap_refused_tables(const uint8_t *bytes, size_t len, uint8_t *buffer, size_t size, struct elfmap_outcome *outcome);
 
 /*
- * The object that a relocatable file denotes, as a file in canonical layout. Returns ELFMAP_DONE; or, without output, ELFMAP_REFUSED by a
+ * The same as numbers, without a text: slot k of the buffer gets the first of rules 40 to 69 that the table in section `first` + k breaks,
+ * with its lowest offset, or rule 0 if it breaks none or the section holds no table. Returns ELFMAP_DONE, and `outcome->length` is how many
+ * slots were filled: as many as there are sections from `first` on, but no more than `count`. The other slots are unchanged. Or it returns
+ * ELFMAP_REFUSED by a rule of images, and the buffer is unchanged.
+ */
+uint32_t elfmap_table_verdicts(const uint8_t *bytes, size_t len, uint64_t first, struct elfmap_fault *buffer, size_t count,
+                               struct elfmap_outcome *outcome);
+
+/*
+ * The object that a relocatable file denotes, as a file in canonical layout. A file for which the buffer is too small is not made, so that
+ * the memory of a call does not grow with it. Returns ELFMAP_DONE; or, without output, ELFMAP_REFUSED by a
  * rule of images or, from 40 on, of objects, or ELFMAP_TOO_LONG.
  */
 uint32_t elfmap_rewrite(const uint8_t *bytes, size_t len, uint8_t *buffer, size_t size, struct elfmap_outcome *outcome);
+
+/*
+ * Whether elfmap_rewrite makes a file, without the file: ELFMAP_DONE, and `outcome->length` is how long that file is; or ELFMAP_REFUSED or
+ * ELFMAP_TOO_LONG as it does.
+ */
+uint32_t elfmap_object_verdict(const uint8_t *bytes, size_t len, struct elfmap_outcome *outcome);
 
 /*
  * The lines of `elfmap map` on `count` files: where the sections and names of their link are. Each file is an extent of the bytes; extents
@@ -462,6 +478,15 @@ uint32_t elfmap_map(const uint8_t *bytes, size_t len, const struct elfmap_extent
 uint32_t elfmap_link(const uint8_t *bytes, size_t len, const struct elfmap_extent *files, size_t count,
                      const struct elfmap_options *options, const uint8_t *entry, size_t entry_len, const uint8_t *rules, size_t rules_len,
                      uint8_t *buffer, size_t size, struct elfmap_outcome *outcome);
+
+/*
+ * Whether `count` files link, without the executable: by rules 1 to 11 of the link, and if `options->uses_rules` is not 0 by 12 to 16 too. An
+ * `entry` of no bytes asks for no entry point. Returns ELFMAP_DONE, ELFMAP_REFUSED, ELFMAP_NOT_LINKED, ELFMAP_BAD_RULES, which is tested
+ * first, or ELFMAP_BAD_FILES; `outcome->length` is 0. How long the executable would be is not tested.
+ */
+uint32_t elfmap_link_verdict(const uint8_t *bytes, size_t len, const struct elfmap_extent *files, size_t count,
+                             const struct elfmap_options *options, const uint8_t *entry, size_t entry_len, const uint8_t *rules,
+                             size_t rules_len, struct elfmap_outcome *outcome);
 
 /*
  * ---- The memory of the engines. The library defines these three functions over malloc, realloc and free. If a program defines all three,

@@ -76,6 +76,7 @@ void elfmap_dealloc(void *start) {
 /* ---- A call, and what it answers. */
 
 enum engine { SHOW, REWRITE, REFUSED_TABLES, MAP, LINK };
+enum { SLOTS = 8 };
 
 struct call {
     enum engine engine;
@@ -326,6 +327,115 @@ static void check_refused_tables(void) {
     check_answer(&call, ELFMAP_REFUSED, numbers_of(0, 2, 0, 63), "", "63 bytes are refused, without a line");
 }
 
+/* ---- Verdicts without output. */
+
+enum verdict { TABLES, OBJECT, LINKED };
+
+struct found {
+    uint32_t status;
+    struct elfmap_outcome outcome;
+    struct elfmap_fault faults[SLOTS];
+};
+
+static uint64_t first_table;
+static size_t slots = SLOTS;
+
+static struct found verdict_of(enum verdict kind, const struct call *it) {
+    struct found found;
+    memset(&found, UNTOUCHED, sizeof found);
+    if (kind == TABLES)
+        found.status = elfmap_table_verdicts(it->bytes, it->len, first_table, found.faults, slots, &found.outcome);
+    else if (kind == OBJECT)
+        found.status = elfmap_object_verdict(it->bytes, it->len, &found.outcome);
+    else
+        found.status = elfmap_link_verdict(it->bytes, it->len, it->files, it->count, &it->options, it->entry, it->entry_len, it->rules,
+                                           it->rules_len, &found.outcome);
+    check(held == 0, "all memory is given back");
+    return found;
+}
+
+/* The verdict of a call; and of each refusal of memory that it says so, or the same. */
+static struct found check_verdict(enum verdict kind, const struct call *it, uint32_t status, struct elfmap_outcome numbers, const char *what) {
+    struct found found = verdict_of(kind, it);
+    check(found.status == status && is_outcome(found.outcome, numbers), what);
+#ifndef OVER_MALLOC
+    bool is_done = false;
+    for (unsigned long k = 1; !is_done && failed < 100; k++) {
+        refused = k;
+        requests = 0;
+        struct found other = verdict_of(kind, it);
+        refused = 0;
+        is_done = requests < k;
+        if (other.status == ELFMAP_NO_MEMORY) {
+            check(!is_done && is_length_alone(other.outcome, 0), "a refusal of memory is told");
+            check(is_untouched((const uint8_t *) other.faults, sizeof other.faults), "and the slots are as they were");
+        } else {
+            check(other.status == found.status && is_outcome(other.outcome, found.outcome), "or a call that asks again answers the same");
+        }
+    }
+#endif
+    return found;
+}
+
+static bool is_fault(struct elfmap_fault fault, unsigned rule, uint64_t at) {
+    return fault.rule == rule && fault.at == at;
+}
+
+static bool is_untouched_from(const struct found *found, size_t slot) {
+    return is_untouched((const uint8_t *) &found->faults[slot], (SLOTS - slot) * sizeof found->faults[0]);
+}
+
+static void check_table_verdicts(void) {
+    uint8_t bytes[OBJECT_SIZE];
+    struct elfmap_outcome five = {5, 0, 0, 0, 0}, two = {2, 0, 0, 0, 0}, three = {3, 0, 0, 0, 0};
+    make_object(bytes);
+    struct call call = a_call(REFUSED_TABLES, bytes, OBJECT_SIZE);
+    struct found found = check_verdict(TABLES, &call, ELFMAP_DONE, five, "an object of five sections has five verdicts");
+    for (int k = 0; k < 5; k++)
+        check(is_fault(found.faults[k], 0, 0), "none of its tables breaks a rule");
+    check(is_untouched_from(&found, 5), "and the slots after them are as they were");
+    bytes[SYMBOLS_AT + 7] = 1; /* a byte of symbol 0 */
+    found = check_verdict(TABLES, &call, ELFMAP_DONE, five, "a broken table does not refuse the file");
+    check(is_fault(found.faults[2], 45, SYMBOLS_AT + 7) && is_fault(found.faults[1], 0, 0) && is_fault(found.faults[3], 0, 0),
+          "rule 45 is broken in section 2 alone");
+    first_table = 2;
+    found = check_verdict(TABLES, &call, ELFMAP_DONE, three, "from section 2 on there are three");
+    check(is_fault(found.faults[0], 45, SYMBOLS_AT + 7) && is_fault(found.faults[1], 0, 0), "and its verdict is the first");
+    slots = 2;
+    found = check_verdict(TABLES, &call, ELFMAP_DONE, two, "two slots take two of them");
+    check(is_untouched_from(&found, 2), "and no other slot is written");
+    first_table = 5;
+    check_verdict(TABLES, &call, ELFMAP_DONE, no_numbers, "after the last section there is none");
+    first_table = UINT64_MAX;
+    check_verdict(TABLES, &call, ELFMAP_DONE, no_numbers, "nor at the largest index");
+    first_table = 0;
+    slots = 0;
+    found = check_verdict(TABLES, &call, ELFMAP_DONE, no_numbers, "no slots take none");
+    check(is_untouched_from(&found, 0), "and are as they were");
+    slots = SLOTS;
+    call.len = 63;
+    found = check_verdict(TABLES, &call, ELFMAP_REFUSED, numbers_of(0, 2, 0, 63), "63 bytes are refused");
+    check(is_untouched_from(&found, 0), "and the slots are as they were");
+}
+
+static void check_object_verdict(void) {
+    uint8_t bytes[OBJECT_SIZE];
+    struct elfmap_outcome numbers = no_numbers;
+    make_object(bytes);
+    struct call call = a_call(REWRITE, bytes, OBJECT_SIZE);
+    struct answer answer = answer_of(&call);
+    numbers.length = answer.outcome.length;
+    free(answer.text);
+    check_verdict(OBJECT, &call, ELFMAP_DONE, numbers, "an object is as long as it is rewritten");
+    put(bytes + TABLE_AT + SECTION_SIZE + 48, 8, (uint64_t) 1 << 40);
+    check_verdict(OBJECT, &call, ELFMAP_TOO_LONG, no_numbers, "one that is aligned to 2^40 is too long");
+    put(bytes + TABLE_AT + SECTION_SIZE + 48, 8, 1);
+    put(bytes + 16, 2, ET_EXEC);
+    check_verdict(OBJECT, &call, ELFMAP_REFUSED, numbers_of(0, 70, 0, 16), "a program is no object");
+    bytes[4] = 1;
+    check_verdict(OBJECT, &call, ELFMAP_REFUSED, numbers_of(0, 4, 0, 4), "nor is a file that is no image");
+}
+
 static void check_rewrite(void) {
     uint8_t bytes[OBJECT_SIZE];
     make_object(bytes);
@@ -447,6 +557,37 @@ static void check_link(void) {
     check_answer(&call, ELFMAP_BAD_RULES, numbers_of(0, 0, 0, 1), "", "a line without its end is bad");
 }
 
+static void check_link_verdict(void) {
+    uint8_t bytes[PAIR_SIZE];
+    bytes[OBJECT_SIZE] = 0;
+    make_object(bytes);
+    struct elfmap_extent files[2] = {object_place, {OBJECT_SIZE, 1}};
+    struct call call = a_call(LINK, bytes, PAIR_SIZE);
+    call.files = files;
+    call.count = 1;
+    check_verdict(LINKED, &call, ELFMAP_DONE, no_numbers, "an object links, and no entry is asked for");
+    call.entry = (const uint8_t *) "started";
+    call.entry_len = 5;
+    check_verdict(LINKED, &call, ELFMAP_DONE, no_numbers, "it links with its entry");
+    call.entry_len = 7;
+    check_verdict(LINKED, &call, ELFMAP_NOT_LINKED, numbers_of(0, 10, 0, 0), "there is no such entry");
+    call.options.base = 1;
+    check_verdict(LINKED, &call, ELFMAP_NOT_LINKED, numbers_of(0, 1, 0, 0), "a base that is no multiple of the page is refused first");
+    call.options.base = 0;
+    call.options.page = UINT64_C(1) << 31;
+    call.entry_len = 5;
+    check_verdict(LINKED, &call, ELFMAP_DONE, no_numbers, "how long the executable is does not count");
+    call.count = 2;
+    check_verdict(LINKED, &call, ELFMAP_REFUSED, numbers_of(1, 2, 0, 1), "the second file is refused");
+    files[1].len = 2;
+    check_verdict(LINKED, &call, ELFMAP_BAD_FILES, numbers_of(1, 0, 0, 0), "an extent past the end is bad");
+    call.rules = (const uint8_t *) "2 pc 4 signed";
+    call.rules_len = 13;
+    check_verdict(LINKED, &call, ELFMAP_BAD_FILES, numbers_of(1, 0, 0, 0), "rules that are not asked for are not read");
+    call.options.uses_rules = 1;
+    check_verdict(LINKED, &call, ELFMAP_BAD_RULES, numbers_of(0, 0, 0, 1), "a line without its end is bad");
+}
+
 /* Bytes that are one too many for a file: none of them is looked at. */
 static void check_too_many(void) {
     const size_t len = (UINT64_C(1) << 30) + 1;
@@ -466,7 +607,10 @@ static void check_too_many(void) {
     call.engine = MAP;
     check_answer(&call, ELFMAP_REFUSED, numbers, "file 0 refused 1 1073741824\n", "by map");
     call.engine = LINK;
-    check_answer(&call, ELFMAP_REFUSED, numbers, "", "and by link");
+    check_answer(&call, ELFMAP_REFUSED, numbers, "", "by link");
+    check_verdict(TABLES, &call, ELFMAP_REFUSED, numbers, "by the verdicts on tables");
+    check_verdict(OBJECT, &call, ELFMAP_REFUSED, numbers, "by that on an object");
+    check_verdict(LINKED, &call, ELFMAP_REFUSED, numbers, "and by that on a link");
     munmap(bytes, len);
 }
 
@@ -537,10 +681,13 @@ int main(int count, char **words) {
         return tell(count, words);
     check_show();
     check_refused_tables();
+    check_table_verdicts();
     check_rewrite();
+    check_object_verdict();
     check_map();
     check_extents();
     check_link();
+    check_link_verdict();
     check_too_many();
     printf("%d passed, %d failed\n", passed, failed);
     return failed == 0 ? 0 : 1;

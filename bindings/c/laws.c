@@ -3,7 +3,8 @@
  * itself, by laws that need no second opinion:
  *
  * - the verdict by a room is that without one;
- * - of a file that is refused `show` says just that line, and `rewrite` gives the same refusal;
+ * - of a file that is refused `show` says just that line, and `rewrite` and the verdicts give the same refusal;
+ * - the verdicts on tables are the lines of `show`, and those on an object and a link are what `rewrite` and `link` end with;
  * - the parts of one that is accepted hold each byte once, in order, and the parts that are sections' are as long as these say;
  * - what `rewrite` writes is accepted, and rewritten gives itself; a name that a hash table finds is that of the symbol found;
  * - a link of the copy tells by a room of no bytes how long it is, and what is linked is accepted;
@@ -23,6 +24,7 @@ enum { LONGEST = 1 << 16, ROOM = 1 << 22, MANY = 1 << 16 };
 static uint8_t text[ROOM], again[ROOM], third[ROOM];
 static struct elfmap_extent extents[MANY];
 static struct elfmap_part parts[3 * MANY];
+static struct elfmap_fault faults[MANY];
 static uint64_t state;
 static const char *broken;
 
@@ -71,10 +73,36 @@ static void refused(const uint8_t *bytes, size_t len, struct elfmap_fault fault)
     status = elfmap_refused_tables(bytes, len, text, ROOM, &outcome);
     holds(status == ELFMAP_REFUSED && outcome.rule == fault.rule && outcome.at == fault.at && outcome.length == 0,
           "the look at the tables refuses otherwise");
+    status = elfmap_table_verdicts(bytes, len, 0, faults, MANY, &outcome);
+    holds(status == ELFMAP_REFUSED && outcome.rule == fault.rule && outcome.at == fault.at && outcome.length == 0,
+          "the verdicts on the tables refuse otherwise");
+    status = elfmap_object_verdict(bytes, len, &outcome);
+    holds(status == ELFMAP_REFUSED && outcome.rule == fault.rule && outcome.at == fault.at && outcome.length == 0,
+          "the verdict on the object refuses otherwise");
+}
+
+/* The slots of the verdicts on tables are the lines of `show` that begin with `refused`, and the others have no rule. */
+static void table_verdicts(const struct elfmap_file *file, const uint8_t *bytes, size_t len, const uint8_t *lines, uint64_t size) {
+    struct elfmap_outcome outcome;
+    memset(faults, 0x5a, sizeof faults);
+    if (!holds(elfmap_table_verdicts(bytes, len, 0, faults, MANY, &outcome) == ELFMAP_DONE, "the tables are refused with the file"))
+        return;
+    holds(outcome.length == file->sections, "there are other tables than sections");
+    for (uint64_t k = 0, i = 0; i < outcome.length; i++) {
+        char *rest = (char *) lines + k + 8;
+        if (k == size || strtoull(rest, &rest, 10) != i) {
+            holds(faults[i].rule == 0 && faults[i].at == 0, "a table has a verdict that show does not print");
+            continue;
+        }
+        uint64_t rule = strtoull(rest, &rest, 10);
+        uint64_t at = strtoull(rest, &rest, 10);
+        holds(faults[i].rule == rule && faults[i].at == at, "a table has another verdict");
+        k = (uint64_t) (rest + 1 - (const char *) lines);
+    }
 }
 
 /* What is said of the tables alone is what `show` says of those that are refused: its lines that begin so. */
-static void refused_tables(const uint8_t *bytes, size_t len) {
+static void refused_tables(const struct elfmap_file *file, const uint8_t *bytes, size_t len) {
     struct elfmap_outcome outcome, shown;
     uint64_t at = 0;
     if (!holds(elfmap_refused_tables(bytes, len, again, ROOM, &outcome) == ELFMAP_DONE, "the tables are refused with the file"))
@@ -92,6 +120,7 @@ static void refused_tables(const uint8_t *bytes, size_t len) {
         at += end - k;
     }
     holds(at == outcome.length, "a table is refused that show shows");
+    table_verdicts(file, bytes, len, again, outcome.length);
 }
 
 static void account(const struct elfmap_file *file, const uint8_t *bytes, size_t len) {
@@ -135,6 +164,10 @@ static void rewritten(const uint8_t *bytes, size_t len) {
     struct elfmap_outcome outcome, second;
     struct elfmap_fault fault;
     uint32_t status = elfmap_rewrite(bytes, len, text, ROOM, &outcome);
+    uint32_t wanted = elfmap_object_verdict(bytes, len, &second);
+    holds(wanted == (status == ELFMAP_SMALL_ROOM ? ELFMAP_DONE : status) && second.length == outcome.length && second.rule == outcome.rule
+              && second.at == outcome.at && second.file == 0 && second.index == 0,
+          "the verdict on the object is another");
     if (status != ELFMAP_DONE) {
         /* An alignment may make the canonical layout long. */
         bool is_long = status == ELFMAP_TOO_LONG || (status == ELFMAP_SMALL_ROOM && outcome.length > ROOM);
@@ -199,6 +232,10 @@ static void linked(const uint8_t *bytes, size_t len) {
     uint32_t status = elfmap_link(bytes, len, files, 1, &options, entry, 6, rules, sizeof rules - 1, text, ROOM, &outcome);
     uint32_t wanted = elfmap_link(bytes, len, files, 1, &options, entry, 6, rules, sizeof rules - 1, again, 0, &second);
     holds(wanted == (outcome.length > 0 ? ELFMAP_SMALL_ROOM : status) && second.length == outcome.length, "another length is wanted");
+    wanted = elfmap_link_verdict(bytes, len, files, 1, &options, entry, 6, rules, sizeof rules - 1, &second);
+    holds(wanted == (status == ELFMAP_TOO_LONG ? ELFMAP_DONE : status) && second.length == 0 && second.rule == outcome.rule
+              && second.file == outcome.file && second.index == outcome.index && second.at == outcome.at,
+          "the verdict on the link is another");
     if (status == ELFMAP_DONE)
         holds(elfmap_verdict(text, outcome.length, &fault), "what is linked is refused");
     mapped(bytes, len, rules, sizeof rules - 1, status, outcome);
@@ -215,7 +252,7 @@ static bool validate(const uint8_t *bytes, size_t len) {
     } else if (holds(elfmap_file(bytes, len, &file), "there are no numbers")) {
         account(&file, bytes, len);
         tables(&file, bytes, len);
-        refused_tables(bytes, len);
+        refused_tables(&file, bytes, len);
         rewritten(bytes, len);
         linked(bytes, len);
     }

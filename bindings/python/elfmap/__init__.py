@@ -691,11 +691,17 @@ def refused_tables(data: _Bytes) -> list[tuple[int, int, int]]:
     tables, but for those of one group or hash table at a time. Names of more than 64 bytes of
     symbols in hash tables take memory too: a few bytes for each place where one begins.
     """
-    found = []
-    for line in _done(*_said("elfmap_refused_tables", *_bytes_of(data))).splitlines():
-        _, section, rule, at = line.split()
-        found.append((int(section), int(rule), int(at)))
-    return found
+    address, size = _bytes_of(data)
+    library = _library.library()
+    numbers = _library.Numbers()
+    library.elfmap_file(address, size, numbers)
+    # Of a refused file no number need be true.
+    verdicts = (_library.Fault * min(numbers.sections, size // 64))()
+    outcome = _library.Outcome()
+    status = library.elfmap_table_verdicts(address, size, 0, verdicts, len(verdicts), outcome)
+    if status != _library.DONE:
+        raise _failure(status, outcome)
+    return [(i, it.rule, it.at) for i, it in enumerate(verdicts) if it.rule]
 
 
 def rewrite(data: _Bytes) -> bytes:

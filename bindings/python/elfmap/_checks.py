@@ -45,7 +45,7 @@ _MOST_AT_ONCE = 1 << 24
 # How much room there is for each file. What is above the most is given back after one.
 _LEAST_EXTENTS = 256
 _MOST_EXTENTS = 1 << 16
-_LEAST_TEXT = 1 << 16
+_LEAST_VERDICTS = 256
 TOO_LONG_AS_OBJECT = 0
 
 
@@ -143,7 +143,7 @@ class Checks:
         self._library = _library.library()
         self._room = Room()
         self._extents = (_library.Extent * _LEAST_EXTENTS)()
-        self._text = bytearray(_LEAST_TEXT if tables else 0)
+        self._verdicts = (_library.Fault * (_LEAST_VERDICTS if tables else 0))()
         # Whether the memory has other bytes than the file.
         self._is_changed = False
         # What known deviations the last file has, by their names.
@@ -296,7 +296,8 @@ class Checks:
 
     def _rows(self, size: int, batch: Batch) -> Rows:
         own = {it.section for it in batch.shown}
-        return {it: (rule, at) for it, rule, at in self._refused(size) if it in own}
+        refused = self._refused(size, len(batch.sections))
+        return {it: (rule, at) for it, rule, at in refused if it in own}
 
     def _mended(self, source: Source, batch: Batch, rows: Rows) -> Mending:
         """What is left of the rows once known deviations are put right, one after another."""
@@ -308,30 +309,24 @@ class Checks:
             self._is_changed = True
         return mending
 
-    def _refused(self, size: int) -> Iterator[tuple[int, int, int]]:
-        """The tables that break a rule: a section, the rule and the offset."""
+    def _refused(self, size: int, count: int) -> Iterator[tuple[int, int, int]]:
+        """The tables of so many sections that break a rule: a section, the rule and the offset."""
         outcome = _library.Outcome()
-        status = self._say(size, outcome)
-        if status == _library.SMALL_ROOM:
-            self._text = bytearray(outcome.length)
-            status = self._say(size, outcome)
-        if status != _library.DONE:
+        if count > len(self._verdicts):
+            self._verdicts = (_library.Fault * count)()
+        room = self._verdicts, len(self._verdicts)
+        call = self._library.elfmap_table_verdicts
+        if call(self._room.address, size, 0, *room, outcome) != _library.DONE:
             raise Unreadable("there is no memory for its tables")
-        for line in self._text[: outcome.length].splitlines():
-            _, section, rule, at = line.split()
-            yield int(section), int(rule), int(at)
-
-    def _say(self, size: int, outcome: _library.Outcome) -> int:
-        call = self._library.elfmap_refused_tables
-        with memoryview(self._text) as text:
-            room = _library.address_of(text), len(text)
-            return int(call(self._room.address, size, *room, outcome))
+        for section in range(outcome.length):
+            fault = self._verdicts[section]
+            if fault.rule:
+                yield section, fault.rule, fault.at
 
     def _object_fault(self, size: int) -> Optional[Fault]:
-        """Why the file is read as no object, by the engine of `elfmap rewrite`."""
+        """Why the file is read as no object, by the verdict of `elfmap rewrite`."""
         outcome = _library.Outcome()
-        nothing = ctypes.create_string_buffer(1)
-        status = self._library.elfmap_rewrite(self._room.address, size, nothing, 0, outcome)
+        status = self._library.elfmap_object_verdict(self._room.address, size, outcome)
         if status == _library.REFUSED:
             return Fault(outcome.rule, outcome.at)
         if status == _library.TOO_LONG:
@@ -341,22 +336,17 @@ class Checks:
         return None
 
     def _link_fault(self, source: Source, size: int) -> Optional[Fault]:
-        """Which rule of the link the object breaks by itself, by the engine of `elfmap link`.
+        """Which rule of the link the object breaks by itself, by the verdict of `elfmap link`.
 
         The rules before these are kept by any one file with these options. Those after
         them depend on other files: a name that is undefined here may be defined there.
-
-        No name that is bound is empty, so the link ends at the entry point at the latest.
-        Until then it looks at no content that is not read, and it makes no output. The
-        lines of `elfmap map` could be much longer than a file whose names share bytes.
         """
         outcome = _library.Outcome()
-        output = ctypes.create_string_buffer(1)
         file = (_library.Extent * 1)(_library.Extent(0, size))
         options = _library.LinkOptions(0, 1, 0)
         entry = rules = _library.nowhere, 0
-        status = self._library.elfmap_link(
-            self._room.address, size, file, 1, options, *entry, *rules, output, 0, outcome
+        status = self._library.elfmap_link_verdict(
+            self._room.address, size, file, 1, options, *entry, *rules, outcome
         )
         if status == _library.NO_MEMORY:
             raise Unreadable("there is no memory for its tables")

@@ -185,13 +185,23 @@ CALLS = {
     "elfmap_note_at": [*ENTRY, POINTER(Note)],
     "elfmap_find": [POINTER(Table), *BYTES, *BYTES, POINTER(c_uint32)],
     "elfmap_show": [*BYTES, *BYTES, POINTER(Outcome)],
-    "elfmap_refused_tables": [*BYTES, *BYTES, POINTER(Outcome)],
+    "elfmap_table_verdicts": [*BYTES, c_uint64, POINTER(Fault), c_size_t, POINTER(Outcome)],
     "elfmap_rewrite": [*BYTES, *BYTES, POINTER(Outcome)],
+    "elfmap_object_verdict": [*BYTES, POINTER(Outcome)],
     "elfmap_map": [*LINKED, *BYTES, *BYTES, POINTER(Outcome)],
     "elfmap_link": [*LINKED, *BYTES, *BYTES, *BYTES, POINTER(Outcome)],
+    "elfmap_link_verdict": [*LINKED, *BYTES, *BYTES, POINTER(Outcome)],
 }
-# These answer a status, and all others whether they fill in their last argument.
-ENGINES = ("elfmap_show", "elfmap_refused_tables", "elfmap_rewrite", "elfmap_map", "elfmap_link")
+# These return a status, and all others whether they fill in their last argument.
+ENGINES = (
+    "elfmap_show",
+    "elfmap_table_verdicts",
+    "elfmap_rewrite",
+    "elfmap_object_verdict",
+    "elfmap_map",
+    "elfmap_link",
+    "elfmap_link_verdict",
+)
 
 
 def shared_library(path: Path) -> ctypes.PyDLL:

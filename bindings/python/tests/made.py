@@ -103,6 +103,10 @@ NAMES = (b".strtab", 3, b"\0f\0", {})
 # Symbol 1 is of section 99, which isn't there (rule 51), and two sections link to the table.
 _LINKED = (relocations(2, 1), relocations(2, 1))
 BROKEN_SYMBOLS = bytes(Made(text(), symbols(3, (1, 0x10, 99)), NAMES, *_LINKED).data)
+# Symbols in section 302, after 300 sections without bytes, of which symbol 1 is of none that is
+# there.
+_MANY = [(b".filler", 1, b"", {})] * 300
+MANY_BROKEN = Made(text(), *_MANY, symbols(303, (1, 0x10, 999)), NAMES)
 CLASS_32 = b"\x7fELF\1\1\1" + bytes(64)
 
 

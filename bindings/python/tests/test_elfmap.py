@@ -16,7 +16,16 @@ from pathlib import Path
 import elfmap
 from elfmap import build
 
-from tests.made import BROKEN_SYMBOLS, GOOD, SHARING, Made, relocations, symbols, text
+from tests.made import (
+    BROKEN_SYMBOLS,
+    GOOD,
+    MANY_BROKEN,
+    SHARING,
+    Made,
+    relocations,
+    symbols,
+    text,
+)
 
 PACKAGE = Path(__file__).resolve().parents[1]
 sys.path.insert(0, str(build.REPOSITORY / "tools" / "lib"))
@@ -193,6 +202,10 @@ class RefusedTablesTest(unittest.TestCase):
         self.assertRaises(elfmap.Refused, elfmap.refused_tables, SHARING)
         # A file that is refused has one line.
         self.assertEqual(elfmap.show(SHARING), "refused 33 114\n")
+
+    def test_a_table_after_many_sections(self):
+        at = MANY_BROKEN.starts[302] + 24 + 6
+        self.assertEqual(elfmap.refused_tables(bytes(MANY_BROKEN.data)), [(302, 51, at)])
 
 
 class LinkTest(unittest.TestCase):

@@ -50,6 +50,7 @@ from tests.made import (
     GNU,
     GOOD,
     LONG,
+    MANY_BROKEN,
     SHARING,
     FolderCase,
     Made,
@@ -280,6 +281,14 @@ class DepthTest(Case):
         # As an object the file breaks a rule once.
         self.assertEqual(self.told("--object", "bad.o")[-1], "1 finding in 1 of 1 ELF file")
 
+    def test_a_table_after_many_sections(self):
+        self.put(bad__o=bytes(MANY_BROKEN.data))
+        lines = self.told("--tables", "bad.o")
+        self.assertEqual(len(lines), 2)
+        at = MANY_BROKEN.starts[302] + 24 + 6
+        self.assertTrue(lines[0].startswith(f"bad.o: offset {at:#x}: WRONG_SYMBOL_SECTION (51): "))
+        self.assertIn("the content of section 302 .symtab ", lines[0])
+
     def test_each_rule_of_tables(self):
         """The files of cases/explain.txt that break one: what `elfmap show` prints is found, each
         fault once."""
@@ -383,7 +392,11 @@ class DepthTest(Case):
 
     def test_there_is_no_memory(self):
         self.put(good__o=GOOD)
-        for word, call in (("--tables", "elfmap_refused_tables"), ("--object", "elfmap_rewrite")):
+        for word, call in (
+            ("--tables", "elfmap_table_verdicts"),
+            ("--object", "elfmap_object_verdict"),
+            ("--object", "elfmap_link_verdict"),
+        ):
             with mock.patch.object(_library.library(), call, return_value=_library.NO_MEMORY):
                 status, out, said = self.lint(word, "good.o")
             self.assertEqual((status, out), (3, b"0 findings in 0 of 0 ELF files; 1 unreadable\n"))

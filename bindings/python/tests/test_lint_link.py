@@ -470,7 +470,8 @@ class VerdictTest(unittest.TestCase):
 
     def test_there_is_no_memory(self):
         checks = _checks.Checks(False, True)
-        with mock.patch.object(checks._library, "elfmap_link", return_value=_library.NO_MEMORY):
+        call = "elfmap_link_verdict"
+        with mock.patch.object(checks._library, call, return_value=_library.NO_MEMORY):
             with self.assertRaises(_sources.Unreadable) as raised:
                 self.faults(checks, GOOD)
         self.assertEqual(raised.exception.reason, "there is no memory for its tables")

@@ -1,5 +1,5 @@
 -- The calls of the library for C that run a command on files in memory.
-use Rattle.std.specs.Prelude.{◌≡◌, ◌<◌, ◌≤◌, ◌+◌, ℕ, List, ◌∷◌, ◌++◌, length, map, ◌≢◌, ◌⊎◌, None, Option, Some, option_copied, drop}
+use Rattle.std.specs.Prelude.{◌≡◌, ◌<◌, ◌≤◌, ◌+◌, ℕ, List, [], ◌∷◌, ◌++◌, length, map, ◌≢◌, ◌⊎◌, None, Option, Some, option_copied, drop}
 use Rattle.std.specs.List.{All}
 use Rattle.elf_c_engines.specs.declared.calls.CallFault.TheVariants.{BadRules, BadFiles, OutOfMemory}
 use Rattle.elf_c_engines.specs.declared.calls.CallFault.{CallFault}
@@ -12,6 +12,8 @@ use Rattle.elf_link_field.specs.declared.rule.RelocRule.{RelocRule}
 use Rattle.elf_link_files.specs.declared.fault.Options.{Options}
 use Rattle.elf_tool_link.specs.Link.{FilesLink}
 use Rattle.elf_tool_link.specs.Map.{MapSays}
+use Rattle.elf_tool_link.specs.Verdicts.{IsLinkVerdict}
+use Rattle.elf_tool_rewrite.specs.Rewrite.{RewriteSays}
 use Rattle.elf_tool_rule_file.specs.RuleFile.{AreRules, IsBadLine}
 use Rattle.elf_tool_check.specs.declared.calls.Refusal.TheVariants.{File, Link, TooLong}
 use Rattle.elf_tool_check.specs.declared.calls.Verdict.TheVariants.{Done, Refused}
@@ -168,3 +170,34 @@ abbrev pub IsWantOfMemory : CallFault → Type 0
 IsWantOfMemory OutOfMemory = Unit {0}
 IsWantOfMemory (BadRules line) = ⊥
 IsWantOfMemory (BadFiles file) = ⊥
+
+-- Calls that return a verdict alone.
+
+-- a call that finds a verdict, with a length beside it, and has no output; or none, for a fault that can come
+abbrev pub IsVerdictCall : (Verdict → ℕ → Type 0) → (CallFault → Type 0) → Outcome → ℕ → Type 0
+IsVerdictCall Says Fails outcome status =
+    ((verdict : Verdict) × (n : ℕ) × Says verdict n × (status ≡ verdict_status verdict) × (outcome ≡ verdict_numbers verdict n))
+    ⊎ ((fault : CallFault) × Fails fault × (status ≡ fault_status fault) × (outcome ≡ fault_numbers fault))
+
+-- the verdict on a file as an object, beside the length of what `rewrite` writes of it
+abbrev pub IsObjectVerdict : List ℕ → Verdict → ℕ → Type 0
+IsObjectVerdict b verdict n = (text : List ℕ) × RewriteSays b verdict text × (n ≡ length text)
+
+-- the name of an entry symbol; a name of no bytes is that of none, and no entry point is looked for
+abbrev pub entry_named : List ℕ → Option (List ℕ)
+entry_named [] = None
+entry_named (x ∷ xs) = Some (x ∷ xs)
+
+abbrev pub AreVerdictOptions : LinkOptions → List ℕ → Options → Type 0
+AreVerdictOptions options entry opt = (opt.base ≡ options.base) × (opt.page ≡ options.page) × (option_copied opt.entry ≡ entry_named entry)
+
+-- the verdict on the link of the files that lie in the bytes, by the rules of a text where the options ask for them
+abbrev pub LinkVerdictSays : List ℕ → List Slot → LinkOptions → List ℕ → List ℕ → Verdict → Type 0
+LinkVerdictSays b places options entry text verdict =
+    (rules : Option (List RelocRule)) × UsesRules options text rules
+    × ((opt : Options) × AreVerdictOptions options entry opt
+    × ((files : List (List ℕ)) × AreFilesIn b places files × IsLinkVerdict opt rules files verdict))
+
+-- which has no length
+abbrev pub IsLinkVerdictAlone : List ℕ → List Slot → LinkOptions → List ℕ → List ℕ → Verdict → ℕ → Type 0
+IsLinkVerdictAlone b places options entry text verdict n = LinkVerdictSays b places options entry text verdict × (n ≡ 0)

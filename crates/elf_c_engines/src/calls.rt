@@ -1,6 +1,6 @@
 //! What the calls of the library for C have in common: files that they are given, and what they return.
 ghost use Rattle.std.specs.Prelude.{◌≡◌, ◌≤◌, ◌++◌, drop, length, ◌+◌, Some, None, MatchOption, MatchResult, map};
-ghost use Rattle.elf_c_engines.specs.Calls.{IsTold, fault_numbers, fault_status, verdict_numbers, verdict_status, AreFilesIn, LiesWithin, LacksFile, LacksRules};
+ghost use Rattle.elf_c_engines.specs.Calls.{AreFilesIn, IsTold, LacksFile, LacksRules, LiesWithin, fault_numbers, fault_status, length_alone, small_room_status, verdict_numbers, verdict_status};
 ghost use Rattle.elf_image_rules.specs.Tables.{bytes_in};
 ghost use Rattle.elf_tool_rule_file.specs.RuleFile.{AreRules};
 ghost use Rattle.elf_c_parts.specs.Slots.{extent_in};
@@ -63,11 +63,27 @@ pub(crate) fn tell(verdict: Verdict, text: &[u8], room: &mut [u8], outcome: &mut
     ensures { IsTold verdict text.now room.old room.new outcome.new result }
 {
     if text.len() > room.len() {
-        *outcome = numbers_of(Verdict::Done, text.len());
-        return SMALL_ROOM;
+        return small_room(text.len() as u64, outcome);
     }
     put(text, room);
-    *outcome = numbers_of(verdict, text.len());
+    verdict_alone(verdict, text.len() as u64, outcome)
+}
+
+/// Ends a call whose output has no room in the buffer; so long it is. Returns the status.
+pub(crate) fn small_room(length: u64, outcome: &mut Outcome) -> u32
+    ensures status { result ≡ small_room_status }
+    ensures numbers { outcome.new ≡ length_alone length }
+{
+    *outcome = numbers_of(Verdict::Done, length);
+    SMALL_ROOM
+}
+
+/// Ends a call with a verdict and a length; there is no output to copy. Returns the status.
+pub(crate) fn verdict_alone(verdict: Verdict, length: u64, outcome: &mut Outcome) -> u32
+    ensures status { result ≡ verdict_status verdict }
+    ensures numbers { outcome.new ≡ verdict_numbers verdict length }
+{
+    *outcome = numbers_of(verdict, length);
     status_of(verdict)
 }
 
@@ -118,11 +134,11 @@ fn status_of(verdict: Verdict) -> u32
 }
 
 // The numbers of a verdict and of the length of its text.
-fn numbers_of(verdict: Verdict, len: usize) -> Outcome
-    ensures { result ≡ verdict_numbers verdict len }
+fn numbers_of(verdict: Verdict, length: u64) -> Outcome
+    ensures { result ≡ verdict_numbers verdict length }
 {
     let numbers = Outcome {
-        length: len as u64,
+        length,
         at: 0,
         file: 0,
         index: 0,

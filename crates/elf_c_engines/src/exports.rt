@@ -7,13 +7,13 @@ ghost use Rattle.elf_tool_link.specs.Link.{FilesLink};
 ghost use Rattle.elf_tool_link.specs.Map.{MapSays};
 ghost use Rattle.elf_link_files.specs.declared.fault.Options.{Options as AnOptions};
 
-use crate::calls::{CallFault, Outcome, files_in, give_up, rules_in, tell};
+use crate::calls::{CallFault, Outcome, files_in, give_up, rules_in, small_room, tell};
 use elf_c_parts::Slot;
 use elf_link_field::RelocRule;
 use elf_link_map::Options;
 use elf_tool_check::Verdict;
 use elf_tool_link::{link_files, map_files};
-use elf_tool_rewrite::rewrite_bytes;
+use elf_tool_rewrite::rewrite_within;
 use elf_tool_show::{push_refused_tables, show_bytes};
 use std::alloc::Global;
 
@@ -64,9 +64,11 @@ pub extern "C" fn elfmap_rewrite(
 ) -> u32
     ensures { IsEngineCall (RewriteSays bytes.now) IsWantOfMemory room.old room.new outcome.new result }
 {
+    let most = room.len() as u64;
     let mut file = Vec::new(alloc);
-    match rewrite_bytes(alloc, bytes, &mut file) {
-        Ok(verdict) => tell(verdict, file.as_slice(), room, outcome),
+    match rewrite_within(alloc, bytes, most, &mut file) {
+        Ok((_, length)) if length > most => small_room(length, outcome),
+        Ok((verdict, _)) => tell(verdict, file.as_slice(), room, outcome),
         Err(_) => give_up(CallFault::OutOfMemory, outcome),
     }
 }

@@ -15,6 +15,7 @@ mod read_bodies;
 mod read_symbols;
 mod reading;
 pub mod rules;
+mod string_blocks;
 
 pub use laws::{one_file_fault, one_object};
 pub use object_file::BodyKind;

@@ -13,7 +13,7 @@ ghost use Rattle.elf_table_symbols.specs.Verdicts.{IsOnlyValidatedBehind, IsVali
 use crate::file_rules::validate_front;
 use crate::name_ends::{useful_section_ends, useful_symbol_ends};
 use crate::object_file::ObjectFile;
-use crate::read_symbols::StringBlocks;
+use crate::string_blocks::StringBlocks;
 use elf_field::Shdr;
 use elf_field::abi::*;
 use elf_image_stream::Fault;

@@ -1,7 +1,7 @@
 -- Names with their indexes: in the order of their list, in another order, and sorted. Each pair has a name and its index in the list, also
 -- after a permutation. Pairs sorted by `numbered_order`, which is a total order, are in the order by ends, if each has the number of its
 -- end (`end_decides`).
-use Rattle.std.proofs.Common.{◌≡◌, ℕ, zero, suc, ◌+◌, ◌-◌, ◌*◌, ◌%◌, ◌^◌, ◌<◌, ◌≤◌, ◌⊎◌, List, [], ◌∷◌, ◌++◌, length, get_or, take, drop, min, replicate, reverse, Ordering, refl, sym, ap, subst, ◌∙◌, inl, inr, add-one, arith, nat_eq}
+use Rattle.std.proofs.Common.{◌≡◌, ℕ, zero, suc, ◌+◌, ◌-◌, ◌*◌, ◌%◌, ◌^◌, ◌<◌, ◌≤◌, ◌⊎◌, List, [], ◌∷◌, ◌++◌, length, get_or, take, drop, min, replicate, reverse, Ordering, Bool, true, false, refl, sym, ap, ap₂, subst, ◌∙◌, inl, inr, add-one, arith, nat_eq}
 use Rattle.std.specs.declared.cmp.Ordering.TheVariants.{Less, Equal, Greater}
 use Rattle.std.specs.Cmp.{nat_cmp_is, IsTotalOrder}
 use Rattle.std.specs.Cmp.Lexicographic.{slice_cmp}
@@ -12,7 +12,7 @@ use Rattle.std.proofs.lemmas.Bool.{cases_lt, cases_order}
 use Rattle.std.proofs.lemmas.List.{append-nil, drop_all, get_or-reverse, get_or_past, length-append, length-drop, length-replicate, length-reverse, replicate_more, reverse-append, take-append-drop, take-replicate, take_all, take_more, take_rest, get_or-map, get_or_default, length-map, map-append, get_or_append_left, get_or-append_right}
 use Rattle.std.specs.List.{All, Contains}
 use Rattle.std.specs.List.Sorted.{IsPermutation, IsSortedBy}
-use Rattle.std.proofs.lemmas.Cmp.{back_total, nat_cmp_total, nat_list_cmp_total, on_total, then_total}
+use Rattle.std.proofs.lemmas.Cmp.{back_total, nat_cmp_total, nat_list_cmp_total, on_total, then_total, tied_itself}
 use Rattle.std.proofs.lemmas.List.Elements.{All-push}
 use Rattle.std.proofs.lemmas.List.Sorted.{All-permutation, Contains-permutation, IsPermutation-map, length_permutation, ranks_by, sorted_far}
 use Rattle.std.proofs.lemmas.Bool.Decides.{Decides-eqb, nat_tests}
@@ -20,13 +20,13 @@ use Rattle.std.proofs.lemmas.Map.Keys.{IsDistinct-IsPermutation}
 use Rattle.std.proofs.lemmas.Map.Made.{AllPairs-from_IsDistinct, IsDistinct-from_AllPairs}
 use borrow.Rule.Slice.PartMut.{post_of, put_mid}
 use Rattle.elf_field.specs.Bytes.{IsBytes, IsBytes-rest}
-use Rattle.elf_object_strings.specs.Sorting.{AreWithoutEqualEnds, HasEnd, end_number, ends_order, leading, numbered_order, AreInEndsOrder, AreNumbered, indexes_in, names_by_ends}
+use Rattle.elf_object_strings.specs.Sorting.{AreWithoutEqualEnds, HasEnd, end_number, ends_order, is_whole, leading, left_of, numbered_order, AreInEndsOrder, AreNumbered, indexes_in, names_by_ends}
 use Rattle.elf_object_strings.specs.StringTable.{IsSuffix}
 use Rattle.elf_object_strings.specs.declared.sorting.Numbered.{Numbered}
 
--- Names as numbers of their last eight bytes, read from the end on: the last byte is the leading digit to the base 256. So if two numbers
--- differ, they are in the order of the names; if they are equal, the names decide, without an end that both have. The code's number is this
--- one.
+-- Names as numbers of their last seven bytes, read from the end on: the last byte is the leading digit to the base 256. The last digit is
+-- the length, up to 8. So if two numbers differ, they are in the order of the names; if they are equal, the names are, or the names decide.
+-- The code's number is this one.
 
 -- ---- the order of the numbers
 
@@ -75,6 +75,16 @@ digits-lt x y p r s below low =
     let split = add-mul x 1 p in
     omega arith
 
+same_digits : (x y p r s : ℕ) → r < p → s < p → x * p + r ≡ y * p + s → (x ≡ y) × (r ≡ s)
+same_digits x y p r s low other_low same =
+    elim (cases_order x y) [
+      | inl first ↦ (let tops : x * p ≡ y * p = ap (λ (n : ℕ). n * p) first in (first, omega arith))
+      | inr other ↦ elim other [
+        | inl below ↦ (let lt = digits-lt x y p r s below low in absurd (omega arith))
+        | inr above ↦ (let lt = digits-lt y x p s r above other_low in absurd (omega arith))
+      ]
+    ]
+
 digits : (x y p r s : ℕ) (o : Ordering) → r < p → s < p → ordering_then (nat_cmp r s) o ≡ o →
     ordering_then (nat_cmp (x * p + r) (y * p + s)) (ordering_then (nat_cmp x y) o) ≡ ordering_then (nat_cmp x y) o
 digits x y p r s o low other_low rest =
@@ -101,6 +111,71 @@ leading-order (suc n) (byte ∷ bytes) (other ∷ others) are too =
     let too_rest = IsBytes-rest other others too in
     digits byte other (256 ^ n) (leading n bytes) (leading n others) (slice_cmp nat_cmp bytes others)
     (leading-lt n bytes are_rest) (leading-lt n others too_rest) (leading-order n bytes others are_rest too_rest)
+
+-- of names with equal ends the longer one is the greater one
+leading-length : (n : ℕ) (bytes others : List ℕ) → IsBytes bytes → IsBytes others → leading n bytes ≡ leading n others →
+    ordering_then (nat_cmp (min (length bytes) (suc n)) (min (length others) (suc n))) (slice_cmp nat_cmp bytes others)
+    ≡ slice_cmp nat_cmp bytes others
+unfolding leading
+leading-length n [] [] are too same = rw (equal (min 0 (suc n)) (min 0 (suc n)) refl) refl
+leading-length n [] (other ∷ others) are too same =
+    rw (less (min 0 (suc n)) (min (length (other ∷ others)) (suc n)) (omega arith)) refl
+leading-length n (byte ∷ bytes) [] are too same =
+    rw (greater (min (length (byte ∷ bytes)) (suc n)) (min 0 (suc n)) (omega arith)) refl
+leading-length zero (byte ∷ bytes) (other ∷ others) are too same =
+    rw (equal (min (length (byte ∷ bytes)) 1) (min (length (other ∷ others)) 1) (omega arith)) refl
+leading-length (suc n) (byte ∷ bytes) (other ∷ others) are too same =
+    let are_rest = IsBytes-rest byte bytes are in
+    let too_rest = IsBytes-rest other others too in
+    let (first, rest) = same_digits byte other (256 ^ n) (leading n bytes) (leading n others)
+    (leading-lt n bytes are_rest) (leading-lt n others too_rest) same in
+    let shorter = leading-length n bytes others are_rest too_rest rest in
+    let few = min (length bytes) (suc n) in
+    let other_few = min (length others) (suc n) in
+    let more : min (length (byte ∷ bytes)) (suc (suc n)) ≡ 1 + few = omega arith in
+    let other_more : min (length (other ∷ others)) (suc (suc n)) ≡ 1 + other_few = omega arith in
+    rw (more, other_more, added 1 few other_few, equal byte other first) shorter
+
+-- the order of the numbers is that of the names, read from the end on
+number-order : (bytes others : List ℕ) → IsBytes bytes → IsBytes others →
+    ordering_then (nat_cmp (leading 7 bytes * 256 + min (length bytes) 8) (leading 7 others * 256 + min (length others) 8))
+    (slice_cmp nat_cmp bytes others) ≡ slice_cmp nat_cmp bytes others
+number-order bytes others are too =
+    let x = leading 7 bytes in
+    let y = leading 7 others in
+    let r = min (length bytes) 8 in
+    let s = min (length others) 8 in
+    let low : r < 256 = omega arith in
+    let other_low : s < 256 = omega arith in
+    let o = slice_cmp nat_cmp bytes others in
+    let by_ends = leading-order 7 bytes others are too in
+    elim (cases_order x y) [
+      | inl same ↦
+          let P : ℕ → Type 0 = λ z. ordering_then (nat_cmp (x * 256 + r) (z * 256 + s)) o ≡ o in
+          subst P same (rw (added (x * 256) r s) (leading-length 7 bytes others are too same))
+      | inr other ↦ elim other [
+        | inl below ↦ rw (less (x * 256 + r) (y * 256 + s) (digits-lt x y 256 r s below low))
+            (ap (λ (p : Ordering). ordering_then p o) (sym (less x y below)) ∙ by_ends)
+        | inr above ↦ rw (greater (x * 256 + r) (y * 256 + s) (digits-lt y x 256 s r above other_low))
+            (ap (λ (p : Ordering). ordering_then p o) (sym (greater x y above)) ∙ by_ends)
+      ]
+    ]
+
+-- names of one length up to n are known by their numbers
+leading-same : (n : ℕ) (bytes others : List ℕ) → IsBytes bytes → IsBytes others → length bytes ≡ length others → length bytes ≤ n →
+    leading n bytes ≡ leading n others → bytes ≡ others
+unfolding leading
+leading-same n [] [] are too long within same = refl
+leading-same n [] (other ∷ others) are too long within same = absurd (omega arith)
+leading-same n (byte ∷ bytes) [] are too long within same = absurd (omega arith)
+leading-same zero (byte ∷ bytes) (other ∷ others) are too long within same = absurd (omega arith)
+leading-same (suc n) (byte ∷ bytes) (other ∷ others) are too long within same =
+    let are_rest = IsBytes-rest byte bytes are in
+    let too_rest = IsBytes-rest other others too in
+    let (first, rest) = same_digits byte other (256 ^ n) (leading n bytes) (leading n others)
+    (leading-lt n bytes are_rest) (leading-lt n others too_rest) same in
+    ap₂ (λ (x : ℕ) (xs : List ℕ). x ∷ xs) first
+    (leading-same n bytes others are_rest too_rest (omega arith) (omega arith) rest)
 
 -- ---- what the numbers are made of
 
@@ -158,64 +233,83 @@ number-is : (bytes : List ℕ) → length bytes ≡ 8 → from_le_bytes w64 byte
 number-is bytes eight =
     worth 7 bytes (omega arith) ∙ ap (λ (xs : List ℕ). leading 8 (reverse xs)) (take_all 8 bytes (omega arith))
 
--- of the last eight bytes of a name, or of all of them, the others make no difference
-last_ones : (name : List ℕ) (m : ℕ) → m ≡ length name - 8 → leading 8 (reverse (drop m name)) ≡ leading 8 (reverse name)
+-- a digit more
+last_digit : (n : ℕ) (bytes : List ℕ) (digit : ℕ) → length bytes ≡ n → leading (suc n) (bytes ++ digit ∷ []) ≡ leading n bytes * 256 + digit
+unfolding leading
+last_digit zero [] digit many = omega arith
+last_digit zero (byte ∷ bytes) digit many = absurd (omega arith)
+last_digit (suc n) [] digit many = absurd (omega arith)
+last_digit (suc n) (byte ∷ bytes) digit many =
+    let rest = last_digit n bytes digit (omega arith) in
+    omega (arith, rest, ap (λ (p : ℕ). byte * p) (pow-succ' 256 n))
+
+-- of the last seven bytes of a name, or of all of them, the others make no difference
+last_ones : (name : List ℕ) (m : ℕ) → m ≡ length name - 7 → leading 7 (reverse (drop m name)) ≡ leading 7 (reverse name)
 last_ones name zero is = refl
 last_ones name (suc m) is =
     let parts : reverse name ≡ reverse (drop (suc m) name) ++ reverse (take (suc m) name) =
     ap reverse (sym (take-append-drop (suc m) name)) ∙ reverse-append (take (suc m) name) (drop (suc m) name) in
-    let long : 8 ≤ length (reverse (drop (suc m) name)) = simp (length-reverse, length-drop) (omega arith) in
-    sym (ap (leading 8) parts ∙ leading-append 8 (reverse (drop (suc m) name)) (reverse (take (suc m) name)) long)
+    let long : 7 ≤ length (reverse (drop (suc m) name)) = simp (length-reverse, length-drop) (omega arith) in
+    sym (ap (leading 7) parts ∙ leading-append 7 (reverse (drop (suc m) name)) (reverse (take (suc m) name)) long)
 
--- the last bytes after zeros, to the length of eight
-closed_end : (name tail : List ℕ) (k : ℕ) → k + length tail ≡ 8 → tail ≡ drop (length name - length tail) name →
-    length tail ≡ min (length name) 8 → from_le_bytes w64 (zeros k ++ tail) ≡ end_number name
+-- the last bytes behind the length and zeros, eight in all
+closed_end : (name tail : List ℕ) (k : ℕ) → k + length tail ≡ 7 → tail ≡ drop (length name - length tail) name →
+    length tail ≡ min (length name) 7 → from_le_bytes w64 (min (length name) 8 ∷ (zeros k ++ tail)) ≡ end_number name
 closed_end name tail k long is count =
-    let eight : length (zeros k ++ tail) ≡ 8 = simp (length-append, length-replicate) long in
+    let digit = min (length name) 8 in
+    let seven : length (zeros k ++ tail) ≡ 7 = simp (length-append, length-replicate) long in
     let turned : reverse (zeros k ++ tail) ≡ reverse tail ++ zeros k =
     reverse-append (zeros k) tail ∙ ap (λ (xs : List ℕ). reverse tail ++ xs) (reverse-zeros k) in
-    number-is (zeros k ++ tail) eight ∙ ap (leading 8) turned ∙ leading-closed 8 (reverse tail) k
-    ∙ ap (λ (xs : List ℕ). leading 8 (reverse xs)) is ∙ last_ones name (length name - length tail) (omega arith)
+    let ends : leading 7 (reverse (zeros k ++ tail)) ≡ leading 7 (reverse name) =
+    ap (leading 7) turned ∙ leading-closed 7 (reverse tail) k ∙ ap (λ (xs : List ℕ). leading 7 (reverse xs)) is
+    ∙ last_ones name (length name - length tail) (omega arith) in
+    number-is (digit ∷ (zeros k ++ tail)) (omega arith)
+    ∙ ap (leading 8) (reverse-append (digit ∷ []) (zeros k ++ tail))
+    ∙ last_digit 7 (reverse (zeros k ++ tail)) digit (length-reverse (zeros k ++ tail) ∙ seven)
+    ∙ ap (λ (n : ℕ). n * 256 + digit) ends
 
--- as a write over the last of n zeros leaves them
-behind_zeros : (a n : ℕ) (written : List ℕ) → a ≤ n → put_mid a (n - a) (zeros n) written ≡ zeros a ++ written
-behind_zeros a n written within =
-    let short : length (drop a (zeros n)) ≤ n - a = simp (length-drop, length-replicate) (omega arith) in
-    let none_left : post_of a (n - a) (zeros n) ≡ [] = drop_all (n - a) (drop a (zeros n)) short in
-    let front : take a (zeros n) ≡ zeros a = take-replicate a n 0 within in
+-- as a write over the last of the zeros leaves them
+behind_zeros : (a : ℕ) (digit : ℕ) (written : List ℕ) → a ≤ 7 →
+    put_mid (suc a) (8 - suc a) (digit ∷ zeros 7) written ≡ digit ∷ (zeros a ++ written)
+behind_zeros a digit written within =
+    let short : length (drop a (zeros 7)) ≤ 8 - suc a = simp (length-drop, length-replicate) (omega arith) in
+    let none_left : post_of (suc a) (8 - suc a) (digit ∷ zeros 7) ≡ [] = drop_all (8 - suc a) (drop a (zeros 7)) short in
+    let front : take a (zeros 7) ≡ zeros a = take-replicate a 7 0 within in
     rw (none_left, append-nil, front) refl
 
-pub padded_end : (name written : List ℕ) (count : ℕ) → count ≡ min (length name) 8 →
+pub padded_end : (name written : List ℕ) (count digit : ℕ) → count ≡ min (length name) 7 → digit ≡ min (length name) 8 →
     written ≡ take (length name - (length name - count)) (drop (length name - count) name) →
-    from_le_bytes w64 (put_mid (8 - count) (8 - (8 - count)) (zeros 8) written) ≡ end_number name
-padded_end name written count is made =
+    from_le_bytes w64 (put_mid (8 - count) (8 - (8 - count)) (digit ∷ zeros 7) written) ≡ end_number name
+padded_end name written count digit is digit_is made =
     let all : written ≡ drop (length name - count) name = made ∙ take_rest name (length name - count) in
     let long : length written ≡ count = ap length all ∙ length-drop (length name - count) name ∙ omega arith in
     let ends : written ≡ drop (length name - length written) name = rw long all in
-    rw (behind_zeros (8 - count) 8 written (omega arith))
-    (closed_end name written (8 - count) (omega arith) ends (omega arith))
+    let one : 8 - count ≡ suc (7 - count) = omega arith in
+    rw (one, behind_zeros (7 - count) digit written (omega arith), digit_is)
+    (closed_end name written (7 - count) (omega arith) ends (omega arith))
 
--- ---- the number of a tail
-
--- of fewer bytes the last digit is zero
-short_number : (n : ℕ) (bytes : List ℕ) → length bytes ≤ n → leading (suc n) bytes % 256 ≡ 0
-unfolding leading
-short_number zero [] few = refl
-short_number zero (byte ∷ bytes) few = absurd (omega arith)
-short_number (suc n) [] few = refl
-short_number (suc n) (byte ∷ bytes) few =
-    let rest = short_number n bytes (omega arith) in
-    omega (arith, rest, ap (λ (p : ℕ). byte * p) (pow-succ' 256 n))
+-- ---- the number of a tail, and of a whole name
 
 -- a name of eight bytes or more has the number of each name that ends with it
-pub tail_number : (name other : List ℕ) → IsSuffix name other → (end_number name ≡ end_number other) ⊎ (end_number name % 256 ≡ 0)
+pub tail_number : (name other : List ℕ) → IsSuffix name other → (end_number name ≡ end_number other) ⊎ (end_number name % 256 < 8)
 tail_number name other (front, is) = elim (cases_lt (length name) 8) [
-  | inl few ↦ inr (short_number 7 (reverse name) (omega (arith, length-reverse name)))
+  | inl few ↦ inr (omega arith)
   | inr long ↦
-      let many : 8 ≤ length (reverse name) = omega (arith, length-reverse name) in
+      let many : 7 ≤ length (reverse name) = omega (arith, length-reverse name) in
       let turned : reverse other ≡ reverse name ++ reverse front = ap reverse is ∙ reverse-append front name in
-      inl (sym (ap (leading 8) turned ∙ leading-append 8 (reverse name) (reverse front) many))
+      let ends : leading 7 (reverse other) ≡ leading 7 (reverse name) =
+      ap (leading 7) turned ∙ leading-append 7 (reverse name) (reverse front) many in
+      inl (omega (arith, ap length is, length-append front name))
 ]
+
+-- names of one number are equal, if it says the whole name
+same_whole : (name other : List ℕ) → IsBytes (reverse name) → IsBytes (reverse other) → end_number name ≡ end_number other →
+    end_number name % 256 < 8 → reverse name ≡ reverse other
+same_whole name other are too same whole =
+    let (ends, lengths) = same_digits (leading 7 (reverse name)) (leading 7 (reverse other)) 256 (min (length name) 8) (min (length other) 8)
+    (omega arith) (omega arith) same in
+    leading-same 7 (reverse name) (reverse other) are too (omega (arith, length-reverse name, length-reverse other))
+    (omega (arith, length-reverse name)) ends
 
 -- ---- ends in common
 
@@ -233,11 +327,6 @@ without_equal_ends name other rest other_rest are =
 
 -- ---- the order by the numbers first
 
-then_assoc : (o p q : Ordering) → ordering_then o (ordering_then p q) ≡ ordering_then (ordering_then o p) q
-then_assoc Less p q = refl
-then_assoc Equal p q = refl
-then_assoc Greater p q = refl
-
 IsBytes-reverse : (bytes : List ℕ) → IsBytes bytes → IsBytes (reverse bytes)
 IsBytes-reverse bytes are i = elim (cases_lt i (length bytes)) [
   | inl within ↦ subst (λ (x : ℕ). x < 256) (sym (get_or-reverse bytes i 0 within)) (are (length bytes - 1 - i))
@@ -246,16 +335,46 @@ IsBytes-reverse bytes are i = elim (cases_lt i (length bytes)) [
       omega arith
 ]
 
--- it is that of the names
+-- of equal numbers: what is left is in the order of the names
+left_decides : (names : List (List ℕ)) (it other : Numbered) → HasEnd names it → HasEnd names other → other.end ≡ it.end →
+    (whole : Bool) → is_whole it.end ≡ whole →
+    slice_cmp nat_cmp (reverse (left_of names other)) (reverse (left_of names it))
+    ≡ slice_cmp nat_cmp (reverse (get_or names other.index [])) (reverse (get_or names it.index []))
+left_decides names it other end other_end same true is =
+    let name : List ℕ = get_or names it.index [] in
+    let other_name : List ℕ = get_or names other.index [] in
+    let other_is : is_whole other.end ≡ true = ap is_whole same ∙ is in
+    let digit : it.end % 256 < 8 = grind (arith, nat_tests) in
+    let equal_names : reverse other_name ≡ reverse name =
+    same_whole other_name name (IsBytes-reverse other_name other_end.bytes) (IsBytes-reverse name end.bytes)
+    (sym other_end.number ∙ same ∙ end.number) (omega (arith, other_end.number)) in
+    rw (is, other_is) (sym (ap (λ (xs : List ℕ). slice_cmp nat_cmp xs (reverse name)) equal_names ∙ tied_itself nat_list_cmp_total (reverse name)))
+left_decides names it other end other_end same false is =
+    let other_is : is_whole other.end ≡ false = ap is_whole same ∙ is in
+    rw (is, other_is) refl
+
+-- the order by the numbers first is that of the names
 pub end_decides : (names : List (List ℕ)) (it other : Numbered) → HasEnd names it → HasEnd names other →
     numbered_order names it other ≡ ends_order (get_or names it.index []) it.index (get_or names other.index []) other.index
 end_decides names it other end other_end =
-    let bytes : List ℕ = reverse (get_or names it.index []) in
-    let others : List ℕ = reverse (get_or names other.index []) in
-    let ordered = leading-order 8 others bytes (IsBytes-reverse (get_or names other.index []) other_end.bytes) (IsBytes-reverse (get_or names it.index []) end.bytes) in
-    rw (end.number, other_end.number)
-    (then_assoc (nat_cmp (leading 8 others) (leading 8 bytes)) (slice_cmp nat_cmp others bytes) (nat_cmp it.index other.index)
-    ∙ ap (λ (o : Ordering). ordering_then o (nat_cmp it.index other.index)) ordered)
+    let name : List ℕ = get_or names it.index [] in
+    let other_name : List ℕ = get_or names other.index [] in
+    let by_names = slice_cmp nat_cmp (reverse other_name) (reverse name) in
+    let by_index = nat_cmp it.index other.index in
+    let ordered : ordering_then (nat_cmp other.end it.end) by_names ≡ by_names =
+    rw (end.number, other_end.number, sym (length-reverse name), sym (length-reverse other_name))
+    (number-order (reverse other_name) (reverse name) (IsBytes-reverse other_name other_end.bytes) (IsBytes-reverse name end.bytes)) in
+    elim (cases_order other.end it.end) [
+      | inl same ↦ rw (equal other.end it.end same, left_decides names it other end other_end same (is_whole it.end) refl) refl
+      | inr unlike ↦ elim unlike [
+        | inl below ↦
+            let first : by_names ≡ Less = sym ordered ∙ ap (λ (o : Ordering). ordering_then o by_names) (less other.end it.end below) in
+            rw (less other.end it.end below, first) refl
+        | inr above ↦
+            let first : by_names ≡ Greater = sym ordered ∙ ap (λ (o : Ordering). ordering_then o by_names) (greater other.end it.end above) in
+            rw (greater other.end it.end above, first) refl
+      ]
+    ]
 
 abbrev name_of : List (List ℕ) → Numbered → List ℕ
 name_of names it = get_or names it.index []
@@ -362,7 +481,7 @@ numbered_permuted names xs ys moved are =
 -- ---- sorted
 
 abbrev turned : List (List ℕ) → Numbered → List ℕ
-turned names it = reverse (get_or names it.index [])
+turned names it = reverse (left_of names it)
 
 pub numbered_total : (names : List (List ℕ)) → IsTotalOrder (numbered_order names)
 numbered_total names =

@@ -1,5 +1,5 @@
 -- Names sorted by what they end with.
-use Rattle.std.specs.Prelude.{◌≡◌, ◌≢◌, AllPairs, ◌+◌, ◌*◌, ◌^◌, ◌<◌, ◌≤◌, ℕ, zero, suc, false, List, [], ◌∷◌, ◌++◌, get_or, length, map, reverse}
+use Rattle.std.specs.Prelude.{◌≡◌, ◌≢◌, AllPairs, ◌+◌, ◌*◌, ◌%◌, ◌^◌, ◌<◌, ◌≤◌, Bool, ℕ, zero, suc, false, if◌then◌else◌, nat_lt, List, [], ◌∷◌, ◌++◌, get_or, length, map, min, reverse}
 use Rattle.std.specs.Cmp.Lexicographic.{slice_cmp}
 use Rattle.std.specs.declared.cmp.Ordering.{Ordering}
 use Rattle.std.specs.Ordering.{is_lt, nat_cmp, ordering_then}
@@ -40,20 +40,27 @@ leading zero bytes = 0
 leading (suc n) [] = 0
 leading (suc n) (byte ∷ bytes) = byte * 256 ^ n + leading n bytes
 
--- the number that the last eight bytes of a name represent, the last of them the most significant
+-- the number of a name: its last seven bytes, the last of them the most significant, and then its length, or 8 if it is longer than that
 abbrev pub end_number : List ℕ → ℕ
-end_number name = leading 8 (reverse name)
+end_number name = leading 7 (reverse name) * 256 + min (length name) 8
 
--- the index of a name of bytes in a list, beside the number of its last eight
+-- the number of a name of fewer than eight bytes: no other name has it
+abbrev pub is_whole : ℕ → Bool
+is_whole number = nat_lt (number % 256) 8
+
+-- the index of a name of bytes in a list, beside its number
 pub record HasEnd (names : List (List ℕ)) (it : Numbered) : Type 0 where
   pub bytes : IsBytes (get_or names it.index [])
   pub number : it.end ≡ end_number (get_or names it.index [])
 
--- the order by the numbers first, and then by the names of a list at the two indexes
+-- what is left to be compared of a name, if its number is equal: nothing, if that is the number of the whole name
+abbrev pub left_of : List (List ℕ) → Numbered → List ℕ
+left_of names it = if is_whole it.end then [] else get_or names it.index []
+
+-- the order by the numbers first, and then by what is left of the names of a list at the two indexes
 abbrev pub numbered_order : List (List ℕ) → Numbered → Numbered → Ordering
 numbered_order names it other =
-    ordering_then (nat_cmp other.end it.end)
-    (ends_order (get_or names it.index []) it.index (get_or names other.index []) other.index)
+    ordering_then (nat_cmp other.end it.end) (ends_order (left_of names it) it.index (left_of names other) other.index)
 
 -- two names without the last bytes, which they have in common
 pub record AreWithoutEqualEnds (name : List ℕ) (other : List ℕ) (rest : List ℕ) (other_rest : List ℕ) : Type 0 where

@@ -150,6 +150,7 @@ impl<'n, 'a> NameList<'n, 'a> {
     }
 
     /// The order of the names at two indexes, if the leaders of both are known.
+    // Few names are long: out of line, so that the comparison of short ones stays small.
     #[inline(never)]
     fn order_by_leaders(&self, a: usize, b: usize) -> Option<Ordering>
         ensures { IfSome result (λ order. order ≡ slice_cmp nat_cmp (reverse (get_or self.now a [])) (reverse (get_or self.now b []))) }
@@ -181,6 +182,7 @@ impl<'n, 'a> NameList<'n, 'a> {
     }
 
     /// Whether the name at `b` ends with the one at `a`, if the leaders of both are known.
+    // Out of line, as above.
     #[inline(never)]
     fn is_tail_by_leaders(&self, a: usize, b: usize) -> Option<bool>
         ensures { IfSome result (λ is_tail. is_tail ≡ is_suffix (get_or self.now a []) (get_or self.now b [])) }

@@ -5,7 +5,7 @@ ghost use Rattle.std.specs.Prelude.{◌≡◌, ◌<◌, length, reverse, IfSome,
 ghost use Rattle.std.specs.List.{All};
 ghost use Rattle.std.specs.List.Sorted.{IsPermutation};
 ghost use Rattle.elf_object_strings.specs.Leaders.{IsCommonEnd};
-ghost use Rattle.elf_object_strings.specs.Sorting.{AreWithoutEqualEnds, AreInEndsOrder, AreNumbered, HasEnd, end_number, ends_order, indexes_in, names_by_ends, numbered_order};
+ghost use Rattle.elf_object_strings.specs.Sorting.{AreWithoutEqualEnds, AreInEndsOrder, AreNumbered, HasEnd, end_number, ends_order, indexes_in, is_whole, names_by_ends, numbered_order};
 ghost use Rattle.elf_object_strings.specs.StringTable.{IsSuffix, is_suffix, texts};
 ghost use Rattle.elf_field.specs.Bytes.{IsBytes};
 
@@ -62,6 +62,7 @@ pub(crate) fn compare_ends(a: &[u8], b: &[u8]) -> Ordering
 }
 
 /// Both without their last bytes, where these are equal.
+// Most loops end with the first call, which would be the larger part of their work.
 #[inline(always)]
 fn without_equal_ends<'a, 'b>(a: &'a [u8], b: &'b [u8]) -> Option<(&'a [u8], &'b [u8])>
     ensures shorter { IfSome result (λ rests. length rests.0.now < length a.now) }
@@ -80,12 +81,14 @@ fn without_equal_ends<'a, 'b>(a: &'a [u8], b: &'b [u8]) -> Option<(&'a [u8], &'b
 #[derive(Clone, Copy)]
 pub(crate) struct Numbered {
     pub(crate) index: usize,
-    // The last eight bytes as a number, the last of them the most significant; zeros represent those that a shorter name lacks.
+    // The last seven bytes as a number, the last of them the most significant, with zeros for those that a shorter name lacks; and below
+    // them its length, or 8 if it is longer. So names of fewer than eight bytes are compared, and found equal, by their numbers alone.
     end: u64,
 }
 
 impl Numbered {
     /// The name at an index.
+    // As is `end_of`, so that it is a load and two writes: there is one for each name, from three callers.
     #[inline(always)]
     pub(crate) fn new(name: &[u8], index: usize) -> Numbered
         ensures end { (names : List (List ℕ)) → get_or names index [] ≡ name.now → HasEnd names result }
@@ -97,13 +100,19 @@ impl Numbered {
         }
     }
 
-    /// Whether the other name may end with this one, by the numbers alone: they are equal, or this name has fewer than eight bytes, and its
-    /// number the last digit 0.
+    /// Whether its number says the whole name: it has fewer than eight bytes.
+    fn is_whole(&self) -> bool
+        ensures { result ≡ is_whole self.now.end }
+    {
+        self.end % 256 < 8
+    }
+
+    /// Whether the other name may end with this one, by the numbers alone: they are equal, or this name has fewer than eight bytes.
     pub(crate) fn may_be_tail(&self, other: &Numbered) -> bool
         ensures { (names : List (List ℕ)) → HasEnd names self.now → HasEnd names other.now →
             IsSuffix (get_or names self.now.index []) (get_or names other.now.index []) → result ≡ true }
     {
-        self.end == other.end || self.end % 256 == 0
+        self.end == other.end || self.is_whole()
     }
 }
 
@@ -144,14 +153,15 @@ fn number_names(alloc: Global, names: &[&[u8]]) -> Result<Vec<Numbered>, AllocEr
     Ok(numbered)
 }
 
-/// The last eight bytes of a name as a number.
+/// The number of a name.
 #[inline(always)]
 fn end_of(name: &[u8]) -> u64
     ensures value { result ≡ end_number name.now }
     ensures bytes { IsBytes name.now }
 {
     let mut end = [0; 8];
-    let count = name.len().min(8);
+    end[0] = name.len().min(8) as u8;
+    let count = name.len().min(7);
     end[8 - count..].copy_from_slice(&name[name.len() - count..]);
     u64::from_le_bytes(end)
 }
@@ -161,11 +171,13 @@ fn by_end(list: &NameList<'_, '_>, a: &Numbered, b: &Numbered) -> Ordering
 {
     // Where the numbers differ, they are in the order of the names, which need not be looked at.
     match b.end.cmp(&a.end) {
+        Ordering::Equal if a.is_whole() => a.index.cmp(&b.index),
         Ordering::Equal => by_whole_end(list, a.index, b.index),
         order => order,
     }
 }
 
+// Out of line, so that the sort, which is copied out for each of its callers, stays small where numbers decide.
 #[inline(never)]
 fn by_whole_end(list: &NameList<'_, '_>, a: usize, b: usize) -> Ordering
     ensures { result ≡ ends_order (get_or list.now a []) a (get_or list.now b []) b }

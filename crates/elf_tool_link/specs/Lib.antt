@@ -3,3 +3,4 @@ pub mod Inputs
 pub mod Link
 pub mod Map
 pub mod ObjectFiles
+pub mod Verdicts

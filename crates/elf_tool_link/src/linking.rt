@@ -90,8 +90,8 @@ fn link_relocated<W: Write>(
     }
 }
 
-// The verdict of what is refused.
-fn verdict_of(unlinked: Unlinked) -> Result<Verdict, ToolFault>
+/// The verdict of what is refused.
+pub(crate) fn verdict_of(unlinked: Unlinked) -> Result<Verdict, ToolFault>
     ensures { result ≡ unlinked_verdict unlinked }
 {
     match unlinked {

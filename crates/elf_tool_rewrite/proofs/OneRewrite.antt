@@ -19,7 +19,7 @@ use Rattle.elf_tool_check.specs.declared.calls.Refusal.TheVariants.{File, Link, 
 use Rattle.elf_tool_check.specs.declared.calls.Verdict.TheVariants.{Done, Refused}
 use Rattle.elf_tool_check.specs.declared.calls.Verdict.{Verdict}
 
-of_object : (o : ObjectValue) → SaysOne (ObjectSays o)
+pub of_object : (o : ObjectValue) → SaysOne (ObjectSays o)
 of_object o Done Done s t here there = (refl, one_layout o s t here.laid there.laid)
 of_object o Done (Refused TooLong) s t here (long, none) = (let more = long s here.laid in let short = here.short in absurd (omega arith))
 of_object o (Refused TooLong) Done s t (long, none) there = (let more = long t there.laid in let short = there.short in absurd (omega arith))

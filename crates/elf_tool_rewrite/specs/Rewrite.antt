@@ -1,6 +1,9 @@
 -- What `rewrite` makes of a file: its object, in canonical layout.
-use Rattle.std.specs.Prelude.{◌≡◌, ◌⊎◌, ◌<◌, ℕ, List, [], length, None, Option, Some, Result}
+use Rattle.std.specs.Prelude.{◌≡◌, ◌⊎◌, ◌<◌, ◌≤◌, ℕ, List, [], length, None, Option, Some, Result, Ok, Err}
+use Rattle.std.specs.Io.KnownBytes.{Appends, Keeps}
 use Rattle.elf_image_outline.specs.Image.{ImageValue, IsImage}
+use Rattle.elf_image_stream.specs.declared.fault.Fault.TheVariants as fault
+use Rattle.elf_image_stream.specs.declared.fault.Fault.{Fault}
 use Rattle.elf_object_reader.specs.Denotes.{Denotes}
 use Rattle.elf_object_reader.specs.FileRules.{file_rules}
 use Rattle.elf_object_file.specs.ObjectFile.{IsWrittenFile}
@@ -9,8 +12,9 @@ use Rattle.elf_object_type.specs.Object.{ObjectValue}
 use Rattle.elf_image_rules.specs.Rules.{MAX_LEN, IsFault}
 use Rattle.elf_image_rules.specs.Rows.{FirstIn}
 use Rattle.elf_table_symbols.specs.Sections.{Sections, sections_of}
-use Rattle.elf_tool_check.specs.Engine.{IsFileCallAllocatingFirst}
+use Rattle.elf_tool_check.specs.Engine.{IsCutAt, IsFileCallAllocatingFirst}
 use Rattle.elf_tool_check.specs.declared.calls.Refusal.TheVariants.{File, Link, TooLong}
+use Rattle.elf_tool_check.specs.declared.calls.ToolFault.TheVariants as tool
 use Rattle.elf_tool_check.specs.declared.calls.ToolFault.{ToolFault}
 use Rattle.elf_tool_check.specs.declared.calls.Verdict.{Verdict}
 use Rattle.elf_tool_check.specs.declared.calls.Verdict.TheVariants.{Done, Refused}
@@ -45,3 +49,35 @@ RewriteSays b verdict text =
 -- a call of `rewrite`
 abbrev pub IsRewritten : Option (List ℕ) → Option (List ℕ) → Option (List ℕ) → Option (List ℕ) → Result Verdict ToolFault → Type 0
 IsRewritten = IsFileCallAllocatingFirst RewriteSays
+
+-- The object of a file, and why there is none.
+
+-- a file denotes this object, and breaks no rule
+abbrev pub DenotesObject : List ℕ → ObjectValue → Type 0
+DenotesObject b o = (v : ImageValue) × IsImage v b × (FirstIn (file_rules (sections_of v)) None × Denotes (sections_of v) o)
+
+-- it denotes none: a rule is broken first, of which `rewrite` says so; or out of memory
+abbrev pub DenotesNone : List ℕ → Fault → Type 0
+DenotesNone b (fault.Rule rule at) = RewriteSays b (Refused (File 0 rule at)) []
+DenotesNone b (fault.Io at) = ⊥
+DenotesNone b fault.OutOfMemory = Unit {0}
+
+abbrev pub unread_answer : Fault → Result Verdict ToolFault
+unread_answer (fault.Rule rule at) = Ok (Refused (File 0 rule at))
+unread_answer (fault.Io at) = Err (tool.Read at)
+unread_answer fault.OutOfMemory = Err tool.OutOfMemory
+
+-- A call of `rewrite` that writes only what has room.
+
+-- the file of an object is so long
+abbrev pub HasFileOf : ObjectValue → ℕ → Type 0
+HasFileOf o n = (b : List ℕ) × IsWrittenFile o b × (n ≡ length b)
+
+-- what is said is written if it is no longer than `most`, and else nothing; beside the verdict is its length
+abbrev pub PrintsWithin : (Verdict → List ℕ → Type 0) → ℕ → Option (List ℕ) → Option (List ℕ) → Result (Verdict × ℕ) ToolFault → Type 0
+PrintsWithin Says most old new (Ok (verdict, n)) =
+    (text : List ℕ) × Says verdict text × (n ≡ length text) × (n ≤ most → Appends old new text) × (most < n → Keeps old new)
+PrintsWithin Says most old new (Err (tool.Read at)) = ⊥
+PrintsWithin Says most old new (Err (tool.Write written)) =
+    (verdict : Verdict) × (text : List ℕ) × Says verdict text × IsCutAt old new text written
+PrintsWithin Says most old new (Err tool.OutOfMemory) = Keeps old new

@@ -1,13 +1,13 @@
 //! `rewrite`: the object of a file, in canonical layout.
-ghost use Rattle.std.specs.Prelude.{◌≡◌, ℕ, List};
+ghost use Rattle.std.specs.Prelude.{◌≡◌, ℕ, List, MatchResult};
 ghost use Rattle.elf_tool_check.specs.Engine.{IsOneReport, Prints};
-ghost use Rattle.elf_tool_rewrite.specs.Rewrite.{IsRewritten, ObjectSays, RewriteSays, SectionsSay};
-ghost use Rattle.elf_table_symbols.specs.Sections.{sections_of};
+ghost use Rattle.elf_tool_rewrite.specs.Rewrite.{DenotesNone, DenotesObject, HasFileOf, IsRewritten, ObjectSays, PrintsWithin, RewriteSays, unread_answer};
 ghost use Rattle.elf_tool_check.specs.declared.calls.Verdict.TheVariants.{Done};
 
 use elf_image_stream::Fault;
-use elf_image_type::{Image, parse};
+use elf_image_type::parse;
 use elf_object_file::write_object;
+use elf_object_layout::{LayoutFault, lay_out};
 use elf_object_reader::object_of;
 use elf_object_type::Object;
 use elf_object_writer::ObjectWriteFault;
@@ -50,30 +50,82 @@ pub fn rewrite_bytes<W: Write>(
     ensures written { Prints (RewriteSays bytes.now) (W.contents writer.old) (W.contents writer.new) result }
     ensures again { (b text : List ℕ) → RewriteSays b Done text → RewriteSays text Done text }
 {
-    match parse(alloc, bytes) {
-        Ok(image) => rewrite_image(alloc, &image, writer),
-        Err(Fault::Rule { rule, at }) => Ok(refused(rule, at)),
-        Err(Fault::OutOfMemory) => Err(ToolFault::OutOfMemory),
-        // No reader is called while bytes are validated.
-        Err(Fault::Io { .. }) => unreachable!(),
+    match object_in(alloc, bytes) {
+        Ok(object) => rewrite_object(alloc, &object, writer),
+        Err(fault) => unread(fault),
     }
 }
 
-// The object of an image.
-fn rewrite_image<W: Write>(
+/// Writes the same if it is no longer than `most` bytes, and otherwise nothing. Returns the verdict, and how long the file is that is
+/// written or would be, in bytes; 0 of a file that is refused.
+///
+/// Faults, memory and time are those of [`rewrite_bytes`]; the layout is made twice where the file is written.
+pub fn rewrite_within<W: Write>(
     alloc: Global,
-    image: &Image<'_>,
+    bytes: &[u8],
+    most: u64,
     writer: &mut W,
-) -> Result<Verdict, ToolFault>
-    ensures { Prints (SectionsSay (sections_of image.now)) (W.contents writer.old) (W.contents writer.new) result }
+) -> Result<(Verdict, u64), ToolFault>
+    ensures { PrintsWithin (RewriteSays bytes.now) most (W.contents writer.old) (W.contents writer.new) result }
 {
-    match object_of(alloc, image) {
-        Ok(object) => rewrite_object(alloc, &object, writer),
-        Err(Fault::Rule { rule, at }) => Ok(refused(rule, at)),
-        Err(Fault::OutOfMemory) => Err(ToolFault::OutOfMemory),
-        // Nor while an image is read.
-        Err(Fault::Io { .. }) => unreachable!(),
+    match object_in(alloc, bytes) {
+        Ok(object) => object_within(alloc, &object, most, writer),
+        Err(fault) => Ok((unread(fault)?, 0)),
     }
+}
+
+/// The object that a file of these bytes denotes.
+fn object_in<'a>(alloc: Global, bytes: &'a [u8]) -> Result<Object<'a>, Fault>
+    ensures { MatchResult result (λ object. DenotesObject bytes.entry.now object) (DenotesNone bytes.entry.now) }
+{
+    let image = parse(alloc, bytes)?;
+    object_of(alloc, &image)
+}
+
+/// What is answered where there is no object.
+fn unread(fault: Fault) -> Result<Verdict, ToolFault>
+    ensures { result ≡ unread_answer fault }
+{
+    match fault {
+        Fault::Rule { rule, at } => Ok(refused(rule, at)),
+        // Nothing is read, so this does not come.
+        Fault::Io { at } => Err(ToolFault::Read { at }),
+        Fault::OutOfMemory => Err(ToolFault::OutOfMemory),
+    }
+}
+
+fn object_within<W: Write>(
+    alloc: Global,
+    object: &Object<'_>,
+    most: u64,
+    writer: &mut W,
+) -> Result<(Verdict, u64), ToolFault>
+    ensures { PrintsWithin (ObjectSays object.now) most (W.contents writer.old) (W.contents writer.new) result }
+{
+    object.prove_rules();
+    match lay_out(alloc, object) {
+        Ok(layout) => object_of_length(alloc, object, layout.length(), most, writer),
+        Err(LayoutFault::TooLong) => Ok((Verdict::Refused(Refusal::TooLong), 0)),
+        Err(LayoutFault::OutOfMemory) => Err(ToolFault::OutOfMemory),
+    }
+}
+
+/// The same of an object whose file is so long.
+fn object_of_length<W: Write>(
+    alloc: Global,
+    object: &Object<'_>,
+    file_len: u64,
+    most: u64,
+    writer: &mut W,
+) -> Result<(Verdict, u64), ToolFault>
+    requires { HasFileOf object.now file_len }
+    ensures { PrintsWithin (ObjectSays object.now) most (W.contents writer.old) (W.contents writer.new) result }
+{
+    if file_len > most {
+        return Ok((Verdict::Done, file_len));
+    }
+    let verdict = rewrite_object(alloc, object, writer)?;
+    Ok((verdict, file_len))
 }
 
 fn rewrite_object<W: Write>(

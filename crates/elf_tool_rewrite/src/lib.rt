@@ -1,5 +1,6 @@
 //! The engine [`rewrite`] of `elfmap`, over any reader and any writer: it reads a whole file, and writes the object that the file
-//! denotes in its canonical layout, or says why it can't; and [`rewrite_bytes`], which has the file's bytes.
+//! denotes in its canonical layout, or says why it can't; [`rewrite_bytes`], which has the file's bytes; and [`rewrite_within`], which
+//! writes only what has room.
 //!
 //! ```
 //! // `bytes` are those of a file that is not relocatable, so it denotes no object: rule 70, at `e_type`.
@@ -12,4 +13,4 @@
 mod engine;
 
 pub use elf_tool_check::{Refusal, ToolFault, Verdict};
-pub use engine::{rewrite, rewrite_bytes};
+pub use engine::{rewrite, rewrite_bytes, rewrite_within};

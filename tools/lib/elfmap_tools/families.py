@@ -30,7 +30,6 @@ NOT_YET: list[tuple[str, tuple[str, ...], Standing]] = [
     ("sections_of_tails", (*OF_MAP, "link"), Standing(0.15)),
     ("groups_of_one_signature", (*OF_MAP, "link", *OF_OBJECT), Standing(0.15)),
     ("relocations_of_one_name", (*OF_MAP, "link", *OF_OBJECT), Standing(0.15)),
-    ("sections_far_apart", OF_OBJECT, Standing(2, 1200)),
     ("sections_far_apart", ("check --seek",), Standing(0, 1)),
 ]
 STANDINGS = {(family, command): it for family, commands, it in NOT_YET for command in commands}

@@ -46,7 +46,13 @@ GROWTHS = SIZED | {
 }
 # Engines over bytes. Those for C write into a vector, which fails for nothing else, and have no
 # reader.
-INTO_A_VECTOR = {"show_bytes", "push_refused_tables", "rewrite_bytes", "map_files", "link_files"}
+INTO_A_VECTOR = {
+    "show_bytes",
+    "push_refused_tables",
+    "rewrite_within",
+    "map_files",
+    "link_files",
+}
 OF_CRATE = "crates/elf_c_engines/"
 FAILED_WRITE = re.compile(r"\b(?:WriteFault|\w+::Write) \{|\w+::Io \{ ?written")
 # Sizes in place of one, which stands for @.

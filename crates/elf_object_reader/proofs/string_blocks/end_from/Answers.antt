@@ -1,5 +1,5 @@
 use Rattle.elf_object_reader.proofs.DenotedSymbols.{end_kept}
-use Rattle.elf_object_reader.proofs.read_symbols.end_from.Goals as goal
+use Rattle.elf_object_reader.proofs.string_blocks.end_from.Goals as goal
 
 pub returns-then-offset-end : goal.returns-then-offset-end
 returns-then-offset-end c =

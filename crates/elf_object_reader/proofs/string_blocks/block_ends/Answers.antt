@@ -1,7 +1,7 @@
 use Rattle.std.proofs.Common.{◌+◌, ◌*◌, ◌++◌, ℕ, List, [], ◌∷◌, sym, ap₂, ◌∙◌, arith}
 use Rattle.std.proofs.lemmas.List.FromFn.{map-range_with_len_more}
 use Rattle.elf_object_reader.specs.FileRules.{block_end}
-use Rattle.elf_object_reader.proofs.read_symbols.block_ends.Goals as goal
+use Rattle.elf_object_reader.proofs.string_blocks.block_ends.Goals as goal
 
 pub end_from-end-requires-clause-before : goal.end_from-end-requires-clause-before
 end_from-end-requires-clause-before c = λ high. (4096 * c.loop-block.block, omega arith, sym c.loop-block.invariant.last)

@@ -4,9 +4,9 @@ use Rattle.std.proofs.Common.{◌≡◌, ◌+◌, ◌*◌, ◌<◌, ◌≤◌, �
 use Rattle.std.specs.Prelude.{◌/◌}
 use Rattle.std.proofs.lemmas.List.{length-take}
 use Rattle.elf_image_type.specs.ImageView.{string}
-use Rattle.elf_object_reader.specs.declared.read_symbols.StringBlocks.{StringBlocks}
+use Rattle.elf_object_reader.specs.declared.string_blocks.StringBlocks.{StringBlocks}
 use Rattle.elf_object_reader.proofs.DenotedSymbols.{block_there, end_far, end_there, end_within, string_near, string_to}
-use Rattle.elf_object_reader.proofs.read_symbols.StringBlocks.string.Goals as goal
+use Rattle.elf_object_reader.proofs.string_blocks.StringBlocks.string.Goals as goal
 
 -- the block's index, and what is known of it
 block_below : (b : StringBlocks) (offset : ℕ) → offset / 4096 < b.ends.len → offset / 4096 < length b.ends.items
