@@ -371,7 +371,8 @@ bool elfmap_find(const struct elfmap_table *table, const uint8_t *bytes, size_t 
  * ---- Engines: what the commands `show`, `rewrite`, `map` and `link` of the program `elfmap` write, of bytes in memory.
  *
  * The output of an engine, a text or a file, is put into a buffer of `size` bytes that the caller lends. Each call returns a status and
- * fills in `outcome`, whatever the status. A number in it that has no meaning for the status is 0.
+ * fills in `outcome`, whatever the status. A number in it that has no meaning for the status is 0. The three calls named ..verdict and
+ * ..verdicts have no output, and never return ELFMAP_SMALL_ROOM; of the others:
  *
  * - If the status is ELFMAP_DONE, ELFMAP_REFUSED, ELFMAP_NOT_LINKED or ELFMAP_TOO_LONG, the first `outcome->length` bytes of the buffer are
  *   the whole output, and the bytes after them are unchanged.
@@ -408,7 +409,7 @@ enum {
 
 /* What a call of an engine returns beside its status. Files, indexes and entries count from 0. */
 struct elfmap_outcome {
-    uint64_t length; /* the length of the whole output, in bytes */
+    uint64_t length; /* the length of the whole output, in bytes; of elfmap_table_verdicts, how many slots were filled */
     uint64_t at;     /* an offset, an entry or a line */
     uint64_t file;   /* which file */
     uint64_t index;  /* the position of a section or symbol in the file, as docs/RULES.md says for each rule of the link */
@@ -441,7 +442,7 @@ uint32_t elfmap_refused_tables(const uint8_t *bytes, size_t len, uint8_t *buffer
  * The same as numbers, without a text: slot k of the buffer gets the first of rules 40 to 69 that the table in section `first` + k breaks,
  * with its lowest offset, or rule 0 if it breaks none or the section holds no table. Returns ELFMAP_DONE, and `outcome->length` is how many
  * slots were filled: as many as there are sections from `first` on, but no more than `count`. The other slots are unchanged. Or it returns
- * ELFMAP_REFUSED by a rule of images, and the buffer is unchanged.
+ * ELFMAP_REFUSED by a rule of images. If it returns anything but ELFMAP_DONE, the buffer is unchanged.
  */
 uint32_t elfmap_table_verdicts(const uint8_t *bytes, size_t len, uint64_t first, struct elfmap_fault *buffer, size_t count,
                                struct elfmap_outcome *outcome);

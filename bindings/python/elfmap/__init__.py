@@ -732,13 +732,20 @@ def link(
     return _done(*_said("elfmap_link", *words), contents, start[0])
 
 
-def map(files: Iterable[_Bytes], rules: _Text, *, base: int = 0x400000, page: int = 0x1000) -> str:
-    """The lines of `elfmap map` on these objects, and their relocated bytes by the rules.
+def map(
+    files: Iterable[_Bytes],
+    rules: Optional[_Text] = None,
+    *,
+    base: int = 0x400000,
+    page: int = 0x1000,
+) -> str:
+    """The lines of `elfmap map` on these objects, and, with rules, their relocated bytes.
 
     Raises what `link` does.
     """
     contents = _views_of(files)
-    words = (*_linked(contents, base, page), *_text(rules, "rules"))
+    text = _text(b"" if rules is None else rules, "rules")
+    words = (*_linked(contents, base, page, rules is not None), *text)
     return _done(*_said("elfmap_map", *words), contents).decode("ascii")
 
 
@@ -783,8 +790,10 @@ def _number(value: int, what: str) -> int:
     return number
 
 
-def _linked(contents: list[memoryview], base: int, page: int) -> tuple[Any, ...]:
-    options = _library.LinkOptions(_number(base, "base"), _number(page, "page"), 1)
+def _linked(
+    contents: list[memoryview], base: int, page: int, uses_rules: bool = True
+) -> tuple[Any, ...]:
+    options = _library.LinkOptions(_number(base, "base"), _number(page, "page"), uses_rules)
     places = (_library.Extent * len(contents))()
     start = 0
     for place, content in zip(places, contents):

@@ -132,11 +132,13 @@ def members(source: Source, path: bytes) -> Iterator[Member]:
 
 
 class Content(NamedTuple):
-    """A file, or a member of an archive: the path to print, and its bytes in `file`."""
+    """A file, or a member of an archive: the path to print, and its bytes in `file`, or a copy of
+    bytes that are in the file in another form."""
 
     path: bytes
     file: bytes
     source: Source
+    is_copy: bool = False
 
 
 class Contents:

@@ -46,6 +46,7 @@ _MOST_AT_ONCE = 1 << 24
 _LEAST_EXTENTS = 256
 _MOST_EXTENTS = 1 << 16
 _LEAST_VERDICTS = 256
+_MOST_VERDICTS = 1 << 16
 TOO_LONG_AS_OBJECT = 0
 
 
@@ -134,12 +135,19 @@ class Checks:
     """Checks one file after another, in the same memory."""
 
     def __init__(
-        self, tables: bool, objects: bool, is_strict: bool = True, debug_files: bool = False
+        self,
+        tables: bool,
+        objects: bool,
+        is_strict: bool = True,
+        debug_files: bool = False,
+        are_named: bool = False,
     ) -> None:
         self._tables = tables
         self._objects = objects
         self._is_strict = is_strict
         self._debug_files = debug_files
+        # Whether other files name all files as their debug files.
+        self._are_named = are_named
         self._library = _library.library()
         self._room = Room()
         self._extents = (_library.Extent * _LEAST_EXTENTS)()
@@ -252,7 +260,7 @@ class Checks:
         self._load(source, size)
         refused = self._image(size)
         is_known = self._debug_files and refused and refused.rule == SEGMENT_PAST_END
-        copy = debug_copy(source) if is_known else None
+        copy = debug_copy(source, self._are_named) if is_known else None
         if not copy:
             return refused, source
         self._load(copy, len(copy))
@@ -295,9 +303,7 @@ class Checks:
         return [Fault(*it, reading=readings.get(it[2])) for it in owners]
 
     def _rows(self, size: int, batch: Batch) -> Rows:
-        own = {it.section for it in batch.shown}
-        refused = self._refused(size, len(batch.sections))
-        return {it: (rule, at) for it, rule, at in refused if it in own}
+        return {it: (rule, at) for it, rule, at in self._refused(size, batch)}
 
     def _mended(self, source: Source, batch: Batch, rows: Rows) -> Mending:
         """What is left of the rows once known deviations are put right, one after another."""
@@ -309,19 +315,22 @@ class Checks:
             self._is_changed = True
         return mending
 
-    def _refused(self, size: int, count: int) -> Iterator[tuple[int, int, int]]:
-        """The tables of so many sections that break a rule: a section, the rule and the offset."""
+    def _refused(self, size: int, batch: Batch) -> Iterator[tuple[int, int, int]]:
+        """The shown tables that break a rule: a section, the rule and the offset."""
         outcome = _library.Outcome()
+        if len(self._verdicts) > _MOST_VERDICTS:
+            self._verdicts = (_library.Fault * _LEAST_VERDICTS)()
+        count = len(batch.sections)
         if count > len(self._verdicts):
             self._verdicts = (_library.Fault * count)()
         room = self._verdicts, len(self._verdicts)
         call = self._library.elfmap_table_verdicts
         if call(self._room.address, size, 0, *room, outcome) != _library.DONE:
             raise Unreadable("there is no memory for its tables")
-        for section in range(outcome.length):
-            fault = self._verdicts[section]
+        for it in batch.shown:
+            fault = self._verdicts[it.section]
             if fault.rule:
-                yield section, fault.rule, fault.at
+                yield it.section, fault.rule, fault.at
 
     def _object_fault(self, size: int) -> Optional[Fault]:
         """Why the file is read as no object, by the verdict of `elfmap rewrite`."""

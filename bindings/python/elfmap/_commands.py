@@ -5,6 +5,7 @@ from __future__ import annotations
 
 import argparse
 import os
+import re
 import signal
 import sys
 from collections.abc import Callable, Sequence
@@ -137,3 +138,16 @@ def is_open(number: int) -> bool:
     except OSError:
         return False
     return True
+
+
+def number_of(word: str) -> Optional[int]:
+    """A number as `elfmap link` reads it: decimal, or 0x and at most 16 digits, and below 2^64;
+    None of any other word."""
+    if not re.fullmatch("[0-9]+|0x[0-9a-f]{1,16}", word):
+        return None
+    if word.startswith("0x"):
+        return int(word, 16)
+    # Python reads no number of thousands of digits, and zeros in front may be as many.
+    digits = word.lstrip("0") or "0"
+    number = int(digits) if len(digits) <= 20 else 2**64
+    return number if number < 2**64 else None

@@ -399,23 +399,24 @@ def _relocations_without_symbols(copy: Mended, index: int) -> bool:
     return link > 0
 
 
-def debug_copy(source: Source) -> Optional[Mended]:
-    """A file of debug information, made as long as its segments want; or None."""
+def debug_copy(source: Source, is_named: bool = False) -> Optional[Mended]:
+    """A file of debug information, made as long as its segments want; or None. Whether another file
+    names it as its debug file."""
     words = Words(source)
     size = max(_segment_ends(words), default=0)
-    if not is_debug_file(words) or size >= LONGEST:
+    if not is_debug_file(words, is_named) or size >= LONGEST:
         return None
     copy = Mended(source)
     copy.extend(size)
     return copy
 
 
-def is_debug_file(words: Words) -> bool:
+def is_debug_file(words: Words, is_named: bool = False) -> bool:
     """Whether it is a file as `eu-strip -f` writes it. It has the program headers of the program,
     whose code and data are left out: all sections in memory are of type NOBITS or NOTE, and one of
-    them is code."""
+    them is code, unless another file names it as its debug file."""
     rows = [(kind, flags) for _, _, kind, flags, *_ in words.headers() if flags & _ALLOC]
-    has_code = any(kind == NOBITS and flags & _EXECINSTR for kind, flags in rows)
+    has_code = is_named or any(kind == NOBITS and flags & _EXECINSTR for kind, flags in rows)
     return has_code and all(kind in (NOBITS, NOTE_SECTION) for kind, _ in rows)
 
 

@@ -14,6 +14,7 @@ from typing import NamedTuple, Optional, TypeVar, Union
 
 from elfmap import File, Relocation, Section, Symbol, _Bytes as Bytes
 from elfmap._names import machine_words, relocation_types, section_type
+from elfmap._strings_in import strings_at
 from elfmap._words import LONGEST_LETTER, MOST_LETTERS, printable
 
 _NULL = 0
@@ -23,6 +24,7 @@ _NOBITS = 8
 _REL = 9
 _GROUP = 17
 _SYMTAB_SHNDX = 18
+_ALLOC = 2
 _INFO_LINK = 0x40
 _IN_INDEX_TABLE = 0xFFFF
 _STT_SECTION = 3
@@ -41,6 +43,19 @@ _TYPES = {
 _STEP = 1 << 16
 # A longer name is not copied, and is compared by blocks of so many bytes.
 _BLOCK = 256
+# How the names of sections begin that have debug information, or say where it is.
+_DEBUG_NAMES = (
+    b".debug",
+    b".zdebug",
+    b".gnu.debuglto_.debug_",
+    b".gnu.linkonce.wi.",
+    b".gnu_debug",
+    b".gdb_index",
+    b".stab",
+    b".line",
+)
+# It depends on debug information too.
+_BUILD_ID = b".note.gnu.build-id"
 Key = TypeVar("Key", bound=Hashable)
 
 
@@ -176,11 +191,16 @@ def sections_of(file: File, data: Bytes, names: Names) -> tuple[list[Section], l
         size = row[5]
         content = None if kind in (_NULL, _NOBITS) else view[start : start + size]
         found.append(Section._make([*row, b"", content]))
-    own = found[0].sh_link if header.e_shstrndx == _IN_INDEX_TABLE else header.e_shstrndx
+    own = _names_of_sections(header.e_shstrndx, found)
     strings = bytes(found[own].content or b"") if own else b""
     at = names.of(strings, (it.sh_name for it in found))
     # In an entry of no section sh_name may be any number.
     return found, [b"" if it.sh_type == _NULL else at[it.sh_name] for it in found]
+
+
+def _names_of_sections(field: int, sections: Sequence[Section]) -> int:
+    """The section that has their names, by the field of the header."""
+    return sections[0].sh_link if field == _IN_INDEX_TABLE else field
 
 
 def first_difference(one: memoryview, other: memoryview) -> Optional[int]:
@@ -193,11 +213,21 @@ def first_difference(one: memoryview, other: memoryview) -> Optional[int]:
     return None if len(one) == len(other) else size
 
 
+def has_debug_information(section: Section, name: Text) -> bool:
+    """Whether a section has debug information, by its name and as it takes no memory; or relocates
+    such a one."""
+    front = name.front(_BLOCK) if isinstance(name, LongName) else name
+    if section.sh_type in (_REL, _RELA):
+        front = front.removeprefix(b".rela" if section.sh_type == _RELA else b".rel")
+    return not section.sh_flags & _ALLOC and front.startswith(_DEBUG_NAMES)
+
+
 class Canonical:
     """An object by its canonical file."""
 
-    def __init__(self, file: File, data: Bytes, names: Names) -> None:
+    def __init__(self, file: File, data: Bytes, names: Names, ignores_debug: bool = False) -> None:
         self.file = file
+        self._ignores_debug = ignores_debug
         self.machine = file.header.e_machine
         self.sections, self._names = sections_of(file, data, names)
         self._table = self._first(_SYMTAB)
@@ -209,6 +239,17 @@ class Canonical:
         section_names = [self._section_name(k, own) for k in range(len(self.sections))]
         self.section_labels = labelled(section_names)
         self.symbol_labels = labelled(own)
+        self._ignored = self._without_debug() if ignores_debug else set()
+
+    def _without_debug(self) -> set[int]:
+        """The sections of debug information, and the groups that have no others."""
+        found = {
+            k for k, it in enumerate(self.sections) if has_debug_information(it, self._names[k])
+        }
+        for k, it in enumerate(self.sections):
+            if it.sh_type == _GROUP and found.issuperset(self._words(k)[1:]):
+                found.add(k)
+        return found
 
     def _first(self, kind: int) -> int:
         """The first section of a type, 0 where there is none."""
@@ -249,7 +290,7 @@ class Canonical:
     def members(self, index: int) -> tuple[int, dict[Place, int]]:
         """Of a group its flags and its members."""
         flags, *members = self._words(index)
-        return flags, {self.section(it): it for it in members}
+        return flags, {self.section(it): it for it in members if it not in self._ignored}
 
     def _section_name(self, index: int, symbols: Sequence[Union[Text, OfSection]]) -> Name:
         """The name, and of a group also that of its signature."""
@@ -265,7 +306,7 @@ class Canonical:
 
     def own_sections(self) -> dict[Label, int]:
         """The sections of the object. Its symbol table and its names are compared by names."""
-        tables = {0, self._table, self.file.header.e_shstrndx}
+        tables = {0, self._table, self.file.header.e_shstrndx, *self._ignored}
         if self._table:
             tables.add(self.sections[self._table].sh_link)
         if self.file.header.e_shstrndx == _IN_INDEX_TABLE:
@@ -274,6 +315,14 @@ class Canonical:
         for k, it in enumerate(self.sections):
             if it.sh_type not in (_NULL, _SYMTAB_SHNDX) and k not in tables:
                 own[self.section_labels[k]] = k
+        return own
+
+    def own_symbols(self) -> dict[Label, int]:
+        """The symbols of the object."""
+        own = {}
+        for k, it in enumerate(self.symbols):
+            if it.section not in self._ignored or not self._ignored:
+                own[self.symbol_labels[k]] = k
         return own
 
     def _target(self, it: Relocation) -> Optional[Label]:
@@ -299,10 +348,11 @@ class Canonical:
 class Comparison:
     """Two objects beside each other."""
 
-    def __init__(self, sides: Sides, one: Bytes, other: Bytes) -> None:
+    def __init__(self, sides: Sides, one: Bytes, other: Bytes, ignores_debug: bool = False) -> None:
         self._sides = sides
         names = Names()
-        self._one, self._other = (Canonical(File(it), it, names) for it in (one, other))
+        own = (Canonical(File(it), it, names, ignores_debug) for it in (one, other))
+        self._one, self._other = own
 
     def differences(self) -> Iterator[str]:
         yield from header_differences(self._sides, self._one.file, self._other.file)
@@ -312,7 +362,7 @@ class Comparison:
     def order(self) -> Iterator[str]:
         """Where the same sections or symbols are in another order."""
         yield from self._order("sections", self._one.own_sections(), self._other.own_sections())
-        yield from self._order("symbols", self._one.symbol_labels, self._other.symbol_labels)
+        yield from self._order("symbols", self._one.own_symbols(), self._other.own_symbols())
 
     def _order(self, what: str, one: Iterable[Label], other: Iterable[Label]) -> Iterator[str]:
         for pair in zip(one, other):
@@ -344,7 +394,7 @@ class Comparison:
             yield from self._group(index, other_index)
         else:
             yield from self._info(one, other)
-            yield from content_difference(self._sides, one.content, other.content)
+            yield from content_difference(self._sides, one, other)
 
     def _info(self, one: Section, other: Section) -> Iterator[str]:
         if one.sh_flags & _INFO_LINK:
@@ -392,8 +442,8 @@ class Comparison:
         return f"{what} is only in {side}: {first or second}"
 
     def _symbols(self) -> Iterator[str]:
-        one = {label: k for k, label in enumerate(self._one.symbol_labels)}
-        other = {label: k for k, label in enumerate(self._other.symbol_labels)}
+        one = self._one.own_symbols()
+        other = self._other.own_symbols()
         yield from only_in(self._sides, "symbol", one, other, label_words)
         for label, index in one.items():
             position = other.get(label)
@@ -468,15 +518,33 @@ def section_fields(sides: Sides, one: Section, other: Section, machine: int) -> 
             yield sides.both(what, ours, theirs)
 
 
-def content_difference(sides: Sides, one: memoryview, other: memoryview) -> Iterator[str]:
-    at = first_difference(one, other)
-    if at is not None and at < min(len(one), len(other)):
-        yield sides.both(f"offset {at:#x}", f"0x{one[at]:02x}", f"0x{other[at]:02x}")
+def content_difference(sides: Sides, one: Section, other: Section) -> Iterator[str]:
+    """The first byte that differs, or the string that has it."""
+    ours = one.content
+    theirs = other.content
+    if ours is None or theirs is None:
+        return
+    at = first_difference(ours, theirs)
+    if at is None or at >= min(len(ours), len(theirs)):
+        return
+    strings = strings_at(ours, theirs, at, one.sh_flags & other.sh_flags, one.sh_entsize)
+    if strings:
+        what = f"offset {at:#x}: the string at {strings.start:#x}"
+        yield sides.both(what, quoted(strings.one), quoted(strings.other))
+    else:
+        yield sides.both(f"offset {at:#x}", f"0x{ours[at]:02x}", f"0x{theirs[at]:02x}")
 
 
-def object_differences(sides: Sides, one: Bytes, other: Bytes) -> Iterator[str]:
-    """What differs between two objects in canonical layout: at least something."""
-    comparison = Comparison(sides, one, other)
+def quoted(string: bytes) -> str:
+    return f'"{printable(string, MOST_LETTERS)}"'
+
+
+def object_differences(
+    sides: Sides, one: Bytes, other: Bytes, ignores_debug: bool = False
+) -> Iterator[str]:
+    """What differs between two objects in canonical layout: at least something, unless debug
+    information is ignored."""
+    comparison = Comparison(sides, one, other, ignores_debug)
     count = 0
     for it in comparison.differences():
         count += 1
@@ -485,30 +553,49 @@ def object_differences(sides: Sides, one: Bytes, other: Bytes) -> Iterator[str]:
         for it in comparison.order():
             count += 1
             yield it
-    if not count:
+    if not count and not ignores_debug:
         at = first_difference(memoryview(one), memoryview(other))
         yield f"the canonical files differ at offset {at:#x}"
 
 
-def image_differences(sides: Sides, one: Bytes, other: Bytes) -> Iterator[str]:
-    """What differs between two programs or libraries: at least something."""
+def image_differences(
+    sides: Sides, one: Bytes, other: Bytes, ignores_debug: bool = False
+) -> Iterator[str]:
+    """What differs between two programs or libraries: at least something, unless debug information
+    is ignored, and with it the build id and what is in no section."""
     ours = File(one)
     theirs = File(other)
     names = Names()
-    own = sections_of(ours, one, names)
-    others = sections_of(theirs, other, names)
+    own = _compared(sections_of(ours, one, names), ours, ignores_debug)
+    others = _compared(sections_of(theirs, other, names), theirs, ignores_debug)
     found = list(header_differences(sides, ours, theirs))
     found += _section_differences(sides, ours.header.e_machine, own, others)
     found += _segment_differences(sides, ours, theirs)
+    if ignores_debug:
+        yield from found
+        return
     at = first_difference(memoryview(one), memoryview(other))
     yield from found or [f"the files differ at offset {at:#x}, in no content of a section"]
 
 
+Sections = tuple[list[Section], list[Text]]
+
+
+def _compared(every: Sections, file: File, ignores_debug: bool) -> Sections:
+    """The sections of a program that are compared, the first one as the table has it."""
+    if not ignores_debug:
+        return every
+    names = _names_of_sections(file.header.e_shstrndx, every[0])
+    kept = [
+        (it, name)
+        for k, (it, name) in enumerate(zip(*every))
+        if not k or k != names and name != _BUILD_ID and not has_debug_information(it, name)
+    ]
+    return [it for it, _ in kept], [name for _, name in kept]
+
+
 def _section_differences(
-    sides: Sides,
-    machine: int,
-    one: tuple[list[Section], list[Text]],
-    other: tuple[list[Section], list[Text]],
+    sides: Sides, machine: int, one: Sections, other: Sections
 ) -> Iterator[str]:
     ours, own = one
     theirs, others = other
@@ -521,8 +608,7 @@ def _section_differences(
         section = ours[index]
         same = theirs[second[label]]
         found = list(section_fields(sides, section, same, machine))
-        if section.content is not None and same.content is not None:
-            found += content_difference(sides, section.content, same.content)
+        found += content_difference(sides, section, same)
         yield from (f"section {label_words(label)}: {it}" for it in found)
 
 

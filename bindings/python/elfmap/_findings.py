@@ -3,22 +3,18 @@
 from __future__ import annotations
 
 import fnmatch
-import json
 import os
 import re
 from collections import Counter
 from collections.abc import Iterable, Iterator, Sequence
-from pathlib import Path
 from typing import NamedTuple, Optional, TypedDict, Union
 
-from elfmap._link_words import OF_ONE_FILE
-from elfmap._rules import LINK_RULES, RULES
-from elfmap._sources import reason_of
-from elfmap._words import printable
+from elfmap._origin import Origin
+from elfmap._rules import LINK_RULES, RULES, WARNINGS
 
 
 class Rule(NamedTuple):
-    """A rule of files, or one of the link. Both are numbered from 1 on.
+    """A rule of files or of the link, or a warning before a link. Each kind is numbered from 1 on.
 
     So 3 is WRONG_MAGIC of files, and TLS of the link. All that findings are of differ in
     their names.
@@ -26,16 +22,24 @@ class Rule(NamedTuple):
 
     is_of_link: bool
     number: int
+    is_warning: bool = False
 
     @property
     def words(self) -> str:
         """Its number, as text has it."""
-        return f"link {self.number}" if self.is_of_link else str(self.number)
+        kind = "warning " if self.is_warning else "link " if self.is_of_link else ""
+        return f"{kind}{self.number}"
 
     @property
     def key(self) -> Union[int, str]:
         """Its number, as JSON and `--ignore` have it."""
-        return f"link-{self.number}" if self.is_of_link else self.number
+        words = self.words
+        return self.number if words.isdecimal() else words.replace(" ", "-")
+
+    @property
+    def level(self) -> str:
+        """How SARIF and GitHub call what is found."""
+        return "warning" if self.is_warning else "error"
 
     @property
     def place(self) -> str:
@@ -45,8 +49,8 @@ class Rule(NamedTuple):
     @property
     def _kind(self) -> str:
         """What it is a rule of. Those of images are below 40, and those of tables below 70."""
-        if self.is_of_link:
-            return "link"
+        if self.is_of_link or self.is_warning:
+            return "warning" if self.is_warning else "link"
         if self.number < 40:
             return "image"
         return "table" if self.number < 70 else "object"
@@ -54,13 +58,19 @@ class Rule(NamedTuple):
     @property
     def table(self) -> dict[int, tuple[str, str, str]]:
         """All rules that are numbered with it: of each its name, its sentence and its advice."""
+        if self.is_warning:
+            return WARNINGS
         return LINK_RULES if self.is_of_link else RULES
+
+
+NOWHERE = -1
 
 
 class Finding(NamedTuple):
     """A rule that is broken, at an offset of a file or of a member of an archive.
 
-    `path` is printed, as `lib.a(member.o)`. The bytes are in `file`, from `start` on.
+    `path` is printed, as `lib.a(member.o)`. The bytes are in `file`, from `start` on; of one in a
+    package that is NOWHERE.
     """
 
     path: bytes
@@ -71,6 +81,7 @@ class Finding(NamedTuple):
     sections: tuple[str, ...]
     file: bytes
     start: int
+    origin: Origin = Origin()
 
 
 class Unread(NamedTuple):
@@ -80,7 +91,11 @@ class Unread(NamedTuple):
     reason: str
 
 
-class Summary(TypedDict):
+class Damaged(Unread):
+    """What can't be read due to the content of a file. A baseline may have it."""
+
+
+class Counts(TypedDict):
     """The numbers of a run; those of known deviations by their names."""
 
     checked: int
@@ -92,6 +107,12 @@ class Summary(TypedDict):
     class_32: int
     not_regular: int
     unreadable: int
+
+
+class Summary(Counts, total=False):
+    """These numbers, and whether the files link, if that was asked for and they could be read."""
+
+    links: bool
 
 
 class Report:
@@ -109,6 +130,10 @@ class Report:
         self.unreadable: list[Unread] = list(unreadable)
         # The files and members that were checked, where a format wants them.
         self.names: list[bytes] = []
+        # Whether the files link, if that was asked for.
+        self.links: Optional[bool] = None
+        # The debug files that files name: of each its name and its CRC-32.
+        self.debug_links: set[tuple[bytes, int]] = set()
 
     def add(self, other: Report) -> None:
         self.checked += other.checked
@@ -120,6 +145,8 @@ class Report:
         self.findings += other.findings
         self.unreadable += other.unreadable
         self.names += other.names
+        self.links = self.links if other.links is None else other.links
+        self.debug_links |= other.debug_links
 
     def sort(self) -> None:
         """By paths, so that it does not matter which part was done first."""
@@ -128,7 +155,7 @@ class Report:
         self.names.sort()
 
     def summary(self) -> Summary:
-        return {
+        found: Summary = {
             "checked": self.checked,
             "findings": len(self.findings),
             "files_with_findings": len({it.path for it in self.findings}),
@@ -139,6 +166,9 @@ class Report:
             "not_regular": self.irregular,
             "unreadable": len(self.unreadable),
         }
+        if self.links is not None:
+            found["links"] = self.links
+        return found
 
 
 class BadWord(ValueError):
@@ -169,7 +199,11 @@ def _pattern(globs: Sequence[bytes]) -> Optional[re.Pattern[bytes]]:
 
 
 # The rules that a finding may be of.
-ALL_RULES = [*(Rule(False, it) for it in RULES), *(Rule(True, it) for it in OF_ONE_FILE)]
+ALL_RULES = [
+    *(Rule(False, it) for it in RULES),
+    *(Rule(True, it) for it in LINK_RULES),
+    *(Rule(False, it, True) for it in WARNINGS),
+]
 
 
 def _words_of_rules() -> Iterator[tuple[str, Rule]]:
@@ -187,67 +221,16 @@ def _plain(word: str) -> str:
 _RULES = dict(_words_of_rules())
 
 
+def rules_of(word: str) -> list[Rule]:
+    """All rules of this name or number."""
+    plain = _plain(word)
+    return [it for it in ALL_RULES if plain in (it.table[it.number][0], _plain(str(it.key)))]
+
+
 def rule_of(word: str) -> Rule:
-    """A rule by its name or its number, which is `link-3` for rule 3 of the link."""
+    """A rule by its name or its number, which is `link-3` for rule 3 of the link, and `warning-3`
+    for a warning."""
     rule = _RULES.get(_plain(word))
     if not rule:
         raise BadWord(f"there is no rule {word!r}")
     return rule
-
-
-class Ignored:
-    """Rules that are suppressed, or suppressed where a glob matches the path."""
-
-    def __init__(self, words: Iterable[str]) -> None:
-        globs: dict[Rule, list[str]] = {}
-        for word in words:
-            rule, colon, glob = word.partition(":")
-            if colon and not glob:
-                raise BadWord(f"GLOB is missing in {word!r}")
-            globs.setdefault(rule_of(rule), []).append(glob if colon else "*")
-        self._globs = {rule: Globs(it) for rule, it in globs.items()}
-
-    def match(self, finding: Finding) -> bool:
-        globs = self._globs.get(finding.rule)
-        return globs is not None and (globs.match(finding.path) or globs.match(finding.file))
-
-
-# What of a finding stays the same where its file is built again: no offset.
-Known = tuple[str, str, tuple[str, ...]]
-
-
-def known(finding: Finding) -> Known:
-    """What a finding is known by."""
-    return os.fsdecode(finding.path), finding.name, finding.sections
-
-
-class Baseline:
-    """Findings that were there before, each as often as it was."""
-
-    def __init__(self, every: Iterable[Known]) -> None:
-        self._known = Counter(every)
-
-    @classmethod
-    def read(cls, path: str) -> Baseline:
-        try:
-            entries = json.loads(Path(path).read_bytes())["findings"]
-            return cls((it["path"], it["rule"], tuple(it["sections"])) for it in entries)
-        except OSError as fault:
-            raise BadWord(f"{printable(os.fsencode(path))}: {reason_of(fault)}") from None
-        except (ValueError, KeyError, TypeError, RecursionError):
-            raise BadWord(f"{printable(os.fsencode(path))} is no baseline") from None
-
-    def match(self, finding: Finding) -> bool:
-        own = known(finding)
-        if self._known[own] <= 0:
-            return False
-        self._known[own] -= 1
-        return True
-
-
-def baseline_text(findings: Iterable[Finding]) -> bytes:
-    entries = [
-        {"path": path, "rule": rule, "sections": list(sections)}
-        for path, rule, sections in map(known, findings)
-    ]
-    return json.dumps({"version": 1, "findings": entries}, indent=1).encode("ascii") + b"\n"

@@ -11,7 +11,9 @@ from typing import Any
 from urllib.parse import quote_from_bytes
 
 from elfmap import __version__
-from elfmap._findings import Finding, Known, Report, Rule, Unread, known
+from elfmap._findings import NOWHERE, Finding, Report, Rule, Unread
+from elfmap._origin import Origin
+from elfmap._suppressed import Known, known
 from elfmap._words import one_line, printable, visible
 
 # What ends a record: a line feed, or a zero byte.
@@ -47,6 +49,8 @@ def summary_words(report: Report) -> str:
         words += f"; skipped: {skipped}"
     if it["unreadable"]:
         words += f"; {it['unreadable']} unreadable"
+    if "links" in it:
+        words += "; they link" if it["links"] else "; they do not link"
     return words
 
 
@@ -76,10 +80,16 @@ def jsonl(report: Report, end: bytes) -> Iterator[bytes]:
     for it in report.findings:
         numbers = {"offset": it.offset, "rule": it.rule.key, "name": it.name}
         words = {"sections": list(it.sections), "message": it.message}
-        yield _json({**_path_of(it.path), **numbers, **words}) + end
+        yield _json({**_path_of(it.path), **numbers, **words, **_origin(it.origin)}) + end
     for lost in report.unreadable:
         yield _json({**_path_of(lost.path), "unreadable": lost.reason}) + end
     yield _json({"summary": report.summary()}) + end
+
+
+def _origin(it: Origin) -> dict[str, Any]:
+    """Where the file comes from; what is not known is left out."""
+    found = {"machine": it.machine, "producers": list(it.producers), "build_id": it.build_id}
+    return {key: value for key, value in found.items() if value}
 
 
 def _json(value: dict[str, Any]) -> bytes:
@@ -90,7 +100,7 @@ def github(report: Report, end: bytes) -> Iterator[bytes]:
     """Workflow commands, of which each becomes an annotation."""
     for it in report.findings:
         message = f"{printable(it.path)}: {sentence(it)}"
-        yield _command("error", it.file, f"{it.name} ({it.rule.words})", message) + end
+        yield _command(it.rule.level, it.file, f"{it.name} ({it.rule.words})", message) + end
     for lost in report.unreadable:
         message = f"{printable(lost.path)}: {lost.reason}"
         yield _command("error", lost.path, "unreadable", message) + end
@@ -144,12 +154,12 @@ def _sarif_rule(rule: Rule, name: str) -> dict[str, Any]:
     if rule.number not in rule.table:
         return words
     _, sentence, advice = rule.table[rule.number]
-    kind = "link rule" if rule.is_of_link else "rule"
+    kind = "warning" if rule.is_warning else "link rule" if rule.is_of_link else "rule"
     return {
         **words,
         "shortDescription": {"text": f"{kind} {rule.number}: {sentence}"},
         "help": {"text": f"{advice}; see {rule.place}"},
-        "defaultConfiguration": {"level": "error"},
+        "defaultConfiguration": {"level": rule.level},
     }
 
 
@@ -164,11 +174,12 @@ def _fingerprints(findings: Iterable[Finding]) -> Iterator[str]:
 
 
 def _sarif_result(it: Finding, position: int, fingerprint: str) -> dict[str, Any]:
-    region = {"byteOffset": it.start + it.offset}
-    # A file that is too short has no byte there.
-    if it.rule != _TOO_SHORT:
-        region["byteLength"] = 1
-    location: dict[str, Any] = {"physicalLocation": {**_artifact(it.file), "region": region}}
+    place: dict[str, Any] = _artifact(it.file)
+    if it.start != NOWHERE:
+        # A file that is too short has no byte there.
+        length = {} if it.rule == _TOO_SHORT else {"byteLength": 1}
+        place["region"] = {"byteOffset": it.start + it.offset, **length}
+    location: dict[str, Any] = {"physicalLocation": place}
     # The schema asks for locations that differ; the names of sections need not.
     names = [{"name": name, "kind": "section"} for name in dict.fromkeys(it.sections)]
     member = [{"name": printable(it.path), "kind": "member"}] if it.path != it.file else []
@@ -178,7 +189,7 @@ def _sarif_result(it: Finding, position: int, fingerprint: str) -> dict[str, Any
     return {
         "ruleId": it.name,
         "ruleIndex": position,
-        "level": "error",
+        "level": it.rule.level,
         "message": message,
         "locations": [location],
         "partialFingerprints": {_FINGERPRINT: fingerprint},
@@ -208,11 +219,12 @@ def junit(report: Report, end: bytes) -> Iterator[bytes]:
     counts = f'tests="{len(names)}" failures="{len(findings)}" errors="{len(unreadable)}"'
     yield b'<?xml version="1.0" encoding="UTF-8"?>\n'
     yield _encoded(f'<testsuites {counts}>\n<testsuite name="elfmap-lint" {counts}>\n')
-    if report.known:
-        yield b"<properties>\n"
-        for name, count in sorted(report.known.items()):
-            yield _encoded(f'<property name="known_deviations.{name}" value="{count}"/>\n')
-        yield b"</properties>\n"
+    properties = [(f"known_deviations.{name}", it) for name, it in sorted(report.known.items())]
+    if report.links is not None:
+        properties.append(("links", int(report.links)))
+    if properties:
+        lines = (f'<property name="{name}" value="{it}"/>\n' for name, it in properties)
+        yield _encoded("<properties>\n" + "".join(lines) + "</properties>\n")
     for path in names:
         yield _encoded(_testcase(path, findings.get(path, []), unreadable.get(path, [])))
     yield b"</testsuite>\n</testsuites>\n"

@@ -5,12 +5,11 @@ from __future__ import annotations
 import os
 import re
 import shlex
-from collections.abc import Iterator, Sequence
+from collections.abc import Iterator
 from typing import Optional
 
 from elfmap._deviations import SEGMENT_PAST_END, is_debug_file
-from elfmap._link_words import UNDEFINED_NAME, Linked
-from elfmap._names import machine_words, relocation_types, section_type
+from elfmap._names import section_type
 from elfmap._words import SECTION, SHARED_BYTE, Words, visible
 
 TOO_SHORT = 2
@@ -22,14 +21,13 @@ _OF_SECTION_TABLE = (12, NOT_NULL, 15)
 _KEPT_LINK = 78
 _KEPT_INFO = 79
 _WRONG_LINK = 44
-NO_RULE = 12
 _ADDRSIG = "LLVM_ADDRSIG"
 # What has another meaning within $'..'.
 _QUOTED = re.compile(rb"[\\']")
 # What other files begin with.
 _MAGICS = {
-    b"!<arch>\n": "it is an archive: elfmap-lint checks its members",
-    b"!<thin>\n": "it is a thin archive: elfmap-lint checks its members",
+    b"!<arch>\n": "it is an archive: elfmap-lint checks its members, and a link takes these (ar x)",
+    b"!<thin>\n": "it is a thin archive: elfmap-lint checks its members, and a link takes these",
     b"BC\xc0\xde": "it is LLVM bitcode: compile without -flto",
     b"\xde\xc0\x17\x0b": "it is LLVM bitcode: compile without -flto",
     b"#!": "it is a script",
@@ -57,15 +55,6 @@ _PRODUCERS = {
         b"__u_boot_list",
         "U-Boot made it, whose linker script leaves out tables that others link to",
     ),
-}
-# Names that compilers refer to by themselves, and the option without which they do.
-_NAMES = {
-    "_GLOBAL_OFFSET_TABLE_": (
-        "the code is compiled for a global offset table: compile it with -fno-pic"
-    ),
-    "__stack_chk_fail": "the code checks its stack: compile it with -fno-stack-protector",
-    "__tls_get_addr": "the code has thread-local variables, which elfmap does not link",
-    "_Unwind_Resume": "the code unwinds its stack: compile it with -fno-exceptions",
 }
 
 
@@ -139,47 +128,13 @@ def _address_significance(words: Words, path: str, at: int) -> Iterator[str]:
     index = (at - words.table) // 64
     kind = section_type(words.section(index, "sh_type"))
     if kind == _ADDRSIG or words.section_name(index) == ".llvm_addrsig":
-        strip = f"objcopy --remove-section=.llvm_addrsig {_shell_word(os.fsencode(path))}"
+        strip = f"objcopy --remove-section=.llvm_addrsig {shell_word(os.fsencode(path))}"
         yield f"clang wrote .llvm_addrsig: compile with -fno-addrsig, or strip it: {strip}"
 
 
-def _shell_word(path: bytes) -> str:
+def shell_word(path: bytes) -> str:
     """A path as a word of a command for bash, zsh or ksh, in letters that can be printed."""
     if visible(path) == path:
         return shlex.quote(os.fsdecode(path))
     quoted = _QUOTED.sub(rb"\\\g<0>", path)
     return f"$'{visible(quoted).decode()}'"
-
-
-def link_hints(
-    files: Sequence[Linked], rule: int, file: int, index: int, entry: int
-) -> Iterator[str]:
-    """Of a rule of the link."""
-    if file >= len(files):
-        return
-    it = files[file]
-    if rule == UNDEFINED_NAME:
-        name = it.symbol_name(index)
-        if name in _NAMES:
-            yield f"{name}: {_NAMES[name]}"
-    elif rule == NO_RULE:
-        yield from _unknown_relocation(it, index, entry)
-
-
-def _unknown_relocation(file: Linked, index: int, entry: int) -> Iterator[str]:
-    """A relocation by a table that elfmap does not make, or one for which a rule can be."""
-    at = file.relocation(index, entry)
-    if at < 0:
-        return
-    number = file.words.number(at + 8, 8) & 0xFFFFFFFF
-    machine = file.words.machine
-    name = relocation_types(machine).get(number, "")
-    if "GOT" in name:
-        table = "a global offset table, which elfmap does not make"
-        yield f"{name} is by {table}: compile with -fno-pic"
-    elif name == "R_X86_64_PLT32":
-        line = f"`{number} pc 4 signed`"
-        yield f"{name} is a call, which needs no table here: the rule file needs the line {line}"
-    elif name:
-        kind = f"{number}, {name} of machine {machine_words(machine)}"
-        yield f"the rule file has no line for type {kind}"

@@ -6,19 +6,15 @@ from collections.abc import Iterator
 from contextlib import contextmanager
 from typing import NamedTuple
 
-from elfmap._archives import MAGICS, Content, Contents, is_archive, members, printed
+from elfmap._archives import Content, Contents
 from elfmap._checks import TOO_LONG_AS_OBJECT, Checks, Fault
-from elfmap._findings import Finding, Report, Rule, Unread
+from elfmap._debug_links import link_of
+from elfmap._findings import NOWHERE, Damaged, Finding, Report, Rule, Unread
 from elfmap._hints import producers
 from elfmap._link_words import Linked, explain_alone
-from elfmap._sources import (
-    Source,
-    Unreadable,
-    decompressed,
-    is_compressed,
-    opened,
-    standard_input,
-)
+from elfmap._origin import Origin, origin_of
+from elfmap._packages import MOST_UNPACKED, Opener
+from elfmap._sources import Source, Unreadable, opened, standard_input
 from elfmap._walk import Named, reason_of_foreign
 from elfmap._words import MOST_LETTERS, Words, explain
 
@@ -34,7 +30,8 @@ class Depth(NamedTuple):
     """How much of a file is checked, and what is reported: of each name in a sentence at most so
     many letters, and of sections also their names by themselves. Whether a file that is named may
     be no ELF file. Whether known deviations are findings, and whether segments of debug files may
-    pass the end. Whether files that are compressed are read.
+    pass the end. How many bytes may come out of what is compressed in a file. Whether other files
+    name all files as their debug files.
     """
 
     tables: bool = False
@@ -47,7 +44,8 @@ class Depth(NamedTuple):
     skips_named: bool = True
     is_strict: bool = True
     debug_files: bool = False
-    decompresses: bool = False
+    most_unpacked: int = MOST_UNPACKED
+    are_named_debug_files: bool = False
 
 
 class Inspector:
@@ -55,9 +53,10 @@ class Inspector:
 
     def __init__(self, depth: Depth) -> None:
         self._depth = depth
-        how = depth.is_strict, depth.debug_files
+        how = depth.is_strict, depth.debug_files, depth.are_named_debug_files
         self._checks = Checks(depth.tables, depth.objects, *how)
-        self._contents = Contents(depth.follows_thin)
+        contents = Contents(depth.follows_thin)
+        self._opener = Opener(contents, self._lose, depth.most_unpacked)
         self._report = Report()
 
     def files(self, paths: list[bytes]) -> Report:
@@ -75,32 +74,25 @@ class Inspector:
         return self._report
 
     @contextmanager
-    def _guarded(self, path: bytes) -> Iterator[None]:
+    def _guarded(self, path: bytes, is_opened: bool = False) -> Iterator[None]:
         """Whatever ends the look at a file, it goes on with the next one."""
         try:
             yield
         except Unreadable as fault:
-            self._report.unreadable.append(Unread(path, fault.reason))
+            self._lose(path, fault.reason, is_opened)
         except MemoryError:
-            self._report.unreadable.append(Unread(path, "there is no memory for it"))
+            self._lose(path, "there is no memory for it", False)
+
+    def _lose(self, path: bytes, reason: str, is_content: bool = True) -> None:
+        self._report.unreadable.append((Damaged if is_content else Unread)(path, reason))
 
     def _file(self, path: bytes, source: Source, is_named: bool) -> None:
-        if self._depth.decompresses and is_compressed(path, source):
-            with decompressed(source, MAGICS) as it:
-                self._plain_file(path, it, is_named)
-        else:
-            self._plain_file(path, source, is_named)
-
-    def _plain_file(self, path: bytes, source: Source, is_named: bool) -> None:
-        if not is_archive(source):
-            if is_named and not self._depth.skips_named and source[:4] != _MAGIC:
-                raise Unreadable(reason_of_foreign(len(source)))
-            self._image(Content(path, path, source))
-            return
-        for member in members(source, path):
-            with self._guarded(printed(path, member)):
-                with self._contents.opened(path, source, member) as it:
-                    self._image(it)
+        for it in self._opener.leaves(path, source):
+            with self._guarded(it.path, True):
+                is_wanted = is_named and it.path == path and not self._depth.skips_named
+                if is_wanted and it.source[:4] != _MAGIC:
+                    raise Unreadable(reason_of_foreign(len(it.source)))
+                self._image(it)
 
     def _image(self, it: Content) -> None:
         head = it.source[:5]
@@ -115,20 +107,24 @@ class Inspector:
     def _elf(self, it: Content) -> None:
         faults = self._checks.faults(it.source)
         self._report.known += self._checks.known
+        link = link_of(it.source) if self._depth.debug_files else None
+        self._report.debug_links |= {link} if link else set()
         if self._depth.keeps_names:
             self._report.names.append(it.path)
         if not faults:
             return
         words = Words(it.source, self._depth.most_letters)
-        found = [_finding(it, words, fault, self._depth) for fault in faults]
+        origin = origin_of(words)
+        found = [_finding(it, words, origin, fault, self._depth) for fault in faults]
         self._report.findings += found
 
 
-def _finding(content: Content, words: Words, fault: Fault, depth: Depth) -> Finding:
-    path, file, source = content
+def _finding(content: Content, words: Words, origin: Origin, fault: Fault, depth: Depth) -> Finding:
+    path, file, source, is_copy = content
+    start = NOWHERE if is_copy else source.start
     rule = Rule(fault.is_of_link, fault.rule)
     if fault.rule == TOO_LONG_AS_OBJECT:
-        return Finding(path, 0, rule, *_TOO_LONG, (), file, source.start)
+        return Finding(path, 0, rule, *_TOO_LONG, (), file, start, origin)
     if fault.is_of_link:
         told = explain_alone(Linked("", words), fault.rule, fault.at)
     elif fault.reading:
@@ -138,4 +134,4 @@ def _finding(content: Content, words: Words, fault: Fault, depth: Depth) -> Find
     name = rule.table[rule.number][0]
     message = "; ".join((told.message, *producers(words, fault.rule, fault.at)))
     sections = tuple(map(words.section_name, told.sections)) if depth.names_sections else ()
-    return Finding(path, fault.at, rule, name, message, sections, file, source.start)
+    return Finding(path, fault.at, rule, name, message, sections, file, start, origin)

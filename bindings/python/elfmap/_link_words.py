@@ -17,8 +17,10 @@ from typing import Optional
 from elfmap._names import machine_words
 from elfmap._rules import LINK_RULES
 from elfmap._words import (
+    ENTRY_SIZES,
     LONGEST_NAME,
     NULL,
+    REL,
     RELA,
     SECTION,
     SYMTAB,
@@ -39,9 +41,9 @@ _BYTES_AT_ONCE = 1 << 20
 # A name is looked for at so many places of the string table.
 _MOST_OFFSETS = 1 << 20
 # The rules by what their positions are of.
-_OF_OPTIONS = (1, 10, 11)
+OF_OPTIONS = (1, 10, 11)
 _OF_SECTIONS = (3, 4, 5)
-_MISMATCH = 2
+MISMATCH = 2
 _EMPTY_SIGNATURE = 5
 _BAD_COMMON = 7
 _TWO_DEFINITIONS = 8
@@ -68,7 +70,7 @@ class Linked:
         return next((index for index, _, kind, *_ in self.words.headers() if kind == SYMTAB), 0)
 
     @cached_property
-    def _kept(self) -> list[int]:
+    def kept(self) -> list[int]:
         """The sections that are sections of the object too, in order."""
         words = self.words
         strings = words.section(self.symbols, "sh_link") if self.symbols else 0
@@ -78,7 +80,7 @@ class Linked:
 
     def section(self, position: int) -> int:
         """The index of the section at a position; the count where there is none."""
-        return self._kept[position] if position < len(self._kept) else self.words.count
+        return self.kept[position] if position < len(self.kept) else self.words.count
 
     def _place(self, rule: int) -> tuple[int, int, int]:
         """Of the section headers or symbols that a rule is about where they begin, their size, and
@@ -103,6 +105,28 @@ class Linked:
         start, size, count = self._place(rule)
         index = (at - start) // size
         return index if 0 <= index < count else count
+
+    def place(self, rule: int, index: int, entry: int) -> int:
+        """Where in the file a rule of a section, a symbol or a relocation is broken; -1 if that is
+        not there."""
+        if rule in _OF_RELOCATIONS:
+            return self.relocation(index, entry)
+        return self.offset(rule, index)
+
+    def position_at(self, rule: int, at: int) -> tuple[int, int]:
+        """The position of the section or symbol at such an offset, or of the section of relocations
+        and of the entry in it; the first number is too large if there is none."""
+        if rule in _OF_SECTIONS:
+            index = self.index_at(rule, at)
+            return self.kept.index(index) if index in self.kept else len(self.kept), 0
+        if rule not in _OF_RELOCATIONS:
+            return self.index_at(rule, at) - 1, 0
+        for position, index in enumerate(self.kept):
+            start, end = self.words.content(index)
+            kind = self.words.section(index, "sh_type")
+            if kind in (REL, RELA) and start <= at < end:
+                return position, (at - start) // ENTRY_SIZES[kind]
+        return len(self.kept), 0
 
     def raw_name(self, position: int, most: int = LONGEST_NAME) -> bytes:
         """The name of the symbol at a position, or so many bytes of it."""
@@ -242,10 +266,10 @@ def explain_alone(file: Linked, rule: int, at: int) -> Told:
 
 def link_words(files: Sequence[Linked], rule: int, file: int, index: int, entry: int) -> str:
     """What a rule of the link is about."""
-    if rule in _OF_OPTIONS or file >= len(files):
+    if rule in OF_OPTIONS or file >= len(files):
         return "by the options and all files together, at no one place"
     it = files[file]
-    if rule == _MISMATCH:
+    if rule == MISMATCH:
         return f"{it.machine_words()}; {files[0].machine_words()}"
     if rule in OF_ONE_FILE:
         own = it.section(index) if rule in _OF_SECTIONS else index + 1

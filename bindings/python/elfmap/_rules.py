@@ -323,7 +323,9 @@ LINK_RULES = {1: ('BAD_OPTIONS',
  12: ('NO_RULE',
       'the link is refused because an applied entry is of a kind that the list has no '
       'rule for',
-      'add a line for the kind; `none` where it changes no bytes'),
+      'take the file of `rules/` for the machine, or add a line by what its psABI '
+      'defines for the kind; `none` is for kinds alone that the psABI defines to '
+      'change nothing'),
  13: ('UNPLACED',
       'the link is refused because the symbol of a field has no value: it is local, '
       'and undefined or in a section that is not live; or it is not local, and the '
@@ -337,11 +339,42 @@ LINK_RULES = {1: ('BAD_OPTIONS',
  15: ('FIELDS_OVERLAP',
       'the link is refused because a field shares a byte with that of an entry before '
       'it, by file, section and entry',
-      'a byte belongs to one field; a kind that changes no bytes of its own gets a '
-      'rule of the form `none`'),
+      'a byte belongs to one field; the form `none` is for kinds alone that the psABI '
+      'defines to change nothing'),
  16: ('VALUE_OUT_OF_RANGE',
       'the link is refused because the range of the rule does not admit the number: in '
       'a field of n bits, `signed` admits -2^(n-1) to 2^(n-1) - 1, `unsigned` 0 to 2^n '
       '- 1, `wrap` every number',
       'place the program where its addresses fit, most often lower, or compile it for '
       'larger addresses')}
+
+# Those of each warning before a link.
+WARNINGS = {1: ('INDIRECT_FUNCTION',
+     'the program may not be that of `ld` because a field or the entry point refers to '
+     'a symbol of type GNU_IFUNC, whose value is the address of its resolver, and not '
+     'of the function that this returns',
+     'call the function itself, or call the resolver and then what it returns; compile '
+     'without `ifunc` and `target_clones`'),
+ 2: ('NAME_OF_LINKER',
+     'the program may not be that of `ld` because a field refers to a WEAK name that '
+     'no file defines, and that `ld` defines: its value is 0',
+     'define the name in an object'),
+ 3: ('FIELD_UNCHANGED',
+     'the program may not be that of `ld` because the list has a rule of the form '
+     '`none` for the kind of an applied entry, and the psABI does not define that the '
+     'kind changes nothing',
+     'take the line of the file of `rules/` for the machine; a kind that has none '
+     "there can't be linked"),
+ 4: ('FIELD_CHANGED_OTHERWISE',
+     'the program may not be that of `ld` because the rule for the kind of an applied '
+     'entry has another form or width than in the file of `rules/` for the machine',
+     'take the line of that file'),
+ 5: ('CODE_FOR_LTO',
+     'the program may not be that of `ld` because an object has its code only in '
+     'sections for link-time optimization, which `ld` passes to the compiler',
+     'compile it without `-flto`, or with `-ffat-lto-objects`'),
+ 6: ('ARRAY_NOT_SORTED',
+     'the program may not be that of `ld` because a live section is named as '
+     '`.init_array.100`, and a name is the beginning or the end of such an array: `ld` '
+     'puts the section into `.init_array` by its number',
+     'call the function itself, or give its constructor no priority')}

@@ -6,13 +6,12 @@ whatever its size. A read of it returns too few bytes, which is an error like an
 
 from __future__ import annotations
 
-import importlib
 import mmap
 import os
 import stat
 from collections.abc import Callable, Iterator
 from contextlib import contextmanager
-from typing import Any, Optional
+from typing import Optional
 
 from elfmap import _library
 
@@ -24,9 +23,6 @@ _BLOCK = 1 << 16
 _MOST_BLOCKS = 16
 _NORESERVE = getattr(mmap, "MAP_NORESERVE", 0x4000)
 _LEAST_ROOM = 1 << 20
-# How the names of compressed files end, and how these begin.
-_COMPRESSED = {b".gz": b"\x1f\x8b", b".xz": b"\xfd7zXZ\0"}
-_MAGIC_SIZE = 8
 
 
 class Unreadable(Exception):
@@ -141,48 +137,6 @@ def _copied(read: Callable[[int], bytes], handle: int, size: int = 0) -> int:
             break
         size += os.pwrite(handle, content, size)
     return size
-
-
-def is_compressed(path: bytes, source: Source) -> bool:
-    """Whether a file has the name and the first bytes of one that gzip or xz compressed."""
-    return any(path.endswith(end) and source[: len(it)] == it for end, it in _COMPRESSED.items())
-
-
-@contextmanager
-def decompressed(source: Source, wanted: tuple[bytes, ...]) -> Iterator[Source]:
-    """What was compressed, in memory: all of it if it begins with one of these, or else its first
-    bytes."""
-    handle = os.memfd_create("what was decompressed")
-    try:
-        yield Source(handle, 0, _decompress(source, wanted, handle))
-    finally:
-        os.close(handle)
-
-
-def _decompress(source: Source, wanted: tuple[bytes, ...], handle: int) -> int:
-    module, broken = _compression(source)
-    try:
-        with os.fdopen(os.dup(source.handle), "rb") as raw:
-            raw.seek(source.start)
-            with module.open(raw) as it:
-                first = it.read(_MAGIC_SIZE)
-                size = os.pwrite(handle, first, 0)
-                return _copied(it.read, handle, size) if first.startswith(wanted) else size
-    except (OSError, EOFError, broken) as fault:
-        reason = reason_of(fault) if isinstance(fault, OSError) else str(fault)
-        raise Unreadable(f"it can't be decompressed: {reason.lower()}") from None
-
-
-def _compression(source: Source) -> tuple[Any, type[Exception]]:
-    """The module that decompresses it, and what that raises. Most runs need none, and not every
-    Python has lzma."""
-    name, fault = ("gzip", "zlib") if source[:2] == _COMPRESSED[b".gz"] else ("lzma", "lzma")
-    try:
-        module = importlib.import_module(name)
-        broken = vars(importlib.import_module(fault))
-    except ImportError:
-        raise Unreadable(f"it can't be decompressed: this Python has no module {name}") from None
-    return module, broken.get("LZMAError") or broken["error"]
 
 
 class Room:

@@ -4,6 +4,7 @@
     elfmap-explain LINE FILE...        one such line, as words
     elfmap-explain < FINDINGS          what elfmap-lint printed, as text or as jsonl
     elfmap-explain FILE...             what the rules of images, tables and objects say of them
+    elfmap-explain RULE...             what a rule says, by its name or its number: 33, link-3
 
 Lines are read from a pipe, a socket or a file; from a terminal or another device only if
 `-` is among the FILEs, or if there is no FILE. Other lines are passed over. If no line is
@@ -36,35 +37,29 @@ from itertools import chain
 from typing import Any, BinaryIO, NamedTuple, Optional
 
 from elfmap import __version__
-from elfmap._archives import MAGICS, Content, Contents, Member, is_archive, members, printed
+from elfmap._archives import Content, Contents, Member, is_archive, members, printed
 from elfmap._checks import Checks
-from elfmap._commands import USAGE, UNREADABLE, Parser, complain, is_open, run_script
+from elfmap._commands import DONE, USAGE, UNREADABLE, Parser, complain, is_open, run_script
 from elfmap._deviations import DEVIATIONS
-from elfmap._findings import Rule
-from elfmap._hints import hints, link_hints
-from elfmap._link_words import OF_ONE_FILE, Linked, link_words
-from elfmap._rules import LINK_RULES, RULES
-from elfmap._sources import (
-    Source,
-    Unreadable,
-    decompressed,
-    is_compressed,
-    opened,
-    reason_of,
-    whole,
-)
+from elfmap._findings import Rule, rules_of
+from elfmap._hints import hints
+from elfmap._link_hints import link_hints, warning_advice
+from elfmap._link_words import MISMATCH, OF_ONE_FILE, Linked, link_words
+from elfmap._packages import content_at
+from elfmap._rules import LINK_RULES, RULES, WARNINGS
+from elfmap._sources import Source, Unreadable, opened, reason_of, whole
 from elfmap._words import MOST_OWNERS, Words, found_at, one_line, original_path, printable
 
 PROGRAM = "elfmap-explain"
 WIDTH = 130
-_REFUSAL = re.compile(rb"(?:file (\d+) )?refused((?: \d+){2,4})$")
+_REFUSAL = re.compile(rb"(?:file (\d{1,20}) )?refused((?: \d{1,20}){2,4})$")
 _FINDING = re.compile(
     rb"(?P<path>.*?): offset 0x(?P<offset>[0-9a-f]{1,16}): "
-    rb"(?P<name>[A-Z_0-9]+) \((?P<link>link )?(?P<rule>\d{1,3})\): ",
+    rb"(?P<name>[A-Z_0-9]+) \((?P<kind>link |warning )?(?P<rule>\d{1,3})\): ",
     re.S,
 )
 _DEVIATION = re.compile(rb"\(known deviation ([a-z0-9-]+)\)")
-_LINK_RULE = re.compile(r"link-([0-9]{1,3})")
+_OTHER_RULE = re.compile(r"(link|warning)-([0-9]{1,3})")
 _FIRST_WORD = re.compile(r"file|refused")
 _WORD = re.compile(r"refused|\d+")
 # So many files are held open.
@@ -72,6 +67,10 @@ _MOST_OPEN = 16
 _LONGEST_RECORD = 1 << 20
 _TOO_LONG = (
     "the file is refused because the canonical layout of its object is longer than 2^30 bytes"
+)
+_TOO_LONG_PROGRAM = (
+    "the executable would be longer than 2^30 bytes, or have more than 65,534 segments: choose a"
+    " smaller page, or link fewer files"
 )
 _CHECKED = (
     "checked here by the rules of images and tables, and relocatable files by those of objects: "
@@ -124,7 +123,8 @@ class Files:
 
     def _content(self, path: bytes, stack: ExitStack) -> Content:
         if os.path.lexists(path):
-            return Content(path, path, _read(path, stack))
+            source = stack.enter_context(opened(path))
+            return content_at(path, path, source, stack) or Content(path, path, source)
         archive = _archive_of(path)
         member = self._member(path, archive, stack) if archive else None
         if member:
@@ -135,7 +135,7 @@ class Files:
 
     def _member(self, path: bytes, archive: bytes, stack: ExitStack) -> Optional[Content]:
         """The first member of this path: an archive may have several."""
-        source = _read(archive, stack)
+        source = stack.enter_context(opened(archive))
         if self._members[0] != archive:
             self._members = archive, *_members_of(source, archive)
         _, named, others = self._members
@@ -149,26 +149,19 @@ class Files:
             content = stack.enter_context(contents.opened(archive, source, it))
             if content.path == path:
                 return content
-        return None
-
-
-def _read(path: bytes, stack: ExitStack) -> Source:
-    """The bytes that a finding of a file is about: of one that is compressed what is in it."""
-    source = stack.enter_context(opened(path))
-    if is_compressed(path, source):
-        source = stack.enter_context(decompressed(source, MAGICS))
-    return source
+        # It may be in a package, which is read to it.
+        return content_at(path, archive, source, stack)
 
 
 def _members_of(source: Source, path: bytes) -> tuple[dict[bytes, Member], list[Member]]:
-    """The members of an archive by their paths, of several of one path the first; and those in
-    other archives."""
+    """The members of an archive by their paths, of which no two are the same; and those in other
+    archives."""
     named: dict[bytes, Member] = {}
     others = []
     with suppress(Unreadable):
         for it in members(source, path) if is_archive(source) else ():
             if it.origin is None:
-                named.setdefault(printed(path, it), it)
+                named[printed(path, it)] = it
             else:
                 others.append(it)
     return named, others
@@ -264,7 +257,9 @@ class Explainer:
         try:
             words, file = self._files.words(it.path)
             path = printable(it.path)
-            if it.rule.is_of_link:
+            if it.rule.is_warning:
+                yield from _of_warning(Linked(path, words), it.rule, it.offset)
+            elif it.rule.is_of_link:
                 yield from _of_link_alone(Linked(path, words), it.rule.number, it.offset)
             else:
                 yield from self._of_file(path, words, file, it.rule.number, it.offset, None)
@@ -305,11 +300,34 @@ def _readings(line: bytes) -> Iterator[str]:
 
 
 def _of_link_alone(file: Linked, rule: int, at: int) -> Iterator[str]:
+    """Of a rule of the link, where one of the files is known: of some rules it is the reason by
+    itself."""
+    if rule not in LINK_RULES:
+        yield _TOO_LONG_PROGRAM if rule == 0 else f"there is no rule {rule} of the link"
+        return
+    index, entry = file.position_at(rule, at)
     if rule in OF_ONE_FILE:
-        place = file.own_words(rule, file.index_at(rule, at))
-        yield from _link_lines(rule, f"{file.path}, offset {at} ({at:#x}): {place}", ())
+        place = (
+            f"{file.path}, offset {at} ({at:#x}): {file.own_words(rule, file.index_at(rule, at))}"
+        )
+    elif rule == MISMATCH:
+        place = file.machine_words()
     else:
-        yield f"there is no rule {rule} of the link that a file breaks by itself"
+        place = link_words([file], rule, 0, index, entry)
+    yield from _link_lines(rule, place, link_hints([file], rule, 0, index, entry))
+
+
+def _of_warning(file: Linked, rule: Rule, at: int) -> Iterator[str]:
+    """Of a warning before a link what is at its offset."""
+    if rule.number not in WARNINGS:
+        yield f"there is no warning {rule.number}"
+        return
+    name, sentence, advice = WARNINGS[rule.number]
+    yield f"{name}: {sentence}"
+    places = [it.words for it in found_at(file.words, 0, at)]
+    yield from (f"{file.path}, offset {at} ({at:#x}): {it}" for it in places[:MOST_OWNERS])
+    yield f"what to do: {warning_advice(file, rule.number, at) or advice}"
+    yield rule.place
 
 
 def _link_lines(rule: int, place: str, causes: Iterable[str]) -> Iterator[str]:
@@ -324,7 +342,8 @@ def finding_in(line: bytes, of_records: bool) -> Optional[Finding]:
     found = _FINDING.match(line)
     if found:
         path = found["path"] if of_records else original_path(found["path"])
-        rule = Rule(bool(found["link"]), int(found["rule"]))
+        kind = found["kind"] or b""
+        rule = Rule(kind == b"link ", int(found["rule"]), kind == b"warning ")
         return Finding(path, int(found["offset"], 16), rule, found["name"].decode())
     if line.lstrip()[:1] != b"{":
         return None
@@ -345,12 +364,14 @@ def _path(finding: Any) -> bytes:
 
 
 def _rule(value: object) -> Rule:
-    found = _LINK_RULE.fullmatch(value) if isinstance(value, str) else None
-    return Rule(True, int(found[1])) if found else Rule(False, _number(value))
+    found = _OTHER_RULE.fullmatch(value) if isinstance(value, str) else None
+    if found:
+        return Rule(found[1] == "link", int(found[2]), found[1] == "warning")
+    return Rule(False, _number(value))
 
 
 def _number(value: object) -> int:
-    if isinstance(value, int) and 0 <= value < 2**64:
+    if isinstance(value, int) and not isinstance(value, bool) and 0 <= value < 2**64:
         return value
     raise ValueError("no offset and no rule")
 
@@ -424,7 +445,7 @@ def _parser() -> Parser:
         nargs="*",
         help=(
             "one line of elfmap, as words, and then the files; with - among files, lines of"
-            " standard input are read also from a terminal"
+            " standard input are read also from a terminal; or rules, as 33, SHARED_BYTE or link-3"
         ),
     )
     return parser
@@ -448,6 +469,9 @@ def _no_line(line: bytes, paths: list[str]) -> int:
 def main(words: Optional[Sequence[str]] = None) -> int:
     """Runs the program, and returns its status."""
     options = _parser().in_any_order(words, "words")
+    rules = _rules_named(options.words)
+    if rules:
+        return _explain_rules(rules)
     count = _line_of(options.words)
     paths = options.words[count:]
     line = " ".join(options.words[:count]).encode()
@@ -471,6 +495,29 @@ def main(words: Optional[Sequence[str]] = None) -> int:
         lines = records(b"\0" if options.zero else b"\n") if is_read else iter([line])
         return _explain_all(explainer, lines, "standard input refuses nothing; " if is_read else "")
     return UNREADABLE
+
+
+def _rules_named(words: list[str]) -> list[Rule]:
+    """The rules that all words name; none if one names none, or a file."""
+    found = []
+    for word in words:
+        own = rules_of(word)
+        if not own or os.path.lexists(word):
+            return []
+        found += own
+    return found
+
+
+def _explain_rules(rules: list[Rule]) -> int:
+    filled = textwrap.TextWrapper(WIDTH, subsequent_indent="  ")
+    texts = []
+    for rule in rules:
+        name, sentence, advice = rule.table[rule.number]
+        lines = f"{name} ({rule.words}): {sentence}", f"what to do: {advice}", rule.place
+        texts.append("".join(f"{filled.fill(it)}\n" for it in lines))
+    with open(1, "wb", closefd=False) as out:
+        out.write(_encoded("\n".join(texts)))
+    return DONE
 
 
 def _encoded(words: str) -> bytes:

@@ -5,6 +5,10 @@
 Prints a line for each finding, and a summary. The status is 0 if nothing is found, 1 if
 something is, 2 for a usage error, and 3 if a file can't be read, or if a file that is named
 is no ELF file. The other files are checked all the same.
+
+    elfmap-lint --link --rules RULES [--entry NAME] [OPTIONS] FILE...
+
+Prints why the objects do not link, and where a link makes another program than ld.
 """
 
 from __future__ import annotations
@@ -12,29 +16,21 @@ from __future__ import annotations
 import argparse
 import importlib
 import os
-import stat
 import sys
-import tempfile
 import time
-from collections.abc import Iterator, Sequence
+from collections.abc import Iterable, Iterator, Sequence
 from itertools import chain
-from typing import Any, BinaryIO, Optional
+from typing import Any, Optional
 
-from elfmap import __version__, _library
+from elfmap import __version__, _colors, _debug_links, _formats, _library, _preflight
 from elfmap._commands import DONE, FOUND, UNREADABLE, USAGE, Parser, complain, failure, run_script
-from elfmap._findings import (
-    ALL_RULES,
-    BadWord,
-    Baseline,
-    Finding,
-    Globs,
-    Ignored,
-    Report,
-    Unread,
-    baseline_text,
-)
+from elfmap._config import configured
+from elfmap._findings import ALL_RULES, BadWord, Damaged, Finding, Globs, Report, Unread
 from elfmap._inspect import Depth, Inspector
+from elfmap._outputs import Output
+from elfmap._packages import MOST_UNPACKED
 from elfmap._sources import reason_of
+from elfmap._suppressed import Baseline, Ignored, baseline_text
 from elfmap._walk import Walk, chunks
 from elfmap._words import LONGEST_NAME, MOST_LETTERS, one_line
 from elfmap._workers import Pool, Work
@@ -56,7 +52,7 @@ _TABLES = "symbols, relocations, groups, notes, dynamic arrays, hash tables"
 def _parser() -> Parser:
     parser = Parser(
         prog=PROGRAM,
-        description="Checks all ELF-64 files of files, directories and .a archives.",
+        description="Checks all ELF-64 files of files, directories, archives and packages.",
         epilog=_STATUSES,
     )
     parser.add_argument("--version", action="version", version=f"%(prog)s {__version__}")
@@ -65,8 +61,16 @@ def _parser() -> Parser:
         action="store_true",
         help="print the rules that findings are of: number, name and sentence",
     )
+    parser.add_argument(
+        "--config",
+        metavar="FILE",
+        help="read options from FILE, not from .elfmap-lint.toml at or above the first PATH",
+    )
+    parser.add_argument("--no-config", action="store_true", help="read options from no file")
     _add_paths(parser)
+    _add_packages(parser)
     _add_checks(parser)
+    _preflight.add_options(parser)
     _add_suppressions(parser)
     _add_output(parser)
     return parser
@@ -79,7 +83,7 @@ def _add_paths(parser: Parser) -> None:
         "paths",
         metavar="PATH",
         nargs="*",
-        help="a file, a directory, an archive, or - for standard input",
+        help="a file, a directory, an archive, a package, or - for standard input",
     )
     add(
         "--files0-from",
@@ -99,11 +103,6 @@ def _add_paths(parser: Parser) -> None:
         help="read the members of a thin archive also outside of its directory",
     )
     add(
-        "--decompress",
-        action="store_true",
-        help="read .gz and .xz files as what is compressed in them",
-    )
-    add(
         "--skip",
         action="store_true",
         help="skip a PATH that is empty or no ELF file too, as files of directories are skipped",
@@ -114,6 +113,19 @@ def _add_paths(parser: Parser) -> None:
         default="warn",
         help="skip files of class 32 with a warning, without, or report them (default: warn)",
     )
+
+
+def _add_packages(parser: Parser) -> None:
+    """How far packages are read."""
+    add = parser.add_argument
+    add(
+        "--unpack-limit",
+        metavar="MIB",
+        type=int,
+        default=MOST_UNPACKED >> 20,
+        help="decompress at most so many MiB of a file (default: %(default)s)",
+    )
+    add("--decompress", action="store_true", help="changes nothing: compressed files are read")
 
 
 def _add_checks(parser: Parser) -> None:
@@ -146,9 +158,19 @@ def _add_suppressions(parser: Parser) -> None:
         metavar="RULE[:GLOB]",
         action="append",
         default=[],
-        help="suppress this rule (33, SHARED_BYTE, link-3), or only where the path matches",
+        help=(
+            "suppress this rule (33, SHARED_BYTE, link-3, * for any), or only where the path"
+            " matches; or with :machine=GLOB, :section=GLOB, :producer=GLOB"
+        ),
     )
     add("--baseline", metavar="FILE", help="suppress the findings that FILE lists")
+    add(
+        "--strip-components",
+        metavar="N",
+        type=int,
+        default=0,
+        help="compare paths with a baseline without their first N components",
+    )
     add(
         "--write-baseline",
         metavar="FILE",
@@ -167,6 +189,12 @@ def _add_output(parser: Parser) -> None:
         help="end each record with a zero byte, and print paths as they are",
     )
     add("-o", dest="output", metavar="FILE", help="write to FILE, completely or not at all")
+    add(
+        "--color",
+        choices=_colors.CHOICES,
+        default="auto",
+        help="color the text (default: on a terminal, unless NO_COLOR is set)",
+    )
     add("-q", "--quiet", action="store_true", help="print no report: the status says it")
     add(
         "-j",
@@ -222,11 +250,12 @@ class Run:
         self._options = options
         self._excluded = Globs(options.exclude)
         self._ignored = Ignored(options.ignore)
-        self._baseline = Baseline.read(options.baseline) if options.baseline else None
+        self._baseline = self._read_baseline()
         self._jobs = options.jobs or len(os.sched_getaffinity(0))
         self._progress = Progress(options.quiet)
         self.report = Report()
         self._check_words()
+        self._preflight = _preflight.preflight(options)
 
     def _check_words(self) -> None:
         options = self._options
@@ -234,23 +263,68 @@ class Run:
             raise BadWord("PATH is missing; see --help")
         if options.jobs < 0:
             raise BadWord("-j needs a positive number")
+        if options.unpack_limit < 1:
+            raise BadWord("--unpack-limit needs a positive number")
+        if options.strict and options.debug_files:
+            raise BadWord("--strict and --debug-files exclude each other")
         if options.zero and options.format in _OF_ONE_DOCUMENT:
             raise BadWord(f"-0 needs a format of records; {options.format} is one document")
         if options.files0_from == "-" and "-" in options.paths:
             raise BadWord("standard input can't be both a PATH and the list of them")
+        self._check_written()
+
+    def _check_written(self) -> None:
+        """What is written is nothing that is read, but for a baseline that is written anew."""
+        options = self._options
+        places = [os.path.realpath(it) for it in options.paths]
+        if options.write_baseline:
+            own = os.path.realpath(options.write_baseline)
+            if own in places:
+                raise BadWord("--write-baseline is one of the PATHs")
+            places.append(own)
+        if options.baseline:
+            places.append(os.path.realpath(options.baseline))
+        if options.output and os.path.realpath(options.output) in places:
+            raise BadWord("-o is a PATH, or the file of a baseline")
+
+    def _read_baseline(self) -> Optional[Baseline]:
+        options = self._options
+        if options.strip_components < 0:
+            raise BadWord("--strip-components needs a number from 0 on")
+        return (
+            Baseline.read(options.baseline, options.strip_components) if options.baseline else None
+        )
 
     def check(self) -> None:
-        """Fills the report, in the order of paths."""
+        """Fills the report, in the order of paths. Raises BadWord where these can't be linked."""
         _library.library()
         names = [os.fsencode(it) for it in self._options.paths]
+        if self._preflight:
+            every = [*names, *self._listed()]
+            if not self.report.unreadable:
+                self._add(self._preflight.report(every))
+        else:
+            self._check_names(names)
+        self._progress.end()
+        self.report.sort()
+        self._drop_suppressed()
+
+    def _check_names(self, names: list[bytes]) -> None:
         if _STANDARD_INPUT in names:
             self._add(self._tools().standard_input(_STANDARD_INPUT))
         named = (it for it in names if it != _STANDARD_INPUT)
         walk = Walk([*named, *self._listed()], self._excluded, self.report, self._options.skip)
         self._check_all(chunks(walk, _MOST_FILES, _MOST_BYTES))
-        self._progress.end()
-        self.report.sort()
-        self._drop_suppressed()
+        self._check_debug_files()
+
+    def _check_debug_files(self) -> None:
+        """Checks files again that other files of the run name as their debug files."""
+        named = _debug_links.named_files(self.report)
+        if named:
+            depth = self._depth()._replace(are_named_debug_files=True, keeps_names=True)
+            again = Inspector(depth).files(named)
+            self._drop_ignored(again)
+            _debug_links.replace(self.report, again)
 
     def _check_all(self, tasks: Iterator[list[bytes]]) -> None:
         """In this process where there is little to do, or else in several."""
@@ -266,9 +340,12 @@ class Run:
             Pool(self._work, self._jobs, self._add).run(every)
 
     def _tools(self) -> Inspector:
+        return Inspector(self._depth())
+
+    def _depth(self) -> Depth:
         it = self._options
         is_json = it.format in _OF_JSON
-        depth = Depth(
+        return Depth(
             tables=it.tables,
             objects=it.object,
             fails_class_32=it.class32 == "fail",
@@ -276,21 +353,25 @@ class Run:
             follows_thin=it.follow_thin,
             most_letters=LONGEST_NAME if is_json else MOST_LETTERS,
             # A baseline has them too.
-            names_sections=is_json or bool(it.baseline or it.write_baseline),
+            names_sections=is_json
+            or bool(it.baseline or it.write_baseline)
+            or self._ignored.needs_sections,
             skips_named=it.skip,
             is_strict=it.strict,
             debug_files=it.debug_files,
-            decompresses=it.decompress,
+            most_unpacked=it.unpack_limit << 20,
         )
-        return Inspector(depth)
 
     def _work(self) -> Work:
         return self._tools().files
 
-    def _add(self, report: Report) -> None:
+    def _drop_ignored(self, report: Report) -> None:
         kept = [it for it in report.findings if not self._ignored.match(it)]
         report.suppressed += len(report.findings) - len(kept)
         report.findings = kept
+
+    def _add(self, report: Report) -> None:
+        self._drop_ignored(report)
         self.report.add(report)
         self._progress.tell(self.report)
 
@@ -311,11 +392,20 @@ class Run:
         report = self.report
         options = self._options
         found = report.findings
+        lost = report.unreadable
         if options.write_baseline:
             with Output(options.write_baseline) as it:
-                it.write(baseline_text(found))
+                it.write(baseline_text(found, lost, options.strip_components))
         report.findings = [it for it in found if not self._is_known(it)]
+        report.unreadable = [it for it in lost if not self._is_accepted(it)]
         report.suppressed += len(found) - len(report.findings)
+        report.suppressed += len(lost) - len(report.unreadable)
+
+    def _is_accepted(self, lost: Unread) -> bool:
+        """Whether a baseline has that this can't be read."""
+        if self._options.write_baseline:
+            return isinstance(lost, Damaged)
+        return self._baseline is not None and self._baseline.accepts(lost)
 
     def _is_known(self, finding: Finding) -> bool:
         """Whether a baseline has a finding: the one that is written has all of them."""
@@ -325,18 +415,23 @@ class Run:
 
     def tell(self) -> None:
         """Writes the report in its format."""
-        from elfmap import _formats
-
         for lost in self.report.unreadable:
             complain(PROGRAM, one_line(lost.path) + b": " + lost.reason.encode())
         if self.report.class_32 and self._options.class32 == "warn":
             complain(PROGRAM, _class_32_words(self.report.class_32).encode())
         if self._options.quiet and self._options.output is None:
             return
-        end = b"\0" if self._options.zero else b"\n"
         with Output(self._options.output) as it:
-            for part in _formats.FORMATS[self._options.format](self.report, end):
+            for part in self._parts():
                 it.write(part)
+
+    def _parts(self) -> Iterable[bytes]:
+        """The report in its format, in pieces."""
+        options = self._options
+        is_plain = options.format != "text" or options.zero or options.output
+        if not is_plain and _colors.are_wanted(options.color):
+            return _colors.text(self.report)
+        return _formats.FORMATS[options.format](self.report, b"\0" if options.zero else b"\n")
 
     def status(self) -> int:
         if self.report.unreadable:
@@ -344,48 +439,13 @@ class Run:
         if self._options.fail_on_empty and not self.report.checked:
             complain(PROGRAM, b"no ELF file was checked")
             return FOUND
-        return FOUND if self.report.findings else DONE
+        # What does not link does not do so either if the refusal is suppressed.
+        return FOUND if self.report.findings or self.report.links is False else DONE
 
 
 def _class_32_words(count: int) -> str:
     lead = "1 file of class 32 was" if count == 1 else f"{count} files of class 32 were"
     return f"{lead} not checked; --class32=fail reports such files, --class32=skip is silent"
-
-
-class Output:
-    """Standard output, or a file that is written completely or not at all."""
-
-    def __init__(self, path: Optional[str]) -> None:
-        self._path = path
-        self._made: Optional[str] = None
-
-    def __enter__(self) -> BinaryIO:
-        self._file = self._opened()
-        return self._file
-
-    def _opened(self) -> BinaryIO:
-        if self._path is None:
-            return open(1, "wb", closefd=False)
-        if os.path.exists(self._path) and not stat.S_ISREG(os.stat(self._path).st_mode):
-            return open(self._path, "wb")
-        # The file that a link names is written, not the link.
-        self._path = os.path.realpath(self._path)
-        folder = os.path.dirname(self._path)
-        handle, self._made = tempfile.mkstemp(prefix=".elfmap-lint-", dir=folder)
-        mask = os.umask(0)
-        os.umask(mask)
-        os.fchmod(handle, 0o666 & ~mask)
-        return os.fdopen(handle, "wb")
-
-    def __exit__(self, kind: object, *_: object) -> None:
-        try:
-            self._file.close()
-            if self._made and self._path and kind is None:
-                os.replace(self._made, self._path)
-                self._made = None
-        finally:
-            if self._made:
-                os.unlink(self._made)
 
 
 def _list_rules(options: argparse.Namespace) -> None:
@@ -399,24 +459,27 @@ def _list_rules(options: argparse.Namespace) -> None:
 
 def main(words: Optional[Sequence[str]] = None) -> int:
     """Runs the program, and returns its status."""
-    options = _parser().in_any_order(words, "paths")
+    parser = _parser()
+    options = parser.in_any_order(words, "paths")
     try:
+        if not options.list_rules:
+            parser.set_defaults(**configured(parser, options))
+            options = parser.in_any_order(words, "paths")
         run = None if options.list_rules else Run(options)
-    except BadWord as fault:
-        complain(PROGRAM, str(fault).encode("utf-8", "surrogateescape"))
-        return USAGE
-    try:
         if not run:
             _list_rules(options)
             return DONE
         run.check()
         run.tell()
+    except BadWord as fault:
+        complain(PROGRAM, str(fault).encode("utf-8", "surrogateescape"))
+        return USAGE
     except BrokenPipeError:
         raise
     except OSError as fault:
         complain(PROGRAM, failure(fault))
         return UNREADABLE
-    return run.status() if run else DONE
+    return run.status()
 
 
 def script() -> None:

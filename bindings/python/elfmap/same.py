@@ -17,6 +17,7 @@ import stat
 from collections import Counter
 from collections.abc import Iterable, Iterator, Sequence
 from contextlib import contextmanager
+from itertools import chain
 from typing import NamedTuple, Optional, TextIO
 
 import elfmap
@@ -199,11 +200,15 @@ class Run:
         other = self._canonical(second, is_image)
         if one is None or other is None:
             return
-        if one == other:
-            self.counts.same += 1
-            return
         compared = image_differences if is_image else object_differences
-        self._differ(name, compared(self._sides, one, other))
+        ignores = self._options.ignore_debug
+        found = iter(() if one == other else compared(self._sides, one, other, ignores))
+        # Without debug information there may be no difference.
+        lead = next(found, None)
+        if lead is None:
+            self.counts.same += 1
+        else:
+            self._differ(name, chain([lead], found))
 
     def _canonical(self, it: Content, is_image: bool) -> Optional[elfmap._Bytes]:
         """The bytes to compare; none where the file is refused, which is printed."""
@@ -376,6 +381,11 @@ def _parser() -> Parser:
         type=int,
         default=_LIMIT,
         help=f"print at most N differences of a file, or all with 0 (default: {_LIMIT})",
+    )
+    add(
+        "--ignore-debug",
+        action="store_true",
+        help="compare no debug sections, nor the build ids of programs and libraries",
     )
     add(
         "--others",

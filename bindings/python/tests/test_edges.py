@@ -29,6 +29,10 @@ from tests.made import (
 )  # noqa: F401
 
 COMMANDS = "explain", "gaps", "lint", "picture", "same"
+# It writes to a file alone.
+EVERY = *COMMANDS, "symbols"
+LINK = ["--base=0", "--page=1", "--entry=start", "-oout"]
+LINK.append(f"--rules={build.REPOSITORY}/rules/x86-64.rules")
 # Escape, a control character of one letter, a mark that turns the direction of a line, a byte that
 # is no UTF-8, and what looks like an escape.
 NAME = b"\x1b[31m\xc2\x9b1m\xe2\x80\xae\xff\\x1b"
@@ -56,12 +60,14 @@ class ClosedTest(Case):
 
     def broken(self, command):
         """Words with which a command looks at bad.o."""
+        if command == "symbols":
+            return [*LINK, "bad.o"]
         return ["bad.o", "bad.o"] if command == "same" else ["bad.o"]
 
     def test_standard_error(self):
-        for command in COMMANDS:
+        for command in EVERY:
             broken = self.broken(command)
-            missing = ["none"] * len(broken)
+            missing = [it.replace("bad.o", "none") for it in broken]
             for words in (broken, missing, ["--none"], [], ["--help"], ["--version"]):
                 with self.subTest(command=command, words=words):
                     status, out, _ = self.ran(command, *words)
@@ -78,13 +84,16 @@ class ClosedTest(Case):
             ("same", ["bad.o"], 2),
             ("lint", ["bad.o"], 1),
             ("lint", [], 2),
-            ("lint", ["--ignore", "no-rule", "bad.o"], 2),
+            ("lint", ["--ignore", "no-such-rule", "bad.o"], 2),
             ("explain", ["bad.o"], 0),
             ("explain", ["refused", "bad.o"], 2),
             ("gaps", ["bad.o"], 3),
             ("gaps", [], 2),
             ("picture", ["bad.o"], 1),
             ("picture", [], 2),
+            ("symbols", [*LINK, "bad.o"], 1),
+            ("symbols", [*LINK, "none"], 3),
+            ("symbols", [], 2),
         ):
             for streams in ("2>&-", "2>&- <&-", "2>&- < /dev/null"):
                 with self.subTest(command=command, words=words, streams=streams):
@@ -125,7 +134,7 @@ class ClosedTest(Case):
         self.assertEqual((status, out.splitlines()[-1]), (3, summary))
 
     def test_standard_input_that_is_not_read(self):
-        for command in COMMANDS:
+        for command in EVERY:
             words = self.broken(command)
             closed = self.ran(command, *words, streams="<&-")
             self.assertEqual(closed, self.ran(command, *words, streams="< /dev/null"))
@@ -169,6 +178,10 @@ class NamesTest(Case):
             yield "same", *words
         for words in ([bad], [missing], ["good.o", missing]):
             yield "picture", *words
+        for words in ([bad], [missing], ["-o", missing + b"/out", "good.o"], [b"--" + missing]):
+            yield "symbols", *LINK, *words
+        for option in ("--base", "--entry", "--rules"):
+            yield "symbols", *LINK, option, missing, "good.o"
 
     def test_nothing_is_obeyed(self):
         seen = set()
@@ -178,7 +191,7 @@ class NamesTest(Case):
                 self.assertEqual((unprintable(out), unprintable(err)), ([], []))
                 self.assertNotIn(b"Traceback", err)
             seen |= {(command, ESCAPED.encode() in it) for it in (out, err)}
-        self.assertLessEqual({(it, True) for it in COMMANDS}, seen)
+        self.assertLessEqual({(it, True) for it in EVERY}, seen)
 
     def test_a_path_in_text(self):
         self.assertEqual(_words.one_line(NAME).decode(), ESCAPED)
@@ -322,7 +335,7 @@ class ReaderTest(Case):
             ("same", ["good.o", "bad.o"]),
         ):
             yield "", command, words
-        for command in COMMANDS:
+        for command in EVERY:
             yield "", command, ["--help"]
             yield "1", command, ["--version"]
 

@@ -230,6 +230,16 @@ class LinkTest(unittest.TestCase):
         self.assertRegex(lines[0], "^output 0x400000 ")
         self.assertTrue(any(it.startswith("bytes ") for it in lines))
 
+    def test_a_map_without_rules(self):
+        """It has no bytes, and no relocation is refused; an empty text has no rule for any."""
+        lines = elfmap.map([self.start, self.answer], self.RULES).splitlines(keepends=True)
+        shown = [it for it in lines if not it.startswith("bytes ")]
+        self.assertEqual(elfmap.map([self.start, self.answer]), "".join(shown))
+        self.assertEqual(elfmap.map([self.start, self.answer], None), "".join(shown))
+        with self.assertRaises(elfmap.NotLinked) as raised:
+            elfmap.map([self.start, self.answer], "")
+        self.assertEqual(raised.exception.name, "NO_RULE")
+
     def test_what_does_not_link(self):
         with self.assertRaises(elfmap.NotLinked) as raised:
             elfmap.link([self.start], self.RULES)
@@ -413,7 +423,8 @@ class ArgumentsTest(unittest.TestCase):
                 self.raises(TypeError, self.file.find, section, it)
             self.raises(TypeError, elfmap.link, self.objects, self.RULES, entry=it)
             self.raises(TypeError, elfmap.link, self.objects, it)
-            self.raises(TypeError, elfmap.map, self.objects, it)
+            if it is not None:
+                self.raises(TypeError, elfmap.map, self.objects, it)
         linked = elfmap.link(self.objects, self.RULES, entry=b"answer")
         self.assertEqual(elfmap.link(self.objects, self.RULES.encode(), entry="answer"), linked)
         self.assertEqual(

@@ -19,7 +19,7 @@ import unittest
 from pathlib import Path
 from unittest import mock
 
-from elfmap import _hints, _names, _rules, _words, build, explain
+from elfmap import _hints, _link_hints, _names, _rules, _words, build, explain
 from elfmap._link_words import Linked, link_words
 
 from tests.made import (
@@ -632,20 +632,23 @@ class HintTest(Case):
         return Linked("a.o", _words.Words(bytes(content)))
 
     def test_the_global_offset_table(self):
-        found = " ".join(_hints.link_hints([self.linked()], 9, 0, 0, 0))
-        words = "the code is compiled for a global offset table: compile it with -fno-pic"
+        found = " ".join(_link_hints.link_hints([self.linked()], 9, 0, 0, 0))
+        words = "the code is compiled for a global offset table: compile with -fno-pic"
         self.assertIn(f"_GLOBAL_OFFSET_TABLE_: {words}", found)
-        self.assertEqual(list(_hints.link_hints([self.linked(name=b"other")], 9, 0, 0, 0)), [])
+        self.assertEqual(list(_link_hints.link_hints([self.linked(name=b"other")], 9, 0, 0, 0)), [])
 
     def test_relocations_without_a_rule(self):
         table = "a global offset table, which elfmap does not make: compile with -fno-pic"
         call = "type 283, R_AARCH64_CALL26 of machine 183 (EM_AARCH64)"
         for machine, kind, words in (
             (62, 42, f"R_X86_64_REX_GOTPCRELX is by {table}"),
-            (62, 4, "the rule file needs the line `4 pc 4 signed`"),
+            (62, 4, "R_X86_64_PLT32 is a call, which needs no table here: the rule file needs the"),
+            (62, 4, "the rule file needs the line `4 pc 4 signed`, as in rules/x86-64.rules"),
             (183, 283, f"the rule file has no line for {call}"),
         ):
-            found = " ".join(_hints.link_hints([self.linked(machine, b"f", kind)], 12, 0, 1, 0))
+            found = " ".join(
+                _link_hints.link_hints([self.linked(machine, b"f", kind)], 12, 0, 1, 0)
+            )
             self.assertIn(words, found)
 
     def test_names_of_compilers(self):
@@ -653,8 +656,20 @@ class HintTest(Case):
             (b"__stack_chk_fail", "compile it with -fno-stack-protector"),
             (b"_Unwind_Resume", "compile it with -fno-exceptions"),
             (b"__tls_get_addr", "thread-local variables, which elfmap does not link"),
+            (
+                b"__errno_location",
+                "`errno` is one of a thread: compile for a C library such as klibc",
+            ),
+            (b"__gxx_personality_v0", "compile it with -fno-exceptions"),
+            (b"__cxa_guard_acquire", "compile with -fno-threadsafe-statics"),
+            (b"__fentry__", "compile it without -pg"),
+            (b"__memcpy_chk", "compile it with -U_FORTIFY_SOURCE"),
+            (b"__ubsan_handle_shift", "compile it without -fsanitize=undefined"),
+            (b"__init_array_end", "ld defines __init_array_end as the end of .init_array"),
         ):
-            self.assertIn(words, " ".join(_hints.link_hints([self.linked(name=name)], 9, 0, 0, 0)))
+            self.assertIn(
+                words, " ".join(_link_hints.link_hints([self.linked(name=name)], 9, 0, 0, 0))
+            )
 
     def test_what_other_files_begin_with(self):
         """By the formats: LLVM's bitcode and its wrapper, Mach-O, gzip (RFC 1952), xz and zstd (RFC

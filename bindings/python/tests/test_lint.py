@@ -5,10 +5,8 @@ format: SARIF 2.1.0, the layouts of archives.
 """
 
 import contextlib
-import gzip
 import io
 import json
-import lzma
 import os
 import re
 import shutil
@@ -612,7 +610,7 @@ class FormatTest(Case):
             "sections": [".text", ".data"],
         }
         message = SHARED.decode().partition("(33): ")[2]
-        self.assertEqual(lines[0], {**found, "message": message})
+        self.assertEqual(lines[0], {**found, "message": message, "machine": "X86_64"})
         self.assertEqual(lines[2], {"path": "none", "unreadable": "no such file or directory"})
         counts = dict(
             checked=4,
@@ -870,6 +868,20 @@ class OptionTest(Case):
     def paths(self, *words, **more):
         return [it.split(": ")[0] for it in self.told(*words, **more)[:-1]]
 
+    def test_what_is_written_is_not_read(self):
+        self.put(good__o=GOOD, known=b'{"version": 1, "findings": []}')
+        for words in (
+            ["-o", "./good.o", "good.o"],
+            ["--write-baseline", "good.o", "good.o"],
+            ["-o", "known", "--baseline", "known", "good.o"],
+            ["-o", "new", "--write-baseline", "./new", "good.o"],
+        ):
+            with self.subTest(words=words):
+                self.assertEqual(self.lint(*words)[0], 2)
+        self.assertEqual(Path("good.o").read_bytes(), GOOD)
+        words = ["--baseline", "known", "--write-baseline", "known", "-o", "new", "good.o"]
+        self.assertEqual(self.lint(*words)[0], 0)
+
     def test_excluded(self):
         self.assertEqual(self.paths("a"), ["a/b/bad.o", "a/bad.o"])
         self.assertEqual(self.paths("--exclude", "b", "a"), ["a/bad.o"])
@@ -904,7 +916,7 @@ class OptionTest(Case):
             self.assertSaid(["--ignore", rule, "a"], 0, [summary])
         self.assertEqual(self.paths("--ignore", "33:a/b/*", "a"), ["a/bad.o"])
         self.assertEqual(self.paths("--ignore", "22", "a"), ["a/b/bad.o", "a/bad.o"])
-        for rule in ("34", "NO_RULE", "", "0", "²"):
+        for rule in ("34", "NO_SUCH_RULE", "", "0", "²", "link-17", "warning-0"):
             self.assertEqual(self.lint("--ignore", rule, "a")[0], 2)
 
     def test_how_a_rule_to_ignore_is_written(self):
@@ -1111,64 +1123,23 @@ class OptionTest(Case):
         """Each line has what `--ignore` takes, and the sentence of docs/RULES.md."""
         status, out, said = self.lint("--list-rules")
         self.assertEqual((status, said), (0, b""))
-        found = re.findall(r"^([\w-]+) ([A-Z_0-9]+): the (?:file|table|link) ", out.decode(), re.M)
+        start = r"^([\w-]+) ([A-Z_0-9]+): the (?:file|table|link|program) "
+        found = re.findall(start, out.decode(), re.M)
         self.assertEqual(len(found), len(out.splitlines()))
         keys = [key for key, _ in found]
         numbers = [*range(1, 34), *range(40, 80)]
-        expected = [*map(str, numbers), *(f"link-{it}" for it in range(3, 8))]
+        expected = [*map(str, numbers), *(f"link-{it}" for it in range(1, 17))]
+        expected += [f"warning-{it}" for it in range(1, 7)]
         self.assertEqual(keys, expected)
         page = (build.REPOSITORY / "docs/RULES.md").read_text()
         for key, name in found:
             self.assertEqual(_findings.rule_of(key), _findings.rule_of(name))
-            number = key.rpartition("-")[2]
-            kind = "link" if number != key else r"(?:image|table|object)"
+            kind, _, number = key.rpartition("-")
+            kind = kind or r"(?:image|table|object)"
             self.assertRegex(page, rf'<a id="{kind}-{number}"></a>{number} \| `\w+`, `{name}`')
         self.assertEqual(self.lint("--list-rules", "-0")[1].count(b"\0"), len(found))
         self.lint("--list-rules", "-o", "rules.txt")
         self.assertEqual(Path("rules.txt").read_bytes(), out)
-
-    def test_compressed_files(self):
-        for module, end in ((gzip, "gz"), (lzma, "xz")):
-            os.mkdir(end)
-            sound = dict(bad__ko=SHARING, good__ko=GOOD, lib__a=GNU, text=b"no ELF file", none=b"")
-            for name, content in sound.items():
-                self.put(**{f"{end}/{name}__{end}": module.compress(content)})
-            # What has another name, and what is not compressed.
-            self.put(**{f"{end}/other": module.compress(SHARING), f"{end}/plain__{end}": SHARING})
-            lines = [
-                f"{end}/bad.ko.{end}: ".encode() + SHARED,
-                f"{end}/lib.a.{end}(".encode() + LONG + b"): " + SHARED,
-                f"{end}/plain.{end}: ".encode() + SHARED,
-            ]
-            last = b"3 findings in 3 of 5 ELF files; skipped: 4 not ELF"
-            self.assertSaid(["--decompress", end], 1, [*lines, last])
-            last = b"1 finding in 1 of 1 ELF file; skipped: 6 not ELF"
-            self.assertSaid([end], 1, [lines[2], last])
-            name = f"{end}/text.{end}"
-            self.assertEqual(self.lint("--decompress", "--skip", name)[0], 0)
-            self.assertEqual(self.lint("--decompress", name)[0], 3)
-
-    def test_compressed_files_that_are_broken(self):
-        for module, end in ((gzip, "gz"), (lzma, "xz")):
-            whole = module.compress(SHARING + os.urandom(5000))
-            wrong = bytearray(whole)
-            wrong[len(whole) // 2] ^= 0xFF
-            for content in (whole[:-20], whole[:20], bytes(wrong)):
-                self.put(**{f"bad__{end}": content})
-                status, _, said = self.lint("--decompress", f"bad.{end}")
-                self.assertEqual(status, 3)
-                lead = f"elfmap-lint: bad.{end}: it can't be decompressed: ".encode()
-                self.assertTrue(said.startswith(lead), said)
-        with mock.patch.dict(sys.modules, lzma=None):
-            self.assertIn(b"this Python has no module lzma", self.lint("--decompress", "bad.xz")[2])
-
-    def test_a_compressed_file_that_is_too_long(self):
-        """No more is read than shows it; and of what is no ELF file only how it begins."""
-        for content, size in ((GOOD, 100), (b"text" * 99, 8)):
-            self.put(long__gz=gzip.compress(content))
-            with mock.patch.object(_sources, "LONGEST", 100), _sources.opened(b"long.gz") as it:
-                with _sources.decompressed(it, _archives.MAGICS) as found:
-                    self.assertEqual((len(found), found[:]), (size, content[:size]))
 
     def test_a_list_of_paths(self):
         names = b"a/bad.o\0a/b\0"

@@ -237,15 +237,14 @@ class SuppressedTest(ObjectCase):
 
     def test_rules_of_which_no_finding_is(self):
         for word in (
-            "link-2",
-            "link-8",
+            "link-17",
+            "warning-7",
             "link-0",
             "link-",
             "link-03",
             "link",
             "link 3",
-            "MISMATCH",
-            "UNDEFINED_NAME",
+            "EXECUTABLE_TOO_LONG",
         ):
             self.assertEqual(self.lint("--object", "--ignore", word, ".")[0], 2, word)
 
@@ -303,7 +302,10 @@ class FormatTest(ObjectCase):
                 "name": name,
                 "sections": [it.section],
             }
-            self.assertEqual(found[path], {**fields, "message": message_of(number, it.words)})
+            own = {"machine": "X86_64"}
+            self.assertEqual(
+                found[path], {**fields, "message": message_of(number, it.words), **own}
+            )
         self.assertEqual(found["./narrow.o"]["rule"], 4)
         self.assertEqual(found["./lib.a(tls.o)"]["rule"], "link-3")
 
@@ -361,14 +363,16 @@ class ExplainedTest(ObjectCase):
                         self.lint("--object", "--format", format, "bad.o")[1].splitlines()[0]
                     )
                     _, sentence, advice = _rules.LINK_RULES[number]
-                    self.assertEqual(
-                        found,
-                        (
-                            f"bad.o: offset {it.offset:#x}: {name} (link {number}) {name}:"
-                            f" {sentence} bad.o, offset {it.offset} ({it.offset:#x}):"
-                            f" {it.words} what to do: {advice} docs/RULES.md#link-{number}"
-                        ),
+                    front = (
+                        f"bad.o: offset {it.offset:#x}: {name} (link {number}) {name}:"
+                        f" {sentence} bad.o, offset {it.offset} ({it.offset:#x}): {it.words}"
                     )
+                    end = f" what to do: {advice} docs/RULES.md#link-{number}"
+                    cause = found[len(front) : -len(end)]
+                    self.assertEqual(found, f"{front}{cause}{end}")
+                    has_cause = name in ("TLS", "EMPTY_SIGNATURE", "BAD_SYMBOL")
+                    self.assertEqual(cause.startswith(" likely cause: "), has_cause, cause)
+                    self.assertLessEqual(bool(cause), has_cause)
 
     def test_places_that_are_none(self):
         self.put(bad__o=bytes(tls("<").made.data), empty__o=b"")
@@ -382,13 +386,21 @@ class ExplainedTest(ObjectCase):
 
     def test_rules_that_are_none(self):
         self.put(good__o=GOOD)
-        for number in (0, 2, 8, 9, 12, 99):
-            self.assertIn(
-                "by itself", self.explained(f"good.o: offset 0x0: X (link {number}): ".encode())
-            )
-        for rule in ('"link-8"', '"link-x"', '"LINK-3"', '"link-3333"', '"3"', "null"):
+        for number in (17, 99):
+            found = self.explained(f"good.o: offset 0x0: X (link {number}): ".encode())
+            self.assertIn(f"there is no rule {number} of the link", found)
+        for rule in ('"link-99"', '"link-x"', '"LINK-3"', '"link-3333"', '"3"', "null"):
             line = f'{{"path": "good.o", "offset": 0, "rule": {rule}, "name": "X"}}'
-            self.assertEqual("by itself" in self.explained(line.encode()), rule == '"link-8"')
+            self.assertEqual("no rule" in self.explained(line.encode()), rule == '"link-99"')
+
+    def test_rules_of_several_files(self):
+        """Of a place that is not there too."""
+        self.put(good__o=GOOD, empty__o=b"")
+        for path in ("good.o", "empty.o"):
+            for number in (1, 2, *range(8, 17)):
+                for at in (0, 1, 2**64 - 1):
+                    found = self.explained(f"{path}: offset {at:#x}: X (link {number}): ".encode())
+                    self.assertIn(f"docs/RULES.md#link-{number}", found)
 
 
 class Recorded(_sources.Source):

@@ -8,7 +8,6 @@ import itertools
 import json
 import os
 import struct
-import subprocess
 import sys
 import tempfile
 import time
@@ -22,7 +21,6 @@ from elfmap._differences import Names
 from elfmap._words import one_line, original_path, printable
 
 from tests.made import (
-    ENVIRONMENT,
     FolderCase,
     Made,
     relocations,

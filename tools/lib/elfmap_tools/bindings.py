@@ -17,10 +17,12 @@ from .requirements import (
     ELF_H,
     JSONSCHEMA,
     JUNITPARSER,
+    KLIBC,
     MACHINES,
     MIPS_LIBC,
     SANITIZERS,
     U_BOOT,
+    YAML,
 )
 from .suite import Tally, Test
 from .tree import TOP, Options, read_text, said
@@ -28,8 +30,16 @@ from .tree import TOP, Options, read_text, said
 # What makes files that deviate from the rules in a known way, and some such files.
 LINKERS = [f"{MACHINES[it]}-ld" for it in ("alpha", "mips64", "riscv64", "s390x", "sparc64")]
 PRODUCERS = " ".join([*LINKERS, "cc", "eu-strip", "strip", MIPS_LIBC, SANITIZERS, U_BOOT])
-READERS = f"{ELF_H} {JSONSCHEMA} {JUNITPARSER}"
-BINDERS = f"{PACKERS} cargo fish git mypy pre-commit {READERS} {PRODUCERS}"
+READERS = f"{ELF_H} {JSONSCHEMA} {JUNITPARSER} {YAML}"
+# What makes packages.
+ARCHIVERS = "bzip2 cpio dh dpkg-deb gzip rpmbuild tar xz zstd"
+# What makes objects that do not link, or not to what ld makes of them.
+COMPILERS = f"as clang g++ gcc ld readelf {KLIBC}"
+# What links the programs of which elfmap-symbols writes the symbols, and what reads these.
+BIG = [f"{MACHINES[it]}-{tool}" for it in ("ppc64", "s390x") for tool in ("as", "ld")]
+DEBUGGERS = " ".join([*BIG, "addr2line gdb nm objcopy objdump"])
+MAKERS = f"{PRODUCERS} {ARCHIVERS} {COMPILERS}"
+BINDERS = f"{PACKERS} cargo fish git mypy pre-commit {READERS} {MAKERS} {DEBUGGERS}"
 # What Python declares of a struct: its fields, each with its type of ctypes.
 PythonStructs = dict[str, list[tuple[str, Any]]]
 

@@ -44,14 +44,16 @@ GROWTHS = SIZED | {
     "format!",
     "append",
 }
-# Engines over bytes. Those for C write into a vector, which fails for nothing else, and have no
-# reader.
+# Engines over bytes. Those for C write into a vector, which fails for nothing else, or write
+# nothing, and have no reader.
 INTO_A_VECTOR = {
     "show_bytes",
     "push_refused_tables",
+    "put_verdicts",
     "rewrite_within",
     "map_files",
     "link_files",
+    "link_verdict",
 }
 OF_CRATE = "crates/elf_c_engines/"
 FAILED_WRITE = re.compile(r"\b(?:WriteFault|\w+::Write) \{|\w+::Io \{ ?written")

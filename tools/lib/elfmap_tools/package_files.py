@@ -170,8 +170,8 @@ PACKAGES = {
 }
 
 
-# `apt install` installs these too. The commands beside the program are in one of them.
-RECOMMENDED = {"elfmap": "python3-elfmap"}
+# `apt install` installs these too: the commands beside the program, and what they decompress with.
+RECOMMENDED = {"elfmap": "python3-elfmap", "python3-elfmap": "zstd"}
 
 
 def settle(root: str) -> None:

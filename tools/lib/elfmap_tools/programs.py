@@ -58,6 +58,7 @@ from . import (
     shared_tails,
     shown_commands,
     slow_files,
+    sweep,
     types,
     web_page,
 )
@@ -98,6 +99,12 @@ OBJECTS = [
     word("program", "elfmap"),
     word("file", "an object, or an archive of objects", nargs="+"),
 ]
+SWEEP = [
+    word("count", "how many packages", type=int),
+    word("seed", "the seed of the draw", type=int),
+    word("--from", "the folder of the packages (what apt has)", dest="folder", metavar="FOLDER"),
+    word("--output", "another file than the page, or -", metavar="FILE"),
+]
 DEV = [
     Command(
         "check",
@@ -129,6 +136,12 @@ DEV = [
         "write the tables of docs/generated/PEERS.md: what other tools say of files that elfmap "
         "refuses",
         peers.main,
+    ),
+    Command(
+        "sweep",
+        "write docs/generated/SWEEP.md: the rules that the files of N packages of Debian break",
+        sweep.main,
+        SWEEP,
     ),
     Command(
         "shared-tails",

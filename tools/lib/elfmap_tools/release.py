@@ -30,6 +30,8 @@ MADE = [
 ]
 for command, *_ in COMMANDS:
     MADE += [f"bin/{command}", f"share/man/man1/{command}.1"]
+# Files that other programs read at the top of a repository.
+ALONE = ["action.yml", ".pre-commit-hooks.yaml"]
 # What git has and a release has not: tests of the bindings, their planted bugs, files beside them.
 NOT_RELEASED = re.compile(r"^bindings/((rust|python)/tests/|[^/]*$|\w+/mutations\.txt$)")
 PLAIN = {"PATH": "/usr/bin:/bin", "LC_ALL": "C.UTF-8", "MANWIDTH": "80"}
@@ -38,7 +40,8 @@ PLAIN = {"PATH": "/usr/bin:/bin", "LC_ALL": "C.UTF-8", "MANWIDTH": "80"}
 def compare_names(tally: Tally, folder: str) -> None:
     """A release has what git has, and what is made."""
     names = {it[len(folder) + 1 :] for it in files_below(folder)}
-    listed = said("git", "ls-files", "[A-Z]*.md", "docs", "rules", "bindings", "examples").stdout
+    places = ["[A-Z]*.md", *ALONE, "docs", "rules", "bindings", "examples"]
+    listed = said("git", "ls-files", *places).stdout
     right = {*MADE, *(it for it in listed.split() if not NOT_RELEASED.search(it))}
     more = f"and has beyond that {sorted(names - right)}"
     tally.check(names == right, f"the archive lacks {sorted(right - names)}, {more}")

@@ -46,6 +46,7 @@ PKG_CONFIG = partial(filled, read_text("include/elfmap.pc.in"))
 # repository.
 FILES = """
 README.md CONTRIBUTING.md CHANGELOG.md SECURITY.md docs/* rules/*.rules examples/* include/elfmap.h
+action.yml .pre-commit-hooks.yaml
 bindings/c/*.[ch]
 bindings/rust/Cargo.lock bindings/rust/Cargo.toml bindings/rust/README.md bindings/rust/build.rs
 bindings/rust/examples/* bindings/rust/src/*

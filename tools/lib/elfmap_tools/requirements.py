@@ -24,6 +24,7 @@ MARKDOWN = IMPORTED.format("markdown")
 SELENIUM = IMPORTED.format("selenium")
 SETUPTOOLS = IMPORTED.format("setuptools")
 WHEEL = IMPORTED.format("wheel")
+YAML = IMPORTED.format("yaml")
 # Debian's clang brings its checks of addresses and of undefined behavior only as a recommended
 # package.
 SANITIZERS = "/usr/lib/llvm-*/lib/clang/*/lib/linux/libclang_rt.asan-x86_64.a"
@@ -31,10 +32,11 @@ SANITIZERS = "/usr/lib/llvm-*/lib/clang/*/lib/linux/libclang_rt.asan-x86_64.a"
 # that have the name of their package.
 COMMANDS = {
     "binaryen": "wasm-opt",
-    "binutils": "ar as ld nm objcopy readelf strip",
+    "binutils": "addr2line ar as ld nm objcopy objdump readelf strip",
     "binutils-x86-64-linux-gnu": "x86_64-linux-gnu-as",
     "cargo-web": "cargo",
     "chromium-driver": "chromedriver",
+    "debhelper": "dh",
     "dpkg": "dpkg-deb",
     "elfutils": "eu-elflint eu-strip",
     "g++": "c++ g++",
@@ -55,9 +57,12 @@ COMMANDS = {
     "python3-selenium": SELENIUM,
     "python3-setuptools": SETUPTOOLS,
     "python3-wheel": WHEEL,
+    "python3-yaml": YAML,
+    "rpm": "rpmbuild",
     "rustc-web": "rustc",
     "u-boot-qemu": U_BOOT,
     "util-linux": "prlimit unshare",
+    "xz-utils": "xz",
 }
 PACKAGES = {
     command: package for package, commands in COMMANDS.items() for command in commands.split()

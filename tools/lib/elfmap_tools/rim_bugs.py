@@ -88,7 +88,10 @@ PARTS = {
         PACKERS, ("bindings/c", "bindings/python"), by_unittest, r"^FAILED \(failures=\d+\)$"
     ),
     "bindings/python": Part(
-        PACKERS, ("bindings/python",), by_unittest, r"^Ran [1-9](?s:.*)^FAILED \("
+        f"{PACKERS} as clang g++ gcc ld readelf",
+        ("bindings/python",),
+        by_unittest,
+        r"^Ran [1-9](?s:.*)^FAILED \(",
     ),
     # The crate is compiled again where it is, for one bug after the other.
     "bindings/rust": Part(

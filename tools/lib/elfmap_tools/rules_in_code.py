@@ -82,7 +82,9 @@ def python() -> str:
     words = "The name, the sentence and the advice of each rule of files."
     of_files = python_table("RULES", words, file_rules())
     of_links = python_table("LINK_RULES", "Those of each rule of links.", rules_of("link"))
-    return f'"""The rules by their numbers. {MADE}"""\n{of_files}{of_links}'
+    words = "Those of each warning before a link."
+    warnings = python_table("WARNINGS", words, rules_of("warning"))
+    return f'"""The rules by their numbers. {MADE}"""\n{of_files}{of_links}{warnings}'
 
 
 def rattle(words: str, rules: list[Rule]) -> str:

@@ -50,6 +50,7 @@ SKIPPED = {
 # Tools whose output depends on their version, and the packages by which README.md names that.
 PACKAGES = {
     "gcc": "gcc",
+    "g++": "gcc",
     "readelf": "binutils",
     "objcopy": "binutils",
     "ld": "binutils",

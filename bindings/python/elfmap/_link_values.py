@@ -1,0 +1,169 @@
+"""Which section of a linked program a symbol lies in, and which value it has: by the lines of
+`elfmap map`."""
+
+from __future__ import annotations
+
+import struct
+from collections.abc import Iterator, Sequence
+from typing import NamedTuple, Optional
+
+import elfmap
+from elfmap._elf_file import ABSOLUTE, order_of
+from elfmap._map_lines import LinkMap, Place
+from elfmap.constants import SHN, SHT, STB
+
+_DATA_MSB = 2
+_COMDAT = 1
+
+
+class Object:
+    """An object of a link, which the link has accepted.
+
+    `kept` has the indexes of the sections that the lines of a link map count, in order, and
+    `positions` the position among them by the index. `relocating` has the relocation sections of
+    a section.
+    """
+
+    def __init__(self, data: bytes) -> None:
+        self.file = elfmap.parse(data)
+        header = self.file.header
+        self.is_big = header.e_ident[5] == _DATA_MSB
+        self.machine = header.e_machine
+        self.flags = header.e_flags
+        self.sections = list(self.file.sections)
+        self.table = self._first(SHT.SYMTAB)
+        self.symbols = list(self.file.symbols(self.table))
+        self.kept = self._kept(header.e_shstrndx)
+        self.positions = {index: position for position, index in enumerate(self.kept)}
+        self.relocating: dict[int, list[int]] = {}
+        for index in self.kept:
+            if self.sections[index].sh_type in (SHT.RELA, SHT.REL):
+                self.relocating.setdefault(self.sections[index].sh_info, []).append(index)
+
+    def _first(self, kind: int) -> int:
+        """The first section of a type, 0 if there is none."""
+        types = (it.sh_type for it in self.sections)
+        return next((index for index, it in enumerate(types) if it == kind), 0)
+
+    def _kept(self, names: int) -> list[int]:
+        if names == SHN.XINDEX:
+            names = self.sections[0].sh_link
+        strings = self.sections[self.table].sh_link if self.table else 0
+        others = {0, names, self.table, strings, self._first(SHT.SYMTAB_SHNDX)}
+        kinds = [it.sh_type for it in self.sections]
+        return [at for at, it in enumerate(kinds) if it != SHT.NULL and at not in others]
+
+    def groups(self) -> Iterator[tuple[bytes, tuple[int, ...]]]:
+        """The COMDAT groups: of each its signature, and the indexes of its sections."""
+        for section in self.sections:
+            if section.sh_type == SHT.GROUP and section.content:
+                count = section.sh_size // 4
+                words = struct.unpack(f"{order_of(self.is_big)}{count}I", section.content)
+                if words[0] == _COMDAT:
+                    yield self.symbols[section.sh_info].name, words[1:]
+
+
+class Site(NamedTuple):
+    """Where something is in the linked program: the index of its section there, and its address, or
+    for a section that is not loaded its offset."""
+
+    section: int
+    address: int
+
+
+class Values:
+    """The symbols of objects, as a link has placed them.
+
+    `sites` has each section that is in the program, by the positions in the link map.
+    """
+
+    def __init__(self, objects: Sequence[Object], link_map: LinkMap) -> None:
+        self._objects = objects
+        self._map = link_map
+        self._twins = dict(_twins(objects, link_map.discarded))
+        self._definitions = self._defined()
+        self.sites: dict[Place, Site] = {}
+
+    def _defined(self) -> dict[bytes, tuple[int, elfmap.Symbol]]:
+        """The definition that each name is bound to: its file and the symbol. For a common name it
+        is the first of its symbols, and for one without definition the first that names it."""
+        found: dict[bytes, tuple[int, elfmap.Symbol]] = {}
+        ranks: dict[bytes, int] = {}
+        for file, it in enumerate(self._objects):
+            for symbol in it.symbols[1:]:
+                if symbol.binding == STB.LOCAL:
+                    continue
+                rank = self._rank(file, symbol)
+                if rank > ranks.get(symbol.name, -1):
+                    ranks[symbol.name] = rank
+                    found[symbol.name] = file, symbol
+        return found
+
+    def _rank(self, file: int, symbol: elfmap.Symbol) -> int:
+        """Which of two symbols of a name the link chooses: the higher one, and of equals the
+        first."""
+        if symbol.st_shndx == SHN.COMMON:
+            return 2
+        is_there = symbol.st_shndx != SHN.UNDEF and not self._is_discarded(file, symbol)
+        if not is_there:
+            return 0
+        return 3 if symbol.binding == STB.GLOBAL else 1
+
+    def _is_discarded(self, file: int, symbol: elfmap.Symbol) -> bool:
+        return self._place(file, symbol) in self._map.discarded
+
+    def _place(self, file: int, symbol: elfmap.Symbol) -> Place:
+        """The position of the section of a symbol; -1 if it lies in none."""
+        return file, self._objects[file].positions.get(symbol.section, -1)
+
+    def definition(self, name: bytes) -> tuple[int, elfmap.Symbol]:
+        """The file and the symbol that a name which is not local is bound to."""
+        return self._definitions[name]
+
+    def site(self, file: int, symbol: elfmap.Symbol) -> Optional[Site]:
+        """Where a definition lies: its section, and its own value in the program. None if it is in
+        a section that the program has not, or nowhere."""
+        if symbol.st_shndx == SHN.ABS:
+            return Site(ABSOLUTE, symbol.st_value)
+        if symbol.st_shndx in (SHN.UNDEF, SHN.COMMON):
+            return None
+        site = self.sites.get(self._place(file, symbol))
+        return site and Site(site.section, site.address + symbol.st_value)
+
+    def value(self, file: int, index: int) -> Optional[int]:
+        """The value of a symbol, by its index, for a relocation in a section that is not loaded.
+        None if it has none.
+
+        A section that was discarded is read as the one that was kept in its place, if there
+        is one of the same name and size: ld does so for debug information.
+        """
+        symbol = self._objects[file].symbols[index]
+        if not index:
+            return 0
+        if symbol.binding != STB.LOCAL:
+            value = self._map.names[symbol.name].value
+            return value if value is not None else self._value_of(*self.definition(symbol.name))
+        return self._value_of(file, symbol)
+
+    def _value_of(self, file: int, symbol: elfmap.Symbol) -> Optional[int]:
+        site = self.site(file, symbol)
+        if site is None and symbol.st_shndx not in (SHN.UNDEF, SHN.COMMON):
+            twin = self.sites.get(self._twins.get(self._place(file, symbol), (-1, -1)))
+            return twin and twin.address + symbol.st_value
+        return site and site.address
+
+
+def _twins(objects: Sequence[Object], discarded: set[Place]) -> Iterator[tuple[Place, Place]]:
+    """Of each discarded section that has one, the section of its name and size in the group of its
+    signature that was kept."""
+    kept: dict[tuple[bytes, bytes, int], Place] = {}
+    for file, it in enumerate(objects):
+        for signature, members in it.groups():
+            for index in members:
+                place = file, it.positions[index]
+                section = it.sections[index]
+                key = signature, section.name, section.sh_size
+                if place not in discarded:
+                    kept.setdefault(key, place)
+                elif key in kept:
+                    yield place, kept[key]
