@@ -286,7 +286,7 @@ bool elfmap_place(const struct elfmap_file *file, const uint8_t *bytes, size_t l
 /*
  * ---- The tables. As above each call, but the three that fill a buffer, returns true and fills in its last argument, or returns false and
  * leaves it unchanged. It reads nothing outside of the bytes. A table is sound if it breaks none of rules 40 to 69. These calls do not test
- * them; elfmap_refused_tables does. The claims below are about sound tables in files that break none of rules 1 to 32. Of a table that
+ * them; elfmap_table_verdicts does. The claims below are about sound tables in files that break none of rules 1 to 32. Of a table that
  * breaks a rule the calls return the entries that lie in the file, but no symbol whose `st_shndx` is SHN_XINDEX (0xffff) and for which the
  * index table has no word. `table` must be what elfmap_table made of the same bytes. With other numbers in it a result has no meaning. But
  * each call returns false, or no entry, for a table of another kind than its own, by `sh_type`; only elfmap_string, which has no kind of

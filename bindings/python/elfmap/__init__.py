@@ -27,6 +27,8 @@ from elfmap import _columns, _library, _rules
 
 # They are names of this module too. In `__all__` they would make `help` ten times as long.
 from elfmap.constants import (
+    ELFDATA2MSB as _ELFDATA2MSB,
+    LONGEST_FILE as _LONGEST_FILE,
     DT as DT,
     EM as EM,
     ET as ET,
@@ -83,15 +85,13 @@ _SMALL_ROOM = 64
 _SYMBOLS = (SHT.SYMTAB, SHT.DYNSYM)
 _RELOCATIONS = (SHT.RELA, SHT.REL)
 _OWNERS = ("header", "section headers", "program headers")
-_GAP = 2**64 - 1
 # ctypes would take this number for 0, and each one modulo it.
 _END = 2**64
 _UNKNOWN = ("UNKNOWN_RULE", "it is refused by a rule without a sentence", "")
 # The longest file that keeps rule 1, and one byte more.
-_LONGEST = 2**30 + 1
+_LONGEST = _LONGEST_FILE + 1
 # So much of a file is read at once whose length is not known.
 _PIECE = 1 << 20
-_DATA_MSB = 2
 # So many bytes of a name are in a message.
 _MOST_OF_NAME = 200
 
@@ -530,7 +530,7 @@ class File:
             return {}
         layout = _columns.LAYOUTS[table.sh_type]
         content = self._at(table.content.start, table.entries * layout.size)
-        return dict(_columns.columns(layout, content, table.ei_data == _DATA_MSB))
+        return dict(_columns.columns(layout, content, table.ei_data == _ELFDATA2MSB))
 
     def find(self, section: int, name: _Text) -> Optional[int]:
         """The index of the symbol of this name, by the hash table in a section."""
@@ -636,7 +636,7 @@ def _values(struct: ctypes.Structure) -> list[Any]:
 
 def _part(it: _library.Part) -> Part:
     owner = _OWNERS[it.owner] if it.owner < len(_OWNERS) else it.owner - len(_OWNERS)
-    return Part(it.start, it.len, "gap" if it.owner == _GAP else owner)
+    return Part(it.start, it.len, "gap" if it.owner == _library.GAP else owner)
 
 
 def parse(data: _Bytes) -> File:

@@ -54,15 +54,31 @@ class Damaged(Unreadable):
         super().__init__(f"the archive is damaged at offset {at:#x}: {reason}")
 
 
+class Labels:
+    """Labels for the members of an archive, of which no two are the same: the name, or for the
+    second one of a name `name#2`."""
+
+    def __init__(self) -> None:
+        self._given: set[bytes] = set()
+        # How many members of a name there are, if there is more than one.
+        self._counts: dict[bytes, int] = {}
+
+    def of(self, name: bytes) -> bytes:
+        label = name
+        while label in self._given:
+            self._counts[name] = self._counts.get(name, 1) + 1
+            label = b"%s#%d" % (name, self._counts[name])
+        self._given.add(label)
+        return label
+
+
 class _Archive:
     def __init__(self, source: Source, path: bytes) -> None:
         self.source = source
         self.is_thin = source[:8] == THIN_MAGIC
         self._folder = os.path.dirname(path)
         self._names: Optional[tuple[int, int]] = None
-        self._labels: set[bytes] = set()
-        # How many members of a name there are, if there is more than one.
-        self._counts: dict[bytes, int] = {}
+        self._labels = Labels()
 
     def members(self) -> Iterator[Member]:
         at = 8
@@ -82,12 +98,7 @@ class _Archive:
 
     def _label(self, member: Member) -> bytes:
         # What names a member in another archive is told apart by the name there.
-        label = member.name
-        while member.origin is None and label in self._labels:
-            self._counts[member.name] = self._counts.get(member.name, 1) + 1
-            label = b"%s#%d" % (member.name, self._counts[member.name])
-        self._labels.add(label)
-        return label
+        return self._labels.of(member.name) if member.origin is None else member.name
 
     def _header(self, at: int) -> tuple[bytes, int]:
         header = self.source[at : at + _HEADER]

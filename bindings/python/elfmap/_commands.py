@@ -64,9 +64,10 @@ def _write(message: bytes) -> None:
 
 def failure(fault: OSError) -> bytes:
     """What an error is about, and its reason."""
-    name = fault.filename if isinstance(fault.filename, (str, bytes)) else ""
-    lead = one_line(os.fsencode(name)) + b": " if name else b""
-    return lead + reason_of(fault).encode("utf-8", "surrogateescape")
+    words = reason_of(fault).encode("utf-8", "surrogateescape")
+    if not isinstance(fault.filename, (str, bytes)):
+        return words
+    return (one_line(os.fsencode(fault.filename)) or b"''") + b": " + words
 
 
 def run_script(program: str, main: Callable[[], int]) -> NoReturn:

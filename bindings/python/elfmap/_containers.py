@@ -24,6 +24,8 @@ BLOCK = 512
 # So many bytes of a name are read, and so many of the words of POSIX that have one.
 _LONGEST_NAME = 1 << 16
 _MOST_WORDS = 1 << 20
+# So many zeros may follow a tar or cpio file, before another one.
+_MOST_ZEROS = 1 << 24
 _TAR_MAGIC = b"ustar"
 _CPIO_MAGICS = (b"070701", b"070702")
 _CPIO_HEADER = 110
@@ -105,15 +107,25 @@ class _Tar:
         return prefix + b"/" + name if prefix else name
 
     def _header(self) -> Optional[bytes]:
-        """The next header; none at the end, which is a block of zeros or that of the file."""
+        """The next header; none at the end. After blocks of zeros another tar file may begin."""
         block = self._stream.peek(BLOCK)
-        if not block or block == bytes(BLOCK):
+        if not block.strip(b"\0"):
+            block = self._after_zeros()
+        if not block:
             return None
         if len(block) < BLOCK:
             raise self._damaged("it ends there")
         if not _has_sum(block):
             raise self._damaged("there is no member's header")
         self._stream.skip(BLOCK)
+        return block
+
+    def _after_zeros(self) -> bytes:
+        """What follows blocks of zeros: a header, or nothing."""
+        is_passed = self._stream.pass_zeros(BLOCK, _MOST_ZEROS)
+        block = self._stream.peek(BLOCK)
+        if not is_passed or block and not is_tar(block):
+            raise Unreadable("the tar file is followed by something else, which is not read")
         return block
 
     def _damaged(self, why: str) -> Unreadable:
@@ -223,14 +235,11 @@ class _Cpio:
 
     def _is_at_end(self) -> bool:
         """Whether nothing follows but zeros. Another cpio file may."""
-        while not self._stream.peek(BLOCK).strip(b"\0"):
-            if not self._stream.read(BLOCK):
-                return True
-        while self._stream.peek(1) == b"\0":
-            self._stream.skip(1)
-        if not is_cpio(self._stream.peek(6)):
+        is_passed = self._stream.pass_zeros(1, _MOST_ZEROS)
+        head = self._stream.peek(6)
+        if not is_passed or head and not is_cpio(head):
             raise Unreadable("the cpio file is followed by something else, which is not read")
-        return False
+        return not head
 
     def _header(self) -> list[int]:
         header = self._stream.exactly(_CPIO_HEADER)

@@ -1,10 +1,9 @@
-"""The sections of a link that are not loaded, as those of debug information: laid out and relocated
-by the proved library.
+"""The sections of a link that are not loaded, as those of debug information: read, and laid out by
+the proved library.
 
 A link map has only sections that are loaded. So objects are made here that have the other
-ones as loaded sections, and no others; and each symbol that a relocation names is an
-absolute one with the value that it has in the program. In the map of these objects from
-address 0 on the place of a section is its offset, and its bytes are relocated.
+ones as loaded sections without bytes, and no others. In their map from address 0 on the place of a
+section is its offset.
 """
 
 from __future__ import annotations
@@ -12,35 +11,24 @@ from __future__ import annotations
 import struct
 import zlib
 from collections.abc import Sequence
-from typing import NamedTuple
+from itertools import chain
+from typing import NamedTuple, Optional
 
 import elfmap
-from elfmap._elf_file import (
-    ABSOLUTE,
-    Row,
-    Symbol,
-    object_head,
-    order_of,
-    symbol_rows,
-    with_sections,
-)
+from elfmap._elf_file import Row, object_head, order_of, with_sections
 from elfmap._map_lines import LinkMap, Place
-from elfmap._link_values import Object, Values
-from elfmap.constants import SHF, SHT
+from elfmap._link_values import Object
+from elfmap.constants import ELFCOMPRESS_ZLIB, LONGEST_FILE, SHF, SHT, SHT_LOPROC
 
-_EXCLUDE = 0x8000_0000
-# From this type on sections are those of processors.
-_OF_PROCESSORS = 0x7000_0000
+# A flag of GNU: a link leaves the section out.
+EXCLUDE = 0x8000_0000
 _KEPT_FLAGS = SHF.MERGE | SHF.STRINGS
 _NO_CONTENT = b".note.GNU-stack"
-_ZLIB = 1
-_LONGEST = 2**30
-# What a relocation stores whose symbol is in no section of the program. In a list of ranges a pair
-# of zeros would end the list.
-_NOWHERE = 0
-_NOWHERE_IN_LISTS = 1
-_LISTS = (b".debug_ranges", b".debug_loc")
-_MASK = 2**64 - 1
+# How the name begins of a section that GNU compressed before the gABI had a flag for it.
+_OLD_COMPRESSED = b".zdebug_"
+_TOO_LONG_TOGETHER = (
+    "with it the sections that are not loaded have more than 2^30 bytes, when they are decompressed"
+)
 
 
 class NotRelocated(elfmap.NotLinked):
@@ -70,9 +58,10 @@ class Input(NamedTuple):
 
 
 class Member(NamedTuple):
-    """A section in an output section, and its offset there."""
+    """A section in an output section: which one that is, and its offset there."""
 
     input: Input
+    output: int
     offset: int
 
 
@@ -105,67 +94,105 @@ class DebugSection(NamedTuple):
 def debug_inputs(objects: Sequence[Object], discarded: set[Place]) -> list[list[Input]]:
     """Of each object the sections that are not loaded, and that a program has.
 
-    Raises NotRead if one is compressed in a way that can't be read.
+    Raises NotRead if one is compressed in a way that can't be read, or if all of them are longer
+    than a file may be. Nothing is decompressed before it is known how long all of it is.
     """
-    return [
+    stored = [
         [
-            _input(file, index, own)
+            _stored(file, index, own)
             for position, index in enumerate(own.kept)
             if _is_wanted(own.sections[index]) and (file, position) not in discarded
         ]
         for file, own in enumerate(objects)
     ]
+    total = 0
+    for it in chain.from_iterable(stored):
+        total += it.size
+        if total > LONGEST_FILE:
+            raise NotRead(it.input.file, it.input.name, _TOO_LONG_TOGETHER)
+    return [[_read(it) for it in some] for some in stored]
 
 
 def _is_wanted(section: elfmap.Section) -> bool:
     """Whether a section has bytes for a program that are not loaded. What another type than
     SHT_PROGBITS has is not joined by a link, but for debug information, which has a type of its own
     for some processors."""
-    if section.sh_flags & (SHF.ALLOC | _EXCLUDE) or section.name == _NO_CONTENT:
+    if section.sh_flags & (SHF.ALLOC | EXCLUDE) or section.name == _NO_CONTENT:
         return False
-    is_debug = section.name.startswith(b".debug_") and section.sh_type >= _OF_PROCESSORS
+    is_debug = section.name.startswith(b".debug_") and section.sh_type >= SHT_LOPROC
     return section.sh_size > 0 and (is_debug or section.sh_type == SHT.PROGBITS)
 
 
-def _input(file: int, index: int, own: Object) -> Input:
+class _Stored(NamedTuple):
+    """A section as its object has it: what it is without its bytes, these bytes, and, if they are
+    compressed, how many it has when they are not."""
+
+    input: Input
+    content: memoryview
+    inflated: Optional[int] = None
+
+    @property
+    def size(self) -> int:
+        return len(self.content) if self.inflated is None else self.inflated
+
+
+def _stored(file: int, index: int, own: Object) -> _Stored:
     section = own.sections[index]
-    name = section.name
+    content = section.content or memoryview(b"")
     align = section.sh_addralign or 1
-    content = bytes(section.content or b"")
+    it = Input(file, index, section.name, b"", section.sh_flags, align, section.sh_entsize)
     if section.sh_flags & SHF.COMPRESSED:
-        header = struct.Struct(f"{order_of(own.is_big)}I4xQQ")
-        if len(content) < header.size:
-            raise NotRead(file, name, "it is shorter than the header of a compressed section")
-        kind, size, align = header.unpack_from(content)
-        if kind != _ZLIB:
-            raise NotRead(file, name, f"its compression, {kind}, is not known")
-        if not align or align & (align - 1):
-            raise NotRead(file, name, "its alignment is no power of two")
-        content = _inflated(file, name, content[header.size :], size)
-    elif name.startswith(b".zdebug_") and content.startswith(b"ZLIB"):
-        size = int.from_bytes(content[4:12], "big")
-        content = _inflated(file, name, content[12:], size)
-        name = b"." + name[2:]
-    return Input(file, index, name, content, section.sh_flags, align, section.sh_entsize)
+        return _compressed(it, content, own.is_big)
+    if section.name.startswith(_OLD_COMPRESSED) and content[:4] == b"ZLIB":
+        return _Stored(it, content[12:], int.from_bytes(content[4:12], "big"))
+    return _Stored(it, content)
 
 
-def _inflated(file: int, name: bytes, content: bytes, size: int) -> bytes:
-    """What zlib compressed, which has so many bytes."""
-    if size > _LONGEST:
-        raise NotRead(file, name, "it is longer than 2^30 bytes when it is decompressed")
+def _compressed(it: Input, content: memoryview, is_big: bool) -> _Stored:
+    """A section with the header that the flag COMPRESSED says it has."""
+    header = struct.Struct(f"{order_of(is_big)}I4xQQ")
+    if len(content) < header.size:
+        raise NotRead(it.file, it.name, "it is shorter than the header of a compressed section")
+    kind, size, align = header.unpack_from(content)
+    if kind != ELFCOMPRESS_ZLIB:
+        raise NotRead(it.file, it.name, f"its compression, {kind}, is not known")
+    if not align or align & (align - 1):
+        raise NotRead(it.file, it.name, "its alignment is no power of two")
+    return _Stored(it._replace(align=align), content[header.size :], size)
+
+
+def _read(stored: _Stored) -> Input:
+    it = stored.input
+    if stored.inflated is None:
+        return it._replace(content=bytes(stored.content))
     try:
-        found = zlib.decompressobj().decompress(content, size + 1)
-    except zlib.error as fault:
-        raise NotRead(file, name, f"it can't be decompressed: {fault}") from None
-    if len(found) != size:
-        raise NotRead(file, name, "it has another length when it is decompressed")
+        content = _inflated(stored.content, stored.inflated)
+    except (zlib.error, ValueError) as fault:
+        raise NotRead(it.file, it.name, f"it can't be decompressed: {fault}") from None
+    is_old = not it.flags & SHF.COMPRESSED
+    return it._replace(name=b"." + it.name[2:] if is_old else it.name, content=content)
+
+
+def _inflated(content: memoryview, size: int) -> bytes:
+    """What zlib compressed, which has so many bytes."""
+    stream = zlib.decompressobj()
+    # One byte more shows that there are too many, without taking memory for all of them.
+    found = stream.decompress(content, size + 1)
+    if len(found) > size:
+        raise ValueError("it has more bytes than its header says")
+    if not stream.eof:
+        raise ValueError("its compressed bytes end too early")
+    if len(found) < size:
+        raise ValueError("it has fewer bytes than its header says")
+    if stream.unused_data:
+        raise ValueError("there are more bytes after the compressed ones")
     return found
 
 
-def _made(own: Object, rows: list[Row]) -> bytes:
+def made_object(own: Object, rows: list[Row]) -> bytearray:
     """An object for the machine of another one, with these sections."""
     head = object_head(own.is_big, own.machine, own.flags)
-    return bytes(with_sections(head, rows, own.is_big))
+    return with_sections(head, rows, own.is_big)
 
 
 def laid_out(objects: Sequence[Object], inputs: Sequence[list[Input]]) -> list[DebugSection]:
@@ -173,7 +200,7 @@ def laid_out(objects: Sequence[Object], inputs: Sequence[list[Input]]) -> list[D
 
     Raises NotRelocated if one is longer than 2^64 - 1.
     """
-    files = [_made(own, [_sized(it) for it in some]) for own, some in zip(objects, inputs)]
+    files = [made_object(own, [_sized(it) for it in some]) for own, some in zip(objects, inputs)]
     try:
         layout = LinkMap(elfmap.map(files, base=0, page=1))
     except elfmap.NotLinked as fault:
@@ -183,116 +210,14 @@ def laid_out(objects: Sequence[Object], inputs: Sequence[list[Input]]) -> list[D
             output.name,
             output.length,
             [
-                Member(inputs[it.file][it.section], it.address - output.address)
+                Member(inputs[it.file][it.section], index, it.address - output.address)
                 for it in output.members
             ],
         )
-        for output in layout.outputs
+        for index, output in enumerate(layout.outputs)
     ]
 
 
 def _sized(it: Input) -> Row:
     """A loaded section as long as another one, whose bytes are not looked at."""
     return Row(it.name, SHT.NOBITS, flags=SHF.ALLOC, size=len(it.content), align=it.align)
-
-
-class _Alone:
-    """An object with the sections of one output section, what relocates them, and symbols that have
-    the values of the program.
-
-    `origins` has the index of each of its sections in the object that it is made of.
-    """
-
-    def __init__(self, own: Object, file: int, values: Values, discarded: set[Place]) -> None:
-        self._own = own
-        self._file = file
-        self._values = values
-        self._discarded = discarded
-        self._rows: list[Row] = []
-        # The index of each symbol, by its value.
-        self._symbols = {0: 0}
-        self.origins: list[int] = []
-
-    def add(self, it: Input) -> int:
-        """Adds a section, and returns its position."""
-        self._rows.append(Row(it.name, SHT.PROGBITS, it.content, flags=SHF.ALLOC, align=it.align))
-        self.origins.append(it.section)
-        return len(self.origins) - 1
-
-    def written(self) -> bytes:
-        """The object as a file."""
-        sections = list(self.origins)
-        rows = [
-            self._relocations(index, target, self._own.sections[origin].name)
-            for target, origin in enumerate(sections, 1)
-            for index in self._relocating(origin)
-        ]
-        table = len(self._rows) + len(rows) + 1
-        symbols = [Symbol(b"", 0, ABSOLUTE, value) for value in self._symbols if value]
-        linked = [it._replace(link=table) for it in rows]
-        every = [*self._rows, *linked, *symbol_rows(symbols, table, self._own.is_big)]
-        return _made(self._own, every)
-
-    def _relocating(self, target: int) -> list[int]:
-        """The relocation sections of a section. What is found is the origin of the next section."""
-        found = [
-            index
-            for index in self._own.relocating.get(target, [])
-            if (self._file, self._own.positions[index]) not in self._discarded
-        ]
-        self.origins += found
-        return found
-
-    def _relocations(self, index: int, target: int, name: bytes) -> Row:
-        """The relocations of a section, by symbols of this object."""
-        section = self._own.sections[index]
-        has_addends = section.sh_type == SHT.RELA
-        nowhere = _NOWHERE_IN_LISTS if name in _LISTS else _NOWHERE
-        packed = struct.Struct(f"{order_of(self._own.is_big)}QQ{'q' if has_addends else ''}")
-        columns = self._own.file.columns(index)
-        fields = ("r_offset", "symbol", "relocation_type", "r_addend")
-        content = bytearray()
-        for offset, symbol, kind, addend in zip(*(columns[it] for it in fields)):
-            value = self._values.value(self._file, symbol)
-            if value is None:
-                value = 0
-                addend = nowhere
-            info = self._symbol(value) << 32 | kind
-            content += packed.pack(offset, info, *([addend] if has_addends else []))
-        kind = int(section.sh_type)
-        return Row(b"", kind, bytes(content), info=target, align=8, entsize=packed.size)
-
-    def _symbol(self, value: int) -> int:
-        """The index of the symbol of a value, which is stored modulo 2^64."""
-        return self._symbols.setdefault(value & _MASK, len(self._symbols))
-
-
-def relocated(
-    objects: Sequence[Object],
-    values: Values,
-    section: DebugSection,
-    rules: bytes,
-    discarded: set[Place],
-) -> bytes:
-    """The bytes of an output section that is not loaded.
-
-    Raises NotRelocated with the positions in the objects, or TooLong.
-    """
-    if section.length > _LONGEST:
-        raise elfmap.TooLong()
-    made = [_Alone(it, file, values, discarded) for file, it in enumerate(objects)]
-    places = [(it.input.file, made[it.input.file].add(it.input)) for it in section.members]
-    try:
-        text = elfmap.map([it.written() for it in made], rules, base=0, page=1)
-    except elfmap.NotLinked as fault:
-        origin = made[fault.file].origins[fault.index]
-        position = objects[fault.file].positions[origin]
-        raise NotRelocated(fault.rule, fault.file, position, fault.entry) from None
-    except elfmap.Refused:
-        # With its symbols a section may be longer than a file can be.
-        raise elfmap.TooLong() from None
-    found = LinkMap(text).bytes
-    content = bytearray(section.length)
-    for place, member in zip(places, section.members):
-        content[member.offset : member.offset + len(found[place])] = found[place]
-    return bytes(content)

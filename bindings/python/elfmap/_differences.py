@@ -13,6 +13,7 @@ from itertools import zip_longest
 from typing import NamedTuple, Optional, TypeVar, Union
 
 from elfmap import File, Relocation, Section, Symbol, _Bytes as Bytes
+from elfmap._elf_file import is_big_endian, order_of
 from elfmap._names import machine_words, relocation_types, section_type
 from elfmap._strings_in import strings_at
 from elfmap._words import LONGEST_LETTER, MOST_LETTERS, printable
@@ -181,7 +182,7 @@ def sections_of(file: File, data: Bytes, names: Names) -> tuple[list[Section], l
     """All sections at once, without their names, and the names: the file is sound."""
     header = file.header
     view = memoryview(data)
-    order = ">" if header.e_ident[5] == 2 else "<"
+    order = order_of(is_big_endian(header.e_ident))
     table = view[header.e_shoff : header.e_shoff + 64 * len(file.sections)]
     rows = struct.iter_unpack(f"{order}2I4Q2I2Q", table) if header.e_shoff else iter(())
     found = []
@@ -222,6 +223,11 @@ def has_debug_information(section: Section, name: Text) -> bool:
     return not section.sh_flags & _ALLOC and front.startswith(_DEBUG_NAMES)
 
 
+def _is_reserved(st_shndx: int) -> bool:
+    """Whether it is the index of no section, as SHN_UNDEF, SHN_ABS and SHN_COMMON are."""
+    return st_shndx == 0 or 0xFF00 <= st_shndx < _IN_INDEX_TABLE
+
+
 class Canonical:
     """An object by its canonical file."""
 
@@ -231,7 +237,7 @@ class Canonical:
         self.machine = file.header.e_machine
         self.sections, self._names = sections_of(file, data, names)
         self._table = self._first(_SYMTAB)
-        self.order = ">" if file.header.e_ident[5] == 2 else "<"
+        self.order = order_of(is_big_endian(file.header.e_ident))
         self.symbols: Sequence[Symbol] = list(self._read_symbols()) if self._table else []
         strings = self._content(self.sections[self._table].sh_link) if self._table else b""
         at = names.of(strings, (it.st_name for it in self.symbols))
@@ -242,12 +248,13 @@ class Canonical:
         self._ignored = self._without_debug() if ignores_debug else set()
 
     def _without_debug(self) -> set[int]:
-        """The sections of debug information, and the groups that have no others."""
+        """The sections of debug information, and the groups of such sections alone."""
         found = {
             k for k, it in enumerate(self.sections) if has_debug_information(it, self._names[k])
         }
         for k, it in enumerate(self.sections):
-            if it.sh_type == _GROUP and found.issuperset(self._words(k)[1:]):
+            members = self._words(k)[1:] if it.sh_type == _GROUP else []
+            if members and found.issuperset(members):
                 found.add(k)
         return found
 
@@ -281,8 +288,7 @@ class Canonical:
 
     def place(self, it: Symbol) -> Place:
         """Where a symbol is defined."""
-        is_reserved = it.st_shndx == 0 or 0xFF00 <= it.st_shndx < _IN_INDEX_TABLE
-        return it.st_shndx if is_reserved else self.section(it.section)
+        return it.st_shndx if _is_reserved(it.st_shndx) else self.section(it.section)
 
     def section(self, index: int) -> Optional[Label]:
         return self.section_labels[index] if 0 < index < len(self.section_labels) else None
@@ -321,7 +327,7 @@ class Canonical:
         """The symbols of the object."""
         own = {}
         for k, it in enumerate(self.symbols):
-            if it.section not in self._ignored or not self._ignored:
+            if _is_reserved(it.st_shndx) or it.section not in self._ignored:
                 own[self.symbol_labels[k]] = k
         return own
 

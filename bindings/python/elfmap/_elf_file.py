@@ -8,9 +8,9 @@ from __future__ import annotations
 
 import struct
 from collections.abc import Iterable, Sequence
-from typing import NamedTuple, Optional
+from typing import NamedTuple, Optional, Union
 
-from elfmap.constants import SHN, SHT, STB
+from elfmap.constants import EI_DATA, ELFDATA2MSB, SHN, SHT, STB
 
 # The index of the section of a symbol whose value is absolute.
 ABSOLUTE = -1
@@ -19,6 +19,8 @@ SECTION_SIZE = 64
 SYMBOL_SIZE = 24
 # From this index on a number that has two bytes can't hold that of a section.
 RESERVED = 0xFF00
+# A value is stored modulo this number, as ld stores it.
+_END = 2**64
 # The offset of a content is no multiple of more, whatever its alignment in memory is.
 _MOST_ALIGNED = 4096
 
@@ -32,7 +34,7 @@ class Row(NamedTuple):
 
     name: bytes
     kind: int
-    content: Optional[bytes] = None
+    content: Optional[Union[bytes, bytearray]] = None
     flags: int = 0
     address: int = 0
     offset: int = 0
@@ -71,6 +73,11 @@ class Strings:
         return offset
 
 
+def is_big_endian(ident: bytes) -> bool:
+    """Whether numbers have their most significant byte first, by the `e_ident` of a file."""
+    return ident[EI_DATA] == ELFDATA2MSB
+
+
 def order_of(is_big: bool) -> str:
     """The byte order, as the module struct has it."""
     return ">" if is_big else "<"
@@ -92,7 +99,7 @@ def symbol_rows(symbols: Sequence[Symbol], first: int, is_big: bool) -> list[Row
     content = bytearray(SYMBOL_SIZE)
     for it in symbols:
         section = _short_index(it.section)
-        fields = it.info, it.other, section, it.value, it.size
+        fields = it.info, it.other, section, it.value % _END, it.size
         content += packed.pack(strings.add(it.name), *fields)
     info = 1 + sum(it.info >> 4 == STB.LOCAL for it in symbols)
     link = first + 1 + has_far
@@ -128,7 +135,8 @@ def with_sections(head: bytes, rows: Iterable[Row], is_big: bool) -> bytearray:
         headers += struct.pack(f"{order}IIQQQQIIQQ", name, row.kind, *places)
     data += bytes(-len(data) % 8)
     _set_fields(data, len(data), len(every) + 1, order)
-    return data + headers
+    data += headers
+    return data
 
 
 def _first_header(count: int, order: str) -> bytes:

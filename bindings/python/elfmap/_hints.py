@@ -16,11 +16,13 @@ TOO_SHORT = 2
 WRONG_MAGIC = 3
 WRONG_CLASS = 4
 NOT_NULL = 13
+_WRONG_LINK = 44
 NOT_RELOCATABLE = 70
-_OF_SECTION_TABLE = (12, NOT_NULL, 15)
 _KEPT_LINK = 78
 _KEPT_INFO = 79
-_WRONG_LINK = 44
+_OF_SECTION_TABLE = (12, NOT_NULL, 15)
+# The machines whose compilers take -m32 and -m64: SPARC, 386, SPARC32PLUS, PPC, S390 and X86_64.
+_OF_BOTH_CLASSES = (2, 3, 18, 20, 22, 62)
 _ADDRSIG = "LLVM_ADDRSIG"
 # What has another meaning within $'..'.
 _QUOTED = re.compile(rb"[\\']")
@@ -65,7 +67,10 @@ def hints(
     if rule in (TOO_SHORT, WRONG_MAGIC):
         yield from _foreign(words)
     elif rule == WRONG_CLASS and words.number(4, 1) == 1:
-        yield "it is a file of class 32, as -m32 makes it: compile it with -m64"
+        if words.machine in _OF_BOTH_CLASSES:
+            yield "it is a file of class 32, as -m32 makes it: compile it with -m64"
+        else:
+            yield "it is a file of class 32: compile it for a processor of 64 bits"
     elif rule in _OF_SECTION_TABLE:
         yield from _astray(words)
     elif rule == NOT_RELOCATABLE:

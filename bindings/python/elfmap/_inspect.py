@@ -16,14 +16,10 @@ from elfmap._origin import Origin, origin_of
 from elfmap._packages import MOST_UNPACKED, Opener
 from elfmap._sources import Source, Unreadable, opened, standard_input
 from elfmap._walk import Named, reason_of_foreign
-from elfmap._words import MOST_LETTERS, Words, explain
+from elfmap._words import MOST_LETTERS, OBJECT_TOO_LONG, Words, explain
 
 _MAGIC = b"\x7fELF"
 _CLASS_32 = 1
-_TOO_LONG = (
-    "OBJECT_TOO_LONG",
-    "the canonical layout of its object would be longer than 2^30 bytes; split the file",
-)
 
 
 class Depth(NamedTuple):
@@ -124,7 +120,8 @@ def _finding(content: Content, words: Words, origin: Origin, fault: Fault, depth
     start = NOWHERE if is_copy else source.start
     rule = Rule(fault.is_of_link, fault.rule)
     if fault.rule == TOO_LONG_AS_OBJECT:
-        return Finding(path, 0, rule, *_TOO_LONG, (), file, start, origin)
+        limit = OBJECT_TOO_LONG
+        return Finding(path, 0, rule, limit.name, limit.message, (), file, start, origin)
     if fault.is_of_link:
         told = explain_alone(Linked("", words), fault.rule, fault.at)
     elif fault.reading:

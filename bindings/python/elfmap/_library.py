@@ -18,6 +18,8 @@ from ctypes import (
 from pathlib import Path
 
 SHORT_ROOM = 0
+# In place of an owner: the part is a gap.
+GAP = 2**64 - 1
 # What the status of an engine says.
 DONE, REFUSED, NOT_LINKED, TOO_LONG, SMALL_ROOM, NO_MEMORY, BAD_RULES = range(7)
 

@@ -8,16 +8,17 @@ from collections.abc import Iterator, Sequence
 from itertools import islice
 
 from elfmap._hints import shell_word
-from elfmap._link_words import UNDEFINED_NAME, Linked
+from elfmap._link_words import EMPTY_SIGNATURE, UNDEFINED_NAME, Linked
 from elfmap._linker_names import linker_name
 from elfmap._names import machine_words, relocation_types
 from elfmap._rule_files import changes_no_bytes, file_with, files_for
 
+# Rules of the link by their numbers.
 _TLS = 3
 _LINK_ORDER = 4
-_EMPTY_SIGNATURE = 5
 _BAD_SYMBOL = 6
 NO_RULE = 12
+_UNPLACED = 13
 # The warnings.
 INDIRECT_FUNCTION = 1
 NAME_OF_LINKER = 2
@@ -25,45 +26,70 @@ FIELD_UNCHANGED = 3
 FIELD_CHANGED_OTHERWISE = 4
 CODE_FOR_LTO = 5
 ARRAY_NOT_SORTED = 6
-_UNPLACED = 13
-_GNU_UNIQUE = 10
+EXECUTABLE_STACK = 7
+DIVIDED_SECTION = 8
+GAP_IN_CODE = 9
+VERSIONED_NAME = 10
+# Types and a binding of symbols, and the flag of a section in a group.
 _OF_SECTION = 3
 _OF_THREAD = 6
+_GNU_UNIQUE = 10
+_IN_GROUP = 0x200
 _LITTLE_MIPS = (8, "<")
 _SYMBOLS_AT_ONCE = 1 << 12
 _LTO_SECTION = b".gnu.lto_"
 _LTO_SYMBOL = b"__gnu_lto_slim"
-LTO = "compile it without -flto, or with -ffat-lto-objects"
+_LTO = "compile it without -flto, or with -ffat-lto-objects"
 _THREADS = (
     "variables of threads are not linked, nor is `errno` of most C libraries, which is one: compile"
     " without __thread and thread_local, for a C library such as klibc"
 )
-_WITHOUT_GOT = (
-    "compile with -fno-pic, and with -mcmodel=small, kernel or large, as its addresses need"
+_GOT = "a global offset table, which elfmap does not make"
+_GOT_NAME = "_GLOBAL_OFFSET_TABLE_"
+# The options without which compilers for a machine use such a table.
+_WITHOUT_GOT = {
+    21: "compilers for this machine find each address by it, so that no option avoids it",
+    62: (
+        "compile with -fno-pic, without -fno-plt, and with -mcmodel=small, kernel or large, as its"
+        " addresses need"
+    ),
+}
+_WITHOUT_GOT_ELSE = "compile with -fno-pic, and without -fno-plt"
+# What relocation types by such tables have in their names, and those of threads. That of TOCSAVE is
+# no field: it marks an instruction.
+_OF_GOT = re.compile("GOT|PLTOFF|SOP_PUSH_GPREL|TOC(?!SAVE)")
+_OF_THREADS = re.compile("TLS|TPOFF|DTP|TPREL")
+_MEMORY = (
+    "compilers call it by themselves, also with -ffreestanding: link an object that defines it"
 )
-_GOT = f"a global offset table, which elfmap does not make: {_WITHOUT_GOT}"
-# What relocation types by such tables have in their names, and those of threads.
-_OF_GOT = ("GOT", "PLTOFF", "TOC")
-_OF_THREADS = ("TLS", "TPOFF", "DTP", "TPREL")
-# Names that compilers refer to by themselves, and the option without which they do.
+_STACK = "the code checks its stack: compile it with -fno-stack-protector"
+_PROFILED = "the code is compiled for a profiler: compile it without -pg"
+# Names that compilers refer to by themselves, and the option without which they do not.
 _NAMES = {
-    "_GLOBAL_OFFSET_TABLE_": f"the code is compiled for a global offset table: {_WITHOUT_GOT}",
-    "__stack_chk_fail": "the code checks its stack: compile it with -fno-stack-protector",
-    "__tls_get_addr": "the code has thread-local variables, which elfmap does not link",
-    "__errno_location": "`errno` is one of a thread: compile for a C library such as klibc",
     "_Unwind_Resume": "the code unwinds its stack: compile it with -fno-exceptions",
-    "__gxx_personality_v0": "the code has exceptions of C++: compile it with -fno-exceptions",
     "__cxa_guard_acquire": (
         "a variable in a function is set at its first call: compile with -fno-threadsafe-statics"
     ),
-    "__fentry__": "the code is compiled for a profiler: compile it without -pg",
-    "mcount": "the code is compiled for a profiler: compile it without -pg",
+    "__errno_location": "`errno` is one of a thread: compile for a C library such as klibc",
+    "__fentry__": _PROFILED,
+    "__gxx_personality_v0": "the code has exceptions of C++: compile it with -fno-exceptions",
+    "__stack_chk_fail": _STACK,
+    "__stack_chk_guard": _STACK,
+    "__tls_get_addr": "the code has thread-local variables, which elfmap does not link",
+    "_mcount": _PROFILED,
+    "mcount": _PROFILED,
+    **dict.fromkeys(("memcmp", "memcpy", "memmove", "memset"), _MEMORY),
 }
 # The beginnings of others.
 _FAMILIES = {
     "__asan_": "the code checks itself: compile it without -fsanitize=address",
+    "__cyg_profile_func_": "the code reports calls: compile it without -finstrument-functions",
+    "__gcov_": "the code counts its calls: compile it without --coverage and -fprofile-generate",
+    "__llvm_profile_": "the code counts its calls: compile it without -fprofile-generate",
+    "__sanitizer_cov_": "the code reports its way: compile it without -fsanitize-coverage",
+    "__tsan_": "the code checks itself: compile it without -fsanitize=thread",
     "__ubsan_handle_": "the code checks itself: compile it without -fsanitize=undefined",
-    "__gcov_": "the code counts its calls: compile it without --coverage",
+    "llvm_gc": "the code counts its calls: compile it without --coverage",
 }
 _FORTIFIED = re.compile(r"__\w+_chk")
 
@@ -79,7 +105,7 @@ def link_hints(
         yield f"{_section_name(it, it.section(index))}: {_THREADS}"
     elif rule == _LINK_ORDER:
         yield from _placed_by_another(it, index)
-    elif rule == _EMPTY_SIGNATURE:
+    elif rule == EMPTY_SIGNATURE:
         yield from _unnamed_signature(it, index)
     elif rule == _BAD_SYMBOL:
         yield from _unusual_symbol(it, index)
@@ -88,7 +114,7 @@ def link_hints(
     elif rule == NO_RULE:
         yield from _unknown_relocation(it, index, entry)
     elif rule == _UNPLACED:
-        yield from _into_a_group(it, index)
+        yield from _into_a_group(it, index, entry)
 
 
 def _section_name(file: Linked, index: int) -> str:
@@ -130,29 +156,42 @@ def _path(file: Linked) -> str:
 
 def _unusual_symbol(file: Linked, position: int) -> Iterator[str]:
     info = file.words.symbol(file.symbols, position + 1, "st_info")
+    name = file.symbol_name(position)
     if info & 15 == _OF_THREAD:
-        yield f"{file.symbol_name(position)}: {_THREADS}"
+        yield from _of_family(name) or [f"{name}: {_THREADS}"]
     elif info >> 4 == _GNU_UNIQUE:
         yield (
-            f"{file.symbol_name(position)} is GNU_UNIQUE, as g++ makes variables of inline"
+            f"{name} is GNU_UNIQUE, as g++ makes variables of inline"
             " functions and templates: compile with -fno-gnu-unique"
         )
 
 
+def _of_family(name: str) -> list[str]:
+    """What made code that refers to a name, by its beginning."""
+    return [f"{name}: {it}" for start, it in _FAMILIES.items() if name.startswith(start)]
+
+
 def _undefined(files: Sequence[Linked], file: Linked, position: int) -> Iterator[str]:
     name = file.symbol_name(position)
+    if name == _GOT_NAME:
+        options = _without_table(file.words.machine)
+        yield f"{name}: the code is compiled for a global offset table: {options}"
     if name in _NAMES:
         yield f"{name}: {_NAMES[name]}"
-    yield from (f"{name}: {it}" for start, it in _FAMILIES.items() if name.startswith(start))
+    yield from _of_family(name)
     if _FORTIFIED.fullmatch(name):
         yield f"{name}: the code checks its buffers: compile it with -U_FORTIFY_SOURCE"
-    of_linker = linker_name(file.raw_name(position))
+    of_linker = linker_name(file.raw_name(position), file.words.machine)
     if of_linker:
         advice = of_linker.advice(name)
         yield f"ld defines {name} as {of_linker.words}, and elfmap does not: {advice}"
     for it in files:
+        version = it.default_version(file.raw_name(position))
+        if version:
+            lead = f"ld takes {version} of {it.path} for {name}, and elfmap does not"
+            yield f"{lead}: compile that file without .symver"
         if slim_symbol(it):
-            yield f"{it.path} has no code but that for LTO: {LTO}"
+            yield f"{it.path} has no code but that for LTO: {_LTO}"
 
 
 def slim_symbol(file: Linked) -> int:
@@ -187,15 +226,20 @@ def kind_words(machine: int, order: str, kind: int) -> str:
     """What an object needs that has relocations of a kind: another option of the compiler, or a
     line of rules; or why no line can be for it."""
     name = relocation_types(machine).get(kind, "")
-    if any(it in name for it in _OF_THREADS):
+    if _OF_THREADS.search(name):
         return _THREADS
-    if any(it in name for it in _OF_GOT):
-        return f"{name} is by {_GOT}"
+    if _OF_GOT.search(name):
+        return f"{name} is by {_GOT}: {_without_table(machine)}"
     line = line_in_rules(machine, order, kind)
     if line:
         call = f"{name} is a call, which needs no table here: " if "PLT32" in name else ""
         return f"{call}the rule file needs the line {line}"
     return _no_line_words(machine, order, kind)
+
+
+def _without_table(machine: int) -> str:
+    """The options without which code for a machine has no global offset table."""
+    return _WITHOUT_GOT.get(machine, _WITHOUT_GOT_ELSE)
 
 
 def line_in_rules(machine: int, order: str, kind: int) -> str:
@@ -219,12 +263,15 @@ def _no_line_words(machine: int, order: str, kind: int) -> str:
     return "none of the twelve files of rules/ is for this machine: its psABI defines the type"
 
 
-def _into_a_group(file: Linked, index: int) -> Iterator[str]:
+def _into_a_group(file: Linked, index: int, entry: int) -> Iterator[str]:
     """A relocation of tables of frames, which refers to a function of a group that is dropped."""
     words = file.words
     target = words.section(file.section(index), "sh_info")
     name = words.section_string(target)
-    if name == ".eh_frame":
+    at = file.relocation(index, entry)
+    symbol = words.number(at + 8, 8) >> 32 if at >= 0 else 0
+    flags = words.section(file.section_of(symbol), "sh_flags")
+    if name == ".eh_frame" and flags & _IN_GROUP:
         yield (
             f"{name} refers to a function of a group that an earlier file has already:"
             " compile with -fno-asynchronous-unwind-tables, and C++ with -fno-exceptions too"
@@ -236,7 +283,7 @@ def warning_advice(file: Linked, number: int, at: int) -> str:
     than the advice for all; or an empty text."""
     if number == NAME_OF_LINKER:
         position, _ = file.position_at(UNDEFINED_NAME, at)
-        name = linker_name(file.raw_name(position))
+        name = linker_name(file.raw_name(position), file.words.machine)
         return name.advice(file.symbol_name(position)) if name else ""
     if number in (FIELD_UNCHANGED, FIELD_CHANGED_OTHERWISE):
         start = file.relocation(*file.position_at(NO_RULE, at))

@@ -4,16 +4,37 @@
 from __future__ import annotations
 
 import struct
-from collections.abc import Iterator, Sequence
-from typing import NamedTuple, Optional
+from collections.abc import Iterable, Iterator, Sequence
+from typing import NamedTuple, Optional, TypeVar
 
 import elfmap
-from elfmap._elf_file import ABSOLUTE, order_of
+from elfmap._elf_file import ABSOLUTE, is_big_endian, order_of
 from elfmap._map_lines import LinkMap, Place
-from elfmap.constants import SHN, SHT, STB
+from elfmap.constants import GRP_COMDAT, SHN, SHT, STB
 
-_DATA_MSB = 2
-_COMDAT = 1
+# A link map may have each name as hexadecimal digits, and is in memory several times.
+_MOST_OF_NAMES = 1 << 28
+_Named = TypeVar("_Named", elfmap.Section, elfmap.Symbol)
+
+
+class LongNames(ValueError):
+    """The names of all sections and symbols of a link have too many bytes."""
+
+
+class Names:
+    """Counts the bytes of the names of a link. Names may share bytes, so that a short file has many
+    long ones."""
+
+    def __init__(self, most: int = _MOST_OF_NAMES) -> None:
+        self._left = most
+
+    def counted(self, records: Iterable[_Named]) -> Iterator[_Named]:
+        """The records, as long as their names are not too long. Raises LongNames if they are."""
+        for it in records:
+            self._left -= len(it.name)
+            if self._left < 0:
+                raise LongNames()
+            yield it
 
 
 class Object:
@@ -24,15 +45,15 @@ class Object:
     a section.
     """
 
-    def __init__(self, data: bytes) -> None:
+    def __init__(self, data: bytes, names: Names) -> None:
         self.file = elfmap.parse(data)
         header = self.file.header
-        self.is_big = header.e_ident[5] == _DATA_MSB
+        self.is_big = is_big_endian(header.e_ident)
         self.machine = header.e_machine
         self.flags = header.e_flags
-        self.sections = list(self.file.sections)
+        self.sections = list(names.counted(self.file.sections))
         self.table = self._first(SHT.SYMTAB)
-        self.symbols = list(self.file.symbols(self.table))
+        self.symbols = list(names.counted(self.file.symbols(self.table)))
         self.kept = self._kept(header.e_shstrndx)
         self.positions = {index: position for position, index in enumerate(self.kept)}
         self.relocating: dict[int, list[int]] = {}
@@ -59,7 +80,7 @@ class Object:
             if section.sh_type == SHT.GROUP and section.content:
                 count = section.sh_size // 4
                 words = struct.unpack(f"{order_of(self.is_big)}{count}I", section.content)
-                if words[0] == _COMDAT:
+                if words[0] == GRP_COMDAT:
                     yield self.symbols[section.sh_info].name, words[1:]
 
 

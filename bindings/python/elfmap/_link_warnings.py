@@ -9,8 +9,9 @@ from __future__ import annotations
 
 import re
 from collections import Counter
-from collections.abc import Iterator, Sequence
+from collections.abc import Collection, Iterator, Sequence
 from functools import cached_property
+from itertools import chain
 from typing import NamedTuple, Optional
 
 import elfmap
@@ -18,27 +19,53 @@ from elfmap._columns import Column
 from elfmap._link_hints import (
     ARRAY_NOT_SORTED,
     CODE_FOR_LTO,
+    DIVIDED_SECTION,
+    EXECUTABLE_STACK,
     FIELD_CHANGED_OTHERWISE,
     FIELD_UNCHANGED,
+    GAP_IN_CODE,
     INDIRECT_FUNCTION,
     NAME_OF_LINKER,
+    VERSIONED_NAME,
     kind_words,
     slim_symbol,
 )
-from elfmap._map_lines import LinkMap
 from elfmap._link_words import Linked
-from elfmap._linker_names import LinkerName, linker_name
+from elfmap._linker_names import LinkerName, linker_name, names_of_version
+from elfmap._map_lines import LinkMap, Member, Output
 from elfmap._rule_files import Rules, changes_no_bytes, file_with
-from elfmap._words import ENTRY_SIZES, REL, RELA, entry_words
+from elfmap._words import (
+    ENTRY_SIZES,
+    MOST_LETTERS,
+    REL,
+    RELA,
+    SECTION,
+    XINDEX,
+    entry_words,
+    printable,
+)
 
 _GNU_IFUNC = 10
+# The values of EI_OSABI whose types of symbols are those of GNU: none, GNU and FreeBSD.
+_LIKE_GNU = (0, 3, 9)
 _LOCAL = 0
-# The sections that ld sorts into an array, and the names at the ends of these arrays.
-_SORTED = re.compile(rb"\.(?:(init_array|ctors)|(?:fini_array|dtors))(\..*)?", re.S)
+_EXECINSTR = 4
+_STACK = b".note.GNU-stack"
+_INIT = b".init_array"
+_FINI = b".fini_array"
+# The sections that ld sorts into an array of constructors or destructors, and the names at the ends
+# of these arrays.
+_SORTED = re.compile(rb"\.(?:(init_array|ctors)|(?:fini_array|dtors))(?:\..*)?", re.S)
 _ENDS_OF_ARRAYS = {
-    True: (b"__init_array_start", b"__init_array_end"),
-    False: (b"__fini_array_start", b"__fini_array_end"),
+    b"__init_array_start": _INIT,
+    b"__init_array_end": _INIT,
+    b"__fini_array_start": _FINI,
+    b"__fini_array_end": _FINI,
 }
+# Functions of which each file has a part that runs into the next one; and the machines for which ld
+# fills a gap in code with instructions that do nothing.
+_IN_PARTS = (b".init", b".fini")
+_FILLED = (22, 43, 50, 62, 183, 36902)
 
 
 class Warned(NamedTuple):
@@ -51,6 +78,14 @@ class Warned(NamedTuple):
     words: str
     sections: tuple[int, ...]
     advice: str = ""
+
+
+def _array_of(section: bytes) -> bytes:
+    """The array that ld sorts a section of another name into; empty if it sorts it into none."""
+    found = _SORTED.fullmatch(section)
+    if not found or section in (_INIT, _FINI):
+        return b""
+    return _INIT if found[1] else _FINI
 
 
 class _Object:
@@ -107,6 +142,13 @@ class _Object:
                     found[symbol] = 1
         return bytes(found)
 
+    def indirect_functions(self) -> Iterator[int]:
+        """The symbols that are indirect functions of GNU, and defined in a live section."""
+        if self.words.number(7, 1) in _LIKE_GNU:
+            for index, info in enumerate(self.infos):
+                if info & 15 == _GNU_IFUNC and self.value(index) is not None:
+                    yield index
+
     def symbol(self, index: int) -> elfmap.Symbol:
         return self._file.symbols(self.linked.symbols)[index]
 
@@ -119,6 +161,17 @@ class _Object:
     def name(self, index: int) -> bytes:
         """The name of a symbol, or its first bytes."""
         return self.linked.raw_name(index - 1)
+
+    def symbols_in_arrays(self) -> dict[int, bytes]:
+        """The symbols in sections that ld sorts into an array, and that array."""
+        arrays = {index: _array_of(name) for index, name in self.names.items() if _array_of(name)}
+        columns = self._file.columns(self.linked.symbols) if arrays else {}
+        found = {}
+        for index, own in enumerate(columns.get("st_shndx", ())):
+            section = self.linked.section_of(index) if own == XINDEX else own
+            if section in arrays:
+                found[index] = arrays[section]
+        return found
 
     def warned(self, number: int, index: int, words: str, advice: str = "") -> Warned:
         """A warning that is about a symbol."""
@@ -160,22 +213,28 @@ class Warnings:
     def all(self) -> Iterator[Warned]:
         yield from self._indirect_functions()
         yield from self._names_of_linker()
+        yield from self._versions()
+        yield from self._divided_sections()
+        yield from self._arrays()
+        yield from self._gaps()
         for it in self._objects:
             yield from self._changes(it)
-            yield from self._arrays(it)
+            yield from _stacks(it)
 
     def _used(self, it: _Object) -> Iterator[int]:
         return (index for index, is_used in enumerate(self._uses[it.position]) if is_used)
 
+    def _uses_of(self, names: Collection[bytes]) -> Iterator[tuple[_Object, int]]:
+        """The symbols of these names, none of them local, that fields refer to."""
+        for it in self._objects if names else ():
+            for index in self._used(it):
+                if not it.is_local(index) and it.name(index) in names:
+                    yield it, index
+
     # ---- Symbols
 
     def _indirect_functions(self) -> Iterator[Warned]:
-        found = [
-            (it, index)
-            for it in self._objects
-            for index, info in enumerate(it.infos)
-            if info & 15 == _GNU_IFUNC and it.value(index) is not None
-        ]
+        found = [(it, index) for it in self._objects for index in it.indirect_functions()]
         users = self._users({it.name(index) for it, index in found}) if found else {}
         for it, index in found:
             user = self._user(it, index, users)
@@ -186,11 +245,8 @@ class Warnings:
     def _users(self, wanted: set[bytes]) -> dict[bytes, str]:
         """For each of the names that a field refers to the first file that has the field."""
         found: dict[bytes, str] = {}
-        for it in self._objects:
-            for index in self._used(it):
-                name = b"" if it.is_local(index) else it.name(index)
-                if name in wanted:
-                    found.setdefault(name, it.linked.path)
+        for it, index in self._uses_of(wanted):
+            found.setdefault(it.name(index), it.linked.path)
         if self._entry is not None:
             found.setdefault(self._entry, "the entry point")
         return found
@@ -208,22 +264,33 @@ class Warnings:
     def _names_of_linker(self) -> Iterator[Warned]:
         sections = {name for it in self._objects for name in it.names.values()}
         wanted: dict[bytes, LinkerName] = {}
+        machine = self._objects[0].words.machine
         for name, bound in self._link.names.items():
-            known = linker_name(name) if bound.binding == "zero" else None
+            known = linker_name(name, machine) if bound.binding == "zero" else None
             if known and known.is_defined(sections):
                 wanted[name] = known
-        for it in self._objects if wanted else ():
-            for index in self._used(it):
-                known = None if it.is_local(index) else wanted.get(it.name(index))
-                if known:
-                    advice = known.advice(it.linked.symbol_name(index - 1))
-                    words = f", which ld defines as {known.words}"
-                    yield it.warned(NAME_OF_LINKER, index, words, advice)
+        for it, index in self._uses_of(wanted):
+            known = wanted[it.name(index)]
+            advice = known.advice(it.linked.symbol_name(index - 1))
+            words = f", which ld defines as {known.words}"
+            yield it.warned(NAME_OF_LINKER, index, words, advice)
+
+    def _versions(self) -> Iterator[Warned]:
+        """The names that nobody defines, and of which there is a default version."""
+        zeros = {name for name, it in self._link.names.items() if it.binding == "zero"}
+        wanted = {
+            name: f", which ld defines as {printable(version, MOST_LETTERS)}"
+            for version in self._link.names.keys() - zeros
+            for name in names_of_version(version)
+            if name in zeros
+        }
+        for it, index in self._uses_of(wanted):
+            yield it.warned(VERSIONED_NAME, index, wanted[it.name(index)])
 
     # ---- Relocations
 
     def _changes(self, it: _Object) -> Iterator[Warned]:
-        """The kinds of relocations whose rule is not that of the psABI, each at its first entry."""
+        """The kinds of relocations whose rule is not that of rules/, each at its first entry."""
         first: dict[int, tuple[int, int]] = {}
         counts = Counter[int]()
         for section, kinds, _ in it.relocations:
@@ -240,8 +307,10 @@ class Warnings:
         """Which warning the rule of a kind gets; 0 if it gets none."""
         rule = self._rules[kind]
         machine = it.words.machine
+        if changes_no_bytes(machine, kind):
+            return FIELD_CHANGED_OTHERWISE if rule.changes_bytes else 0
         if not rule.changes_bytes:
-            return 0 if changes_no_bytes(machine, kind) else FIELD_UNCHANGED
+            return FIELD_UNCHANGED
         known = file_with(machine, it.words.order, kind)
         right = known.rules[kind] if known else rule
         is_right = (rule.form, rule.width) == (right.form, right.width)
@@ -261,13 +330,83 @@ class Warnings:
 
     # ---- Sections
 
-    def _arrays(self, it: _Object) -> Iterator[Warned]:
-        for index, name in it.names.items():
-            found = _SORTED.fullmatch(name)
-            if not found or name in (b".init_array", b".fini_array"):
-                continue
-            if any(end in self._link.names for end in _ENDS_OF_ARRAYS[bool(found[1])]):
+    def _divided_sections(self) -> Iterator[Warned]:
+        """The ends of a section that ld makes as one, and elfmap as several: by their flags."""
+        flags: dict[tuple[bytes, bool], list[int]] = {}
+        for output in self._link.outputs:
+            if output.length:
+                # ld too makes a section of its own of those without bits.
+                flags.setdefault((output.name, output.has_bits), []).append(output.flags)
+        divided = {name: every for (name, _), every in flags.items() if len(every) > 1}
+        wanted = dict(self._ends_of(divided)) if divided else {}
+        for it, index in self._uses_of(wanted):
+            yield it.warned(DIVIDED_SECTION, index, wanted[it.name(index)])
+
+    def _ends_of(self, divided: dict[bytes, list[int]]) -> Iterator[tuple[bytes, str]]:
+        """The names that objects define as ends of these sections, and in words what they are."""
+        machine = self._objects[0].words.machine
+        for name, bound in self._link.names.items():
+            known = linker_name(name, machine) if bound.binding != "zero" else None
+            every = divided.get(known.section) if known else None
+            if known and every:
+                words = " and ".join(map(hex, every))
+                yield name, f", {known.words}, which is {len(every)} sections, of flags {words}"
+
+    def _gaps(self) -> Iterator[Warned]:
+        """The parts of functions that begin after a gap."""
+        is_filled = self._objects[0].words.machine in _FILLED
+        outputs = (it for it in self._link.outputs if is_filled and it.name in _IN_PARTS)
+        for before, part in chain.from_iterable(map(_neighbours, outputs)):
+            if part.address > before.address + before.size:
+                it = self._objects[part.file]
+                words = it.words
+                index = it.linked.section(part.section)
+                at = words.table + 64 * index + SECTION["sh_addralign"][0]
+                size = part.address - before.address - before.size
+                own = f"{words.section_words(index)}, after a gap of {size:#x} bytes"
+                yield Warned(GAP_IN_CODE, it.position, at, own, (index,))
+
+    def _arrays(self) -> Iterator[Warned]:
+        """The sections that ld sorts into an array to which a field refers."""
+        found = [
+            (it, index, _array_of(name))
+            for it in self._objects
+            for index, name in it.names.items()
+            if _array_of(name)
+        ]
+        used = self._used_arrays() if found else set()
+        for it, index, array in found:
+            if array in used:
                 at = it.words.table + 64 * index
-                yield Warned(
-                    ARRAY_NOT_SORTED, it.position, at, it.words.section_words(index), (index,)
-                )
+                own = it.words.section_words(index)
+                yield Warned(ARRAY_NOT_SORTED, it.position, at, own, (index,))
+
+    def _used_arrays(self) -> set[bytes]:
+        """The arrays to which a field refers: by a name of ld, or by a symbol in a section that ld
+        sorts into one."""
+        arrays = dict(_ENDS_OF_ARRAYS)
+        found = set()
+        for it in self._objects:
+            for index, array in it.symbols_in_arrays().items():
+                if not it.is_local(index):
+                    arrays[it.name(index)] = array
+                elif self._uses[it.position][index]:
+                    found.add(array)
+        return found.union(arrays[it.name(index)] for it, index in self._uses_of(arrays))
+
+
+def _neighbours(output: Output) -> Iterator[tuple[Member, Member]]:
+    """The members of an output section that have bytes, each with the one before it."""
+    members = [it for it in output.members if it.size]
+    return zip(members, members[1:])
+
+
+def _stacks(it: _Object) -> Iterator[Warned]:
+    """The section by which an object asks for an executable stack."""
+    words = it.words
+    for index, name, _, flags, *_ in words.headers():
+        if flags & _EXECINSTR and words.name(words.names, name) == _STACK:
+            at = words.table + 64 * index + SECTION["sh_flags"][0]
+            own = f"{words.section_words(index)}: sh_flags, which is {flags:#x}"
+            yield Warned(EXECUTABLE_STACK, it.position, at, own, (index,))
+            return

@@ -24,6 +24,8 @@ from elfmap._words import (
     RELA,
     SECTION,
     SYMTAB,
+    XINDEX,
+    Limit,
     Told,
     Words,
     entry_words,
@@ -40,19 +42,26 @@ _SYMBOLS_AT_ONCE = 1 << 14
 _BYTES_AT_ONCE = 1 << 20
 # A name is looked for at so many places of the string table.
 _MOST_OFFSETS = 1 << 20
-# The rules by what their positions are of.
-OF_OPTIONS = (1, 10, 11)
-_OF_SECTIONS = (3, 4, 5)
+# Rules by their numbers.
 MISMATCH = 2
-_EMPTY_SIGNATURE = 5
+EMPTY_SIGNATURE = 5
 _BAD_COMMON = 7
 _TWO_DEFINITIONS = 8
 UNDEFINED_NAME = 9
 NO_ENTRY = 10
-_OF_SYMBOLS = range(6, 10)
+# The rules by what their positions are of.
+OF_OPTIONS = (1, NO_ENTRY, 11)
+OF_SECTIONS = (3, 4, EMPTY_SIGNATURE)
+OF_SYMBOLS = range(6, 10)
 _OF_RELOCATIONS = range(12, 17)
 # The rules that a file keeps or breaks whatever the options and the other files are.
 OF_ONE_FILE = range(3, 8)
+# What is said of a program that is too long: no rule has a number for it.
+EXECUTABLE_TOO_LONG = Limit(
+    "EXECUTABLE_TOO_LONG",
+    "the executable would be longer than 2^30 bytes, or have more than 65,534 segments",
+    "choose a smaller page, or link fewer files",
+)
 
 
 class Linked:
@@ -86,7 +95,7 @@ class Linked:
         """Of the section headers or symbols that a rule is about where they begin, their size, and
         how many there are."""
         words = self.words
-        if rule in _OF_SECTIONS:
+        if rule in OF_SECTIONS:
             return words.table, _HEADER_SIZE, words.count
         start, end = words.content(self.symbols)
         return start, _SYMBOL_SIZE, (end - start) // _SYMBOL_SIZE
@@ -95,8 +104,8 @@ class Linked:
         """Where in the file a rule is broken: the field of the section header, or the entry of the
         symbol."""
         start, size, _ = self._place(rule)
-        if rule in _OF_SECTIONS:
-            field, _ = SECTION["sh_info" if rule == _EMPTY_SIGNATURE else "sh_flags"]
+        if rule in OF_SECTIONS:
+            field, _ = SECTION["sh_info" if rule == EMPTY_SIGNATURE else "sh_flags"]
             return start + size * self.section(position) + field
         return start + size * (position + 1)
 
@@ -116,7 +125,7 @@ class Linked:
     def position_at(self, rule: int, at: int) -> tuple[int, int]:
         """The position of the section or symbol at such an offset, or of the section of relocations
         and of the entry in it; the first number is too large if there is none."""
-        if rule in _OF_SECTIONS:
+        if rule in OF_SECTIONS:
             index = self.index_at(rule, at)
             return self.kept.index(index) if index in self.kept else len(self.kept), 0
         if rule not in _OF_RELOCATIONS:
@@ -127,6 +136,13 @@ class Linked:
             if kind in (REL, RELA) and start <= at < end:
                 return position, (at - start) // ENTRY_SIZES[kind]
         return len(self.kept), 0
+
+    def section_of(self, symbol: int) -> int:
+        """The section that the symbol of an index is defined in, or its reserved index."""
+        words = self.words
+        own = words.symbol(self.symbols, symbol, "st_shndx")
+        table = words.index_table(self.symbols) if own == XINDEX else 0
+        return words.number(words.content(table)[0] + 4 * symbol, 4) if table else own
 
     def raw_name(self, position: int, most: int = LONGEST_NAME) -> bytes:
         """The name of the symbol at a position, or so many bytes of it."""
@@ -154,12 +170,23 @@ class Linked:
     def _strings(self) -> int:
         return self.words.section(self.symbols, "sh_link")
 
+    def default_version(self, name: bytes) -> str:
+        """The name of a default version of a name, as foo@@V1 of foo and of foo@V1; empty if the
+        file has none."""
+        base, _, version = name.partition(b"@")
+        ending = version + b"\0" if version else b""
+        found = next(self._places_of(b"\0%s@@%s" % (base, ending)), None)
+        return "" if found is None else self.words.string(self._strings, found + 1)
+
     def _offsets_of(self, name: bytes) -> Iterator[int]:
         """Where a name is in the string table: it may be the end of another one."""
-        wanted = name + b"\0"
+        return self._places_of(name + b"\0")
+
+    def _places_of(self, wanted: bytes) -> Iterator[int]:
+        """Where bytes are in the string table."""
         start, end = self.words.content(self._strings)
         for at in range(start, min(end, len(self.words.data)), _BYTES_AT_ONCE):
-            block = self.words.data[at : min(at + _BYTES_AT_ONCE + len(name), end)]
+            block = self.words.data[at : min(at + _BYTES_AT_ONCE + len(wanted) - 1, end)]
             found = block.find(wanted)
             while found >= 0:
                 yield at - start + found
@@ -193,14 +220,14 @@ class Linked:
     def own_words(self, rule: int, index: int) -> str:
         """The section or symbol of this index, and what of it a rule looks at that needs no other
         file."""
-        if rule in _OF_SECTIONS:
+        if rule in OF_SECTIONS:
             return self._section_words(rule, index)
         return self._symbol_words(rule, index)
 
     def _section_words(self, rule: int, index: int) -> str:
         words = self.words
         section = words.section_words(index)
-        if rule == _EMPTY_SIGNATURE:
+        if rule == EMPTY_SIGNATURE:
             table, symbol = (words.section(index, it) for it in ("sh_link", "sh_info"))
             return f"{section}: signed by {words.symbol_words(table, symbol)}"
         return f"{section}: sh_flags, which is {words.section(index, 'sh_flags'):#x}"
@@ -248,7 +275,7 @@ def refused_symbol(data: memoryview, rule: int, index: int, entry: int) -> Optio
     """The whole name of the symbol of a file that a rule of the link is about; None if there is
     none."""
     file = Linked("", Words(_Viewed(data)))
-    if rule in _OF_SYMBOLS:
+    if rule in OF_SYMBOLS:
         return file.whole_name(index)
     at = file.relocation(index, entry) if rule in _OF_RELOCATIONS else -1
     symbol = file.words.number(at + 8, 8) >> 32 if at >= 0 else 0
@@ -259,7 +286,7 @@ def explain_alone(file: Linked, rule: int, at: int) -> Told:
     """Why a file breaks a rule of the link by itself, at an offset of it."""
     words = file.words
     index = file.index_at(rule, at)
-    section = index if rule in _OF_SECTIONS else file.symbols
+    section = index if rule in OF_SECTIONS else file.symbols
     message = f"{file.own_words(rule, index)}; {reason(rule, LINK_RULES)}; {LINK_RULES[rule][2]}"
     return Told(message, [section])
 
@@ -272,7 +299,7 @@ def link_words(files: Sequence[Linked], rule: int, file: int, index: int, entry:
     if rule == MISMATCH:
         return f"{it.machine_words()}; {files[0].machine_words()}"
     if rule in OF_ONE_FILE:
-        own = it.section(index) if rule in _OF_SECTIONS else index + 1
+        own = it.section(index) if rule in OF_SECTIONS else index + 1
         return f"{it.path}, {it.own_words(rule, own)}"
     if rule == _TWO_DEFINITIONS:
         return _two_definitions(files, file, index)

@@ -12,7 +12,16 @@ from collections.abc import Callable, Generator, Iterator
 from contextlib import ExitStack, contextmanager
 from typing import NamedTuple, Optional
 
-from elfmap._archives import MAGIC, MAGICS, THIN_MAGIC, Content, Contents, Member, members
+from elfmap._archives import (
+    MAGIC,
+    MAGICS,
+    THIN_MAGIC,
+    Content,
+    Contents,
+    Labels,
+    Member,
+    members,
+)
 from elfmap._containers import BLOCK, Entry, entries, is_cpio, is_rpm, is_tar, pass_rpm_headers
 from elfmap._sources import LONGEST, Source, Unreadable, reason_of
 from elfmap._streams import Budget, Stream, compression, decompressed, plain
@@ -84,12 +93,13 @@ class Opener:
             yield Content(place.printed, place.file, source, bool(nested))
 
     def _package(self, place: Place, source: Source, nested: int) -> Iterator[Content]:
-        labels = _Labels()
+        labels = Labels()
         with _members_of(source, self._budget) as found:
             for it in found:
                 own = place
                 if it.name is not None:
-                    own = place.below(labels.of(it.name) if it.is_copied else it.name)
+                    name = it.name.removeprefix(b"./")
+                    own = place.below(labels.of(name) if it.is_copied else name)
                 if it.reason:
                     self._lost(own.printed, it.reason)
                 else:
@@ -139,19 +149,6 @@ def content_at(path: bytes, file: bytes, source: Source, stack: ExitStack) -> Op
     if not found and reason:
         raise Unreadable(reason)
     return found
-
-
-class _Labels:
-    """Names for members, of which no two are the same: the second of a name is `name#2`."""
-
-    def __init__(self) -> None:
-        self._seen: dict[bytes, int] = {}
-
-    def of(self, name: bytes) -> bytes:
-        name = name.removeprefix(b"./")
-        count = self._seen.get(name, 0) + 1
-        self._seen[name] = count
-        return name if count == 1 else b"%s#%d" % (name, count)
 
 
 class _Inner(NamedTuple):

@@ -21,7 +21,17 @@ from elfmap._hints import hints
 from elfmap._link_hints import link_hints
 from elfmap._link_map import MOST_FILES, Link, Options, Refusal
 from elfmap._link_warnings import Warned, Warnings, lto_warnings
-from elfmap._link_words import MISMATCH, OF_ONE_FILE, OF_OPTIONS, Linked, link_words
+from elfmap._link_words import (
+    EXECUTABLE_TOO_LONG,
+    MISMATCH,
+    NO_ENTRY,
+    OF_ONE_FILE,
+    OF_OPTIONS,
+    OF_SECTIONS,
+    OF_SYMBOLS,
+    Linked,
+    link_words,
+)
 from elfmap._map_lines import LinkMap
 from elfmap._rule_files import read_rules
 from elfmap._rules import LINK_RULES, WARNINGS
@@ -31,17 +41,9 @@ from elfmap._words import LONGEST_NAME, MOST_LETTERS, Words, explain, printable,
 _BASE = 0x400000
 _PAGE = 0x1000
 _OF_JSON = ("jsonl", "sarif")
-_NO_ENTRY = 10
-_OF_SECTIONS = range(3, 6)
-_OF_SYMBOLS = range(6, 10)
 _STANDARD_INPUT = b"-"
 # Where a file has its byte order, its machine and its flags.
 _IDENTITY = ((5, 1), (18, 2), (48, 4))
-_TOO_LONG = (
-    "EXECUTABLE_TOO_LONG",
-    "the executable would be longer than 2^30 bytes, or have more than 65,534 segments; choose a"
-    " smaller page, or link fewer files",
-)
 
 
 def add_options(parser: argparse.ArgumentParser) -> None:
@@ -172,7 +174,8 @@ class Preflight:
     def _refused(self, refusal: Refusal) -> list[Finding]:
         """Why the files do not link, and what each of them breaks by itself."""
         if isinstance(refusal, TooLong):
-            return [self._finding(0, Rule(True, 0), 0, *_TOO_LONG)]
+            limit = EXECUTABLE_TOO_LONG
+            return [self._finding(0, Rule(True, 0), 0, limit.name, limit.message)]
         if isinstance(refusal, NotLinked):
             place = refusal.file, refusal.index, refusal.entry
             first = self._of_link(refusal.rule, *place)
@@ -217,12 +220,12 @@ class Preflight:
         return self._finding(position, Rule(True, rule), at, name, message, sections)
 
     def _place_words(self, rule: int, position: int, index: int, entry: int) -> str:
-        if rule == _NO_ENTRY:
+        if rule == NO_ENTRY:
             name = printable(self._options.entry or b"", self._most_letters) or "(no name)"
             return f"the entry point {name}"
         if rule in OF_ONE_FILE:
             linked = self._files[position].linked
-            own = linked.section(index) if rule in _OF_SECTIONS else index + 1
+            own = linked.section(index) if rule in OF_SECTIONS else index + 1
             return linked.own_words(rule, own)
         return link_words(self._linked, rule, position, index, entry)
 
@@ -239,10 +242,10 @@ class Preflight:
             )
             return next(other, 0), []
         at = linked.place(rule, index, entry)
-        if rule in _OF_SYMBOLS:
+        if rule in OF_SYMBOLS:
             return at, [linked.symbols]
         own = linked.section(index)
-        return at, [own] if rule in _OF_SECTIONS else [own, words.section(own, "sh_info")]
+        return at, [own] if rule in OF_SECTIONS else [own, words.section(own, "sh_info")]
 
     # ---- Findings
 

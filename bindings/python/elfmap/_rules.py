@@ -361,20 +361,47 @@ WARNINGS = {1: ('INDIRECT_FUNCTION',
      'define the name in an object'),
  3: ('FIELD_UNCHANGED',
      'the program may not be that of `ld` because the list has a rule of the form '
-     '`none` for the kind of an applied entry, and the psABI does not define that the '
-     'kind changes nothing',
+     '`none` for the kind of an applied entry, the kind is not 0, and no file of '
+     '`rules/` for the machine says that the kind changes nothing',
      'take the line of the file of `rules/` for the machine; a kind that has none '
      "there can't be linked"),
  4: ('FIELD_CHANGED_OTHERWISE',
      'the program may not be that of `ld` because the rule for the kind of an applied '
-     'entry has another form or width than in the file of `rules/` for the machine',
+     'entry has another form or width than in the file of `rules/` for the machine, or '
+     'the kind is 0 and the rule changes bytes',
      'take the line of that file'),
  5: ('CODE_FOR_LTO',
      'the program may not be that of `ld` because an object has its code only in '
      'sections for link-time optimization, which `ld` passes to the compiler',
      'compile it without `-flto`, or with `-ffat-lto-objects`'),
  6: ('ARRAY_NOT_SORTED',
-     'the program may not be that of `ld` because a live section is named as '
-     '`.init_array.100`, and a name is the beginning or the end of such an array: `ld` '
-     'puts the section into `.init_array` by its number',
-     'call the function itself, or give its constructor no priority')}
+     'the program may not be that of `ld` because a live section is named '
+     '`.init_array.N`, `.ctors` or `.ctors.N`, or `.fini_array.N`, `.dtors` or '
+     '`.dtors.N`; `ld` sorts it into `.init_array` or `.fini_array`, and a field '
+     'refers to that array',
+     'call the functions yourself; or let the compiler put them into `.init_array` and '
+     '`.fini_array`: give no constructor and no destructor a priority, and compile '
+     'without `-fno-use-init-array`'),
+ 7: ('EXECUTABLE_STACK',
+     'the program may not be that of `ld` because an object asks for an executable '
+     'stack, by the flag EXECINSTR of its section `.note.GNU-stack`: `ld` gives the '
+     'program one',
+     'take the address of no nested function that uses variables of the function '
+     'around it; assemble with `--noexecstack` what runs no code on the stack'),
+ 8: ('DIVIDED_SECTION',
+     'the program may not be that of `ld` because a field refers to a name at the '
+     'beginning or the end of a section, such as `__start_x` or `__init_array_end`, '
+     'and sections of that name have different flags: `ld` makes one section of them, '
+     'and `link` one for each set of flags',
+     'give all sections of the name the same flags: in C, make all variables there '
+     '`const`, or none'),
+ 9: ('GAP_IN_CODE',
+     'the program may not be that of `ld` because the part of a file of the function '
+     '`.init` or `.fini` begins after a gap, into which the part before it runs: `ld` '
+     'fills the gap with instructions that do nothing, and `link` with zeros',
+     'align no part of `.init` and `.fini`, or fill up the part before it'),
+ 10: ('VERSIONED_NAME',
+      'the program may not be that of `ld` because a field refers to a WEAK name that '
+      'no file defines, and a file defines a default version of it, as `foo@@V1` of '
+      '`foo` and of `foo@V1`, which `ld` takes for it: its value is 0',
+      'compile that file without `.symver`, or define the name itself')}

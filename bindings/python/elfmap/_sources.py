@@ -14,9 +14,10 @@ from contextlib import contextmanager
 from typing import Optional
 
 from elfmap import _library
+from elfmap.constants import LONGEST_FILE
 
 # The longest file that keeps rule 1, and one byte more.
-LONGEST = 2**30 + 1
+LONGEST = LONGEST_FILE + 1
 # How much is read at once, and how much of it is held.
 _HEAD = 512
 _BLOCK = 1 << 16

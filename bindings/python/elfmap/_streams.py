@@ -1,7 +1,7 @@
 """Bytes that are read once, from the first to the last: of a file, or of what is compressed in it.
 
-What is compressed by gzip, bzip2 and xz is read by the modules of Python, by zstd by its command.
-No more memory is taken than the format asks for, and how many bytes come out has a bound.
+What is compressed by gzip, bzip2, xz and lzma is read by the modules of Python, all else by its
+command. No more memory is taken than the format asks for, and how many bytes come out has a bound.
 """
 
 from __future__ import annotations
@@ -10,15 +10,19 @@ import importlib
 import io
 import os
 import shutil
+import struct
 import subprocess
 import threading
 from collections.abc import Callable, Iterator
 from contextlib import contextmanager, suppress
+from functools import partial
 from typing import IO, Any, Optional
 
 from elfmap._sources import Source, Unreadable, reason_of
 
 _PIECE = 1 << 20
+# What follows a stream is copied for the next one.
+_SMALL_PIECE = 1 << 16
 # So much memory a file of xz may ask for: twice what `xz -9` does.
 _MOST_OF_XZ = 1 << 27
 # How files begin that are compressed, and by what.
@@ -27,9 +31,32 @@ COMPRESSED = {
     b"\xfd7zXZ\0": "xz",
     b"BZh": "bzip2",
     b"\x28\xb5\x2f\xfd": "zstd",
+    b"LZIP\1": "lzip",
+    b"\x04\x22\x4d\x18": "lz4",
+    b"\x02\x21\x4c\x18": "lz4",
+    b"\x89LZO\0\r\n\x1a\n": "lzop",
+    # The third byte has the length of the longest code, 9 to 16 bits.
+    **{bytes((0x1F, 0x9D, 0x80 | bits)): "compress" for bits in range(9, 17)},
 }
 # The first of a block of bzip2: three letters alone may begin a text.
 _BZIP2_BLOCKS = (b"1AY&SY", b"\x17rE8P\x90")
+# The header of a file of lzma: its properties, here as xz sets them by itself, how much memory it
+# asks for, and its length, or all ones. What is compressed begins by a zero byte.
+_LZMA = struct.Struct("<BIQB")
+_LZMA_PROPERTIES = 0x5D
+_LONGEST_OF_LZMA = 1 << 40
+# Of a file of lzip the byte 5 has the size of its dictionary, a power of two in its lower bits.
+_MOST_OF_LZIP = 27
+# What decompresses standard input to standard output, and tests that nothing follows.
+_COMMANDS = {
+    "zstd": ("zstd", "-dcq"),
+    "lzip": ("lzip", "-dca"),
+    "lz4": ("lz4", "-dc"),
+    "lzop": ("lzop", "-dc"),
+    "compress": ("gzip", "-dcq"),
+}
+# To start a command takes as long as to decompress so many bytes.
+_BYTES_OF_A_START = 1 << 20
 
 
 class Budget:
@@ -86,6 +113,18 @@ class Stream:
             size -= len(pieces[-1])
         return b"".join(pieces)
 
+    def pass_zeros(self, step: int, most: int) -> bool:
+        """Passes zeros, so many at once, but no more than `most` of them: whether none is left."""
+        end = self.count + most
+        while self.count <= end:
+            piece = self.peek(_PIECE)
+            zeros = len(piece) - len(piece.lstrip(b"\0"))
+            if zeros < len(piece) or not piece:
+                self.skip(zeros - zeros % step if zeros < len(piece) else zeros)
+                return True
+            self.skip(zeros)
+        return False
+
     def skip(self, size: int) -> None:
         """Passes so many bytes. Raises Unreadable where there are fewer."""
         while size:
@@ -123,12 +162,45 @@ def compression(head: bytes) -> Optional[str]:
     found = next((it for magic, it in COMPRESSED.items() if head.startswith(magic)), None)
     if found == "bzip2" and head[4:10] not in _BZIP2_BLOCKS:
         return None
-    return found
+    return "lzma" if not found and _is_lzma(head) else found
+
+
+def _is_lzma(head: bytes) -> bool:
+    """Whether a file begins as those of `xz --format=lzma` do, which have no magic number: by its
+    header, and if its first bytes can be decompressed."""
+    if len(head) < _LZMA.size:
+        return False
+    properties, memory, length, first = _LZMA.unpack_from(head)
+    has_length = length == (1 << 64) - 1 or length < _LONGEST_OF_LZMA
+    if (properties, first) != (_LZMA_PROPERTIES, 0) or not _is_dictionary(memory):
+        return False
+    return has_length and _has_start_of_lzma(head)
+
+
+def _has_start_of_lzma(head: bytes) -> bool:
+    """Whether what begins there can be decompressed, as far as it is there."""
+    try:
+        module = _module("lzma")
+    except Unreadable:
+        return True
+    decoder = module.LZMADecompressor(module.FORMAT_ALONE, _MOST_OF_XZ)
+    try:
+        return bool(decoder.decompress(head, _SMALL_PIECE)) or decoder.eof
+    except module.LZMAError:
+        return False
+
+
+def _is_dictionary(size: int) -> bool:
+    """Whether a dictionary may have this size: a power of two, or that and its half."""
+    lowest = size & -size
+    return size >= 1 << 12 and size in (lowest, 3 * lowest)
 
 
 @contextmanager
 def decompressed(raw: Stream, kind: str, budget: Budget) -> Iterator[Stream]:
     """What is compressed by this in a stream."""
+    if kind in _COMMANDS:
+        budget.take(_BYTES_OF_A_START)
     with _decoder(raw, kind) as (read, broken):
         faults: tuple[type[Exception], ...] = (OSError, EOFError, *broken)
 
@@ -150,17 +222,27 @@ Decoder = tuple[Callable[[int], bytes], tuple[type[Exception], ...]]
 @contextmanager
 def _decoder(raw: Stream, kind: str) -> Iterator[Decoder]:
     """What reads the decompressed bytes, and what it raises where they are broken."""
-    if kind == "zstd":
-        with _zstd(raw) as read:
+    if kind in _COMMANDS:
+        dictionary = raw.peek(6)[5:] if kind == "lzip" else b""
+        if any(it & 0x1F > _MOST_OF_LZIP for it in dictionary):
+            raise Unreadable("it can't be decompressed: it asks for more than 128 MiB")
+        with _piped(raw, *_COMMANDS[kind]) as read:
             yield read, ()
-    elif kind == "xz":
-        module = _module("lzma")
-        yield _Xz(raw, module).read, (module.LZMAError,)
-    else:
-        module = _module("gzip" if kind == "gzip" else "bz2")
-        broken = _module("zlib").error if kind == "gzip" else ValueError
+    elif kind == "gzip":
+        module = _module("gzip")
         with module.open(_File(raw), "rb") as it:
-            yield it.read, (broken,)
+            yield it.read, (_module("zlib").error,)
+    elif kind == "bzip2":
+        module = _module("bz2")
+        yield _Joined(raw, module.BZ2Decompressor).read, (ValueError,)
+    else:
+        module = _module("lzma")
+        yield _Joined(raw, partial(_lzma_decoder, module, kind)).read, (module.LZMAError,)
+
+
+def _lzma_decoder(module: Any, kind: str) -> Any:
+    own = module.FORMAT_XZ if kind == "xz" else module.FORMAT_ALONE
+    return module.LZMADecompressor(own, _MOST_OF_XZ)
 
 
 def _module(name: str) -> Any:
@@ -187,25 +269,31 @@ class _File(io.RawIOBase):
         return len(found)
 
 
-class _Xz:
-    """Reads the streams of an xz file, one after the other, with zeros between them."""
+class _Joined:
+    """Reads streams that are compressed, one after the other, with zeros between them."""
 
-    def __init__(self, raw: Stream, module: Any) -> None:
+    def __init__(self, raw: Stream, new: Callable[[], Any]) -> None:
         self._raw = raw
-        self._module = module
+        self._new = new
         self._given = b""
-        self._decoder = self._new()
-
-    def _new(self) -> Any:
-        return self._module.LZMADecompressor(memlimit=_MOST_OF_XZ)
+        self._ready = b""
+        self._decoder = new()
 
     def read(self, size: int) -> bytes:
+        # So much is read ahead that the sum of a small stream is tested with its first bytes.
+        if not self._ready:
+            self._ready = self._next()
+        found = self._ready[:size]
+        self._ready = self._ready[size:]
+        return found
+
+    def _next(self) -> bytes:
         while not self._decoder.eof or self._has_more():
             if self._decoder.needs_input and not self._given:
-                self._given = self._raw.read(_PIECE)
+                self._given = self._raw.read(_SMALL_PIECE)
                 if not self._given:
                     raise EOFError("it ends before what is compressed in it")
-            found: bytes = self._decoder.decompress(self._given, size)
+            found: bytes = self._decoder.decompress(self._given, _SMALL_PIECE)
             self._given = b""
             if found:
                 return found
@@ -214,7 +302,7 @@ class _Xz:
     def _has_more(self) -> bool:
         rest = self._decoder.unused_data.lstrip(b"\0")
         while not rest:
-            piece = self._raw.read(_PIECE)
+            piece = self._raw.read(_SMALL_PIECE)
             if not piece:
                 return False
             rest = piece.lstrip(b"\0")
@@ -224,21 +312,21 @@ class _Xz:
 
 
 @contextmanager
-def _zstd(raw: Stream) -> Iterator[Callable[[int], bytes]]:
-    """What the command zstd writes, which reads the stream meanwhile."""
-    command = shutil.which("zstd")
+def _piped(raw: Stream, name: str, options: str) -> Iterator[Callable[[int], bytes]]:
+    """What a command writes, which reads the stream meanwhile."""
+    command = shutil.which(name)
     if not command:
-        raise Unreadable("it can't be decompressed: there is no command zstd (package zstd)")
-    with open(os.memfd_create("what zstd says"), "rb") as said:
+        raise Unreadable(f"it can't be decompressed: there is no command {name} (package {name})")
+    with open(os.memfd_create("what the command says"), "rb") as said:
         process = subprocess.Popen(
-            [command, "-dcq"], stdin=subprocess.PIPE, stdout=subprocess.PIPE, stderr=said
+            [command, options], stdin=subprocess.PIPE, stdout=subprocess.PIPE, stderr=said
         )
         assert process.stdin and process.stdout
         faults: list[Exception] = []
         feeder = threading.Thread(target=_feed, args=(raw, process.stdin, faults), daemon=True)
         feeder.start()
         try:
-            yield _Zstd(process, process.stdout, faults, said).read
+            yield _Piped(name, process, faults, said).read
         finally:
             process.kill()
             feeder.join()
@@ -255,26 +343,24 @@ def _feed(raw: Stream, end: IO[bytes], faults: list[Exception]) -> None:
         faults.append(fault)
 
 
-class _Zstd:
-    """Reads what zstd writes, and at its end whether it is all."""
+class _Piped:
+    """Reads what a command writes, and at its end whether it is all."""
 
     def __init__(
-        self,
-        process: subprocess.Popen[bytes],
-        out: IO[bytes],
-        faults: list[Exception],
-        said: IO[bytes],
+        self, name: str, process: subprocess.Popen[bytes], faults: list[Exception], said: IO[bytes]
     ) -> None:
+        self._name = name
         self._process = process
-        self._out = out
         self._faults = faults
         self._said = said
 
     def read(self, size: int) -> bytes:
-        found = self._out.read(size)
+        assert self._process.stdout
+        found = self._process.stdout.read(size)
         if not found and self._process.wait():
             words = os.pread(self._said.fileno(), 1 << 12, 0).decode("utf-8", "replace")
-            raise EOFError(words.strip().splitlines()[-1] if words.strip() else "zstd failed")
+            lines = words.strip().splitlines()
+            raise EOFError(lines[-1] if lines else f"{self._name} failed")
         if not found and self._faults:
             raise self._faults[0]
         return found

@@ -24,18 +24,20 @@ def strings_at(
     one: memoryview, other: memoryview, at: int, flags: int, size: int
 ) -> Optional[Pair]:
     """The strings around the first byte that differs, in a section of these flags whose entries
-    have this size; None where it has none."""
-    if flags & _EXECINSTR or size > 1:
-        return None
+    have this size; None where it has none, or one that begins too far away."""
     start = _start(one, at)
+    if start is None or flags & _EXECINSTR or size > 1:
+        return None
     found = Pair(start, _string(one, start, at), _string(other, start, at))
     is_certain = flags & _STRINGS
     return found if is_certain or _is_text(found.one) and _is_text(found.other) else None
 
 
-def _start(content: memoryview, at: int) -> int:
-    least = max(at - _MOST_BYTES, 0)
-    return least + bytes(content[least:at]).rfind(b"\0") + 1
+def _start(content: memoryview, at: int) -> Optional[int]:
+    """Where the string begins that has the byte at an offset; None if that is too far away."""
+    least = max(at - _MOST_BYTES - 1, 0)
+    start = least + bytes(content[least:at]).rfind(b"\0") + 1
+    return start if at - start <= _MOST_BYTES else None
 
 
 def _string(content: memoryview, start: int, at: int) -> bytes:

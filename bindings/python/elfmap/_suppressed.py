@@ -145,10 +145,12 @@ class Baseline:
         self._count = count
         self._known = Counter(it.key for it in entries)
         self._lost = set(lost)
-        self._by_id: dict[_ById, set[Known]] = {}
+        by_id: dict[_ById, set[Known]] = {}
         for it in entries:
             if it.build_id:
-                self._by_id.setdefault(it.by_id, set()).add(it.key)
+                by_id.setdefault(it.by_id, set()).add(it.key)
+        # The first one is at the end, where those that are used up are dropped.
+        self._by_id = {key: sorted(own, reverse=True) for key, own in by_id.items()}
 
     @classmethod
     def read(cls, path: str, count: int = 0) -> Baseline:
@@ -187,12 +189,18 @@ class Baseline:
 
     def match(self, finding: Finding) -> bool:
         own = _entry(finding, self._count)
-        keys = [own.key, *sorted(self._by_id.get(own.by_id, ()))]
-        found = next((it for it in keys if self._known[it] > 0), None)
+        found = own.key if self._known[own.key] > 0 else self._of_another_path(own.by_id)
         if found is None:
             return False
         self._known[found] -= 1
         return True
+
+    def _of_another_path(self, wanted: _ById) -> Optional[Known]:
+        """The first entry with this build id that is not used up."""
+        keys = self._by_id.get(wanted, [])
+        while keys and self._known[keys[-1]] == 0:
+            keys.pop()
+        return keys[-1] if keys else None
 
     def accepts(self, lost: Unread) -> bool:
         """Whether it has that this can't be read, for this reason or for any."""

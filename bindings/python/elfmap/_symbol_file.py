@@ -11,19 +11,27 @@ from collections.abc import Iterator, Sequence
 from typing import Optional
 
 import elfmap
-from elfmap._debug_sections import DebugSection, debug_inputs, laid_out, relocated
-from elfmap._elf_file import ABSOLUTE, HEADER_SIZE, Row, Symbol, symbol_rows, with_sections
+from elfmap._debug_relocations import Program, relocated
+from elfmap._debug_sections import EXCLUDE, DebugSection, debug_inputs, laid_out
+from elfmap._elf_file import (
+    ABSOLUTE,
+    HEADER_SIZE,
+    Row,
+    Symbol,
+    is_big_endian,
+    symbol_rows,
+    with_sections,
+)
 from elfmap._map_lines import LinkMap, Output
-from elfmap._link_values import Object, Site, Values
-from elfmap.constants import SHF, SHN, SHT, STB, STT
+from elfmap._link_values import Names, Object, Site, Values
+from elfmap._rule_files import read_rules
+from elfmap.constants import LONGEST_FILE, SHF, SHN, SHT, STB, STT
 
-_LONGEST = 2**30
-_MASK = 2**64 - 1
 _COMMONS = b"COMMON"
 # The types that an output section has if all of its members have them.
 _KEPT_TYPES = (SHT.NOTE, SHT.INIT_ARRAY, SHT.FINI_ARRAY, SHT.PREINIT_ARRAY)
 # What a flag says of an input section alone.
-_DROPPED_FLAGS = SHF.INFO_LINK | SHF.LINK_ORDER | SHF.GROUP | SHF.COMPRESSED | 0x8000_0000
+_DROPPED_FLAGS = SHF.INFO_LINK | SHF.LINK_ORDER | SHF.GROUP | SHF.COMPRESSED | EXCLUDE
 _STRING_FLAGS = SHF.MERGE | SHF.STRINGS
 # Zeros are written so many at a time.
 _STEP = 1 << 20
@@ -32,17 +40,19 @@ _STEP = 1 << 20
 class Link:
     """A link of objects by the proved library: the executable, the link map, and the objects.
 
-    Raises what `elfmap.link` does.
+    Raises what `elfmap.link` does, and LongNames.
     """
 
     def __init__(
         self, contents: Sequence[bytes], rules: bytes, *, base: int, page: int, entry: bytes
     ) -> None:
         self.program = elfmap.link(contents, rules, base=base, page=page, entry=entry)
+        names = Names()
+        self.objects = [Object(it, names) for it in contents]
+        # All names are in its lines.
         self.map = LinkMap(elfmap.map(contents, base=base, page=page))
-        self.objects = [Object(it) for it in contents]
         self.rules = rules
-        self.is_big = elfmap.parse(self.program).header.e_ident[5] == 2
+        self.is_big = is_big_endian(elfmap.parse(self.program).header.e_ident)
 
 
 def flat_image(program: bytes) -> Iterator[bytes]:
@@ -54,7 +64,7 @@ def flat_image(program: bytes) -> Iterator[bytes]:
     loaded = [it for it in elfmap.parse(program).segments if it.p_filesz]
     ends = [it.p_vaddr + it.p_filesz for it in loaded]
     start = loaded[0].p_vaddr if loaded else 0
-    if loaded and ends[-1] - start > _LONGEST:
+    if loaded and ends[-1] - start > LONGEST_FILE:
         raise elfmap.TooLong()
     return _pieces([(it.p_vaddr - start, it.content or b"") for it in loaded])
 
@@ -90,7 +100,7 @@ def symbol_file(link: Link, with_debug: bool = True) -> bytes:
 def _accepted(link: Link, rows: list[Row]) -> bytes:
     """The file with these sections. Notes that break a rule when they are joined are bytes."""
     data = with_sections(link.program, rows, link.is_big)
-    if len(data) > _LONGEST:
+    if len(data) > LONGEST_FILE:
         raise elfmap.TooLong()
     refused = [section for section, *_ in elfmap.refused_tables(data)]
     refused = [it for it in refused if rows[it - 1].kind == SHT.NOTE]
@@ -177,13 +187,13 @@ def _debug_rows(link: Link, values: Values, first: int) -> list[Row]:
             it = member.input
             position = link.objects[it.file].positions[it.section]
             values.sites[it.file, position] = Site(index, member.offset)
-    return [
-        _debug_row(it, relocated(link.objects, values, it, link.rules, discarded))
-        for it in sections
-    ]
+    rules = read_rules(link.rules.decode("ascii"))
+    program = Program(values, link.rules, rules, discarded)
+    contents = relocated(link.objects, sections, program)
+    return [_debug_row(it, content) for it, content in zip(sections, contents)]
 
 
-def _debug_row(it: DebugSection, content: bytes) -> Row:
+def _debug_row(it: DebugSection, content: bytearray) -> Row:
     fields = dict(flags=it.flags, align=it.align, entsize=it.entsize)
     return Row(it.name, SHT.PROGBITS, content, **fields)
 
@@ -231,4 +241,4 @@ def _globals(link: Link, values: Values) -> Iterator[Symbol]:
 
 
 def _defined(it: elfmap.Symbol, site: Site, value: int) -> Symbol:
-    return Symbol(it.name, it.st_info, site.section, value & _MASK, it.st_size, it.st_other)
+    return Symbol(it.name, it.st_info, site.section, value, it.st_size, it.st_other)

@@ -467,6 +467,27 @@ def reason(rule: int, rules: dict[int, tuple[str, str, str]] = RULES) -> str:
     return rules[rule][1].partition(" because ")[2]
 
 
+class Limit(NamedTuple):
+    """What can't be written because it is too long, though it breaks no rule: the name, the
+    sentence and the advice, as a rule has them."""
+
+    name: str
+    sentence: str
+    advice: str
+
+    @property
+    def message(self) -> str:
+        """What a finding says."""
+        return f"{self.sentence}; {self.advice}"
+
+
+OBJECT_TOO_LONG = Limit(
+    "OBJECT_TOO_LONG",
+    "the canonical layout of its object would be longer than 2^30 bytes",
+    "split the file",
+)
+
+
 class Told(NamedTuple):
     """Why a rule is broken, and the sections that this is about."""
 

@@ -6,6 +6,18 @@ Numbers that processors and systems add are not here, but for those of machines.
 
 from enum import IntEnum, IntFlag
 
+# The byte of `e_ident` with the byte order, and the order with the most significant byte first.
+EI_DATA = 5
+ELFDATA2MSB = 2
+# From this type on sections are those of processors.
+SHT_LOPROC = 0x7000_0000
+# The flag of a group of which a link keeps one.
+GRP_COMDAT = 1
+# The compression of a section, by zlib.
+ELFCOMPRESS_ZLIB = 1
+# No constant of the gABI: the length of the longest file that is accepted (rule 1).
+LONGEST_FILE = 2**30
+
 
 class ET(IntEnum):
     """The type of a file, `e_type`."""

@@ -44,11 +44,20 @@ from elfmap._deviations import DEVIATIONS
 from elfmap._findings import Rule, rules_of
 from elfmap._hints import hints
 from elfmap._link_hints import link_hints, warning_advice
-from elfmap._link_words import MISMATCH, OF_ONE_FILE, Linked, link_words
+from elfmap._link_words import EXECUTABLE_TOO_LONG, MISMATCH, OF_ONE_FILE, Linked, link_words
 from elfmap._packages import content_at
 from elfmap._rules import LINK_RULES, RULES, WARNINGS
 from elfmap._sources import Source, Unreadable, opened, reason_of, whole
-from elfmap._words import MOST_OWNERS, Words, found_at, one_line, original_path, printable
+from elfmap._words import (
+    MOST_OWNERS,
+    OBJECT_TOO_LONG,
+    Limit,
+    Words,
+    found_at,
+    one_line,
+    original_path,
+    printable,
+)
 
 PROGRAM = "elfmap-explain"
 WIDTH = 130
@@ -65,13 +74,6 @@ _WORD = re.compile(r"refused|\d+")
 # So many files are held open.
 _MOST_OPEN = 16
 _LONGEST_RECORD = 1 << 20
-_TOO_LONG = (
-    "the file is refused because the canonical layout of its object is longer than 2^30 bytes"
-)
-_TOO_LONG_PROGRAM = (
-    "the executable would be longer than 2^30 bytes, or have more than 65,534 segments: choose a"
-    " smaller page, or link fewer files"
-)
 _CHECKED = (
     "checked here by the rules of images and tables, and relocatable files by those of objects: "
 )
@@ -271,7 +273,7 @@ class Explainer:
         self, path: str, words: Words, file: bytes, rule: int, at: int, table: Optional[int]
     ) -> Iterator[str]:
         if rule not in RULES:
-            yield _TOO_LONG if rule == 0 else f"there is no rule {rule}"
+            yield from _of_no_rule(rule, OBJECT_TOO_LONG, "")
             return
         name, sentence, advice = RULES[rule]
         yield f"{name}: {sentence}"
@@ -299,11 +301,19 @@ def _readings(line: bytes) -> Iterator[str]:
             yield f"elfmap-lint read a copy in which that is put right ({it.name}): {it.words}"
 
 
+def _of_no_rule(rule: int, limit: Limit, kind: str) -> Iterator[str]:
+    """Of a number that no rule of a kind has: 0 is that of what would be too long."""
+    if rule:
+        yield f"there is no rule {rule}{kind}"
+    else:
+        yield from (f"{limit.name}: {limit.sentence}", f"what to do: {limit.advice}")
+
+
 def _of_link_alone(file: Linked, rule: int, at: int) -> Iterator[str]:
     """Of a rule of the link, where one of the files is known: of some rules it is the reason by
     itself."""
     if rule not in LINK_RULES:
-        yield _TOO_LONG_PROGRAM if rule == 0 else f"there is no rule {rule} of the link"
+        yield from _of_no_rule(rule, EXECUTABLE_TOO_LONG, " of the link")
         return
     index, entry = file.position_at(rule, at)
     if rule in OF_ONE_FILE:

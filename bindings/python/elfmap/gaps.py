@@ -31,7 +31,6 @@ from elfmap._words import Words, one_line
 PROGRAM = "elfmap-gaps"
 _MOST = 20
 _OWNERS = ("the header", "the section headers", "the program headers")
-_GAP = 2**64 - 1
 _STEP = 1 << 20
 
 
@@ -68,7 +67,7 @@ class Finder(Inspector):
             rule = f"{RULES[fault.rule][0]} ({fault.rule})"
             raise Unreadable(f"offset {fault.at:#x}: {rule}; elfmap-lint says more")
         words = Words(it.source)
-        gaps = [position for position, part in enumerate(parts) if part.owner == _GAP]
+        gaps = [position for position, part in enumerate(parts) if part.owner == _library.GAP]
         own = [_gap(it, words, parts, position) for position in gaps]
         self.count += len(own)
         self.bytes -= sum(gap.less for gap in own)

@@ -27,7 +27,7 @@ from elfmap._commands import DONE, FOUND, UNREADABLE, USAGE, Parser, complain, r
 from elfmap._differences import Sides, image_differences, object_differences
 from elfmap._rules import RULES
 from elfmap._sources import LONGEST, Source, Unreadable, opened, reason_of
-from elfmap._words import Words, explain, one_line, printable
+from elfmap._words import OBJECT_TOO_LONG, Words, explain, one_line, printable
 
 PROGRAM = "elfmap-same"
 _MAGIC = b"\x7fELF"
@@ -37,7 +37,6 @@ _LIMIT = 10
 # A shorter file has no magic number.
 _LEAST = 4
 _COMPARED = ("object", "image", "archive")
-_TOO_LONG = "the canonical layout of its object would be longer than 2^30 bytes"
 _STEP = 1 << 20
 
 
@@ -223,7 +222,7 @@ class Run:
             rule = f"{RULES[refused.rule][0]} ({refused.rule})"
             self._lose(it.path, f"offset {refused.offset:#x}: {rule}: {told.message}")
         except elfmap.TooLong:
-            self._lose(it.path, _TOO_LONG)
+            self._lose(it.path, OBJECT_TOO_LONG.sentence)
         return None
 
     def _others(self, name: bytes, first: Source, second: Source) -> None:

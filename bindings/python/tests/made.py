@@ -4,6 +4,7 @@ Their fields are those of the gABI, and of the layouts of archives (GNU, thin, B
 """
 
 import os
+import signal
 import struct
 import tempfile
 import unittest
@@ -163,3 +164,9 @@ class FolderCase(unittest.TestCase):
             path = Path(name.replace("__", "."))
             path.parent.mkdir(parents=True, exist_ok=True)
             path.write_bytes(content)
+
+
+def with_signals():
+    """Of a command that a test starts and ends by a signal: who runs the tests may ignore it."""
+    for it in (signal.SIGINT, signal.SIGTERM, signal.SIGHUP):
+        signal.signal(it, signal.SIG_DFL)

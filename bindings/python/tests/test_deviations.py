@@ -673,6 +673,12 @@ REGISTER = b".register %g7, __thread_self\n"
 # Debian's u-boot-qemu and libc6-mips64el-cross.
 U_BOOT = "/usr/lib/u-boot/{}/uboot.elf"
 MIPS_LIBC = "/usr/mips64el-linux-gnuabi64/lib/libdl.so.2"
+# Packages that `tools/test setup` fetches and does not install.
+FETCHED = "/var/cache/elfmap-tests/{}_*.deb"
+
+
+def has_package(name):
+    return bool(glob.glob(FETCHED.format(name)))
 
 
 class ToolchainTest(DeviationCase):
@@ -738,6 +744,27 @@ class ToolchainTest(DeviationCase):
         self.assertIn(ProducerTest.U_BOOT, finding["message"])
         known = summary["summary"]["known_deviations"]
         self.assertEqual(known, {"relocations-without-symbols": 2})
+
+    @unittest.skipUnless(has_package("libc6-sparc64-cross"), "the package was not fetched")
+    def test_the_c_library_for_sparc64(self):
+        known = self.known(*glob.glob(FETCHED.format("libc6-sparc64-cross")))
+        self.assertEqual(list(known), ["hash-without-locals"])
+
+    @unittest.skipUnless(has_package("libqt6svg6"), "the package was not fetched")
+    def test_plugins_of_qt(self):
+        # The note of libqsvg.so has 162 bytes, and is filled to 168. That of libqsvgicon.so has
+        # 118, and is filled to 120 for 4 as for 8.
+        known = self.known(*glob.glob(FETCHED.format("libqt6svg6")))
+        self.assertEqual(known, {"notes-of-8": 1})
+
+    @unittest.skipUnless(has_package("guile-json"), "the package was not fetched")
+    def test_guile(self):
+        words = ["--tables", "--format", "jsonl", *glob.glob(FETCHED.format("guile-json"))]
+        *findings, summary = map(json.loads, self.lint(*words)[1].splitlines())
+        self.assertEqual(summary["summary"]["checked"], 4)
+        files = {it["path"] for it in findings if ProducerTest.GUILE in it["message"]}
+        self.assertEqual(files, {it["path"] for it in findings})
+        self.assertEqual(len(files), 4)
 
     @unittest.skipUnless(glob.glob(SANITIZERS), "clang's runtimes are not installed")
     def test_the_runtimes_of_clang(self):

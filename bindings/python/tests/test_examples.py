@@ -78,7 +78,7 @@ class PreCommitTest(Case):
         files = {
             ".pre-commit-config.yaml": config.encode(),
             "good.o": GOOD,
-            "text": b"no ELF file\n",
+            "--version": b"no ELF file, and no option\n",
         }
         folder, _ = self.repository("project", files)
         status, out = self.run_in(folder, "pre-commit", "run", "--all-files")
@@ -88,6 +88,11 @@ class PreCommitTest(Case):
         status, out = self.run_in(folder, "pre-commit", "run")
         self.assertEqual(status, 1, out)
         self.assertIn("bad.o: offset 0x72: SHARED_BYTE (33): ", out)
+        # Options of one's own.
+        own = config + "    args: [--ignore, '33', --]\n"
+        (folder / ".pre-commit-config.yaml").write_text(own)
+        self.run_in(folder, "git", "add", ".")
+        self.assertEqual(self.run_in(folder, "pre-commit", "run", "--all-files")[0], 0)
 
 
 class WorkflowTest(Case):

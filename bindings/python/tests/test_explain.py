@@ -535,7 +535,8 @@ class FindingTest(Case):
 
     def test_an_object_that_would_be_too_long(self):
         found = self.said(stdin=b"bad.o: offset 0x0: OBJECT_TOO_LONG (0): ")
-        self.assertIn("the canonical layout of its object is longer than 2^30 bytes", found)
+        sentence = "the canonical layout of its object would be longer than 2^30 bytes"
+        self.assertIn(f"OBJECT_TOO_LONG: {sentence} what to do: split the file", found)
 
     def test_what_is_no_file(self):
         os.mkfifo("pipe")
@@ -654,6 +655,8 @@ class HintTest(Case):
     def test_names_of_compilers(self):
         for name, words in (
             (b"__stack_chk_fail", "compile it with -fno-stack-protector"),
+            (b"__stack_chk_guard", "compile it with -fno-stack-protector"),
+            (b"_mcount", "compile it without -pg"),
             (b"_Unwind_Resume", "compile it with -fno-exceptions"),
             (b"__tls_get_addr", "thread-local variables, which elfmap does not link"),
             (
@@ -690,7 +693,13 @@ class HintTest(Case):
 
     def test_other_files(self):
         self.assertIn("it is an archive: elfmap-lint checks its members", self.hints(GNU, 3))
-        self.assertIn("-m64", self.hints(b"\x7fELF\1" + bytes(80), 4))
+        for machine, order, words in (
+            (3, "little", "it is a file of class 32, as -m32 makes it: compile it with -m64"),
+            (2, "big", "it is a file of class 32, as -m32 makes it: compile it with -m64"),
+            (40, "little", "it is a file of class 32: compile it for a processor of 64 bits"),
+        ):
+            front = b"\x7fELF\1" + bytes([1 + (order == "big"), 1]) + bytes(11)
+            self.assertEqual(self.hints(front + machine.to_bytes(2, order) + bytes(80), 4), words)
         program = Made(text()).with_bytes(16, b"\2")
         self.assertIn("the file is an executable", self.hints(program, 70))
 

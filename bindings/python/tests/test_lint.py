@@ -1129,7 +1129,7 @@ class OptionTest(Case):
         keys = [key for key, _ in found]
         numbers = [*range(1, 34), *range(40, 80)]
         expected = [*map(str, numbers), *(f"link-{it}" for it in range(1, 17))]
-        expected += [f"warning-{it}" for it in range(1, 7)]
+        expected += [f"warning-{it}" for it in range(1, 11)]
         self.assertEqual(keys, expected)
         page = (build.REPOSITORY / "docs/RULES.md").read_text()
         for key, name in found:
@@ -1298,7 +1298,8 @@ class StatusTest(Case):
     def test_a_full_device(self):
         self.put(bad__o=SHARING)
         status, _, said = self.lint("-o", "/dev/full", "bad.o")
-        self.assertEqual((status, said), (3, b"elfmap-lint: no space left on device\n"))
+        words = b"elfmap-lint: /dev/full: no space left on device\n"
+        self.assertEqual((status, said), (3, words))
 
 
 class ArchiveTest(Case):

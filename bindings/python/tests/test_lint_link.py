@@ -238,7 +238,7 @@ class SuppressedTest(ObjectCase):
     def test_rules_of_which_no_finding_is(self):
         for word in (
             "link-17",
-            "warning-7",
+            "warning-11",
             "link-0",
             "link-",
             "link-03",

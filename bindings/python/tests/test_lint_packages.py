@@ -1,7 +1,7 @@
 """elfmap-lint of packages: what is in them is checked, whoever wrote them.
 
-The packages are made by tar, cpio, dpkg-deb, rpmbuild, gzip, bzip2, xz and zstd; a few by hand, by
-the layouts of tar and cpio.
+The packages are made by tar, cpio, dpkg-deb, rpmbuild, gzip, bzip2, xz, zstd and other compressors;
+a few by hand, by the layouts of tar and cpio.
 """
 
 import bz2
@@ -14,6 +14,7 @@ import shutil
 import struct
 import subprocess
 import tarfile
+import time
 import unittest
 from pathlib import Path
 from unittest import mock
@@ -42,6 +43,8 @@ cp -r {} %{{buildroot}}/
 """
 # The payloads of rpmbuild, by what compresses them.
 PAYLOADS = {"gzip": "w9.gzdio", "bzip2": "w9.bzdio", "xz": "w2.xzdio", "zstd": "w3.zstdio"}
+# What reads streams that follow one another.
+JOINED = [it for it in ("lzip", "lz4", "zstd") if shutil.which(it)]
 # One finding in each of bad.o and lib.a, which has a good file too.
 LAST = b"2 findings in 2 of 4 ELF files; skipped: 3 not ELF"
 
@@ -116,10 +119,10 @@ class KindTest(PackageCase):
             with self.subTest(kind=kind):
                 self.assertSaid(["a.tar"], 1, self.lines(b"a.tar"))
 
-    @needs("tar", "gzip", "bzip2", "xz", "zstd")
+    @needs("tar", "gzip", "bzip2", "xz", "zstd", "lzip", "lz4", "lzop", "compress")
     def test_compressed_tar(self):
         self.tree()
-        for end in ("gz", "bz2", "xz", "zst"):
+        for end in ("gz", "bz2", "xz", "zst", "lz", "lzma", "lzo", "Z"):
             name = f"a.tar.{end}"
             self.made("tar", "-caf", name, "tree")
             with self.subTest(end=end):
@@ -163,12 +166,23 @@ class KindTest(PackageCase):
                 # The files have the paths that rpm2cpio gives them.
                 self.assertSaid(["a.rpm"], 1, self.lines(b"a.rpm"))
 
-    @needs("gzip", "bzip2", "xz", "zstd")
+    @needs("gzip", "bzip2", "xz", "zstd", "lzip", "lz4", "lzop", "compress")
     def test_one_file(self):
         """As kernel modules: the path is that of the file."""
-        for command, end in (("gzip", "gz"), ("bzip2", "bz2"), ("xz", "xz"), ("zstd", "zst")):
+        for words, end in (
+            ("gzip", "gz"),
+            ("bzip2", "bz2"),
+            ("xz", "xz"),
+            ("zstd", "zst"),
+            ("lzip", "lz"),
+            ("lz4", "lz4"),
+            ("lzop", "lzo"),
+            ("compress -f", "Z"),
+            ("xz --format=lzma", "lzma"),
+            ("xz --format=lzma -9", "lzma"),
+        ):
             name = f"bad.ko.{end}"
-            Path(name).write_bytes(self.made(command, "-c", input=SHARING))
+            Path(name).write_bytes(self.made(*words.split(), "-c", input=SHARING))
             with self.subTest(end=end):
                 last = b"1 finding in 1 of 1 ELF file"
                 self.assertSaid([name], 1, [name.encode() + b": " + SHARED, last])
@@ -178,16 +192,46 @@ class KindTest(PackageCase):
 
     def test_what_only_begins_alike(self):
         """Text is skipped, and no error."""
-        self.put(**{"a/text": b"BZhang\n", "a/other": b"070699", "a/magic": b"\x1f\x8b"})
-        self.assertSaid(["a"], 0, [b"0 findings in 0 of 0 ELF files; skipped: 3 not ELF"])
+        texts = [b"BZhang\n", b"070699", b"\x1f\x8b", b"\x1f\x9d\x91", b"\x1f\x9d\x88", b"LZIP"]
+        made = lzma.compress(GOOD, lzma.FORMAT_ALONE)
+        texts.append(made[:12])
+        # Its properties, its dictionary, its length, and what is compressed.
+        for at, value in ((0, 0x5E), (1, 1), (4, 2), (10, 1), (13, 1)):
+            wrong = bytearray(made)
+            wrong[at] = value
+            texts.append(bytes(wrong))
+        # An array of small numbers.
+        texts.append(struct.pack("<4I", 93, 4, 12, 0) + b"plain data " * 90)
+        self.put(**{f"a/{k}": it for k, it in enumerate(texts)})
+        skipped = b"0 findings in 0 of 0 ELF files; skipped: %d not ELF" % len(texts)
+        self.assertSaid(["a"], 0, [skipped])
+
+    def test_headers_of_lzma(self):
+        """With a length, as the first ones had, and with any size of a dictionary."""
+        for size in (1 << 12, 3 << 12, 3 << 20, 1 << 26):
+            filters = [{"id": lzma.FILTER_LZMA1, "preset": 1, "dict_size": size}]
+            made = lzma.compress(SHARING, lzma.FORMAT_ALONE, filters=filters)
+            length = struct.pack("<Q", len(SHARING))
+            for content in (made, made[:5] + length + made[13:]):
+                self.put(bad=content)
+                with self.subTest(size=size, length=content[5:13]):
+                    self.assertEqual(self.paths("bad"), ["bad"])
 
     def test_several_streams(self):
-        """As `cat` makes them, and zeros between those of xz."""
-        for module, end, between in ((gzip, "gz", b""), (bz2, "bz2", b""), (lzma, "xz", bytes(8))):
-            parts = [module.compress(SHARING[:40]), module.compress(SHARING[40:])]
-            self.put(a=between.join(parts) + between)
-            with self.subTest(end=end):
+        """As `cat` makes them, and zeros between those of xz. Anything else is an error."""
+        for compress, between in (
+            (gzip.compress, b""),
+            (bz2.compress, b""),
+            (lzma.compress, bytes(8)),
+            (lambda it: lzma.compress(it, lzma.FORMAT_ALONE), b""),
+            *((lambda it, own=own: self.made(own, "-c", input=it), b"") for own in JOINED),
+        ):
+            whole = between.join([compress(SHARING[:40]), compress(SHARING[40:])]) + between
+            self.put(a=whole, b=whole + b"something else, which is no stream")
+            with self.subTest(whole=whole):
                 self.assertSaid(["a"], 1, [b"a: " + SHARED, b"1 finding in 1 of 1 ELF file"])
+                (line,) = self.lost("b")
+                self.assertIn("b: it can't be decompressed: ", line)
 
 
 class MemberTest(PackageCase):
@@ -223,8 +267,10 @@ class MemberTest(PackageCase):
         )
 
     def test_two_of_a_name(self):
-        self.put(a__tar=tar_member(b"a.o", SHARING) + tar_member(b"./a.o", SHARING))
-        self.assertEqual(self.paths("a.tar"), ["a.tar(a.o#2)", "a.tar(a.o)"])
+        names = b"a.o", b"a.o#2", b"./a.o", b"a.o#2"
+        self.put(a__tar=b"".join(tar_member(it, SHARING) for it in names))
+        labels = ["a.o#2#2", "a.o#2", "a.o#3", "a.o"]
+        self.assertEqual(self.paths("a.tar"), [f"a.tar({it})" for it in labels])
 
     def test_long_names(self):
         name = b"folder/" * 40 + b"bad.o"
@@ -308,6 +354,23 @@ class MemberTest(PackageCase):
         (line,) = self.lost("b.cpio")
         self.assertIn("b.cpio: the cpio file is followed by something else", line)
 
+    def test_one_tar_file_after_another(self):
+        """As `tar -A` and `cat` make them."""
+        one = tar_member(b"a.o", SHARING)
+        other = tar_member(b"b.o", SHARING) + bytes(1024)
+        for between in (0, 512, 1024, 1 << 16):
+            self.put(a__tar=one + bytes(between) + other)
+            with self.subTest(between=between):
+                self.assertEqual(self.paths("a.tar"), ["a.tar(a.o)", "a.tar(b.o)"])
+        self.put(a__tar=one + bytes(512), b__tar=one + bytes(100))
+        self.assertEqual(self.paths("a.tar", "b.tar"), ["a.tar(a.o)", "b.tar(a.o)"])
+        for rest in (b"x", SHARING, bytes(511) + b"x", b"x" * 600):
+            self.put(a__tar=one + bytes(1024) + rest)
+            with self.subTest(rest=rest):
+                self.assertEqual(self.paths("a.tar"), ["a.tar(a.o)"])
+                (line,) = self.lost("a.tar")
+                self.assertIn("a.tar: the tar file is followed by something else", line)
+
     def test_a_thin_archive_in_a_package(self):
         """No file outside is opened."""
         self.put(bad__o=SHARING, a__tar=tar_member(b"lib.a", thin(b"bad.o")))
@@ -346,8 +409,13 @@ class BrokenTest(PackageCase):
     def test_compressed(self):
         content = SHARING + os.urandom(5000)
         makers = [("gz", gzip.compress), ("bz2", bz2.compress), ("xz", lzma.compress)]
-        if shutil.which("zstd"):
-            makers.append(("zst", lambda it: self.made("zstd", "-c", "--check", input=it)))
+        makers.append(("lzma", lambda it: lzma.compress(it, lzma.FORMAT_ALONE)))
+        # A file of compress has no sum, and no end.
+        for words in ("zstd -c --check", "lzip -c", "lz4 -c", "lzop -c"):
+            command, *options = words.split()
+            if shutil.which(command):
+                own = [command, *options]
+                makers.append((command, lambda it, own=own: self.made(*own, input=it)))
         for end, make in makers:
             whole = make(content)
             wrong = bytearray(whole)
@@ -373,13 +441,18 @@ class BrokenTest(PackageCase):
                 self.assertIn("it can't be decompressed: ", self.lost("a.tar")[0])
 
     def test_what_is_not_installed(self):
-        self.put(a=b"\x28\xb5\x2f\xfd" + bytes(20))
-        with mock.patch.object(shutil, "which", lambda _: None):
-            lines = self.lost("a")
-        self.assertEqual(
-            lines,
-            ["elfmap-lint: a: it can't be decompressed: there is no command zstd (package zstd)"],
-        )
+        for head, command in (
+            (b"\x28\xb5\x2f\xfd", "zstd"),
+            (b"LZIP\1", "lzip"),
+            (b"\x04\x22\x4d\x18", "lz4"),
+            (b"\x89LZO\0\r\n\x1a\n", "lzop"),
+            (b"\x1f\x9d\x90", "gzip"),
+        ):
+            self.put(a=head + bytes(20))
+            with mock.patch.object(shutil, "which", lambda _: None):
+                (line,) = self.lost("a")
+            words = f"there is no command {command} (package {command})"
+            self.assertEqual(line, f"elfmap-lint: a: it can't be decompressed: {words}")
         for name, module in (("lzma", lzma), ("bz2", bz2)):
             self.put(a=module.compress(SHARING))
             with mock.patch.dict("sys.modules", {name: None}):
@@ -512,6 +585,41 @@ class BoundTest(PackageCase):
         filters = [{"id": lzma.FILTER_LZMA2, "preset": 1, "dict_size": 1 << 28}]
         self.put(a__xz=lzma.compress(SHARING, filters=filters))
         self.assertIn("memory usage limit", self.lost("a.xz")[0].lower())
+
+    @needs("lzip")
+    def test_the_memory_of_lzip(self):
+        made = bytearray(self.made("lzip", "-c", input=SHARING))
+        made[5] = 0x1C
+        self.put(a__lz=bytes(made))
+        (line,) = self.lost("a.lz")
+        self.assertIn("it asks for more than 128 MiB", line)
+        # What is too short is damaged.
+        self.put(a__lz=b"LZIP\1")
+        self.assertIn("it can't be decompressed: ", self.lost("a.lz")[0])
+
+    def test_commands_cost(self):
+        """Of many members that a command decompresses not all are: each start counts."""
+        one = tar_member(b"a", b"\x28\xb5\x2f\xfd\0")
+        with mock.patch.object(_streams, "_COMMANDS", {"zstd": ("true", "")}):
+            self.put(a__tar=one * 5)
+            lines = self.lost("--unpack-limit", "3", "a.tar")
+        too_many = [it for it in lines if "more than 3 MiB" in it]
+        self.assertEqual((len(lines), len(too_many)), (2, 2))
+
+    def test_many_zeros(self):
+        """They are passed in large pieces, and not without end."""
+        for one, kind in ((tar_member(b"a.o", SHARING), "tar"), (CPIO_END, "cpio")):
+            with open("a", "wb") as it:
+                it.write(one)
+                it.truncate(len(one) + (1 << 24))
+                it.seek(0, os.SEEK_END)
+                it.write(one)
+            started = time.process_time()
+            self.assertEqual(self.lint("--skip", "a")[2], b"")
+            os.truncate("a", 1 << 30)
+            (line,) = self.lost("a")
+            self.assertIn(f"a: the {kind} file is followed by something else", line)
+            self.assertLess(time.process_time() - started, 2)
 
     @needs("zstd")
     def test_the_end_of_zstd(self):

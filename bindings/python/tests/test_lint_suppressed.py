@@ -6,10 +6,11 @@ import os
 import shutil
 import struct
 import subprocess
+import time
 import unittest
 from pathlib import Path
 
-from elfmap import _origin, _sources, _suppressed, _words
+from elfmap import _findings, _origin, _sources, _suppressed, _words
 
 from tests.made import (
     GNU,
@@ -219,6 +220,28 @@ class BaselineTest(Case):
         for content in (made(other), second, made()):
             self.put(**{"last/bad__o": content})
             self.assertEqual(self.lint("--baseline", "known", "last")[0], 1)
+
+    def test_many_copies_of_a_build(self):
+        """Each finding uses one entry up, of its own path first, in linear time."""
+        count = 20000
+        of_path = {"rule": "SHARED_BYTE", "sections": [], "build_id": "ab"}
+        entries = [{"path": f"{k:05}", **of_path} for k in range(count)]
+        Path("known").write_text(json.dumps({"findings": entries}))
+        baseline = _suppressed.Baseline.read("known")
+        rule = _findings.rule_of("33")
+
+        def finds(path, build_id="ab"):
+            origin = _origin.Origin("X86_64", (), build_id)
+            return _findings.Finding(path, 0, rule, "SHARED_BYTE", "", (), path, 0, origin)
+
+        started = time.process_time()
+        self.assertTrue(baseline.match(finds(b"00007")))
+        self.assertFalse(baseline.match(finds(b"00007", "cd")))
+        for k in range(count - 1):
+            self.assertTrue(baseline.match(finds(b"new/%d" % k)))
+        self.assertFalse(baseline.match(finds(b"00007")))
+        self.assertFalse(baseline.match(finds(b"last")))
+        self.assertLess(time.process_time() - started, 2)
 
     def test_what_can_not_be_read(self):
         """An entry accepts one archive, for the reason that it has or for any."""

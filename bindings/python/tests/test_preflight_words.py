@@ -6,6 +6,7 @@ What is expected is what the pages of the package and the supplements of process
 
 import json
 import re
+import struct
 import subprocess
 import unittest
 from pathlib import Path
@@ -17,6 +18,7 @@ from elfmap import (
     _link_map,
     _linker_names,
     _map_lines,
+    _names,
     _rule_files,
     _rules,
     _words,
@@ -101,6 +103,7 @@ class WordTest(PreflightCase):
         Path("other\x7f.o").write_bytes(renamed)
         name = b"\xff\nart\x1b".decode("utf-8", "surrogateescape")
         self.assertClean("other\x7f.o", entry=name)
+        self.assertIn(": the entry point (no name); ", self.refusal("NO_ENTRY", start, entry=""))
         line = self.refusal("NO_ENTRY", "other\x7f.o", entry=name + "\n")
         self.assertIn(
             "other\\x7f.o: offset 0x0: NO_ENTRY (link 10): the entry point \\xff\\nart\\x1b\\n; ",
@@ -110,6 +113,39 @@ class WordTest(PreflightCase):
             "the entry point _" + "e" * 199 + "…; ",
             self.refusal("NO_ENTRY", start, entry="_" + "e" * 300),
         )
+
+    def test_one_file_twice(self):
+        start = self.made("start", EXIT + "void _start(void) { leave(0); }")
+        line = self.refusal("TWO_DEFINITIONS", start, start)
+        self.assertRegex(
+            line,
+            "two definitions of _start, the second one at symbol (\\d+) of start.o; start.o has it"
+            " at symbol \\1; ",
+        )
+        quiet = self.made("quiet", "static int it; int *f(void);")
+        self.assertClean(start, quiet, quiet)
+        link = ["--link", "--rules", X86_64, "--entry", "_start"]
+        status, out, said = self.lint(*link, "-", "-", stdin=Path(start).read_bytes())
+        self.assertEqual((status, said), (1, b""))
+        self.assertRegex(out.decode(), r"^-: offset .*: (TOO_SHORT|TWO_DEFINITIONS) ")
+
+    def test_what_is_no_object(self):
+        """Each is a finding, and the link is refused."""
+        start = self.made("start", EXIT + "void _start(void) { leave(0); }")
+        subprocess.run(["ar", "rc", "lib.a", start], check=True)
+        subprocess.run(["ld", start, "-o", "program"], check=True)
+        Path("empty.o").write_bytes(b"")
+        Path("text.o").write_text(
+            "int main(void) { return 0; } /* no file of the format, but long */"
+        )
+        for path, name, words in (
+            ("lib.a", "WRONG_MAGIC", "it is an archive: elfmap-lint checks its members"),
+            ("program", "NOT_RELOCATABLE", "the file is an executable: an object is what cc -c"),
+            ("empty.o", "TOO_SHORT", "it is shorter than an ELF header"),
+            ("text.o", "WRONG_MAGIC", "it is no ELF file"),
+        ):
+            self.assertIn(words, self.refusal(name, start, path))
+            self.assertIn(words, self.refusal(name, path, start))
 
     def test_the_order_of_files(self):
         """Of two WEAK definitions the first one counts, also where the paths are in another
@@ -130,7 +166,7 @@ class WordTest(PreflightCase):
         self.assertEqual(self.linked(*files, more=["--ignore", "link-1"])[0], 1)
         self.assertEqual(self.linked(*files, more=["--write-baseline", "known"]), (0, summary))
         self.assertEqual(self.linked(*files, more=["--baseline", "known"]), (0, summary))
-        self.assertEqual(self.lint("--ignore", "warning-7", "x")[0], 2)
+        self.assertEqual(self.lint("--ignore", "warning-11", "x")[0], 2)
         # A refusal that is suppressed makes no program.
         missing = self.made("missing", "int none(void); int f(void) { return none(); }")
         status, lines = self.linked(*files, missing, more=["--ignore", "UNDEFINED_NAME"])
@@ -254,14 +290,33 @@ class ExplainTest(PreflightCase):
             self.assertIn(words, told)
         start = files[0]
         for line in (
-            f"{start}: offset 0x1: X (warning 9): y",
+            f"{start}: offset 0x1: X (warning 99): y",
             f"{start}: offset 0x1: X (warning 2): y",
             f"{start}: offset 0xffffffffffffffff: X (warning 3): y",
         ):
             self.assertTrue(explained(line, []))
         self.assertIn(
-            "there is no warning 9", explained(f"{start}: offset 0x1: X (warning 9): y", [])
+            "there is no warning 99", explained(f"{start}: offset 0x1: X (warning 99): y", [])
         )
+
+    def test_warnings_of_sections(self):
+        """Of each what is at its offset, and what to do."""
+        source = (
+            '.globl _start\n.section .init,"ax"\n.balign 16\n_start: ret\n'
+            '.section .note.GNU-stack,"x",@progbits\n'
+        )
+        second = source.replace("_start", "other")
+        files = self.made("a", source, compiler="as"), self.made("b", second, compiler="as")
+        lines = self.lint("--link", "--rules", X86_64, *files)[1].decode().splitlines()[:-1]
+        told = {re.search(r" (\w+) \(warning", it)[1]: explained(it, []) for it in lines}
+        self.assertEqual(set(told), {"EXECUTABLE_STACK", "GAP_IN_CODE"})
+        for name, words in (
+            ("EXECUTABLE_STACK", (".note.GNU-stack of type PROGBITS: sh_flags, which is 4", 7)),
+            ("GAP_IN_CODE", (".init of type PROGBITS: sh_addralign, which is 0x10", 9)),
+        ):
+            self.assertIn(words[0], told[name])
+            self.assertIn(f"what to do: {_rules.WARNINGS[words[1]][2]}", told[name])
+            self.assertTrue(told[name].endswith(f"docs/RULES.md#warning-{words[1]}"), told[name])
 
     def test_refusals(self):
         call = "int far(void); int f(void) { return far(); }"
@@ -348,6 +403,51 @@ class KnownTest(unittest.TestCase):
         self.assertIn("MIPS of this byte order", _link_hints.kind_words(8, "<", 2))
         self.assertIn("as in rules/mips64.rules", _link_hints.kind_words(8, ">", 2))
 
+    def test_kinds_by_tables_and_of_threads(self):
+        """By the supplements, of the kinds that <elf.h> has names for: those whose formula has the
+        global offset table or a place in it (of PowerPC the TOC), and those of threads."""
+        for machine, of_tables, of_threads in (
+            (
+                21,
+                {*range(14, 18), *range(47, 56), 58, 59, *range(63, 67)},
+                {*range(67, 109), *range(112, 116)},
+            ),
+            (
+                22,
+                {6, 7, *range(13, 16), 21, 24, *range(26, 37), 58, 59},
+                {*range(37, 57), 60},
+            ),
+            (62, {3, 9, *range(25, 32), 41, 42}, {*range(16, 24), *range(34, 37)}),
+            (
+                183,
+                {*range(300, 314)},
+                {*range(184, 188), *range(512, 574), *range(1028, 1032)},
+            ),
+            (243, {20}, {*range(6, 12), 21, 22, *range(29, 33), 49, 50}),
+            (247, set(), set()),
+            (258, {25}, {*range(6, 12), *range(26, 29)}),
+        ):
+            kinds = _names.relocation_types(machine)
+            words = {it: _link_hints.kind_words(machine, "<", it) for it in kinds}
+            table = {it for it, own in words.items() if "by a global offset table" in own}
+            threads = {it for it, own in words.items() if "variables of threads are" in own}
+            self.assertEqual((machine, table), (machine, of_tables & set(kinds)))
+            self.assertEqual((machine, threads), (machine, of_threads & set(kinds)))
+
+    def test_options_against_tables(self):
+        """Models of code are x86-64's; and the code of PowerPC has a TOC by any option."""
+        for machine, kind, words in (
+            (62, 9, "-fno-pic, without -fno-plt, and with -mcmodel=small, kernel or large, as its"),
+            (183, 311, "elfmap does not make: compile with -fno-pic, and without -fno-plt"),
+            (243, 20, "elfmap does not make: compile with -fno-pic, and without -fno-plt"),
+            (22, 26, "elfmap does not make: compile with -fno-pic, and without -fno-plt"),
+            (21, 48, "so that no option avoids it"),
+        ):
+            own = _link_hints.kind_words(machine, "<", kind)
+            self.assertIn(words, own)
+            self.assertEqual("-mcmodel" in own, machine == 62)
+            self.assertEqual("-fno-pic" in own, machine != 21)
+
     def test_none_is_proposed_for_no_other_kind(self):
         for machine in [*{it.machine for it in _rule_files.RULE_FILES}, 247]:
             for order in "<>":
@@ -358,7 +458,7 @@ class KnownTest(unittest.TestCase):
 
     def test_names_of_many_letters(self):
         name = b"__start_" + b"x" * 5000
-        found = _linker_names.linker_name(name)
+        found = _linker_names.linker_name(name, 62)
         self.assertLess(len(found.words), 300)
         self.assertLess(len(found.advice("y")), 400)
         for other in (
@@ -367,9 +467,41 @@ class KnownTest(unittest.TestCase):
             b"__stop_a-b",
             b"__start_x\n",
             b"__init_array_start\n",
+            b".startof.",
+            b".sizeof",
+            b".startofx",
             b"",
         ):
-            self.assertIsNone(_linker_names.linker_name(other), other)
+            self.assertIsNone(_linker_names.linker_name(other, 62), other)
+
+    def test_the_section_of_a_symbol(self):
+        """Its index may be in the index table, if 16 bits are not enough for it."""
+        table = b".symtab_shndx", 18, struct.pack("<3I", 0, 0, 1), dict(link=2, entsize=4)
+        made = Made(
+            text(),
+            symbols(3, (1, 0x10, 4), (1, 0x10, 0xFFFF)),
+            (b".strtab", 3, b"\0f\0", {}),
+            table,
+        )
+        it = Linked("a.o", _words.Words(bytes(made.data)))
+        self.assertEqual([it.section_of(index) for index in range(4)], [0, 4, 1, 0])
+        without = Linked("a.o", _words.Words(made.with_field(4, "type", 1)))
+        self.assertEqual(without.section_of(2), 0xFFFF)
+
+    def test_default_versions(self):
+        """Of a name the whole one, from where a string begins."""
+        strings = b"\0xfoo@@V0\0foo@@V12\0foo@@V1\0bar@V1\0"
+        made = Made(text(), symbols(3, (1, 0x10, 1)), (b".strtab", 3, strings, {}))
+        it = Linked("a.o", _words.Words(bytes(made.data)))
+        for name, version in (
+            (b"foo", "foo@@V12"),
+            (b"foo@V1", "foo@@V1"),
+            (b"foo@V2", ""),
+            (b"oo", ""),
+            (b"xfoo", "xfoo@@V0"),
+            (b"bar", ""),
+        ):
+            self.assertEqual((name, it.default_version(name)), (name, version))
 
     def test_lines_of_the_map(self):
         lines = (

@@ -65,6 +65,17 @@ class DebugTest(Case):
         self.assertEqual(self.same("one.o", "another.o")[0], 1)
         self.assertSame("--ignore-debug", "one.o", "another.o", lines=["the same"])
 
+    def test_numbers_of_sections_that_look_reserved(self):
+        """A symbol that is an absolute number, 0xfff1, is in no section of that number."""
+        sections = [f".section .s{k}\n" for k in range(65000)]
+        sections += [f".section .debug_{k}\n" for k in range(65000, 65600)]
+        for value in (5, 6):
+            source = "".join(sections) + f".globl number\nnumber = {value}\n"
+            words = ["as", "-o", f"{value}.o"]
+            subprocess.run(words, input=source.encode(), check=True)
+        line = "symbol number: its value is 0x5 in 5.o, and 0x6 in 6.o"
+        self.assertDiffer("--ignore-debug", "5.o", "6.o", lines=[line, "different"])
+
     def test_programs(self):
         """Without the names of symbols, whose section numbers are others."""
         main = SOURCE + "int main(void) { return answer(limit); }\n"
@@ -96,6 +107,15 @@ class NameTest(Case):
             self.put(a__o=one, b__o=other)
             with self.subTest(name=name):
                 self.assertEqual(self.same("--ignore-debug", "a.o", "b.o")[0], 1)
+
+    def test_an_empty_group(self):
+        """It has no sections of debug information."""
+        fields = dict(info=1, link=2, entsize=4)
+        groups = ((b".group", 17, struct.pack("<I", it), fields) for it in (0, 1))
+        one, other = (an_object(more=[it]) for it in groups)
+        self.put(a__o=one, b__o=other)
+        for words in ([], ["--ignore-debug"]):
+            self.assertEqual(self.same(*words, "a.o", "b.o")[0], 1)
 
     def test_what_is(self):
         for name in (b".debug_info", b".debug", b".zdebug_line", b".stabstr", b".gnu_debuglink"):
@@ -148,11 +168,17 @@ class StringTest(Case):
                 self.assertEqual("the string at" in found[0], is_text, found)
 
     def test_a_long_one(self):
-        """As many letters as of any name."""
-        one, other = (b"x" * 9000 + it + b"x" * 9000 + b"\0" for it in (b"a", b"b"))
-        (found,) = self.differ(strings(one), strings(other))
-        self.assertLess(len(found), 700)
-        self.assertIn("offset 0x2328: the string at 0x1328 is", found)
+        """As many letters as of any name, and none of one that begins too far away."""
+        for before, has_words in ((0, True), (4096, True), (4097, False), (9000, False)):
+            one, other = (b"x" * before + it + b"x" * 9000 + b"\0" for it in (b"a", b"b"))
+            (found,) = self.differ(strings(one), strings(other))
+            with self.subTest(before=before):
+                self.assertLess(len(found), 700)
+                self.assertEqual("the string at 0x0 is" in found, has_words)
+                self.assertEqual("the string at" in found, has_words)
+            one, other = (b"\0" + it for it in (one, other))
+            (found,) = self.differ(strings(one), strings(other))
+            self.assertEqual("the string at 0x1 is" in found, has_words)
 
     def test_the_ends(self):
         for content, at, pair in (

@@ -5,7 +5,9 @@ What is expected is written by hand, from the gABI and from the places that a li
 """
 
 import os
+import re
 import shutil
+import signal
 import struct
 import subprocess
 import sys
@@ -15,9 +17,18 @@ from pathlib import Path
 from unittest import mock
 
 import elfmap
-from elfmap import build, symbols
+from elfmap import _debug_relocations, _symbol_file, build, symbols
+from elfmap._link_values import Names
 
-from tests.made import ENVIRONMENT, SHARING, FolderCase, Made, setUpModule  # noqa: F401
+from tests.made import (
+    CLASS_32,
+    ENVIRONMENT,
+    SHARING,
+    FolderCase,
+    Made,
+    setUpModule,
+    with_signals,
+)  # noqa: F401
 
 PROGRAM = [sys.executable, "-m", "elfmap.symbols"]
 RULES = str(build.REPOSITORY / "rules" / "x86-64.rules")
@@ -395,6 +406,112 @@ class DebugTest(Case):
         strings = file.sections[names.index(b".debug_str")]
         self.assertEqual(bytes(strings.content), b"12345abc\0")
 
+    def test_fields_that_depend_on_their_place(self):
+        """They are relative to their offset in the output section, after those of other objects,
+        whatever other sections are in theirs."""
+        text = (b".text", PROGBITS, b"\x90" * 4, dict(flags=CODE))
+        sections = [
+            text,
+            (b".debug_all", PROGBITS, bytes(8), {}),
+            (b".debug_own", PROGBITS, bytes(8), dict(align=8)),
+            (b".rela", 4, relocation(0, 1, addend=3), dict(link=6, info=2, entsize=24)),
+            (b".rela", 4, relocation(4, 1, 2, 8), dict(link=6, info=3, entsize=24)),
+        ]
+        own = made(sections, [row(0, 3, 1)], b"\0start\0", local=2)
+        more = [(b".debug_all", PROGBITS, b"1", {}), (b".debug_own", PROGBITS, b"12345", {})]
+        first = start_of(b"\x90" * 4, more)
+        self.put(a__o=first, b__o=own, c__o=own)
+        sections = self.written("a.o", "b.o", "c.o").sections
+        # The sections of b.o are at 0x1004 and 8, those of c.o at 0x1008 and 16.
+        found = struct.unpack("<5s3x4xi4xi", bytes(sections[3].content))
+        self.assertEqual(found, (b"12345", 0x1004 + 8 - (8 + 4), 0x1008 + 8 - (16 + 4)))
+        found = bytes(sections[2].content)
+        self.assertEqual(found, b"1" + struct.pack("<QQ", 0x1004 + 3, 0x1008 + 3))
+
+    def test_each_relocation_is_in_one_link(self):
+        """The work does not grow with the number of output sections."""
+        count = 20
+        own = [(b".debug_%d" % at, PROGBITS, bytes(8), {}) for at in range(count)]
+        table = dict(link=2 * count + 2, entsize=24)
+        rela = [
+            (b".rela", 4, relocation(0, 1, addend=at), dict(table, info=2 + at))
+            for at in range(count)
+        ]
+        text = (b".text", PROGBITS, b"\x90" * 4, dict(flags=CODE))
+        plain = made([text, *own, *rela], START, b"\0start\0")
+        others = made([text, *own, *rela], [row(1, GLOBAL, 0)], b"\0start\0")
+        self.put(a__o=plain, b__o=others, c__o=others)
+        words = *LINK, "start", "-o", "ours", "a.o", "b.o", "c.o"
+        contents = []
+        # Each object alone; all that is long, alone; and what depends on its place, alone.
+        for links, changed in (
+            (3, dict(_AT_ONCE=1 << 20)),
+            (6, dict(_AT_ONCE=count // 2 * (8 + 24))),
+            (3 * count, dict(_AT_ONCE=1)),
+            (3 * count, dict(_RELATIVE=("pc", "abs"))),
+        ):
+            with mock.patch.multiple(_debug_relocations, **changed):
+                with mock.patch.object(elfmap, "map", wraps=elfmap.map) as calls:
+                    self.assertEqual(symbols.main(words), 0)
+            linked = [it.args[0] for it in calls.call_args_list if it.args[1:] and it.args[0]]
+            self.assertEqual(len(linked), links)
+            contents.append(Path("ours").read_bytes())
+        self.assertEqual(contents, [contents[0]] * 4)
+        file = elfmap.parse(contents[0])
+        for at, it in enumerate(file.sections[2 : 2 + count]):
+            self.assertEqual(bytes(it.content), struct.pack("<Q", 0x1000 + at) * 3)
+
+    def test_fields_that_are_nowhere(self):
+        """An addend that is in the field is not kept, as ld does not keep it. Fields of each width,
+        in both byte orders."""
+        self.put(
+            own__rules=b"1 abs 8 wrap\n2 abs 4 wrap\n3 abs 2 wrap\n4 abs 1 wrap\n5 none 4 wrap\n"
+        )
+        offsets = (0, 1), (8, 2), (12, 3), (14, 4), (15, 5)
+        for order, name, number in (("<", b".debug_info", 0), (">", b".debug_ranges", 1)):
+            entries = b"".join(
+                struct.pack(f"{order}QQ", at, 1 << 32 | kind) for at, kind in offsets
+            )
+            sections = [
+                (b".text", PROGBITS, b"\xc3", dict(flags=CODE)),
+                (name, PROGBITS, b"\x71" * 19, {}),
+                (b".attributes", 0x7000_0003, b"A", {}),
+                (b".rel", REL, entries, dict(link=5, info=2, entsize=16)),
+            ]
+            rows = [row(0, 3, 3, order=order), row(1, GLOBAL, 1, order=order)]
+            self.put(a__o=made(sections, rows, b"\0start\0", local=2, order=order))
+            link = [*LINK[:5], "own.rules", "--entry", "start"]
+            content = bytes(self.written("a.o", link=link).sections[2].content)
+            fields = struct.unpack(f"{order}QIHB4s", content)
+            self.assertEqual(fields, (number,) * 4 + (b"\x71" * 4,))
+
+    def test_a_field_past_the_end_that_is_nowhere(self):
+        entries = struct.pack("<QQ", 1, 1 << 32 | 1)
+        sections = [
+            (b".text", PROGBITS, b"\xc3", dict(flags=CODE)),
+            (b".debug_info", PROGBITS, bytes(8), {}),
+            (b".attributes", 0x7000_0003, b"A", {}),
+            (b".rel", REL, entries, dict(link=5, info=2, entsize=16)),
+        ]
+        self.put(a__o=made(sections, [row(0, 3, 3), *START], b"\0start\0", local=2))
+        status, (line,) = self.ran("-o", "ours", "a.o")
+        self.assertEqual((status, line[:36]), (1, "refused 14 0 3 0: FIELD_OUT_OF_RANGE"))
+
+    def test_compressed_lists_of_ranges(self):
+        """The name of a section decides about its lists, whether it is compressed or not."""
+        entries = relocation(0, 1)
+        packed = b"ZLIB" + (8).to_bytes(8, "big") + zlib.compress(bytes(8))
+        sections = [
+            (b".text", PROGBITS, b"\xc3", dict(flags=CODE)),
+            (b".zdebug_ranges", PROGBITS, packed, {}),
+            (b".attributes", 0x7000_0003, b"A", {}),
+            (b".rela", 4, entries, dict(link=5, info=2, entsize=24)),
+        ]
+        self.put(a__o=made(sections, [row(0, 3, 3), *START], b"\0start\0", local=2))
+        section = self.written("a.o").sections[2]
+        found = section.name, bytes(section.content)
+        self.assertEqual(found, (b".debug_ranges", struct.pack("<Q", 1)))
+
     def test_fields_with_addends(self):
         """Entries of type SHT_REL have their addends in the fields."""
         entries = struct.pack("<QQ", 1, 1 << 32 | 1) + struct.pack("<QQ", 9, 2 << 32 | 1)
@@ -483,17 +600,26 @@ class DebugTest(Case):
             header.pack(2, 0, 6, 1) + packed: "its compression, 2, is not known",
             header.pack(1, 0, 6, 3) + packed: "its alignment is no power of two",
             header.pack(1, 0, 6, 0) + packed: "its alignment is no power of two",
-            header.pack(1, 0, 5, 1) + packed: "it has another length when it is decompressed",
-            header.pack(1, 0, 7, 1) + packed: "it has another length when it is decompressed",
-            header.pack(1, 0, 2**64 - 1, 1)
-            + packed: ("it is longer than 2^30 bytes when it is decompressed"),
-            header.pack(1, 0, 6, 1)
-            + b"abc": (
-                "it can't be decompressed: Error -3 while decompressing data:"
-                " incorrect header check"
-            ),
+            header.pack(1, 0, 2**64 - 1, 1) + packed: self.TOGETHER,
             b"a": "it is shorter than the header of a compressed section",
         }
+        damaged = {
+            header.pack(1, 0, 5, 1) + packed: "it has more bytes than its header says",
+            header.pack(1, 0, 7, 1) + packed: "it has fewer bytes than its header says",
+            header.pack(1, 0, 6, 1) + packed[:5]: "its compressed bytes end too early",
+            # The checksum at the end is missing, or cut short.
+            header.pack(1, 0, 6, 1) + packed[:-4]: "its compressed bytes end too early",
+            header.pack(1, 0, 6, 1) + packed[:-1]: "its compressed bytes end too early",
+            header.pack(1, 0, 6, 1): "its compressed bytes end too early",
+            header.pack(1, 0, 0, 1): "its compressed bytes end too early",
+            header.pack(1, 0, 6, 1)
+            + packed
+            + b"\0": "there are more bytes after the compressed ones",
+            header.pack(1, 0, 6, 1) + packed * 2: "there are more bytes after the compressed ones",
+            header.pack(1, 0, 6, 1)
+            + b"abc": "Error -3 while decompressing data: incorrect header check",
+        }
+        reasons.update({at: f"it can't be decompressed: {it}" for at, it in damaged.items()})
         for content, reason in reasons.items():
             own = (b".debug_\xff", PROGBITS, content, dict(flags=0x800))
             self.put(a__o=start_of(b"\xc3", [own]))
@@ -511,6 +637,70 @@ class DebugTest(Case):
         empty = header.pack(1, 0, 0, 1) + zlib.compress(b"")
         self.put(a__o=start_of(b"\xc3", [(b".debug_own", PROGBITS, empty, dict(flags=0x800))]))
         self.assertEqual(bytes(self.written("a.o").sections[2].content), b"")
+
+    TOGETHER = (
+        "with it the sections that are not loaded have more than 2^30 bytes, when they are"
+        " decompressed"
+    )
+
+    def test_old_compressed_sections_that_cant_be_read(self):
+        """Those of GNU, whose header is the word ZLIB and a length, its highest byte first."""
+        packed = zlib.compress(b"a text")
+        lead = "it can't be decompressed: "
+        reasons = {
+            (6, packed[:-1]): lead + "its compressed bytes end too early",
+            (6, packed + b"\0"): lead + "there are more bytes after the compressed ones",
+            (5, packed): lead + "it has more bytes than its header says",
+            (2**30 + 1, packed): self.TOGETHER,
+        }
+        for (size, content), reason in reasons.items():
+            content = b"ZLIB" + size.to_bytes(8, "big") + content
+            self.put(a__o=start_of(b"\xc3", [(b".zdebug_own", PROGBITS, content, {})]))
+            status, (line,) = self.ran("-o", "ours", "a.o")
+            self.assertEqual(status, 1)
+            self.assertRegex(line, rf"^a\.o: section \.zdebug_own: {re.escape(reason)}; --strip-")
+
+    def test_a_long_name_of_a_section_that_cant_be_read(self):
+        """The message has its first 200 letters."""
+        for length in (200, 201):
+            name = b".debug_" + b"n" * (length - 7)
+            self.put(a__o=start_of(b"\xc3", [(name, PROGBITS, b"a", dict(flags=0x800))]))
+            status, (line,) = self.ran("-o", "ours", "a.o")
+            shown = name[:200].decode() + ("…" if length > 200 else "")
+            self.assertEqual(status, 1)
+            self.assertTrue(line.startswith(f"a.o: section {shown}: it is shorter"), line)
+
+    def test_a_bound_on_all_sections(self):
+        """It is on what they have when they are decompressed, together, and before any of them
+        is: the stream of the first one ends too early."""
+        header = struct.Struct("<IIQQ")
+        half = (b".debug_half", PROGBITS, header.pack(1, 0, 2**29, 1), dict(flags=0x800))
+        rest = (b".debug_rest", PROGBITS, header.pack(1, 0, 2**29 - 1, 1), dict(flags=0x800))
+        self.put(
+            a__o=start_of(b"\xc3", [half]),
+            b__o=bytes(Made(rest, (b".debug_one", PROGBITS, b"1", {})).data),
+            c__o=bytes(Made((b".debug_last", PROGBITS, b"1", {})).data),
+        )
+        advice = "; --strip-debug leaves out all sections that are not loaded"
+        line = f"c.o: section .debug_last: {self.TOGETHER}{advice}"
+        self.assertEqual(self.ran("-o", "ours", "a.o", "b.o", "c.o"), (1, [line]))
+        early = "its compressed bytes end too early"
+        line = f"a.o: section .debug_half: it can't be decompressed: {early}{advice}"
+        self.assertEqual(self.ran("-o", "ours", "a.o", "b.o"), (1, [line]))
+
+    def test_compressed_sections_of_big_objects(self):
+        """Relocations are of the bytes that are no longer compressed."""
+        content = struct.pack(">IIQQ", 1, 0, 9, 8) + zlib.compress(b"123456789")
+        sections = [
+            (b".text", PROGBITS, b"\xc3", dict(flags=CODE)),
+            (b".debug_own", PROGBITS, content, dict(flags=0x800)),
+            (b".rela", 4, struct.pack(">QQq", 1, 1 << 32 | 1, 2), dict(link=4, info=2, entsize=24)),
+        ]
+        rows = [row(1, GLOBAL, 1, order=">")]
+        self.put(a__o=made(sections, rows, b"\0start\0", order=">"))
+        section = self.written("a.o").sections[2]
+        self.assertEqual(bytes(section.content), b"1" + struct.pack(">Q", 0x1002))
+        self.assertEqual((section.sh_addralign, section.sh_flags), (8, 0))
 
     def test_relocations_without_a_rule(self):
         """The positions are those in the object, as `elfmap map` counts them."""
@@ -619,6 +809,8 @@ class EndTest(Case):
             ("none",): "-o or --binary is missing; see --help",
             ("-o", "ours", *["none"] * 65): "there are more than 64 objects",
             ("-o", "ours", "--binary", "./ours", "none"): "-o and --binary are the same file",
+            ("-o", "", "none"): "the FILE of -o or --binary has no name",
+            ("-o", "ours", "--binary", "", "none"): "the FILE of -o or --binary has no name",
         }
         for words, reason in wrong.items():
             self.assertEqual(self.ran(*words), (2, [reason]))
@@ -660,8 +852,17 @@ class EndTest(Case):
     def test_objects_that_cant_be_read(self):
         os.mkdir("folder")
         reasons = {"none": "no such file or directory", "folder": "is a directory"}
+        reasons["/proc/self/mem"] = "input/output error"
         for name, reason in reasons.items():
             self.assertEqual(self.ran("-o", "ours", "a.o", name), (3, [f"{name}: {reason}"]))
+            link = [*LINK[:5], name, "--entry", "start"]
+            found = self.ran("-o", "ours", "a.o", link=link)
+            self.assertEqual(found, (3, [f"{name}: {reason}"]))
+        lines = ["'': no such file or directory"]
+        self.assertEqual(self.ran("-o", "ours", "a.o", ""), (3, lines))
+        self.assertEqual(
+            self.ran("-o", "ours", "a.o", link=[*LINK[:5], "", "--entry", "x"]), (3, lines)
+        )
 
     def test_refused_objects(self):
         Path(os.fsdecode(b"b\xff.o")).write_bytes(SHARING)
@@ -669,6 +870,18 @@ class EndTest(Case):
         status, lines = self.ran("-o", "ours", "a.o", os.fsdecode(b"b\xff.o"), "c.o")
         self.assertEqual((status, len(lines)), (1, 1))
         self.assertTrue(lines[0].startswith(r"b\xff.o: offset 0x72: SHARED_BYTE (33): "), lines)
+
+    def test_an_object_twice(self):
+        status, (line,) = self.ran("-o", "ours", "a.o", "a.o")
+        self.assertEqual((status, line[:34]), (1, "refused 8 1 0 0: TWO_DEFINITIONS: "))
+        self.put(b__o=bytes(Made((b".data", PROGBITS, b"b", dict(flags=DATA))).data))
+        section = self.written("a.o", "b.o", "./b.o").sections[2]
+        self.assertEqual(bytes(section.content), b"bb")
+
+    def test_objects_of_class_32(self):
+        self.put(b__o=CLASS_32)
+        status, (line,) = self.ran("-o", "ours", "a.o", "b.o")
+        self.assertEqual((status, line[:37]), (1, "b.o: offset 0x4: WRONG_CLASS (4): the"))
 
     def test_refused_links(self):
         names = b"\0start\0away\0"
@@ -702,7 +915,7 @@ class EndTest(Case):
         self.put(ours=b"before")
         for words in (["-o", "ours", "--binary", "/dev/full"], ["-o", "/dev/full"]):
             found = self.ran(*words, "a.o")
-            self.assertEqual(found, (3, ["no space left on device"]))
+            self.assertEqual(found, (3, ["/dev/full: no space left on device"]))
             self.assertEqual(Path("ours").read_bytes(), b"before")
         limited = "ulimit -f 0; trap '' XFSZ; exec"
         ran = subprocess.run(
@@ -710,9 +923,60 @@ class EndTest(Case):
             capture_output=True,
             env=ENVIRONMENT,
         )
-        self.assertEqual((ran.returncode, ran.stderr), (3, b"elfmap-symbols: file too large\n"))
+        said = b"elfmap-symbols: ours: file too large\n"
+        self.assertEqual((ran.returncode, ran.stderr), (3, said))
         self.assertEqual(Path("ours").read_bytes(), b"before")
         self.assertEqual(sorted(os.listdir()), ["a.o", "ours"])
+
+    def test_paths_that_are_no_file(self):
+        """A message has the path as it was given, and nothing is made."""
+        os.mkdir("folder")
+        self.put(flat=b"before")
+        before = sorted(os.listdir())
+        reasons = {
+            "folder": "is a directory",
+            "folder/": "is a directory",
+            "new/": "is a directory",
+            "flat/": "not a directory",
+            "flat/new": "not a directory",
+            "none/new": "no such file or directory",
+            "none/../new": "no such file or directory",
+        }
+        for path, reason in reasons.items():
+            for words in (["-o", path], ["-o", "ours", "--binary", path]):
+                self.assertEqual(self.ran(*words, "a.o"), (3, [f"{path}: {reason}"]))
+        self.assertEqual(sorted(os.listdir()), before)
+        self.assertEqual(Path("flat").read_bytes(), b"before")
+
+    def test_an_interrupt(self):
+        """It comes while nobody reads the flat image. The other file is as it was."""
+        self.put(a__o=start_of(b"\xc3" * 2**20), ours=b"before")
+        os.mkfifo("flat")
+        before = sorted(os.listdir())
+        words = [*PROGRAM, *LINK, "start", "-o", "ours", "--binary", "flat", "a.o"]
+        own = dict(stderr=subprocess.PIPE, env=ENVIRONMENT, preexec_fn=with_signals)
+        with subprocess.Popen(words, **own) as it:
+            with open("flat", "rb", buffering=0) as reader:
+                self.assertEqual(reader.read(1), b"\xc3")
+                self.assertEqual(len(os.listdir()), len(before) + 1)
+                it.send_signal(signal.SIGINT)
+                self.assertEqual(it.wait(60), 130)
+            self.assertEqual(it.stderr.read(), b"")
+        self.assertEqual(sorted(os.listdir()), before)
+        self.assertEqual(Path("ours").read_bytes(), b"before")
+
+    def test_long_names(self):
+        """Those of all sections and symbols, in all objects: names may share bytes."""
+        self.put(b__o=bytes(Made((b".data", PROGBITS, b"b", dict(flags=DATA))).data))
+        # a.o has .text, .symtab, .strtab, .shstrtab and start; b.o has .data and .shstrtab.
+        count = len(".text.symtab.strtab.shstrtabstart") + len(".data.shstrtab")
+        words = *LINK, "start", "-o", "ours", "a.o", "b.o"
+        for most, status in ((count, 0), (count - 1, 1)):
+            with mock.patch.object(_symbol_file, "Names", lambda most=most: Names(most)):
+                with mock.patch.object(symbols, "complain") as complain:
+                    self.assertEqual(symbols.main(words), status)
+        said = b"the names of all sections and symbols have more than 2^28 bytes"
+        complain.assert_called_once_with("elfmap-symbols", said)
 
     def test_a_link_to_a_file(self):
         """The file that a symbolic link names is replaced."""

@@ -283,6 +283,16 @@ class DebugTest(Case):
                 self.assert_whole()
                 self.assert_same_lines(BASE, 0x40)
 
+    def test_dwarf_of_64_bits(self):
+        """Offsets of 8 bytes. addr2line of binutils reads no names of files by them."""
+        self.compiled(["-gdwarf-5", "-gdwarf64"], one=ONE, two=TWO)
+        self.symbols("-o", "ours", "one.o", "two.o")
+        self.by_ld("one.o", "two.o")
+        commands = "info line work", "info scope work", "ptype struct pair", "break helper"
+        self.assertIn("Line 14", self.assert_same_in_gdb(*commands))
+        self.assert_same("objdump", "--dwarf=Ranges")
+        self.assert_whole()
+
     def test_macros(self):
         """Those of a file are in groups, of which the first one of a name is kept."""
         Path("own.h").write_text(

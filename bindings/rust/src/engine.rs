@@ -1,12 +1,11 @@
 use alloc::vec::Vec;
 use core::fmt;
 
-use crate::raw::{
-    self, Extent, Inputs, LinkOptions, Outcome, BAD_RULES, DONE, NOT_LINKED, REFUSED,
-};
-use crate::raw::{SMALL_ROOM, TOO_LONG};
+use crate::raw::engines::{self as raw, Inputs, LinkOptions, Outcome};
+use crate::raw::engines::{BAD_RULES, DONE, NOT_LINKED, REFUSED, SMALL_ROOM, TOO_LONG};
+use crate::raw::{Extent, Fault};
 use crate::refusal::{LinkRefusal, Refusal};
-use crate::Error;
+use crate::{Error, File};
 
 /// Why an engine writes nothing.
 #[derive(Clone, Copy, Debug, PartialEq, Eq, Hash)]
@@ -35,8 +34,8 @@ pub enum Failure {
 impl fmt::Display for Failure {
     fn fmt(&self, f: &mut fmt::Formatter<'_>) -> fmt::Result {
         match self {
-            Failure::Refused { file, refusal } => write!(f, "file {file}: {refusal}"),
-            Failure::NotLinked(refusal) => refusal.fmt(f),
+            Failure::Refused { file, .. } => write!(f, "file {file} breaks a rule"),
+            Failure::NotLinked(_) => f.write_str("the objects do not link"),
             Failure::TooLong => f.write_str("what would be written is too long"),
             Failure::BadRules { line } => write!(f, "line {line} of the rules is bad"),
             Failure::OutOfMemory => f.write_str("there is too little memory"),
@@ -44,7 +43,16 @@ impl fmt::Display for Failure {
     }
 }
 
-impl Error for Failure {}
+impl Error for Failure {
+    /// Which rule the file breaks, or the link, and where.
+    fn source(&self) -> Option<&(dyn Error + 'static)> {
+        match self {
+            Failure::Refused { refusal, .. } => Some(refusal),
+            Failure::NotLinked(refusal) => Some(refusal),
+            _ => None,
+        }
+    }
+}
 
 /// Where a link places sections, and where the program begins.
 ///
@@ -85,18 +93,36 @@ pub fn show(bytes: &[u8]) -> Result<Vec<u8>, Failure> {
     }
 }
 
-/// The lines `refused I RULE AT` of `elfmap show`: of each table that breaks a rule its section, the
-/// first rule broken, and the lowest offset. It takes no memory for the entries of tables, but for
-/// those of one group or hash table at a time. Names of more than 64 bytes of symbols in hash tables
-/// take memory too: a few bytes for each place where one begins.
+/// The tables that break a rule: of each its section, the first rule broken (40 to 69), and the lowest
+/// offset, in the order of the sections. It takes no memory for the entries of tables, but for those of
+/// one group or hash table at a time. Names of more than 64 bytes of symbols in hash tables take memory
+/// too: a few bytes for each place where one begins.
 ///
 /// # Errors
 ///
 /// [`Failure::Refused`], with file 0, where the file itself breaks a rule, or
 /// [`Failure::OutOfMemory`].
-pub fn refused_tables(bytes: &[u8]) -> Result<Vec<u8>, Failure> {
-    said(|buffer| raw::refused_tables(bytes, buffer))
-        .map_err(|(status, outcome, _)| failure(status, outcome))
+pub fn refused_tables(bytes: &[u8]) -> Result<Vec<(usize, Refusal)>, Failure> {
+    let file = File::parse(bytes).map_err(|refusal| Failure::Refused { file: 0, refusal })?;
+    let mut verdicts = Vec::new();
+    let count = file.summary().sections;
+    let is_there = verdicts.try_reserve_exact(count);
+    is_there.map_err(|_| Failure::OutOfMemory)?;
+    verdicts.resize(count, Fault::default());
+    let (status, outcome) = raw::table_verdicts(bytes, &mut verdicts);
+    if status != DONE {
+        return Err(failure(status, outcome));
+    }
+    let refused = verdicts.iter().filter(|it| it.rule != 0).count();
+    let mut tables = Vec::new();
+    let is_there = tables.try_reserve_exact(refused);
+    is_there.map_err(|_| Failure::OutOfMemory)?;
+    for (section, Fault { rule, at }) in verdicts.into_iter().enumerate() {
+        if rule != 0 {
+            tables.push((section, Refusal { rule, offset: at }));
+        }
+    }
+    Ok(tables)
 }
 
 /// The object that a relocatable file denotes, as a file in canonical layout.
@@ -108,10 +134,13 @@ pub fn refused_tables(bytes: &[u8]) -> Result<Vec<u8>, Failure> {
 /// # Examples
 ///
 /// ```
+/// use std::error::Error;
+///
 /// let failure = elfmap::rewrite(b"no ELF file").unwrap_err();
+/// assert_eq!(failure.to_string(), "file 0 breaks a rule");
 /// assert_eq!(
-///     failure.to_string(),
-///     "file 0: rule 2 (TOO_SHORT) at offset 11: \
+///     failure.source().unwrap().to_string(),
+///     "rule 2 (TOO_SHORT) at offset 11: \
 ///      the file is refused because it is shorter than an ELF header, 64 bytes",
 /// );
 /// ```

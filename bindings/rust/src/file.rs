@@ -1,14 +1,14 @@
+#[cfg(feature = "alloc")]
 use alloc::vec::Vec;
 use core::fmt;
-use core::iter::FusedIterator;
 
+use crate::constants::{PT_NULL, SHT_NOBITS, SHT_NULL};
+use crate::entries::{Entries, Entry, Place};
+#[cfg(feature = "alloc")]
+use crate::raw::Piece;
 use crate::raw::SectionHeader;
-use crate::raw::{self, Extent, Fault, Header, Numbers, Piece, ProgramHeader, SHORT_ROOM};
+use crate::raw::{self, Extent, Fault, Header, Numbers, ProgramHeader, Table, SHORT_ROOM};
 use crate::refusal::Refusal;
-
-const SHT_NULL: u32 = 0;
-const SHT_NOBITS: u32 = 8;
-const PT_NULL: u32 = 0;
 
 /// How many extents the first buffer has, on the stack: enough for a file with 61 sections.
 const SMALL_ROOM: usize = 64;
@@ -76,7 +76,8 @@ pub fn check(bytes: &[u8]) -> Result<Summary, Refusal> {
 
 impl<'a> File<'a> {
     /// Validates the bytes by all rules, in n log n steps. If a file has more than 61 sections, it
-    /// takes memory for the time of the call, 16 bytes for each.
+    /// takes memory for the time of the call, 16 bytes for each. Without the feature `alloc` it takes
+    /// none, and for such a file the steps may be the square of the number of sections.
     ///
     /// # Errors
     ///
@@ -142,26 +143,27 @@ impl<'a> File<'a> {
     }
 
     /// All sections, in the order of their headers; the first one is of type `SHT_NULL`.
-    pub fn sections(
-        &self,
-    ) -> impl DoubleEndedIterator<Item = Section<'a>> + ExactSizeIterator + FusedIterator {
-        let file = *self;
-        let section = move |index| file.section(index).expect("the rules were kept");
-        (0..self.summary().sections).map(section)
+    pub fn sections(&self) -> Entries<'a, Section<'a>> {
+        Entries::new(self.place(), self.summary().sections)
     }
 
     /// All segments, in the order of their headers.
-    pub fn segments(
-        &self,
-    ) -> impl DoubleEndedIterator<Item = Segment<'a>> + ExactSizeIterator + FusedIterator {
-        let file = *self;
-        let segment = move |index| file.segment(index).expect("the rules were kept");
-        (0..self.summary().segments).map(segment)
+    pub fn segments(&self) -> Entries<'a, Segment<'a>> {
+        Entries::new(self.place(), self.summary().segments)
+    }
+
+    /// What the records of the file are read from.
+    fn place(&self) -> Place<'a> {
+        Place {
+            file: *self,
+            table: Table::default(),
+        }
     }
 
     /// What each byte of the file belongs to: the parts in ascending order, none of them empty, each
     /// byte in just one. It takes memory for three parts for each section; `None` where there is too
-    /// little.
+    /// little. It needs the feature `alloc`.
+    #[cfg(feature = "alloc")]
     pub fn parts(&self) -> Option<Vec<Part>> {
         let mut buffer: Vec<Piece> = Vec::new();
         let wanted = raw::parts(self.bytes, &mut buffer).err()?.at as usize;
@@ -207,20 +209,28 @@ impl fmt::Debug for File<'_> {
 
 /// The verdict, with as large a buffer as the file needs.
 fn validate(bytes: &[u8]) -> Result<(), Fault> {
-    let wanted = match raw::verdict_in(bytes, &mut [Extent::default(); SMALL_ROOM]) {
+    match raw::verdict_in(bytes, &mut [Extent::default(); SMALL_ROOM]) {
         Err(Fault {
             rule: SHORT_ROOM,
             at,
-        }) => at as usize,
-        verdict => return verdict,
-    };
-    let mut buffer = Vec::new();
-    if buffer.try_reserve_exact(wanted).is_err() {
-        // The same answer, if later.
-        return raw::verdict(bytes);
+        }) => validate_many(bytes, at as usize),
+        verdict => verdict,
     }
-    buffer.resize(wanted, Extent::default());
-    raw::verdict_in(bytes, &mut buffer)
+}
+
+/// The verdict on a file that needs a buffer of so many extents. Without it the answer is the same, if
+/// later.
+fn validate_many(bytes: &[u8], wanted: usize) -> Result<(), Fault> {
+    #[cfg(feature = "alloc")]
+    {
+        let mut buffer = Vec::new();
+        if buffer.try_reserve_exact(wanted).is_ok() {
+            buffer.resize(wanted, Extent::default());
+            return raw::verdict_in(bytes, &mut buffer);
+        }
+    }
+    let _ = wanted;
+    raw::verdict(bytes)
 }
 
 /// Whose bytes a part has.
@@ -251,6 +261,7 @@ pub struct Part {
     pub owner: Owner,
 }
 
+#[cfg(feature = "alloc")]
 impl Part {
     fn of(piece: &Piece) -> Part {
         Part {
@@ -273,6 +284,12 @@ pub struct Section<'a> {
     header: SectionHeader,
     name: &'a [u8],
     content: Option<&'a [u8]>,
+}
+
+impl<'a> Entry<'a> for Section<'a> {
+    fn read(from: &Place<'a>, index: usize) -> Self {
+        from.file.section(index).expect("the rules were kept")
+    }
 }
 
 impl<'a> Section<'a> {
@@ -306,6 +323,12 @@ impl fmt::Debug for Section<'_> {
 pub struct Segment<'a> {
     header: ProgramHeader,
     content: Option<&'a [u8]>,
+}
+
+impl<'a> Entry<'a> for Segment<'a> {
+    fn read(from: &Place<'a>, index: usize) -> Self {
+        from.file.segment(index).expect("the rules were kept")
+    }
 }
 
 impl<'a> Segment<'a> {

@@ -14,18 +14,25 @@
 //! # Ok::<(), Box<dyn std::error::Error>>(())
 //! ```
 //!
-//! [`rewrite`] and [`link`] write new files. Fields have the names of the gABI (System V ABI,
-//! generic part, chapters 4 and 5). Without its feature `std` the crate needs `alloc` alone, and
-//! Rust 1.81, which has `core::error`. The engines take memory by `malloc`.
+//! `rewrite` and `link` write new files. Fields have the names of the gABI (System V ABI, generic
+//! part, chapters 4 and 5), and [constants] has its numbers for tables and records.
+//!
+//! Without its feature `std` the crate needs Rust 1.81, which has `core::error`. Without `alloc` too it
+//! has what allocates nothing: no `File::parts`, and none of the engines `show`, `refused_tables`,
+//! `rewrite`, `map` and `link`. The engines take memory by `malloc` besides.
 
 #![no_std]
 #![deny(missing_docs, unsafe_code, clippy::undocumented_unsafe_blocks)]
 
+#[cfg(feature = "alloc")]
 extern crate alloc;
 #[cfg(feature = "std")]
 extern crate std;
 
+pub mod constants;
+#[cfg(feature = "alloc")]
 mod engine;
+mod entries;
 mod file;
 #[allow(unsafe_code)]
 mod raw;
@@ -38,7 +45,9 @@ use core::error::Error;
 #[cfg(feature = "std")]
 use std::error::Error;
 
+#[cfg(feature = "alloc")]
 pub use engine::{link, map, refused_tables, rewrite, show, Failure, Options};
+pub use entries::Entries;
 pub use file::{check, File, Owner, Part, Section, Segment, Summary};
 pub use raw::{Dynamic, Header, ProgramHeader, Relocation, SectionHeader};
 pub use refusal::{LinkRefusal, Refusal};

@@ -5,6 +5,9 @@
 //! and nobody writes what is borrowed as `&`. That is all that the header asks of a caller, and any
 //! bytes and any `Numbers` will do.
 
+#[cfg(feature = "alloc")]
+pub(crate) mod engines;
+
 /// Which bytes of a file: `len` of them from `start` on.
 #[derive(Clone, Copy, Default)]
 #[repr(C)]
@@ -175,6 +178,7 @@ pub(crate) struct NoteEntry {
     pub n_type: u32,
 }
 
+#[cfg(feature = "alloc")]
 #[derive(Clone, Copy, Default)]
 #[repr(C)]
 pub(crate) struct Piece {
@@ -182,33 +186,6 @@ pub(crate) struct Piece {
     pub len: u64,
     pub owner: u64,
 }
-
-/// What an engine returns beside its status.
-#[derive(Clone, Copy, Default)]
-#[repr(C)]
-pub(crate) struct Outcome {
-    pub length: u64,
-    pub at: u64,
-    pub file: u64,
-    pub index: u64,
-    pub rule: u16,
-}
-
-#[derive(Clone, Copy, Default)]
-#[repr(C)]
-pub(crate) struct LinkOptions {
-    pub base: u64,
-    pub page: u64,
-    pub uses_rules: u32,
-}
-
-/// What an engine's status says.
-pub(crate) const DONE: u32 = 0;
-pub(crate) const REFUSED: u32 = 1;
-pub(crate) const NOT_LINKED: u32 = 2;
-pub(crate) const TOO_LONG: u32 = 3;
-pub(crate) const SMALL_ROOM: u32 = 4;
-pub(crate) const BAD_RULES: u32 = 6;
 
 extern "C" {
     fn elfmap_verdict(bytes: *const u8, len: usize, fault: &mut Fault) -> bool;
@@ -249,6 +226,7 @@ extern "C" {
         address: u64,
         byte: &mut u8,
     ) -> bool;
+    #[cfg(feature = "alloc")]
     fn elfmap_parts(
         bytes: *const u8,
         len: usize,
@@ -307,53 +285,6 @@ extern "C" {
         name_len: usize,
         symbol: &mut u32,
     ) -> bool;
-    fn elfmap_show(
-        bytes: *const u8,
-        len: usize,
-        buffer: *mut u8,
-        size: usize,
-        outcome: &mut Outcome,
-    ) -> u32;
-    fn elfmap_refused_tables(
-        bytes: *const u8,
-        len: usize,
-        buffer: *mut u8,
-        size: usize,
-        outcome: &mut Outcome,
-    ) -> u32;
-    fn elfmap_rewrite(
-        bytes: *const u8,
-        len: usize,
-        buffer: *mut u8,
-        size: usize,
-        outcome: &mut Outcome,
-    ) -> u32;
-    fn elfmap_map(
-        bytes: *const u8,
-        len: usize,
-        files: *const Extent,
-        count: usize,
-        options: &LinkOptions,
-        rules: *const u8,
-        rules_len: usize,
-        buffer: *mut u8,
-        size: usize,
-        outcome: &mut Outcome,
-    ) -> u32;
-    fn elfmap_link(
-        bytes: *const u8,
-        len: usize,
-        files: *const Extent,
-        count: usize,
-        options: &LinkOptions,
-        entry: *const u8,
-        entry_len: usize,
-        rules: *const u8,
-        rules_len: usize,
-        buffer: *mut u8,
-        size: usize,
-        outcome: &mut Outcome,
-    ) -> u32;
 }
 
 /// The verdict without a buffer, which may take the square of the number of sections.
@@ -427,6 +358,7 @@ pub(crate) fn load(numbers: &Numbers, bytes: &[u8], address: u64) -> Option<u8> 
 }
 
 /// How many parts the buffer then has. If it is too small: [`SHORT_ROOM`], and how many are needed.
+#[cfg(feature = "alloc")]
 pub(crate) fn parts(bytes: &[u8], buffer: &mut [Piece]) -> Result<u64, Fault> {
     let (at, count) = (buffer.as_mut_ptr(), buffer.len());
     let (mut parts, mut fault) = (0, Fault::default());
@@ -478,96 +410,6 @@ pub(crate) fn find(table: &Table, bytes: &[u8], name: &[u8]) -> Option<u32> {
     // SAFETY: two slices, what is borrowed as `&`, and what only this call sees.
     let is_there = unsafe { elfmap_find(table, at, len, name.as_ptr(), name.len(), &mut symbol) };
     is_there.then_some(symbol)
-}
-
-pub(crate) fn show(bytes: &[u8], buffer: &mut [u8]) -> (u32, Outcome) {
-    let (at, size) = (buffer.as_mut_ptr(), buffer.len());
-    let mut outcome = Outcome::default();
-    // SAFETY: two slices, of which the buffer is borrowed as `&mut`, and what only this call sees.
-    let status = unsafe { elfmap_show(bytes.as_ptr(), bytes.len(), at, size, &mut outcome) };
-    (status, outcome)
-}
-
-pub(crate) fn refused_tables(bytes: &[u8], buffer: &mut [u8]) -> (u32, Outcome) {
-    let (at, size) = (buffer.as_mut_ptr(), buffer.len());
-    let mut outcome = Outcome::default();
-    // SAFETY: two slices, of which the buffer is borrowed as `&mut`, and what only this call sees.
-    let status =
-        unsafe { elfmap_refused_tables(bytes.as_ptr(), bytes.len(), at, size, &mut outcome) };
-    (status, outcome)
-}
-
-pub(crate) fn rewrite(bytes: &[u8], buffer: &mut [u8]) -> (u32, Outcome) {
-    let (at, size) = (buffer.as_mut_ptr(), buffer.len());
-    let mut outcome = Outcome::default();
-    // SAFETY: two slices, of which the buffer is borrowed as `&mut`, and what only this call sees.
-    let status = unsafe { elfmap_rewrite(bytes.as_ptr(), bytes.len(), at, size, &mut outcome) };
-    (status, outcome)
-}
-
-/// What a link takes: files as extents of bytes, options, and the text of the relocation rules.
-#[derive(Clone, Copy)]
-pub(crate) struct Inputs<'a> {
-    pub bytes: &'a [u8],
-    pub files: &'a [Extent],
-    pub options: LinkOptions,
-    pub rules: &'a [u8],
-}
-
-pub(crate) fn map(inputs: &Inputs<'_>, buffer: &mut [u8]) -> (u32, Outcome) {
-    let Inputs {
-        bytes,
-        files,
-        options,
-        rules,
-    } = inputs;
-    let mut outcome = Outcome::default();
-    // SAFETY: four slices, of which the buffer is borrowed as `&mut`, what is borrowed as `&`, and
-    // what only this call sees.
-    let status = unsafe {
-        elfmap_map(
-            bytes.as_ptr(),
-            bytes.len(),
-            files.as_ptr(),
-            files.len(),
-            options,
-            rules.as_ptr(),
-            rules.len(),
-            buffer.as_mut_ptr(),
-            buffer.len(),
-            &mut outcome,
-        )
-    };
-    (status, outcome)
-}
-
-pub(crate) fn link(inputs: &Inputs<'_>, entry: &[u8], buffer: &mut [u8]) -> (u32, Outcome) {
-    let Inputs {
-        bytes,
-        files,
-        options,
-        rules,
-    } = inputs;
-    let mut outcome = Outcome::default();
-    // SAFETY: five slices, of which the buffer is borrowed as `&mut`, what is borrowed as `&`, and
-    // what only this call sees.
-    let status = unsafe {
-        elfmap_link(
-            bytes.as_ptr(),
-            bytes.len(),
-            files.as_ptr(),
-            files.len(),
-            options,
-            entry.as_ptr(),
-            entry.len(),
-            rules.as_ptr(),
-            rules.len(),
-            buffer.as_mut_ptr(),
-            buffer.len(),
-            &mut outcome,
-        )
-    };
-    (status, outcome)
 }
 
 #[cfg(test)]

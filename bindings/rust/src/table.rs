@@ -1,16 +1,12 @@
 use core::fmt;
 use core::iter::FusedIterator;
 
+use crate::constants::{
+    SHT_DYNAMIC, SHT_DYNSYM, SHT_HASH, SHT_NOTE, SHT_REL, SHT_RELA, SHT_SYMTAB,
+};
+use crate::entries::{Entries, Entry, Place};
 use crate::raw::{self, Dynamic, NoteEntry, Relocation, SymbolEntry, Table};
 use crate::File;
-
-const SHT_SYMTAB: u32 = 2;
-const SHT_RELA: u32 = 4;
-const SHT_HASH: u32 = 5;
-const SHT_DYNAMIC: u32 = 6;
-const SHT_NOTE: u32 = 7;
-const SHT_REL: u32 = 9;
-const SHT_DYNSYM: u32 = 11;
 
 /// A symbol of a symbol table.
 #[derive(Clone, Copy, PartialEq, Eq, Hash)]
@@ -23,7 +19,8 @@ pub struct Symbol<'a> {
     /// Its size in bytes, 0 where that is unknown.
     pub st_size: u64,
     /// The index of the section where it is defined, also where `st_shndx` can't hold it; else what
-    /// `st_shndx` holds.
+    /// `st_shndx` holds. If an index table should have it, and has no word for the symbol, which
+    /// breaks a rule, it is 0.
     pub section: u32,
     /// The section index as the entry has it: 0 is undefined, from `0xff00` on they are reserved.
     pub st_shndx: u16,
@@ -74,41 +71,31 @@ pub struct Note<'a> {
 impl<'a> File<'a> {
     /// The symbols of the symbol table in section `index`, symbol 0 among them; `None` where the
     /// section holds none.
-    pub fn symbols(
-        &self,
-        index: usize,
-    ) -> Option<impl DoubleEndedIterator<Item = Symbol<'a>> + FusedIterator> {
-        let file = *self;
-        let table = self.table(index, &[SHT_SYMTAB, SHT_DYNSYM])?;
-        let symbol = move |index| raw::symbol(&table, file.bytes(), index);
-        Some((0..table.entries).filter_map(move |index| Some(file.symbol(symbol(index)?))))
+    pub fn symbols(&self, index: usize) -> Option<Entries<'a, Symbol<'a>>> {
+        self.entries(index, &[SHT_SYMTAB, SHT_DYNSYM])
+    }
+
+    /// Symbol `entry` of the symbol table in section `index`; `None` where there is none. Each call
+    /// goes over the section headers: for many symbols use [`File::symbols`].
+    pub fn symbol(&self, index: usize, entry: usize) -> Option<Symbol<'a>> {
+        self.symbols(index)?.nth(entry)
     }
 
     /// The relocations of the relocation section `index`; `None` where it is none.
-    pub fn relocations(
-        &self,
-        index: usize,
-    ) -> Option<impl DoubleEndedIterator<Item = Relocation> + FusedIterator + 'a> {
-        let bytes = self.bytes();
-        let table = self.table(index, &[SHT_RELA, SHT_REL])?;
-        Some((0..table.entries).filter_map(move |index| raw::relocation(&table, bytes, index)))
+    pub fn relocations(&self, index: usize) -> Option<Entries<'a, Relocation>> {
+        self.entries(index, &[SHT_RELA, SHT_REL])
+    }
+
+    /// Relocation `entry` of the relocation section `index`; `None` where there is none.
+    pub fn relocation(&self, index: usize, entry: usize) -> Option<Relocation> {
+        self.relocations(index)?.nth(entry)
     }
 
     /// The entries of the dynamic array in section `index` before the first of tag `DT_NULL`, each
     /// with the string at the offset that it holds, which says something for some tags alone, as 1
     /// (`DT_NEEDED`); `None` where the section holds none.
-    pub fn dynamic(
-        &self,
-        index: usize,
-    ) -> Option<impl DoubleEndedIterator<Item = (Dynamic, &'a [u8])> + FusedIterator> {
-        let file = *self;
-        let table = self.table(index, &[SHT_DYNAMIC])?;
-        let entry = move |index| {
-            let entry = raw::dynamic(&table, file.bytes(), index)?;
-            let string = raw::string(&table, file.bytes(), entry.d_un).unwrap_or_default();
-            Some((entry, file.at(string)))
-        };
-        Some((0..table.entries).filter_map(entry))
+    pub fn dynamic(&self, index: usize) -> Option<Entries<'a, (Dynamic, &'a [u8])>> {
+        self.entries(index, &[SHT_DYNAMIC])
     }
 
     /// The notes of the note section `index`; `None` where it is none.
@@ -133,16 +120,12 @@ impl<'a> File<'a> {
         types.contains(&table.sh_type).then_some(table)
     }
 
-    fn symbol(&self, entry: SymbolEntry) -> Symbol<'a> {
-        Symbol {
-            name: self.at(entry.name),
-            st_value: entry.st_value,
-            st_size: entry.st_size,
-            section: entry.section,
-            st_shndx: entry.st_shndx,
-            st_info: entry.st_info,
-            st_other: entry.st_other,
-        }
+    /// The entries of the table in a section of one of these types. They lie in the bytes, so that
+    /// their number fits.
+    fn entries<T: Entry<'a>>(&self, index: usize, types: &[u32]) -> Option<Entries<'a, T>> {
+        let table = self.table(index, types)?;
+        let count = table.entries as usize;
+        Some(Entries::new(Place { file: *self, table }, count))
     }
 
     fn note(&self, entry: NoteEntry) -> Note<'a> {
@@ -151,5 +134,53 @@ impl<'a> File<'a> {
             desc: self.at(entry.desc),
             n_type: entry.n_type,
         }
+    }
+}
+
+impl<'a> Entry<'a> for Symbol<'a> {
+    fn read(from: &Place<'a>, index: usize) -> Self {
+        let Place { file, table } = from;
+        let found = raw::symbol(table, file.bytes(), index as u64);
+        let entry = found.unwrap_or_else(|| without_its_word(from, index));
+        Symbol {
+            name: file.at(entry.name),
+            st_value: entry.st_value,
+            st_size: entry.st_size,
+            section: entry.section,
+            st_shndx: entry.st_shndx,
+            st_info: entry.st_info,
+            st_other: entry.st_other,
+        }
+    }
+}
+
+/// A symbol whose section is a word of an index table that has no such word. Its own table has some
+/// word in that place, which says nothing.
+fn without_its_word(from: &Place<'_>, index: usize) -> SymbolEntry {
+    let table = Table {
+        linked: from.table.content,
+        ..from.table
+    };
+    let entry = raw::symbol(&table, from.file.bytes(), index as u64);
+    SymbolEntry {
+        section: 0,
+        ..entry.unwrap_or_default()
+    }
+}
+
+impl<'a> Entry<'a> for Relocation {
+    fn read(from: &Place<'a>, index: usize) -> Self {
+        let entry = raw::relocation(&from.table, from.file.bytes(), index as u64);
+        entry.expect("the entry is below their number")
+    }
+}
+
+impl<'a> Entry<'a> for (Dynamic, &'a [u8]) {
+    fn read(from: &Place<'a>, index: usize) -> Self {
+        let Place { file, table } = from;
+        let entry = raw::dynamic(table, file.bytes(), index as u64);
+        let entry = entry.expect("the entry is below their number");
+        let string = raw::string(table, file.bytes(), entry.d_un).unwrap_or_default();
+        (entry, file.at(string))
     }
 }

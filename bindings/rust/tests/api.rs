@@ -1,8 +1,10 @@
 //! What a caller sees beside the records.
 
+#![cfg(feature = "std")]
+
 use std::error::Error;
 
-use elfmap::{check, link, map, rules, Failure, File, Options, Refusal, Section};
+use elfmap::{check, link, map, rules, Failure, File, LinkRefusal, Options, Refusal, Section};
 
 /// A header, the names from 64 on, and from 88 on the section headers: NULL, `.bss`, `.shstrtab`.
 fn small_file() -> Vec<u8> {
@@ -135,11 +137,11 @@ fn a_map_has_lines() {
 #[test]
 fn what_does_not_link_is_told() {
     let options = Options::default();
-    let Err(Failure::NotLinked(refusal)) = link(&[START], &options, RULES) else {
+    let Err(Failure::NotLinked(link_refusal)) = link(&[START], &options, RULES) else {
         panic!("a name is undefined");
     };
     assert_eq!(
-        (refusal.rule, refusal.file),
+        (link_refusal.rule, link_refusal.file),
         (rules::link::UNDEFINED_NAME, 0)
     );
     let no_object = link(&[START, EXECUTABLE], &options, RULES);
@@ -148,6 +150,12 @@ fn what_does_not_link_is_told() {
         other => panic!("an executable is no object: {other:?}"),
     });
     assert_eq!((refusal.rule, refusal.offset), (rules::NOT_RELOCATABLE, 16));
+    let source = no_object.as_ref().unwrap_err().source().unwrap();
+    assert_eq!(source.downcast_ref::<Refusal>(), Some(&refusal));
+    let unlinked = Failure::NotLinked(link_refusal);
+    let source = unlinked.source().unwrap();
+    assert_eq!(source.downcast_ref::<LinkRefusal>(), Some(&link_refusal));
+    assert!(Failure::TooLong.source().is_none());
     let bad = map(&[START], &options, "4 pc 4 signed\n4 pc 3 signed\n");
     assert_eq!(bad, Err(Failure::BadRules { line: 2 }));
 }

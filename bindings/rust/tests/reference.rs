@@ -1,5 +1,7 @@
 //! What the crate says of many files is what the reference implementation of the repository says of them.
 
+#![cfg(feature = "std")]
+
 use std::collections::BTreeSet;
 use std::fmt::Write;
 use std::path::{Path, PathBuf};

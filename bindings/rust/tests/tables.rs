@@ -1,6 +1,9 @@
 //! What the crate gives of files that are made here by hand: segments, parts, and the entries of each kind of table.
 
-use elfmap::{check, File, Owner, Part};
+#![cfg(feature = "std")]
+
+use elfmap::{check, refused_tables, Entries, Failure, File, Owner, Part, Section};
+use std::time::{Duration, Instant};
 
 /// A section: its name, type, content, link, info and size of an entry.
 type Row<'a> = (&'a str, u32, Vec<u8>, u32, u32, u64);
@@ -169,4 +172,132 @@ fn each_kind_of_table() {
     assert!(file.symbols(1).is_none() && file.symbols(4).is_none() && file.symbols(99).is_none());
     assert!(file.relocations(2).is_none() && file.dynamic(7).is_none());
     assert!(file.notes(6).is_none() && file.find(2, b"f").is_none());
+}
+
+#[test]
+fn entries_are_counted_and_passed() {
+    const COUNT: usize = 100_000;
+    let bytes = made(&[
+        text(),
+        (".symtab", 2, symbols(&[1; COUNT - 1]), 3, 1, 24),
+        (".strtab", 3, b"\0f\0".to_vec(), 0, 0, 0),
+    ]);
+    let file = File::parse(&bytes).unwrap();
+    let all = file.symbols(2).unwrap();
+    assert_eq!((all.len(), all.size_hint()), (COUNT, (COUNT, Some(COUNT))));
+    assert_eq!(all.clone().count(), COUNT);
+    assert_eq!(all.clone().last().unwrap().name, b"f");
+    // Each by its number: the square of their count would take minutes.
+    let started = Instant::now();
+    for index in 0..COUNT {
+        let it = file.symbols(2).unwrap().nth(index).unwrap();
+        assert_eq!(it.name.is_empty(), index == 0);
+        let it = file.symbols(2).unwrap().nth_back(index).unwrap();
+        assert_eq!(it.name.is_empty(), index == COUNT - 1);
+        assert!(file.symbol(2, index).is_some());
+    }
+    assert!(started.elapsed() < Duration::from_secs(20));
+    assert!(file.symbol(2, COUNT).is_none() && file.symbol(1, 0).is_none());
+    assert!(all.clone().nth(COUNT).is_none() && all.clone().nth_back(COUNT).is_none());
+    let mut left = all.clone();
+    assert!(left.nth(COUNT - 3).is_some() && left.next_back().is_some());
+    assert_eq!((left.len(), left.size_hint()), (1, (1, Some(1))));
+    assert!(left.next().is_some() && left.next().is_none() && left.next_back().is_none());
+    // What goes past the end leaves nothing, and stays there.
+    let (mut front, mut back) = (all.clone(), all);
+    assert!(front.nth(COUNT).is_none() && front.next().is_none() && front.next_back().is_none());
+    assert!(back.nth_back(COUNT).is_none() && back.next().is_none() && back.len() == 0);
+}
+
+/// Entries of a longer life serve where those of a shorter one are asked for.
+#[test]
+fn entries_are_covariant() {
+    fn shorter<'a>(
+        long: Entries<'static, Section<'static>>,
+        _: &'a [u8],
+    ) -> Entries<'a, Section<'a>> {
+        long
+    }
+    static BYTES: &[u8] = include_bytes!("../../../crates/elfmap/data/header.elf");
+    let own = vec![1];
+    let sections = File::parse(BYTES).unwrap().sections();
+    assert_eq!(shorter(sections, &own).len(), 0);
+}
+
+#[test]
+fn sections_and_segments_are_passed() {
+    let bytes = made(&[text(), (".data", 1, vec![1], 0, 0, 0)]);
+    let file = File::parse(&bytes).unwrap();
+    let name = |index| file.sections().nth(index).map(|it| it.name());
+    assert_eq!(name(2), Some(&b".data"[..]));
+    assert_eq!(name(4), None);
+    let names: Vec<&[u8]> = file
+        .sections()
+        .rev()
+        .step_by(2)
+        .map(|it| it.name())
+        .collect();
+    assert_eq!(names, [&b".shstrtab"[..], b".text"]);
+    assert_eq!(file.segments().len(), 0);
+}
+
+#[test]
+fn relocations_by_their_numbers() {
+    let entries = longs(&[4, 1 << 32 | 2, 3, 8, 5, 6]);
+    let bytes = made(&[
+        text(),
+        (".symtab", 2, symbols(&[1]), 3, 1, 24),
+        (".strtab", 3, b"\0f\0".to_vec(), 0, 0, 0),
+        (".rela.text", 4, entries, 2, 1, 24),
+    ]);
+    let file = File::parse(&bytes).unwrap();
+    let offset = |entry| file.relocation(4, entry).map(|it| it.r_offset);
+    assert_eq!([offset(0), offset(1), offset(2)], [Some(4), Some(8), None]);
+    assert_eq!(file.relocations(4).unwrap().len(), 2);
+}
+
+/// Of a table that breaks a rule each symbol is there, also one whose word is not.
+#[test]
+fn a_symbol_whose_word_is_missing() {
+    let mut table = symbols(&[1, 1, 1]);
+    for entry in [1, 2] {
+        table[24 * entry + 6..24 * entry + 8].copy_from_slice(&[0xff, 0xff]);
+    }
+    let index_table = (".symtab_shndx", 18, words(&[0, 3]), 2, 0, 4);
+    let rows = [
+        text(),
+        (".symtab", 2, table, 3, 1, 24),
+        (".strtab", 3, b"\0f\0".to_vec(), 0, 0, 0),
+        index_table,
+    ];
+    for (count, sections) in [(4, [0, 3, 0, 1]), (3, [0, 0, 0, 1])] {
+        let bytes = made(&rows[..count]);
+        let file = File::parse(&bytes).unwrap();
+        let found: Vec<u32> = file.symbols(2).unwrap().map(|it| it.section).collect();
+        assert_eq!(found, sections);
+        let it = file.symbol(2, 2).unwrap();
+        assert_eq!((it.name, it.st_value, it.st_size), (&b"f"[..], 7, 8));
+        assert_eq!((it.st_shndx, it.st_info), (0xffff, 0x10));
+    }
+}
+
+#[test]
+fn tables_that_break_a_rule() {
+    // Symbol 1 has a name past the end of the names; the size of an entry is wrong.
+    let bytes = made(&[
+        text(),
+        (".symtab", 2, symbols(&[9]), 3, 1, 24),
+        (".strtab", 3, b"\0f\0".to_vec(), 0, 0, 0),
+        (".dynsym", 11, symbols(&[1]), 3, 1, 25),
+        (".dynsym", 11, symbols(&[1]), 3, 1, 24),
+    ]);
+    let refused = refused_tables(&bytes).unwrap();
+    let sections: Vec<usize> = refused.iter().map(|(section, _)| *section).collect();
+    assert_eq!(sections, [2, 4]);
+    let names: Vec<&str> = refused.iter().map(|(_, it)| it.name()).collect();
+    assert_eq!(names, ["SYMBOL_NAME_PAST_END", "WRONG_ENTRY_SIZE"]);
+    assert!(matches!(
+        refused_tables(b""),
+        Err(Failure::Refused { file: 0, .. })
+    ));
 }

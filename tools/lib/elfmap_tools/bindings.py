@@ -15,12 +15,15 @@ from .library import BOTH, FOLDER, PACKERS
 from .package_tests import count_run, skipped_tests, unittests
 from .requirements import (
     ELF_H,
+    GUILE_JSON,
     JSONSCHEMA,
     JUNITPARSER,
     KLIBC,
     MACHINES,
     MIPS_LIBC,
+    QT_SVG,
     SANITIZERS,
+    SPARC_LIBC,
     U_BOOT,
     YAML,
 )
@@ -29,10 +32,11 @@ from .tree import TOP, Options, read_text, said
 
 # What makes files that deviate from the rules in a known way, and some such files.
 LINKERS = [f"{MACHINES[it]}-ld" for it in ("alpha", "mips64", "riscv64", "s390x", "sparc64")]
-PRODUCERS = " ".join([*LINKERS, "cc", "eu-strip", "strip", MIPS_LIBC, SANITIZERS, U_BOOT])
+MADE = [GUILE_JSON, MIPS_LIBC, QT_SVG, SANITIZERS, SPARC_LIBC, U_BOOT]
+PRODUCERS = " ".join([*LINKERS, "cc", "eu-strip", "strip", *MADE])
 READERS = f"{ELF_H} {JSONSCHEMA} {JUNITPARSER} {YAML}"
 # What makes packages.
-ARCHIVERS = "bzip2 cpio dh dpkg-deb gzip rpmbuild tar xz zstd"
+ARCHIVERS = "bzip2 compress cpio dh dpkg-deb gzip lz4 lzip lzop rpmbuild tar xz zstd"
 # What makes objects that do not link, or not to what ld makes of them.
 COMPILERS = f"as clang g++ gcc ld readelf {KLIBC}"
 # What links the programs of which elfmap-symbols writes the symbols, and what reads these.
@@ -40,6 +44,7 @@ BIG = [f"{MACHINES[it]}-{tool}" for it in ("ppc64", "s390x") for tool in ("as", 
 DEBUGGERS = " ".join([*BIG, "addr2line gdb nm objcopy objdump"])
 MAKERS = f"{PRODUCERS} {ARCHIVERS} {COMPILERS}"
 BINDERS = f"{PACKERS} cargo fish git mypy pre-commit {READERS} {MAKERS} {DEBUGGERS}"
+RUST_DECLARATIONS = ("bindings/rust/src/raw.rs", "bindings/rust/src/raw/engines.rs")
 # What Python declares of a struct: its fields, each with its type of ctypes.
 PythonStructs = dict[str, list[tuple[str, Any]]]
 
@@ -71,7 +76,7 @@ def python_parameters(kinds: list[str]) -> list[Any]:
 def rust_is_right() -> bool:
     """Whether what the crate for Rust declares, something at least, is declared so by the header,
     which may have more."""
-    text = read_text("bindings/rust/src/raw.rs")
+    text = "".join(map(read_text, RUST_DECLARATIONS))
     own_structs = structs_in(text, STRUCTS)
     own_calls = calls_in(text, STRUCTS)
     if not own_structs or not own_calls:
@@ -96,9 +101,21 @@ def python_is_right() -> bool:
 
 def declarations(tally: Tally) -> None:
     """The bindings declare what the header declares."""
-    tally.check(rust_is_right(), "bindings/rust/src/raw.rs declares other than include/elfmap.h")
+    tally.check(rust_is_right(), "bindings/rust/src/raw declares other than include/elfmap.h")
     why = "bindings/python/elfmap/_library.py declares other than include/elfmap.h"
     tally.check(python_is_right(), why)
+
+
+def other_features(tally: Tally, env: dict[str, str]) -> None:
+    """The crate for Rust has no warning, and passes its own tests, where it may not use std, or no
+    memory."""
+    own = env | {"RUSTFLAGS": "-D warnings"}
+    for features in ("", "alloc"):
+        words = ["cargo", "test", "--frozen", "--lib"]
+        words += ["--no-default-features", "--features", features]
+        ran = said(*words, folder=f"{TOP}/bindings/rust", env=own)
+        why = f"bindings/rust with the features {features!r}: {ran.stdout[-2000:]}"
+        tally.check(ran.returncode == 0, why)
 
 
 @Test(
@@ -117,3 +134,4 @@ def try_bindings(tally: Tally, options: Options) -> None:
     ran = said(*words, folder=f"{TOP}/bindings/rust", env=env)
     found = re.findall(r"^test result: .* (\d+) passed; (\d+) failed;", ran.stdout, re.M)
     count_run(tally, ran, sum(int(it) for it, _ in found), sum(int(it) for _, it in found))
+    other_features(tally, env)

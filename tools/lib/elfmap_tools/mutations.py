@@ -8,7 +8,10 @@ check reads only the functions that have a bug, and those that they call: that i
 than `rt ci` does for an edit in must-fail/, which costs a check of its crate. In the gate only
 those with the line `gate: yes` are planted, over the libraries as `rt ci` has just left them. A
 library that has none of them has failed: nothing shows there that the contracts refuse a wrong
-body."""
+body.
+
+With --all, crates whose bugs an earlier run has refused are passed over, as long as no text has
+changed (planted_bugs.py): that run takes hours."""
 
 import glob
 import os
@@ -18,6 +21,7 @@ import tempfile
 from collections.abc import Iterable
 from concurrent.futures import ThreadPoolExecutor, as_completed
 
+from . import planted_bugs
 from .building import FolderOf, built_below, checked, gate_folder
 from .edits import Edit, bugs_in
 from .rim_bugs import PARTS, bugs_of_part, lacking_commands, try_part
@@ -38,7 +42,8 @@ CRATES = word(
     metavar="CRATE",
 )
 FIT = "plant none: only say whether each edit fits the text that it changes"
-FLAGS = (flag("all", "plant all bugs"), flag("fit", FIT))
+ALL = "plant all bugs, but for those of crates that docs/generated/PLANTED_BUGS.md has as they are"
+FLAGS = (flag("all", ALL), flag("anew", "with --all, those too"), flag("fit", FIT))
 ONLY = word("--only", "plant the bug of this name alone", metavar="NAME", default="")
 
 
@@ -193,6 +198,24 @@ def count_ends(tally: Tally, ends: list[tuple[Edit, str]]) -> None:
     tally.note(f"{crate}: {len(ends) - len(wrong)} of {len(ends)} refused")
 
 
+def note_refused(ends: list[tuple[Edit, str]]) -> None:
+    """Notes a crate whose bugs were all planted and refused."""
+    crate = ends[0][0].crate
+    are_all = len(ends) == len(bugs_of(crate))
+    if are_all and all(end == "refused" for _, end in ends):
+        planted_bugs.note(crate, len(ends))
+
+
+def without_known(tally: Tally, bugs: list[list[Edit]]) -> list[list[Edit]]:
+    """The crates whose bugs no earlier run has refused as they are."""
+    left = [it for it in bugs if not planted_bugs.is_known(it[0].crate, len(it))]
+    known = [it for it in bugs if it not in left]
+    if known:
+        count = sum(map(len, known))
+        tally.note(f"{count} bugs of {len(known)} crates are refused by {planted_bugs.PAGE}")
+    return left
+
+
 def try_bugs(tally: Tally, bugs: list[list[Edit]], options: Options) -> None:
     """The check refuses these bugs of crates."""
     folder_of: FolderOf = gate_folder
@@ -209,6 +232,8 @@ def try_bugs(tally: Tally, bugs: list[list[Edit]], options: Options) -> None:
         tries = [pool.submit(try_all, it, folder_of, is_shown) for it in bugs]
         for tried in as_completed(tries):
             count_ends(tally, tried.result())
+            if is_shown:
+                note_refused(tried.result())
 
 
 def try_parts(tally: Tally, bugs: list[list[Edit]]) -> None:
@@ -237,6 +262,8 @@ def try_mutations(tally: Tally, options: Options) -> None:
         of_parts = chosen((it for it in names if it in PARTS), options)
         if options.only and not of_crates + of_parts:
             tally.fail(f"no bug of the name {options.only}")
+        if options.all and not options.anew:
+            of_crates = without_known(tally, of_crates)
         if of_crates:
             try_bugs(tally, of_crates, options)
         try_parts(tally, of_parts)

@@ -172,6 +172,8 @@ PACKAGES = {
 
 # `apt install` installs these too: the commands beside the program, and what they decompress with.
 RECOMMENDED = {"elfmap": "python3-elfmap", "python3-elfmap": "zstd"}
+# What few files are compressed by.
+SUGGESTED = {"python3-elfmap": "lz4, lzip, lzop"}
 
 
 def settle(root: str) -> None:
@@ -197,6 +199,8 @@ def control(name: str, machine: str, numbers: dict[str, str], size: int) -> str:
         lines["Depends"] = package.needs.format(**numbers)
     if name in RECOMMENDED:
         lines["Recommends"] = RECOMMENDED[name]
+    if name in SUGGESTED:
+        lines["Suggests"] = SUGGESTED[name]
     lines |= {"Section": "devel", "Priority": "optional"}
     lines["Description"] = f"{package.about}\n This is {level}"
     if name == "libelfmap0":

@@ -14,6 +14,7 @@ from . import (
     c_library,
     cases,
     changed_files,
+    coverage,
     definitions,
     definitions_page,
     doc,
@@ -136,6 +137,11 @@ DEV = [
         "write the tables of docs/generated/PEERS.md: what other tools say of files that elfmap "
         "refuses",
         peers.main,
+    ),
+    Command(
+        "coverage",
+        "print which branches of the Python package its tests take",
+        coverage.main,
     ),
     Command(
         "sweep",

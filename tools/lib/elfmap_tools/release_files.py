@@ -49,7 +49,7 @@ README.md CONTRIBUTING.md CHANGELOG.md SECURITY.md docs/* rules/*.rules examples
 action.yml .pre-commit-hooks.yaml
 bindings/c/*.[ch]
 bindings/rust/Cargo.lock bindings/rust/Cargo.toml bindings/rust/README.md bindings/rust/build.rs
-bindings/rust/examples/* bindings/rust/src/*
+bindings/rust/examples/* bindings/rust/src/*.rs bindings/rust/src/raw/*.rs
 bindings/python/README.md bindings/python/pyproject.toml bindings/python/examples/*
 bindings/python/elfmap/*.py bindings/python/elfmap/py.typed
 """.split()

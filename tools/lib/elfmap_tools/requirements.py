@@ -15,8 +15,14 @@ ELF_H = "/usr/include/elf.h"
 KLIBC = "/usr/lib/klibc/lib/libc.a"
 MIPS_LIBC = "/usr/mips64el-linux-gnuabi64/lib/libdl.so.2"
 U_BOOT = "/usr/lib/u-boot/qemu_arm64/uboot.elf"
+# Where packages lie that are not installed: tests read the files in them.
+FETCHED = "/var/cache/elfmap-tests"
+GUILE_JSON = f"{FETCHED}/guile-json_*.deb"
+QT_SVG = f"{FETCHED}/libqt6svg6_*.deb"
+SPARC_LIBC = f"{FETCHED}/libc6-sparc64-cross_*.deb"
 # What Debian's python3 imports.
 IMPORTED = "/usr/lib/python3/dist-packages/{}/__init__.py"
+COVERAGE = IMPORTED.format("coverage")
 JINJA2 = IMPORTED.format("jinja2")
 JSONSCHEMA = IMPORTED.format("jsonschema")
 JUNITPARSER = IMPORTED.format("junitparser")
@@ -41,15 +47,20 @@ COMMANDS = {
     "elfutils": "eu-elflint eu-strip",
     "g++": "c++ g++",
     "gcc": "cc gcc",
+    "guile-json": GUILE_JSON,
     "libclang-rt-14-dev": SANITIZERS,
     "libc6-dev": ELF_H,
     "libc6-mips64el-cross": MIPS_LIBC,
+    "libc6-sparc64-cross": SPARC_LIBC,
     "libklibc-dev": KLIBC,
+    "libqt6svg6": QT_SVG,
     "lld": "ld.lld",
     "lld-19": "ld.lld-19",
     "llvm": "llvm-objcopy llvm-readobj",
     "llvm-19": "llvm-mc-19",
+    "ncompress": "compress",
     "nodejs": "node",
+    "python3-coverage": COVERAGE,
     "python3-jinja2": JINJA2,
     "python3-jsonschema": JSONSCHEMA,
     "python3-junitparser": JUNITPARSER,
@@ -88,6 +99,14 @@ LEAST = {"cargo": (1, 85)}
 INSTALL = """get() { apt-get install -y --no-install-recommends "$@"; }
 apt-get update
 get "$@" || for it; do get "$it"; done"""
+# A package that is there whole takes the place of an older one.
+FETCH = f"""apt-get update
+mkdir -p {FETCHED} && room=$(mktemp -d) && cd "$room" || exit
+for it
+do apt-get -o APT::Sandbox::User=root download "$it" &&
+    rm -f {FETCHED}/"$it"_*.deb && mv ./"$it"_*.deb {FETCHED}/
+done
+rm -r "$room\""""
 
 
 def is_there(command: str) -> bool:
@@ -108,21 +127,29 @@ def missing(commands: Iterable[str]) -> list[str]:
 def words_of(lacking: Iterable[str]) -> str:
     """What to say of missing commands: the package of each, and how to get it."""
     each = (f"there is no {it} (package {PACKAGES.get(it, it)})" for it in lacking)
-    return f"{', '.join(each)}; `tools/test setup` installs it"
+    return f"{', '.join(each)}; `tools/test setup` gets it"
+
+
+def by_apt(script: str, packages: Iterable[str]) -> None:
+    """Runs a script as root with the names of packages, if there are any."""
+    names = sorted(set(packages))
+    if not names:
+        return
+    print(f"setup: gets {' '.join(names)}", flush=True)
+    as_root = ["sudo"] if os.geteuid() != 0 else []
+    command = ["env", "DEBIAN_FRONTEND=noninteractive", "sh", "-c", script, "sh", *names]
+    subprocess.run(
+        [*as_root, *command], stdin=subprocess.DEVNULL, stdout=subprocess.DEVNULL, check=False
+    )
 
 
 def setup(commands: Iterable[str]) -> bool:
-    """Installs the packages of the commands that are missing: whether all are there then."""
+    """Installs the packages of the commands that are missing, and fetches those of files that only
+    lie in a package: whether all are there then."""
     lacking = missing(commands)
-    packages = sorted({PACKAGES.get(it, it) for it in lacking})
-    if not packages:
-        return True
-    print(f"setup: installs {' '.join(packages)}", flush=True)
-    as_root = ["sudo"] if os.geteuid() != 0 else []
-    install = ["env", "DEBIAN_FRONTEND=noninteractive", "sh", "-c", INSTALL, "sh", *packages]
-    subprocess.run(
-        [*as_root, *install], stdin=subprocess.DEVNULL, stdout=subprocess.DEVNULL, check=False
-    )
+    fetched = [it for it in lacking if it.startswith(f"{FETCHED}/")]
+    by_apt(INSTALL, (PACKAGES.get(it, it) for it in lacking if it not in fetched))
+    by_apt(FETCH, (PACKAGES[it] for it in fetched))
     left = missing(lacking)
     if left:
         print(f"setup: still {words_of(left)}", file=sys.stderr)

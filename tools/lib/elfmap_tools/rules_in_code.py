@@ -1,7 +1,7 @@
 """The tables of rules in the crates and the bindings, which `tools/release tables` makes of
 docs/RULES.md: the names of the rules of files, objects and links, for the faults of the crates:
 each `src/rule_names.rt`; and with their sentences for the bindings: bindings/rust/src/rules.rs and
-bindings/python/elfmap/_rules.py."""
+bindings/python/elfmap/_rules.py. It makes the constants of the crate for Rust, too."""
 
 import functools
 import glob
@@ -9,6 +9,7 @@ import pprint
 import textwrap
 from collections.abc import Iterable, Iterator
 
+from . import constants_in_rust
 from .rules_page import Rule, file_rules, rules_of
 from .tree import TOP, Options, write
 
@@ -114,6 +115,7 @@ def tables() -> dict[str, str]:
         "link": rattle("the link", rules_of("link")),
     }
     found = {
+        constants_in_rust.PATH: constants_in_rust.rust(),
         "bindings/rust/src/rules.rs": rust(),
         "bindings/python/elfmap/_rules.py": python(),
     }
