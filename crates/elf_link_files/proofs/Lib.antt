@@ -2,4 +2,7 @@
 pub mod MarkedFiles
 pub mod SiteLists
 pub mod KnownBefore
+mod RepeatedSignatures
+mod NumberedEnds
+mod SameNames
 pub mod Public

@@ -1,12 +1,11 @@
 -- The files of a link, and what the rules of objects say of them.
-use Rattle.std.proofs.Common.{◌≡◌, ℕ, ◌+◌, ◌<◌, ◌⊎◌, Bool, true, false, List, [], ◌∷◌, ◌++◌, length, get_or, set, inl, inr, refl, sym, ◌∙◌, subst, arith, get_or-set_other, get_or-set_same, length-append}
+use Rattle.std.proofs.Common.{◌≡◌, ℕ, ◌+◌, ◌<◌, ◌⊎◌, Bool, true, false, List, length, get_or, set, inl, inr, refl, sym, ◌∙◌, subst, arith, get_or-set_other, get_or-set_same}
 use Rattle.std.proofs.lemmas.Bool.{cases_eq, cases_lt}
-use Rattle.std.proofs.lemmas.List.{get_or_push, length-set, get_or_default}
-use Rattle.std.proofs.Math.ListN.{get_or-append}
+use Rattle.std.proofs.lemmas.List.{length-set, get_or_default}
 use Rattle.std.specs.Prelude.{IfSome, Option, None, Some, MatchOption}
 use Rattle.std.proofs.lemmas.Slice.Eq.{bytes_eq-Decides}
 use Rattle.std.specs.Str.{bytes_eq}
-use Rattle.elf_link_files.specs.Files.{object_at, AreMarkRows, AreMarksBefore, AreMembersMarked, is_comdat, signature_position, IsPlaceIn, no_object}
+use Rattle.elf_link_files.specs.Files.{object_at, AreMembersMarked, is_comdat, signature_position, IsPlaceIn, no_object}
 use Rattle.elf_object_type.proofs.Public.{place_there, references_there}
 use Rattle.elf_object_type.specs.Object.{ObjectValue, BodyValue, bits, no_bits, relocs, group, section_at, symbol_at}
 use Rattle.elf_object_type.specs.ObjectRules.{NamesMember, HasReferences, IsObject, place_position}
@@ -46,26 +45,6 @@ marked_next before members n row are there = record {
         | inr named ↦ elim (named_next members n s named) [ inl earlier ↦ inr earlier | inr last ↦ absurd (other (sym last)) ]
       ])),
     )
-  ];
-}
-
--- ---- the groups of one file
-
--- ---- all files
-
-pub rows_more : (fs : List ObjectValue) (n : ℕ) (rows : List (List Bool)) (row : List Bool) →
-    AreMarksBefore fs n (length (object_at fs n).sections) row → AreMarkRows fs n rows → AreMarkRows fs (n + 1) (rows ++ row ∷ [])
-rows_more fs n rows row are rest = record {
-  count = (let count = rest.count in simp length-append (omega arith));
-  each = λ f lt. elim (cases_lt f n) [
-    | inl below ↦ (
-        let kept = get_or-append rows (row ∷ []) [] f (rw rest.count below) in
-        subst (λ r. AreMarksBefore fs f (length (object_at fs f).sections) r) (sym kept) (rest.each f below))
-    | inr above ↦ (
-        let same : f ≡ n = omega arith in
-        let last : get_or (rows ++ row ∷ []) f [] ≡ row = get_or_push rows row [] f (rest.count ∙ sym same) in
-        subst (λ r. AreMarksBefore fs f (length (object_at fs f).sections) r) (sym last)
-        (subst (λ m. AreMarksBefore fs m (length (object_at fs m).sections) row) (sym same) are))
   ];
 }
 

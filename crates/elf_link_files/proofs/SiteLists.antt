@@ -170,7 +170,7 @@ lists_same row next ps into back is = record {
   order = is.order;
 }
 
-earlier_before : (p : Site) (f i : ℕ) → IsEarlier p.file p.index f i → Before p (site f i)
+pub earlier_before : (p : Site) (f i : ℕ) → IsEarlier p.file p.index f i → Before p (site f i)
 earlier_before p f i (inl file) = inl file
 earlier_before p f i (inr (file, index)) = inr (file, inl index)
 
@@ -196,6 +196,25 @@ listed_past count fs P f i ps other is =
       | inl earlier ↦ (row, earlier)
       | inr same ↦ absurd (other (subst (λ n. P f n) same.1 (subst (λ n. P n p.index) same.0 row.2)))
     ]) is
+
+-- what is before the next file is before the end of this one
+pub row_back : (count : ObjectValue → ℕ) (fs : List ObjectValue) (P : ℕ → ℕ → Type 0) (f : ℕ) (p : Site) → AtEach count fs P p →
+    IsEarlier p.file p.index (f + 1) 0 → IsEarlier p.file p.index f (count (object_at fs f))
+row_back count fs P f p there (inr (same, never)) = absurd (omega arith)
+row_back count fs P f p there (inl below) = elim (cases_lt p.file f) [
+  | inl first ↦ inl first
+  | inr above ↦ (
+      let same : p.file ≡ f = omega arith in
+      inr (same, subst (λ (n : ℕ). p.index < count (object_at fs n)) same there.1))
+]
+
+-- what is listed of a row up to the end of a file is listed up to the next one
+pub listed_file : (count : ObjectValue → ℕ) (fs : List ObjectValue) (P : ℕ → ℕ → Type 0) (f : ℕ) (ps : List Site) →
+    Lists (UpTo (AtEach count fs P) f (count (object_at fs f))) ps → Lists (UpTo (AtEach count fs P) (f + 1) 0) ps
+listed_file count fs P f ps =
+    lists_same (UpTo (AtEach count fs P) f (count (object_at fs f))) (UpTo (AtEach count fs P) (f + 1) 0) ps
+    (λ p (row, earlier). (row, file_before p.file p.index f (count (object_at fs f)) earlier))
+    (λ p (row, earlier). (row, row_back count fs P f p row earlier))
 
 -- of two sites at most one comes before the other
 pub one_before : (p q : Site) → Before p q → Before q p → ⊥

@@ -1,5 +1,8 @@
 -- The words of this crate's contracts.
 pub mod Files
 pub mod Rows
+pub mod Discarded
 pub mod KnownBefore
 pub mod FileRules
+pub mod FileNames
+pub mod SameNames

@@ -2,7 +2,7 @@
 ghost use Rattle.std.specs.Prelude.{◌≡◌, ◌↔◌, ◌<◌, IfOk, IsTrue, length, map};
 ghost use Rattle.elf_link_files.specs.Files.{IsSectionIn, IsSymbolIn, AreDiscardMarks, Discarded, object_at};
 
-use crate::section_tests::discarded;
+use crate::discarded::discarded;
 use elf_object_type::Object;
 use std::alloc::{AllocError, Global};
 use std::marker::Model;

@@ -5,19 +5,24 @@
 //! [`Inputs`], which are the files, and know which of their sections the link discards.
 #![tactic(auto)]
 
+mod discarded;
 mod fault;
+mod file_names;
 pub mod files;
 mod inputs;
 mod known;
 mod rule_names;
 pub mod rules;
+mod same_names;
 mod section_tests;
 mod site;
 mod symbol_tests;
 
 pub use elf_image_rules::Broken;
 pub use fault::{LinkFault, Options};
+pub use file_names::FileNames;
 pub use inputs::{InputSection, InputSymbol, Inputs, SectionId, SymbolId};
 pub use known::{Block, Known};
+pub use same_names::{Named, first_of_names};
 pub use site::{Chosen, Site, SiteTest, is_at, site_in};
 pub use symbol_tests::is_no_power;

@@ -45,7 +45,7 @@ bound_first (b ∷ bs) q (suc k) lt is none =
     ap (λ (t : Bool). cond t (Some b.1) (bound_in bs q)) (not_true (bytes_eq q b.0) (λ equal. none 0 (omega arith) (sym ((bytes_eq-Decides q b.0).0 equal)))) ∙
     bound_first bs q k (omega arith) is (λ j below. none (suc j) (omega arith))
 
-bound_never : (bs : List (List ℕ × Binding)) (q : List ℕ) → ((j : ℕ) → j < length bs → (get_or bs j no_name).0 ≡ q → ⊥) → bound_in bs q ≡ None
+pub bound_never : (bs : List (List ℕ × Binding)) (q : List ℕ) → ((j : ℕ) → j < length bs → (get_or bs j no_name).0 ≡ q → ⊥) → bound_in bs q ≡ None
 bound_never [] q none = refl
 bound_never (b ∷ bs) q none =
     ap (λ (t : Bool). cond t (Some b.1) (bound_in bs q)) (not_true (bytes_eq q b.0) (λ equal. none 0 (omega arith) (sym ((bytes_eq-Decides q b.0).0 equal)))) ∙

@@ -150,21 +150,43 @@ impl<'a> Names<'a> {
         &self.list
     }
 
-    /// The position of a name; None if it is not there.
-    pub(crate) fn position(&self, name: &[u8]) -> Option<usize>
+    /// The position of a name that lives as long as theirs; None if it is not there.
+    pub(crate) fn position(&self, name: &'a [u8]) -> Option<usize>
         ensures { MatchOption result (bound_in self.now name.now ≡ None) (IsBindingAt self.now name.now) }
     {
         self.positions.get(name)
     }
 
-    /// What a name is bound to; None if it is not there.
+    /// What any name is bound to; None if it is not there.
     pub(crate) fn binding(&self, name: &[u8]) -> Option<Binding>
         ensures { result ≡ bound_in self.now name.now }
     {
-        match self.positions.get(name) {
+        match self.any_position(name) {
             Some(k) => Some(self.list[k].binding),
             None => None,
         }
+    }
+
+    /// The position of any name; None if it is not there.
+    fn any_position(&self, name: &[u8]) -> Option<usize>
+        ensures { MatchOption result (bound_in self.now name.now ≡ None) (IsBindingAt self.now name.now) }
+    {
+        match self.positions.get_at_once(name) {
+            Some(position) => position,
+            None => self.search(name),
+        }
+    }
+
+    /// The same, by going through all of them.
+    fn search(&self, name: &[u8]) -> Option<usize>
+        ensures { MatchOption result (bound_in self.now name.now ≡ None) (IsBindingAt self.now name.now) }
+    {
+        for k in 0..self.list.len() {
+            if self.list[k].name == name {
+                return Some(k);
+            }
+        }
+        None
     }
 }
 
@@ -180,7 +202,7 @@ pub struct IndexedMap<'a> {
 }
 
 /// Where the name of a symbol is; 0 for a local symbol.
-fn name_index(objects: &[Object<'_>], map: &LinkMap<'_>, id: SymbolId) -> usize
+fn name_index<'a>(objects: &[Object<'a>], map: &LinkMap<'a>, id: SymbolId) -> usize
     requires map { IsSomeLinkMap objects.now map.now }
     requires symbol { IsSymbolIn objects.now id }
     ensures { IsBindingIndex objects.now map.now id.file id.index result }
@@ -194,10 +216,10 @@ fn name_index(objects: &[Object<'_>], map: &LinkMap<'_>, id: SymbolId) -> usize
 }
 
 /// The indexes of the names of a file's symbols.
-fn file_indexes(
+fn file_indexes<'a>(
     alloc: Global,
-    objects: &[Object<'_>],
-    map: &LinkMap<'_>,
+    objects: &[Object<'a>],
+    map: &LinkMap<'a>,
     file: usize,
 ) -> Result<Vec<usize>, AllocError>
     requires map { IsSomeLinkMap objects.now map.now }
@@ -216,10 +238,10 @@ fn file_indexes(
 /// whatever its base, page and entry are. It takes log n comparisons of names for each symbol; [`map_indexed`](crate::map_indexed)
 /// returns the indexes without them. The error comes if an allocation fails. The map is never changed.
 #[tactic(auto, unfolding(crate::specs::Naming::AreBindingIndexes))]
-pub fn name_indexes(
+pub fn name_indexes<'a>(
     alloc: Global,
-    objects: &[Object<'_>],
-    map: &LinkMap<'_>,
+    objects: &[Object<'a>],
+    map: &LinkMap<'a>,
 ) -> Result<Vec<Vec<usize>>, AllocError>
     requires { IsSomeLinkMap objects.now map.now }
     ensures { IfOk result (λ rows. AreBindingIndexes objects.now map.now (map_list (λ row. row.items) rows.items)) }

@@ -50,15 +50,16 @@ impl<'a> LinkMap<'a> {
         }
     }
 
-    /// What a name is bound to; None if no symbol that is not local has it. It takes log n comparisons of names.
+    /// What a name is bound to; None if no symbol that is not local has it. It takes a look at a few slots. Only if names were chosen to share
+    /// their hashes, it may go through all of them.
     pub fn binding(&self, name: &[u8]) -> Option<Binding>
         ensures { result ≡ bound_in self.now.bindings name.now }
     {
         self.names.binding(name)
     }
 
-    /// Where a name is among [`LinkMap::names`]; None if it is not there.
-    pub(crate) fn position(&self, name: &[u8]) -> Option<usize>
+    /// Where a name of the files is among [`LinkMap::names`]; None if it is not there.
+    pub(crate) fn position(&self, name: &'a [u8]) -> Option<usize>
         ensures { MatchOption result (bound_in self.now.bindings name.now ≡ None) (IsBindingAt self.now.bindings name.now) }
     {
         self.names.position(name)

@@ -7,13 +7,13 @@ use Rattle.std.proofs.lemmas.Bool.{cases_eq, cases_lt}
 use Rattle.std.specs.Prelude.{Option, None, Some, MatchOption}
 use Rattle.elf_extent.specs.Extent.{Never}
 use Rattle.elf_field.specs.Abi.{STB_LOCAL}
-use Rattle.elf_link_files.proofs.Public.{each_more, first_in_row, first_same, listed_more, listed_past, lists_same, site_is, same_bool, same_name, one_site_list}
+use Rattle.elf_link_files.proofs.Public.{listed_file, each_more, first_in_row, first_same, listed_more, listed_past, lists_same, site_is, same_bool, same_name, one_site_list}
 use Rattle.elf_link_files.specs.Files.{object_at, symbol_in, IsCommon, is_common}
 use Rattle.elf_link_files.specs.Rows.{UpTo, site, site_at, name_at, AreSymbols, no_common, IsFirstAt, symbol_count, chosen_at, Lists, IsLargest, align_at, commons, size_at, strong, entries}
 use Rattle.elf_link_files.specs.declared.inputs.SymbolId.{SymbolId}
 use Rattle.elf_link_files.specs.declared.site.Chosen.{Chosen}
 use Rattle.elf_link_files.specs.declared.site.Site.{Site}
-use Rattle.elf_link_names.proofs.KnownNames.{listed_file, names_once, found_none, placed_at, whole_firsts}
+use Rattle.elf_link_names.proofs.KnownNames.{names_once, found_none, placed_at, whole_firsts}
 use Rattle.elf_link_files.specs.KnownBefore.{id_site}
 use Rattle.elf_link_names.specs.Binds.{IsChosen, chosen_commons, first_entries}
 use Rattle.elf_link_names.specs.KnownNames.{IsWholeBlock, AreAllKnown, first_site}
@@ -165,6 +165,17 @@ ranks_more fs firsts cs n index ranks lists n_in (lt, named) are =
         ]) is)
       ];
     }
+
+-- a name that none of those has that are known is in no entry
+pub index_never : (fs : List ObjectValue) (position : List ℕ → Option ℕ) (ks : List Known) (name : List ℕ) → AreAllKnown fs position ks →
+    ((k : ℕ) → k < length (map first_site ks) → indexed fs (map first_site ks) k ≡ name → ⊥) → Never (entries fs name)
+index_never fs position ks name known none = by_position (position name) refl where
+  by_position : (o : Option ℕ) → position name ≡ o → Never (entries fs name)
+  by_position None at = found_none fs position ks name at known
+  by_position (Some k) at = absurd (
+      let (lt, named) = placed_at fs (length fs) 0 position ks name k at known in
+      let many = length-map ks first_site in
+      none k (omega arith) named)
 
 -- a name is found among those that are known
 pub index_found : (fs : List ObjectValue) (position : List ℕ → Option ℕ) (ks : List Known) (name : List ℕ) → AreAllKnown fs position ks →

@@ -1,6 +1,6 @@
 -- Names by their indexes, in the order in which they come first, with what is known of each.
 use Rattle.std.proofs.Common.{◌≡◌, ℕ, ◌+◌, ◌<◌, ◌⊎◌, Bool, List, length, inl, inr, refl, sym, ◌∙◌, ap, subst, arith, ◌≢◌, true, false, [], get_or, map, ◌↔◌, ◌∷◌, ◌++◌, set, length-append}
-use Rattle.std.specs.Prelude.{if◌then◌else◌, Option, Some, MatchOption, cond, None}
+use Rattle.std.specs.Prelude.{if◌then◌else◌, IfSome, Option, Some, MatchOption, cond, None}
 use Rattle.std.specs.Str.{bytes_eq}
 use Rattle.std.proofs.lemmas.Bool.{cases_eq, cases_lt}
 use Rattle.std.proofs.lemmas.Slice.Eq.{bytes_eq-Decides}
@@ -10,9 +10,9 @@ use Rattle.std.proofs.Math.ListN.{get_or-append}
 use Rattle.std.proofs.Math.Seq.{map-set_same}
 use Rattle.elf_extent.specs.Extent.{Never}
 use Rattle.elf_field.specs.Abi.{STB_LOCAL}
-use Rattle.elf_link_files.proofs.Public.{first_in_row, site_is, same_name, match_map, not_true, table_read, first_earlier, lists_same, listed_more, listed_past, file_before, known_other, first_here, strong_entry, weak_entry}
+use Rattle.elf_link_files.proofs.Public.{first_in_row, site_is, same_name, match_map, not_true, table_read, first_earlier, lists_same, listed_file, listed_more, listed_past, file_before, row_back, known_other, first_here, strong_entry, weak_entry}
 use Rattle.elf_link_files.specs.Files.{symbol_in, IsEntry, object_at, IsEarlier, IsCommon, IsNotWeak, IsStrong, IsWeak}
-use Rattle.elf_link_files.specs.Rows.{Lists, site, site_at, name_at, Before, IsFirstAt, UpTo, AtEach, AtSymbol, symbol_count, entries, IsLargest, commons, strong, weak}
+use Rattle.elf_link_files.specs.Rows.{Lists, site, site_at, name_at, Before, IsFirstAt, UpTo, AtSymbol, symbol_count, entries, IsLargest, commons, strong, weak}
 use Rattle.elf_link_files.specs.declared.inputs.SymbolId.{SymbolId}
 use Rattle.elf_link_files.specs.declared.site.Site.{Site}
 use Rattle.elf_link_files.specs.KnownBefore.{IsBest, IsCommonBest, IsKnownBefore, NoneBefore, SomeBefore, id_in, id_site}
@@ -20,6 +20,8 @@ use Rattle.elf_link_names.specs.Binds.{first_entries, IsUnbound, IsFirstEntry}
 use Rattle.elf_link_names.specs.KnownNames.{ArePositionsOf, AreNameIndexes, AreIndexRows, IsNameIndex, IsIndexRow, KeepsPositions, AreAllKnown, AreKnownBefore, IsKnownWhole, IsWholeBest, IsWholeBlock, first_site, known_at, no_known}
 use Rattle.elf_link_files.specs.declared.known.Block.{Block}
 use Rattle.elf_link_files.specs.declared.known.Known.{Known}
+use Rattle.elf_link_names.specs.Tables.{IsSymbolLookup}
+use Rattle.elf_link_names.specs.declared.name_index.Lookup.{Lookup}
 use Rattle.elf_object_type.specs.Object.{ObjectValue, binding}
 
 -- Names by position, in the order of their first entries: one more name extends the positions. Two first entries have two names, since one
@@ -113,6 +115,17 @@ rows_kept fs old now n rows kept are = record {
   count = are.count;
   each = λ f lt. row_kept fs old now f (length (object_at fs f).symbols) (get_or rows f []) kept (are.each f lt);
 }
+
+-- nor a lookup what it found
+found_kept : (old now : List ℕ → Option ℕ) (name : List ℕ) (found : Option ℕ) → KeepsPositions old now →
+    IfSome found (λ p. old name ≡ Some p) → IfSome found (λ p. now name ≡ Some p)
+found_kept old now name None kept is = tt
+found_kept old now name (Some p) kept is = kept name p is
+
+pub lookup_kept : (fs : List ObjectValue) (f i : ℕ) (lookup : Lookup) (old now : List ℕ → Option ℕ) → KeepsPositions old now →
+    IsSymbolLookup fs old f i lookup → IsSymbolLookup fs now f i lookup
+lookup_kept fs f i lookup old now kept is not_local =
+    let its = is not_local in (its.0, found_kept old now (symbol_in fs f i).name lookup.position kept its.1)
 
 -- ---- an index is read
 
@@ -236,24 +249,6 @@ names_new fs f i old now ks known file index not_local added missing first next 
     }
 
 -- ---- the end of a file
-
-row_back : (count : ObjectValue → ℕ) (fs : List ObjectValue) (P : ℕ → ℕ → Type 0) (f : ℕ) (p : Site) → AtEach count fs P p →
-    IsEarlier p.file p.index (f + 1) 0 → IsEarlier p.file p.index f (count (object_at fs f))
-row_back count fs P f p there (inr (same, never)) = absurd (omega arith)
-row_back count fs P f p there (inl below) = elim (cases_lt p.file f) [
-  | inl first ↦ inl first
-  | inr above ↦ (
-      let same : p.file ≡ f = omega arith in
-      inr (same, subst (λ (n : ℕ). p.index < count (object_at fs n)) same there.1))
-]
-
--- what is listed of a row up to the end of a file is listed up to the next one
-pub listed_file : (count : ObjectValue → ℕ) (fs : List ObjectValue) (P : ℕ → ℕ → Type 0) (f : ℕ) (ps : List Site) →
-    Lists (UpTo (AtEach count fs P) f (count (object_at fs f))) ps → Lists (UpTo (AtEach count fs P) (f + 1) 0) ps
-listed_file count fs P f ps =
-    lists_same (UpTo (AtEach count fs P) f (count (object_at fs f))) (UpTo (AtEach count fs P) (f + 1) 0) ps
-    (λ p (row, earlier). (row, file_before p.file p.index f (count (object_at fs f)) earlier))
-    (λ p (row, earlier). (row, row_back count fs P f p row earlier))
 
 file_back : (fs : List ObjectValue) (P : ℕ → ℕ → Type 0) (f : ℕ) (p : Site) → AtSymbol fs P p → IsEarlier p.file p.index (f + 1) 0 →
     IsEarlier p.file p.index f (length (object_at fs f).symbols)

@@ -3,4 +3,5 @@ pub mod Binds
 pub mod ChosenCommons
 pub mod Tables
 pub mod KnownNames
+pub mod SameNames
 pub mod Public

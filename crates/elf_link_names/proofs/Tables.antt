@@ -1,7 +1,7 @@
 -- Names in slots, and after them in a map. A name that is in none of its slots has no entry: an entry's slot comes after taken ones, so a
 -- search meets it. Hence a new name in a free slot, or in the map, keeps the tables and all other positions.
 use Rattle.std.proofs.Common.{◌≡◌, ℕ, zero, suc, ◌<◌, ◌+◌, ◌-◌, ◌⊎◌, Bool, true, false, List, [], ◌∷◌, ◌++◌, length, get_or, set, inl, inr, refl, sym, ◌∙◌, ap, subst, arith, get_or-set_other, get_or-set_same, ◌≤◌}
-use Rattle.std.specs.Prelude.{◌≢◌, ◌*◌, ◌%◌, ◌^◌, cond, if◌then◌else◌, is_some, MatchOption, Option, None, Some, IfSome, slice_get}
+use Rattle.std.specs.Prelude.{◌≢◌, ◌*◌, ◌%◌, ◌^◌, cond, if◌then◌else◌, is_some, MatchOption, Option, None, Some, slice_get}
 use Rattle.std.specs.Str.{bytes_eq}
 use Rattle.std.proofs.lemmas.Bool.{cases_eq, cases_lt, eq-eqb, eqb-true, ne_eqb}
 use Rattle.std.proofs.Math.Nat.{mul-le-mul_right}
@@ -302,12 +302,6 @@ block_next none P start i xs x behind within next before s lt = elim (cases_eq s
       rw (here, same, get_or-set_same xs (i - start) x none within) next)
   | inr other ↦ rw (get_or-set_other xs (i - start) s x none other) (before s (omega arith))
 ]
-
--- what a lookup found of a symbol's name
-pub found_of : (position : List ℕ → Option ℕ) (N : Type 0) (n q : List ℕ) (found : Option ℕ) → n ≡ q → MatchOption found N (λ p. position n ≡ Some p) →
-    IfSome found (λ p. position q ≡ Some p)
-found_of position N n q None same is = tt
-found_of position N n q (Some p) same is = sym (ap position same) ∙ is
 
 -- The list of what is known of names, read from their rows and the large ones. Changing or adding the row of one name changes its item
 -- alone, since a large one is read for no other name. By induction on the rows.

@@ -3,3 +3,4 @@ pub mod Binds
 pub mod Resolution
 pub mod KnownNames
 pub mod Tables
+pub mod LongSymbols

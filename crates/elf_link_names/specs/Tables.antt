@@ -1,10 +1,11 @@
 -- Tables of names: slots by hashes, what is looked up in them, and what is known of each name.
-use Rattle.std.specs.Prelude.{◌≡◌, ℕ, cond, Option, Some, List, is_some, ◌≢◌, ◌⊎◌, ◌<◌, ◌≤◌, ◌+◌, ◌-◌, ◌*◌, ◌/◌, ◌%◌, ◌^◌, if◌then◌else◌, None, [], ◌∷◌, IfSome, get_or, length, Bool, false, ◌==◌, slice_get}
+use Rattle.std.specs.Prelude.{◌≡◌, ℕ, cond, Option, Some, List, is_some, ◌≢◌, ◌⊎◌, ◌<◌, ◌≤◌, ◌+◌, ◌-◌, ◌*◌, ◌/◌, ◌%◌, ◌^◌, if◌then◌else◌, None, [], ◌∷◌, IfSome, get_or, length, Bool, false, ◌==◌, slice_get, take, drop, nat_le}
 use Rattle.std.specs.Borrow.{Bor}
 use Rattle.std.specs.BTreeMap.{BTreeMap}
 use Rattle.std.specs.Cmp.Lexicographic.{slice_cmp}
 use Rattle.std.specs.Map.{lookup}
-use Rattle.std.specs.Ordering.{is_eq, nat_cmp}
+use Rattle.std.specs.Ordering.{is_eq, nat_cmp, ordering_then}
+use Rattle.std.specs.declared.cmp.Ordering.{Ordering}
 use Rattle.std.specs.Str.{bytes_eq}
 use Rattle.elf_field.specs.Abi.{STB_LOCAL}
 use Rattle.elf_link_files.specs.Files.{symbol_in}
@@ -23,14 +24,23 @@ use Rattle.elf_link_names.specs.declared.slots.Slot.{Slot}
 use Rattle.elf_link_names.specs.declared.slots.TheConstants.{MOST_NAMES, MOST_STEPS}
 use Rattle.elf_object_type.specs.Object.{ObjectValue, binding}
 use Rattle.std.specs.Hash.FoldHasher as folding
+use Rattle.std.specs.Int.{to_le_bytes, w64}
+use Rattle.elf_link_names.specs.declared.long_symbols.TheConstants.{LONG_NAME}
 
 -- Names by position, in an ordered map.
 
--- where the entries of a map say that a name is
-abbrev pub position_among : List (Bor (List ℕ) × ℕ) → List ℕ → Option ℕ
-position_among entries name = lookup (λ (key : Bor (List ℕ)). is_eq (slice_cmp nat_cmp name key.now)) entries
+-- the key of a name: its length, and the name; the order of a name and a key
+abbrev pub NameKey : Type 0
+NameKey = ℕ × Bor (List ℕ)
 
-abbrev pub position_by : BTreeMap (Bor (List ℕ)) ℕ → List ℕ → Option ℕ
+abbrev pub name_key_cmp : List ℕ → NameKey → Ordering
+name_key_cmp name key = ordering_then (nat_cmp (length name) key.0) (slice_cmp nat_cmp name key.1.now)
+
+-- where the entries of a map say that a name is
+abbrev pub position_among : List (NameKey × ℕ) → List ℕ → Option ℕ
+position_among entries name = lookup (λ (key : NameKey). is_eq (name_key_cmp name key)) entries
+
+abbrev pub position_by : BTreeMap NameKey ℕ → List ℕ → Option ℕ
 position_by positions = position_among positions.entries
 
 -- a name that has a position keeps it, a further one gets this one, and all other names keep theirs
@@ -39,9 +49,18 @@ IsPlaced there name next old now = (q : List ℕ) → now q ≡ cond (is_some th
 
 -- Names by position, in slots by hash, with a map after them.
 
--- the hash of a name, and the upper half of a hash
-unfoldable pub name_hash : List ℕ → ℕ
-name_hash name = folding.finish (folding.write folding.initial name)
+-- the hash of a name: of a long one that of its first and its last 512 bytes and of its length; and the upper half of a hash
+unfoldable pub short_hash : List ℕ → ℕ
+short_hash name = folding.finish (folding.write folding.initial name)
+
+unfoldable pub long_hash : List ℕ → ℕ
+long_hash name =
+    let first = folding.write folding.initial (take 512 name) in
+    let last = folding.write first (drop (length name - 512) name) in
+    folding.finish (folding.write last (to_le_bytes w64 (length name)))
+
+abbrev pub name_hash : List ℕ → ℕ
+name_hash name = if nat_le (length name) LONG_NAME then short_hash name else long_hash name
 
 abbrev pub upper_of : ℕ → ℕ
 upper_of hash = hash / 2 ^ 32
@@ -133,7 +152,7 @@ HasNameTables p = AreTables p.slots.items p.entries.items (position_by p.more)
 -- what the positions are read from
 pub record Positions : Type 0 where
   pub entries : List Entry
-  pub more : List (Bor (List ℕ) × ℕ)
+  pub more : List (NameKey × ℕ)
 
 abbrev pub positions_value : Inside → Positions
 positions_value p = record { entries = p.entries.items; more = p.more.entries }

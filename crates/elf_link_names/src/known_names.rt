@@ -4,12 +4,13 @@ ghost use Rattle.std.specs.Prelude.{◌≡◌, ◌↔◌, ◌+◌, ◌<◌, ◌�
 ghost use Rattle.elf_object_type.specs.ObjectView.{symbol_value};
 ghost use Rattle.elf_link_files.specs.Files.{object_at, symbol_with, IsCommon, IsNotWeak, IsStrong};
 ghost use Rattle.elf_link_files.specs.KnownBefore.{IsKnownBefore};
-ghost use Rattle.elf_link_names.specs.KnownNames.{AreAllKnown, AreKnownBefore, IsNotedAt, known_at, AreNameIndexes, IsNameIndex, IsIndexRow, KeepsPositions};
+ghost use Rattle.elf_link_names.specs.KnownNames.{AreAllKnown, AreKnownBefore, IsNotedAt, known_at, AreIndexRows, AreNameIndexes, IsNameIndex, IsIndexRow, KeepsPositions};
 ghost use Rattle.elf_link_names.specs.Tables.{IsSymbolLookup, name_position};
 ghost use Rattle.elf_field.specs.Abi.{STB_LOCAL};
 ghost use Rattle.elf_object_type.specs.Object.{binding as binding_of};
 
 use crate::known_table::KnownTable;
+use crate::long_symbols::{LONG_NAME, LongSymbols};
 use crate::name_index::{BLOCK, Lookup, NameIndex, block_lookups};
 use elf_field::abi::*;
 use elf_link_files::files::symbol_count;
@@ -94,13 +95,45 @@ fn pass_symbol<'a>(
     }
 }
 
+/// The lookup of a symbol's name, which has the position if this lookup has it, or if an earlier symbol has the name and it is long: by the
+/// indexes of the files before, and of the symbols before.
+fn lookup_by_earlier(
+    symbol: &InputSymbol<'_, '_, '_>,
+    lookup: Lookup,
+    positions: &NameIndex<'_>,
+    long: &LongSymbols<'_, '_, '_>,
+    rows: &[Vec<usize>],
+    row: &[usize],
+) -> Lookup
+    requires inputs { long.now.inputs.now ≡ symbol.now.inputs.now }
+    requires rows { AreIndexRows symbol.now.inputs.now (name_position positions.now) symbol.now.id.file (map (λ row. row.items) rows.now) }
+    requires row { IsIndexRow symbol.now.inputs.now (name_position positions.now) symbol.now.id.file (length row.now) row.now }
+    requires lookup { IsSymbolLookup symbol.now.inputs.now (name_position positions.now) symbol.now.id.file symbol.now.id.index lookup }
+    ensures { IsSymbolLookup symbol.now.inputs.now (name_position positions.now) symbol.now.id.file symbol.now.id.index result }
+{
+    if lookup.position.is_some() || symbol.symbol().name.len() <= LONG_NAME {
+        return lookup;
+    }
+    match long.index_of(positions, rows, row, symbol.id) {
+        Some(position) => Lookup {
+            hash: lookup.hash,
+            position: Some(position),
+        },
+        None => lookup,
+    }
+}
+
 /// Goes past the next block of symbols of a file, and adds the index of each one's name to the row, which has those of the symbols before.
 fn pass_block<'a>(
     inputs: &Inputs<'_, 'a>,
+    long: &LongSymbols<'_, '_, '_>,
     file: usize,
     names: &mut KnownNames<'a>,
+    rows: &[Vec<usize>],
     row: &mut Vec<usize>,
 ) -> Result<(), AllocError>
+    requires long { long.now.inputs.now ≡ inputs.now }
+    requires rows { AreIndexRows inputs.now (name_position names.old.positions) file (map (λ row. row.items) rows.now) }
     requires file { file < length inputs.now }
     requires left { length row.old.items < length (object_at inputs.now file).symbols }
     requires before { AreKnownBefore inputs.now file (length row.old.items) (name_position names.old.positions) names.old.known }
@@ -117,7 +150,9 @@ fn pass_block<'a>(
     for index in start..end {
         let id = SymbolId { file, index };
         let symbol = InputSymbol { inputs, id };
-        row.push(pass_symbol(&symbol, lookups[index - start], names)?)?;
+        let found = lookups[index - start];
+        let lookup = lookup_by_earlier(&symbol, found, &names.positions, long, rows, row);
+        row.push(pass_symbol(&symbol, lookup, names)?)?;
     }
     Ok(())
 }
@@ -126,9 +161,13 @@ fn pass_block<'a>(
 fn pass_file<'a>(
     alloc: Global,
     inputs: &Inputs<'_, 'a>,
+    long: &LongSymbols<'_, '_, '_>,
     file: usize,
     names: &mut KnownNames<'a>,
+    rows: &[Vec<usize>],
 ) -> Result<Vec<usize>, AllocError>
+    requires long { long.now.inputs.now ≡ inputs.now }
+    requires rows { AreIndexRows inputs.now (name_position names.old.positions) file (map (λ row. row.items) rows.now) }
     requires file { file < length inputs.now }
     requires before { AreKnownBefore inputs.now file 0 (name_position names.old.positions) names.old.known }
     ensures names { OnOk result (AreKnownBefore inputs.now file (length (object_at inputs.now file).symbols) (name_position names.new.positions) names.new.known) }
@@ -138,7 +177,7 @@ fn pass_file<'a>(
     let count = symbol_count(inputs.object(file));
     let mut row = Vec::with_capacity(alloc, count)?;
     while row.len() < count {
-        pass_block(inputs, file, names, &mut row)?;
+        pass_block(inputs, long, file, names, rows, &mut row)?;
     }
     Ok(row)
 }
@@ -152,7 +191,8 @@ fn all_symbol_count(inputs: &Inputs<'_, '_>) -> usize {
     count
 }
 
-/// What is known of all names, and the index of each symbol's name by file and position. It takes one search a symbol.
+/// What is known of all names, and the index of each symbol's name by file and position. It takes one search a symbol, or n log n
+/// comparisons of numbers for n symbols with long names.
 #[tactic(auto, unfolding(crate::specs::KnownNames::AreNameIndexes))]
 pub(crate) fn known_names<'a>(
     alloc: Global,
@@ -161,12 +201,14 @@ pub(crate) fn known_names<'a>(
     ensures names { IfOk result (λ both. AreAllKnown inputs.now (name_position both.0.positions) both.0.known) }
     ensures indexes { IfOk result (λ both. AreNameIndexes inputs.now (name_position both.0.positions) (map (λ row. row.items) both.1.items)) }
 {
+    let long = LongSymbols::new(alloc, inputs)?;
     let positions = NameIndex::new(alloc, all_symbol_count(inputs))?;
     let known = KnownTable::new(alloc);
     let mut names = KnownNames { positions, known };
     let mut indexes = Vec::with_capacity(alloc, inputs.file_count())?;
     for file in 0..inputs.file_count() {
-        indexes.push(pass_file(alloc, inputs, file, &mut names)?)?;
+        let row = pass_file(alloc, inputs, &long, file, &mut names, &indexes)?;
+        indexes.push(row)?;
     }
     Ok((names, indexes))
 }

@@ -17,6 +17,7 @@
 mod commons;
 mod known_names;
 mod known_table;
+mod long_symbols;
 mod name_index;
 mod name_rules;
 mod name_table;

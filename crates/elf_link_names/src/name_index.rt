@@ -1,9 +1,10 @@
 //! Where each name of a link is.
-ghost use Rattle.std.specs.Prelude.{◌≡◌, ℕ, List, IfOk, OnErr, None, Some, MatchOption, ◌≤◌, ◌+◌, ◌-◌, ◌<◌, length};
+ghost use Rattle.std.specs.Prelude.{◌≡◌, ℕ, List, IfOk, IfSome, OnErr, None, Some, MatchOption, ◌≤◌, ◌+◌, ◌-◌, ◌<◌, length};
 ghost use Rattle.elf_link_names.specs.Tables.{IsPlaced, position_by, IsLookup, LeadsTo, name_hash, name_position, upper_of as upper_of_hash, AreBlockHashes, AreBlockLookups, IsSymbolHash};
 ghost use Rattle.elf_link_files.specs.Files.{object_at};
 
 use crate::known_names::is_local;
+use crate::long_symbols::LONG_NAME;
 use crate::slots::{Entry, MOST_STEPS, Seen, Slot, hash_of, home_of, look, position_of, upper_of};
 use elf_link_files::{InputSymbol, Inputs, SymbolId};
 use std::alloc::{AllocError, Global};
@@ -12,9 +13,12 @@ use std::marker::Model;
 
 // Names in an ordered map.
 
+/// Names by their lengths first: names that share bytes, and may be long, are equal if they are of one length.
+type Ordered<'a> = BTreeMap<(usize, &'a [u8]), usize>;
+
 /// The position of a name that has one, which stays; a further name gets this one.
 pub(crate) fn place_ordered<'a>(
-    positions: &mut BTreeMap<&'a [u8], usize>,
+    positions: &mut Ordered<'a>,
     name: &'a [u8],
     next: usize,
 ) -> Result<Option<usize>, AllocError>
@@ -22,11 +26,19 @@ pub(crate) fn place_ordered<'a>(
     ensures positions { IfOk result (λ old. IsPlaced old name.now next (position_by positions.old) (position_by positions.new)) }
     ensures err { OnErr result ((q : List ℕ) → position_by positions.new q ≡ position_by positions.old q) }
 {
-    if let Some(place) = positions.get(name) {
+    let key = (name.len(), name);
+    if let Some(place) = positions.get(&key) {
         return Ok(Some(*place));
     }
-    positions.insert(name, next)?;
+    positions.insert(key, next)?;
     Ok(None)
+}
+
+/// The position of a name; None if it has none.
+fn find_ordered<'a>(positions: &Ordered<'a>, name: &'a [u8]) -> Option<usize>
+    ensures { result ≡ position_by positions.now name.now }
+{
+    positions.get(&(name.len(), name)).copied()
 }
 
 /// Where each name is. A name's hash gives it some slots, one after the other, and it is in the first that was free, by an ordinal; names
@@ -36,7 +48,7 @@ pub(crate) fn place_ordered<'a>(
 pub struct NameIndex<'a> {
     slots: Vec<Slot>,
     entries: Vec<Entry<'a>>,
-    more: BTreeMap<&'a [u8], usize>,
+    more: Ordered<'a>,
 }
 
 /// What is known of a name before it is placed: [`NameIndex::look_up`] returns it.
@@ -82,15 +94,28 @@ impl<'a> NameIndex<'a> {
         })
     }
 
-    /// The position of a name; None if it has none.
+    /// The position of a name that lives as long as those of the index; None if it has none.
     #[tactic(auto, unfolding(crate::specs::Tables::name_position))]
-    pub fn get(&self, name: &[u8]) -> Option<usize>
+    pub fn get(&self, name: &'a [u8]) -> Option<usize>
         ensures { result ≡ name_position self.now name.now }
     {
         match look(&self.slots, &self.entries, hash_of(name), name) {
             Seen::Free(_) => None,
             Seen::Here(position) => Some(position),
-            Seen::Taken => self.more.get(name).copied(),
+            Seen::Taken => find_ordered(&self.more, name),
+        }
+    }
+
+    /// The position of any name, or `None` in its place if it has none; and `None` if only the ordered map can tell, in which no name is
+    /// looked up that may live shorter than its own.
+    #[tactic(auto, unfolding(crate::specs::Tables::name_position))]
+    pub fn get_at_once(&self, name: &[u8]) -> Option<Option<usize>>
+        ensures { IfSome result (λ position. position ≡ name_position self.now name.now) }
+    {
+        match look(&self.slots, &self.entries, hash_of(name), name) {
+            Seen::Free(_) => Some(None),
+            Seen::Here(position) => Some(Some(position)),
+            Seen::Taken => None,
         }
     }
 
@@ -213,6 +238,20 @@ fn first_slots(positions: &NameIndex<'_>, hashes: &[u64; BLOCK]) -> [Slot; BLOCK
     slots
 }
 
+/// The lookup of a name by a slot. A long name is not compared: each of many symbols that have it would read it.
+fn look_up_short(positions: &NameIndex<'_>, slot: Slot, hash: u64, name: &[u8]) -> Lookup
+    ensures hash { result.hash ≡ hash }
+    ensures position { IfSome result.position (λ position. name_position positions.now name.now ≡ Some position) }
+{
+    if name.len() > LONG_NAME {
+        return Lookup {
+            hash,
+            position: None,
+        };
+    }
+    positions.look_up(slot, hash, name)
+}
+
 /// The lookups of the names of the symbols of a file from `start` to before `end`.
 pub(crate) fn block_lookups(
     inputs: &Inputs<'_, '_>,
@@ -233,7 +272,7 @@ pub(crate) fn block_lookups(
         let id = SymbolId { file, index };
         let name = InputSymbol { inputs, id }.symbol().name;
         let step = index - start;
-        lookups[step] = positions.look_up(slots[step], hashes[step], name);
+        lookups[step] = look_up_short(positions, slots[step], hashes[step], name);
     }
     lookups
 }

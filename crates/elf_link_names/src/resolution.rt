@@ -157,7 +157,22 @@ impl<'l, 'a> Resolution<'l, 'a> {
     pub fn index(&self, name: &[u8]) -> Option<usize>
         ensures { MatchOption result (Never (entries self.now.objects name.now)) (IsIndexIn self.now name.now) }
     {
-        self.names.positions.get(name)
+        match self.names.positions.get_at_once(name) {
+            Some(index) => index,
+            None => self.search(name),
+        }
+    }
+
+    /// The same, by going through all names.
+    fn search(&self, name: &[u8]) -> Option<usize>
+        ensures { MatchOption result (Never (entries self.now.objects name.now)) (IsIndexIn self.now name.now) }
+    {
+        for k in 0..self.names.known.len() {
+            if self.name(k) == name {
+                return Some(k);
+            }
+        }
+        None
     }
 
     /// The name of index `k`.

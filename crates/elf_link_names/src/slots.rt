@@ -1,20 +1,49 @@
 //! Slots in which names are by their hashes, and what they say about a name.
 ghost use Rattle.std.specs.Prelude.{◌≡◌, ◌<◌, ◌≤◌, ◌+◌, MatchOption, length};
-ghost use Rattle.elf_link_names.specs.Tables.{name_hash, place_among, upper_of as upper_of_hash, AreEntryOrdinals, IsOfName, LeadsTo, Sees, SlotsTell, ordinal_entry};
+ghost use Rattle.elf_link_names.specs.declared.long_symbols.TheConstants.{LONG_NAME};
+ghost use Rattle.elf_link_names.specs.Tables.{long_hash, name_hash, short_hash, place_among, upper_of as upper_of_hash, AreEntryOrdinals, IsOfName, LeadsTo, Sees, SlotsTell, ordinal_entry};
 
+use crate::long_symbols::LONG_NAME;
 use std::hash::{FoldHasher, Hasher};
 
 // The hash of a name, and its place in a table.
 
-/// The hash of a name, by a fixed seed. It reads eight bytes at a time.
-#[tactic(auto, unfolding(crate::specs::Tables::name_hash))]
+/// The hash of a name, by a fixed seed: of a long one that of its first and its last bytes and of its length. It reads eight bytes at a time.
 pub fn hash_of(name: &[u8]) -> u64
     ensures { result ≡ name_hash name.now }
+{
+    if name.len() <= LONG_NAME {
+        hash_of_short(name)
+    } else {
+        hash_of_long(name)
+    }
+}
+
+/// The hash of a name that is not long.
+#[tactic(auto, unfolding(crate::specs::Tables::short_hash))]
+fn hash_of_short(name: &[u8]) -> u64
+    ensures { result ≡ short_hash name.now }
 {
     let mut hasher = FoldHasher::default();
     hasher.write(name);
     hasher.finish()
 }
+
+/// The hash of a name of at least so many bytes.
+#[tactic(auto, unfolding(crate::specs::Tables::long_hash))]
+fn hash_of_long(name: &[u8]) -> u64
+    requires { LONG_NAME < length name.now }
+    ensures { result ≡ long_hash name.now }
+{
+    let mut hasher = FoldHasher::default();
+    hasher.write(&name[..HASHED]);
+    hasher.write(&name[name.len() - HASHED..]);
+    hasher.write(&name.len().to_le_bytes());
+    hasher.finish()
+}
+
+/// How many bytes of a long name are hashed, at each of its ends.
+const HASHED: usize = 512;
 
 /// The upper half of a hash.
 pub(crate) fn upper_of(hash: u64) -> u32

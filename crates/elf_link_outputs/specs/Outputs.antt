@@ -1,7 +1,6 @@
 -- Output sections: live sections of one name, the same flags but GROUP, and bits or none, in order of first appearance.
 -- (gABI chapter 4, Sections: sh_flags; the placement is this project's profile.)
 use Rattle.std.specs.Prelude.{◌≡◌, ◌↔◌, ◌⊎◌, ℕ, Bool, List, ◌+◌, ◌-◌, ◌^◌, ◌<◌, true, false, [], ◌∷◌, All, Contains, bit_and, fold, length, max, ◌++◌, get_or, set, map, slice_index}
-use Rattle.std.specs.Cmp.Lexicographic.{slice_cmp}
 use Rattle.std.specs.declared.cmp.Ordering.{Ordering}
 use Rattle.std.specs.Ordering.{bool_cmp, nat_cmp, ordering_then}
 use Rattle.std.specs.List.{flat_map}
@@ -74,22 +73,19 @@ Picks ps k P out = Lists (λ p. P p × ((j : ℕ) × (j < k) × (site_at ps j �
 
 -- Sections grouped by the output that they go to, in the order of the first one of each.
 
--- a section has this key
-abbrev pub IsKeyOf : List ObjectValue → Site → OutputKey → Type 0
-IsKeyOf fs p key =
-    (key.name.now ≡ (section_at_site fs p).name) × (key.flags ≡ output_flags (section_at_site fs p).flags) ×
-    (key.no_bits ≡ is_no_bits (section_at_site fs p).body) × (key.length ≡ length (section_at_site fs p).name)
+-- a section, the first of whose name is at this position, has this key
+abbrev pub IsKeyOf : List ObjectValue → Site → ℕ → OutputKey → Type 0
+IsKeyOf fs p first key =
+    (key.first ≡ first) × (key.flags ≡ output_flags (section_at_site fs p).flags) × (key.no_bits ≡ is_no_bits (section_at_site fs p).body)
 
 -- the keys of the first n sites, each beside the position of its site
-pub record AreKeyed (fs : List ObjectValue) (ps : List Site) (n : ℕ) (keyed : List Keyed) : Type 0 where
-  pub each : All (λ x. (x.position < n) × IsKeyOf fs (site_at ps x.position) x.key) keyed
+pub record AreKeyed (fs : List ObjectValue) (ps : List Site) (firsts : List ℕ) (n : ℕ) (keyed : List Keyed) : Type 0 where
+  pub each : All (λ x. (x.position < n) × IsKeyOf fs (site_at ps x.position) (get_or firsts x.position 0) x.key) keyed
   pub all : (k : ℕ) → k < n → (x : Keyed) × Contains keyed x × (x.position ≡ k)
 
--- lengths of names first, then flags, then those with bits, then names
+-- names first, then flags, then those with bits
 abbrev pub key_cmp : OutputKey → OutputKey → Ordering
-key_cmp a b =
-    ordering_then (nat_cmp a.length b.length)
-    (ordering_then (nat_cmp a.flags b.flags) (ordering_then (bool_cmp a.no_bits b.no_bits) (slice_cmp nat_cmp a.name.now b.name.now)))
+key_cmp a b = ordering_then (nat_cmp a.first b.first) (ordering_then (nat_cmp a.flags b.flags) (bool_cmp a.no_bits b.no_bits))
 
 abbrev pub AreKeysAscending : List Keyed → Type 0
 AreKeysAscending = IsSortedByKey (λ x. x.key) key_cmp

@@ -5,12 +5,15 @@ ghost use Rattle.indexmap.specs.IndexMap.{keys, values};
 ghost use Rattle.elf_link_outputs.specs.Outputs.{AreKeysAscending, AreGrouped, AreGroups, AreKeyed, AreLiveGroups, AreKeyNumbers, IsKeyOf, IsMemberAdded, is_no_bits as is_no_bits_of, live as live_row, output_flags as output_flags_of, AreOutputs, flat, output_parts};
 ghost use Rattle.elf_link_files.specs.Files.{object_at};
 ghost use Rattle.elf_link_files.specs.Rows.{Lists};
+ghost use Rattle.elf_link_files.specs.SameNames.{site_names};
+ghost use Rattle.elf_link_files.specs.declared.same_names.Named.TheVariants.{Section};
+ghost use Rattle.elf_object_strings.specs.StringTable.{AreEqualTo};
 ghost use Rattle.elf_object_type.specs.ObjectView.{body_value};
 
 use crate::plan::push_parts;
 use elf_field::abi::*;
-use elf_link_files::Site;
 use elf_link_files::files::section_of;
+use elf_link_files::{Named, Site, first_of_names};
 use elf_object_type::{Body, Object};
 use indexmap::IndexMap;
 use std::alloc::{AllocError, Global};
@@ -19,24 +22,21 @@ use std::marker::Model;
 
 // The keys of sections.
 
-/// What the sections of one output section have in common. Names are compared last, and only those of one length: the names of a file may
-/// share bytes, and be long, but not if they differ and are of one length.
+/// What the sections of one output section have in common.
 #[derive(Clone, Copy, PartialEq, Eq, PartialOrd, Ord)]
-pub(crate) struct OutputKey<'a> {
-    /// The length of the name.
-    pub(crate) length: usize,
+pub(crate) struct OutputKey {
+    /// The position of the first section of the same name, which stands for the name.
+    pub(crate) first: usize,
     /// All flags but `SHF_GROUP`.
     pub(crate) flags: u64,
     /// Whether they take memory without bits.
     pub(crate) no_bits: bool,
-    /// The name.
-    pub(crate) name: &'a [u8],
 }
 
 /// The key of the section at a position.
 #[derive(Clone, Copy)]
-pub(crate) struct Keyed<'a> {
-    pub(crate) key: OutputKey<'a>,
+pub(crate) struct Keyed {
+    pub(crate) key: OutputKey,
     pub(crate) position: usize,
 }
 
@@ -54,18 +54,17 @@ pub(crate) fn is_no_bits(body: &Body<'_>) -> bool
     matches!(body, Body::NoBits(_))
 }
 
-/// The key of the output that a section goes to.
-fn key_of<'a>(objects: &[Object<'a>], site: Site) -> OutputKey<'a>
+/// The key of the output that a section goes to, by the position of the first section of its name.
+fn key_of(objects: &[Object<'_>], site: Site, first: usize) -> OutputKey
     requires file { site.file < length objects.now }
     requires index { site.index < length (object_at objects.now site.file).sections }
-    ensures { IsKeyOf objects.now site result }
+    ensures { IsKeyOf objects.now site first result }
 {
     let section = section_of(objects, site.file, site.index);
     OutputKey {
-        length: section.name.len(),
+        first,
         flags: output_flags(section.flags),
         no_bits: is_no_bits(&section.body),
-        name: section.name,
     }
 }
 
@@ -108,25 +107,34 @@ impl<'l, 'a> Model for Sections<'l, 'a> {
 }
 
 impl<'l, 'a> Sections<'l, 'a> {
+    /// The position of the first section of each one's name.
+    fn firsts(&self, alloc: Global) -> Result<Vec<usize>, AllocError>
+        ensures { IfOk result (λ firsts. AreEqualTo (site_names self.now.objects Section self.now.sites) firsts.items) }
+    {
+        first_of_names(alloc, self.objects, Named::Section, self.sites)
+    }
+
     /// The key of each, in the order of the sections.
-    fn keys(&self, alloc: Global) -> Result<Vec<Keyed<'a>>, AllocError>
-        ensures { IfOk result (λ keyed. AreKeyed self.now.objects self.now.sites (length self.now.sites) keyed.items) }
+    fn keys(&self, alloc: Global, firsts: &[usize]) -> Result<Vec<Keyed>, AllocError>
+        requires { length firsts.now ≡ length self.now.sites }
+        ensures { IfOk result (λ keyed. AreKeyed self.now.objects self.now.sites firsts.now (length self.now.sites) keyed.items) }
     {
         let sites = self.sites;
         let mut keyed = Vec::with_capacity(alloc, sites.len())?;
         for position in 0..sites.len() {
-            let key = key_of(self.objects, sites[position]);
+            let key = key_of(self.objects, sites[position], firsts[position]);
             keyed.push(Keyed { key, position })?;
         }
         Ok(keyed)
     }
 
     /// The key of each, in ascending order of the keys.
-    fn sorted_keys(&self, alloc: Global) -> Result<Vec<Keyed<'a>>, AllocError>
-        ensures keyed { IfOk result (λ keyed. AreKeyed self.now.objects self.now.sites (length self.now.sites) keyed.items) }
+    fn sorted_keys(&self, alloc: Global, firsts: &[usize]) -> Result<Vec<Keyed>, AllocError>
+        requires { length firsts.now ≡ length self.now.sites }
+        ensures keyed { IfOk result (λ keyed. AreKeyed self.now.objects self.now.sites firsts.now (length self.now.sites) keyed.items) }
         ensures ascending { IfOk result (λ keyed. AreKeysAscending keyed.items) }
     {
-        let mut keyed = self.keys(alloc)?;
+        let mut keyed = self.keys(alloc, firsts)?;
         keyed.sort_unstable_by_key(|keyed| keyed.key);
         Ok(keyed)
     }
@@ -137,7 +145,8 @@ impl<'l, 'a> Sections<'l, 'a> {
     fn numbers(&self, alloc: Global) -> Result<Vec<usize>, AllocError>
         ensures { IfOk result (λ numbers. AreKeyNumbers self.now.objects self.now.sites numbers.items) }
     {
-        let keyed = self.sorted_keys(alloc)?;
+        let firsts = self.firsts(alloc)?;
+        let keyed = self.sorted_keys(alloc, &firsts)?;
         let mut numbers = vec![in alloc; 0; self.sites.len()]?;
         let mut number = 0;
         for i in 1..keyed.len() {

@@ -237,7 +237,7 @@ follow_one names sorted position start owner next met some low run here owned be
 -- ---- the owner of a name: those that end with it are in its run, or after it and equal it
 
 -- where a name of the list is among the sorted ones
-place_of : (names sorted : List (List ℕ)) (indexes : List ℕ) → AreNumbered names sorted indexes → (f : ℕ) → f < length names →
+pub place_of : (names sorted : List (List ℕ)) (indexes : List ℕ) → AreNumbered names sorted indexes → (f : ℕ) → f < length names →
     (q : ℕ) × (q < length sorted) × (get_or indexes q 0 ≡ f) × (get_or sorted q [] ≡ get_or names f [])
 place_of names sorted indexes numbered f lt =
     let found = numbered.each f lt in

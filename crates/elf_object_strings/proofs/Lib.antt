@@ -4,6 +4,7 @@ mod Written
 mod Numbering
 mod Ends
 mod EndsOrder
+mod EqualNames
 mod LeaderOrder
 mod CommonEnd
 mod Reach

@@ -165,6 +165,13 @@ IsEndOf table name end = (offset : ℕ) × (name ≡ string table offset) × (en
 abbrev pub AreEndsIn : List ℕ → List (List ℕ) → List ℕ → Type 0
 AreEndsIn table names ends = (i : ℕ) → 0 < get_or ends i 0 → IsEndOf table (get_or names i []) (get_or ends i 0)
 
+-- each index is that of the first name that is equal
+pub record AreEqualTo (names : List (List ℕ)) (firsts : List ℕ) : Type 0 where
+  pub all : length firsts ≡ length names
+  pub each : (i : ℕ) → i < length names →
+      (get_or firsts i 0 < length names) × (get_or names (get_or firsts i 0) [] ≡ get_or names i [])
+  pub least : (i j : ℕ) → i < length names → j < length names → get_or names i [] ≡ get_or names j [] → get_or firsts i 0 ≤ j
+
 -- A string table that is being written, name by name.
 
 -- the held names among the first ones

@@ -10,12 +10,14 @@
 #![tactic(auto)]
 
 mod bounds;
+mod equals;
 mod laws;
 mod leaders;
 mod name_list;
 mod sorting;
 mod table;
 
+pub use equals::first_equals;
 pub use laws::{holds_names, shares_tails};
 pub use name_list::SHORT_NAME;
 pub use table::{Shared, shared_table, shared_table_at};

@@ -49,7 +49,7 @@ fn owners_in(
 }
 
 /// So many names, each of which is its own owner.
-fn own_owners(alloc: Global, count: usize) -> Result<Vec<usize>, AllocError>
+pub(crate) fn own_owners(alloc: Global, count: usize) -> Result<Vec<usize>, AllocError>
     ensures { IfOk result (λ owners. owners.items ≡ range_with_len 0 count) }
 {
     (0..count).collect(alloc)

@@ -16,20 +16,8 @@ from .tree import write
 
 # The commands that do not meet the bounds yet, by the family of files. Whoever cures one takes its
 # line away.
-OF_OBJECT = ("lint --object", "explain")
-OF_MAP = ("map", "map --rules")
 NOT_YET: list[tuple[str, tuple[str, ...], Standing]] = [
     ("hash_tables_over_tails", ("lint --tables", "explain"), Standing(0.2)),
-    ("symbols_of_one_name", (*OF_MAP, "link", *OF_OBJECT), Standing(0.3)),
-    ("symbols_of_tails", (*OF_MAP, "link", *OF_OBJECT), Standing(0.3)),
-    ("symbols_of_two_equal_names", (*OF_MAP, "link"), Standing(0.15)),
-    ("symbols_of_two_equal_names", OF_OBJECT, Standing(0.3)),
-    ("sections_of_one_name", OF_OBJECT, Standing(0.6)),
-    ("sections_of_one_name", (*OF_MAP, "link"), Standing(0.15)),
-    ("sections_of_tails", OF_OBJECT, Standing(0.6)),
-    ("sections_of_tails", (*OF_MAP, "link"), Standing(0.15)),
-    ("groups_of_one_signature", (*OF_MAP, "link", *OF_OBJECT), Standing(0.15)),
-    ("relocations_of_one_name", (*OF_MAP, "link", *OF_OBJECT), Standing(0.15)),
     ("sections_far_apart", ("check --seek",), Standing(0, 1)),
 ]
 STANDINGS = {(family, command): it for family, commands, it in NOT_YET for command in commands}

@@ -15,11 +15,11 @@ loop-file-preserved c =
     let old = name_position c.loop-file.names.positions in
     let now = name_position c.pass_file.new.names.positions in
     let rows = map (λ row. row.items) c.loop-file.indexes.items in
-    let passed = c.in_ok-pass_file.ensures in
+    let passed = c.in_ok-row.ensures in
     record {
       names = names_file fs n _ _ passed.names;
       indexes = rw (c.in_ok-push.ensures.items, map-append)
-          (each_more [] (λ f. IsIndexRow fs now f (length (object_at fs f).symbols)) n rows c.in_ok-pass_file.field-0.items passed.indexes
+          (each_more [] (λ f. IsIndexRow fs now f (length (object_at fs f).symbols)) n rows c.in_ok-row.row.items passed.indexes
           (rows_kept fs old now n rows passed.kept c.loop-file.invariant.indexes));
     }
 

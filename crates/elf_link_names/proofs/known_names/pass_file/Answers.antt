@@ -1,9 +1,9 @@
 -- Block by block: no name loses its position; after the last one the row has as many indexes as the file symbols.
-use Rattle.std.proofs.Common.{◌≡◌, ℕ, length, subst, arith}
+use Rattle.std.proofs.Common.{◌≡◌, ℕ, length, map, subst, arith}
 use Rattle.elf_link_files.specs.Files.{object_at}
 use Rattle.elf_link_names.specs.KnownNames.{AreKnownBefore, IsIndexRow}
 use Rattle.elf_link_names.specs.Tables.{name_position}
-use Rattle.elf_link_names.proofs.KnownNames.{keeps_on}
+use Rattle.elf_link_names.proofs.KnownNames.{keeps_on, rows_kept}
 use Rattle.elf_link_names.proofs.known_names.pass_file.Goals as goal
 
 pub pass_block-requires-clause-left : goal.pass_block-requires-clause-left
@@ -11,6 +11,11 @@ pass_block-requires-clause-left c =
     let count = rw c.object.ensures at c.symbol_count-count.ensures in
     let below = c.loop-names-test.true in
     omega arith
+
+pub pass_block-requires-clause-rows : goal.pass_block-requires-clause-rows
+pass_block-requires-clause-rows c =
+    rows_kept c.args.inputs.now (name_position c.args.names.now.positions) (name_position c.loop-names.names.positions) c.args.file
+    (map (λ row. row.items) c.args.rows.now) c.loop-names.invariant.kept c.requires.rows
 
 pub loop-names-smaller : goal.loop-names-smaller
 loop-names-smaller c =

@@ -1,9 +1,9 @@
-use Rattle.std.proofs.Common.{◌≡◌, ℕ, ◌<◌, ◌+◌, ◌-◌, ◌∙◌, ap, arith, get_or, length, subst}
+use Rattle.std.proofs.Common.{◌≡◌, ℕ, ◌<◌, ◌+◌, ◌-◌, ◌∙◌, List, ap, arith, get_or, length, subst}
+use Rattle.std.specs.Prelude.{IfSome, Some}
 use Rattle.std.proofs.lemmas.List.{length-set}
 use Rattle.elf_object_type.specs.Object.{SymbolValue}
-use Rattle.elf_link_files.specs.Files.{symbol_in}
 use Rattle.elf_link_names.specs.Tables.{IsSymbolHash, IsSymbolLookup, no_lookup, name_position}
-use Rattle.elf_link_names.proofs.Tables.{block_next, found_of}
+use Rattle.elf_link_names.proofs.Tables.{block_next}
 use Rattle.elf_link_names.proofs.name_index.block_lookups.Goals as goal
 
 pub loop-index-preserved : goal.loop-index-preserved
@@ -17,13 +17,13 @@ loop-index-preserved c =
     let within : step < length c.loop-index.lookups = (let behind = before.behind in let room = before.room in omega arith) in
     record {
       behind = (let behind = before.behind in omega arith);
-      room = length-set c.loop-index.lookups step c.look_up.result ∙ before.room;
+      room = length-set c.loop-index.lookups step c.look_up_short.result ∙ before.room;
       lookups = block_next no_lookup (IsSymbolLookup fs (name_position c.args.positions.now) c.args.file) c.args.start c.loop-index.index
-          c.loop-index.lookups c.look_up.result before.behind within
+          c.loop-index.lookups c.look_up_short.result before.behind within
           (λ not_local. (
-            c.look_up.ensures.hash ∙ hash not_local,
-            found_of (name_position c.args.positions.now) _ c.symbol.result.name.now (symbol_in fs c.args.file c.loop-index.index).name c.look_up.result.position
-                (ap (λ (s : SymbolValue). s.name) c.symbol.ensures) c.look_up.ensures.position,
+            c.look_up_short.ensures.hash ∙ hash not_local,
+            subst (λ (n : List ℕ). IfSome c.look_up_short.result.position (λ p. name_position c.args.positions.now n ≡ Some p))
+                (ap (λ (s : SymbolValue). s.name) c.symbol.ensures) c.look_up_short.ensures.position,
           ))
           before.lookups;
     }

@@ -2,7 +2,7 @@ use Rattle.std.proofs.Common.{◌≡◌, length, subst, arith, ℕ}
 use Rattle.elf_link_files.specs.Files.{object_at, Live}
 use Rattle.elf_link_files.specs.Rows.{Lists, UpTo, section_count}
 use Rattle.elf_link_names.specs.Binds.{live_sections}
-use Rattle.elf_link_names.proofs.KnownNames.{listed_file}
+use Rattle.elf_link_files.proofs.Public.{listed_file}
 use Rattle.elf_link_names.proofs.resolution.push_live_of.Goals as goal
 
 pub returns : goal.returns

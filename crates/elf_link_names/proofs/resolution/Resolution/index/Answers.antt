@@ -1,11 +1,11 @@
-use Rattle.std.proofs.Common.{◌≡◌, rules}
+use Rattle.std.proofs.Common.{◌≡◌}
 use Rattle.elf_link_names.specs.Tables.{name_position}
 use Rattle.elf_link_names.proofs.ChosenCommons.{index_found}
 use Rattle.elf_link_names.proofs.resolution.Resolution.index.Goals as goal
 
-pub returns : goal.returns
-returns c =
+pub returns-in-Some : goal.returns-in-Some
+returns-in-Some c =
     let r = c.self.inside in
     let position = name_position r.names.positions in
-    let at : c.get.result ≡ position c.args.name.now = search rules in
+    let at : c.in-Some.index ≡ position c.args.name.now = c.in-Some.ensures in
     rw (← c.self.view_is, at) (index_found r.inputs position r.names.known c.args.name.now c.self.invariant.names)

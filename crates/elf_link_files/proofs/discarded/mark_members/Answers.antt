@@ -6,7 +6,7 @@ use Rattle.elf_object_type.specs.declared.parts.Body.{Body}
 use Rattle.elf_link_files.specs.Files.{AreMembersMarked}
 use Rattle.elf_object_type.proofs.Public.{member_there}
 use Rattle.elf_link_files.proofs.MarkedFiles.{marked_none, marked_next}
-use Rattle.elf_link_files.proofs.section_tests.mark_members.Goals as goal
+use Rattle.elf_link_files.proofs.discarded.mark_members.Goals as goal
 
 pub index_mut-requires : goal.index_mut-requires
 index_mut-requires c =
