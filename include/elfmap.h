@@ -21,7 +21,8 @@
  *
  * What this file says of a call's result, of the buffer and of the struct that it fills in is proved, for all bytes. Times are not proved,
  * and neither is that memory is freed. The caller must ensure:
- * - No pointer is null, even if its length is 0, and each is aligned for its type.
+ * - Each pointer is aligned for its type, and none is null, except one whose length is 0: with null too it is an empty list. This exception
+ *   is tested, and not proved.
  * - A pointer with a length after it points to as many items: `bytes` and `len`, `name` and `name_len`, `rules` and `rules_len`, `files`
  *   and `count`, a buffer and its `count` or `size`. None of them is longer than PTRDIFF_MAX bytes.
  * - During a call nobody writes what the call gets as const, and nobody reads or writes the buffer or the struct that it fills in.
@@ -41,7 +42,16 @@
 extern "C" {
 #endif
 
-/* In place of a rule's number: the buffer has too few items. No rule has this number. */
+/*
+ * The version of this header, a `uint64_t`: 1,000,000 MAJOR + 1,000 MINOR + PATCH, so 1000 is 0.1.0. Of versions with the same MAJOR the
+ * later one has all calls of the earlier one.
+ */
+#define ELFMAP_VERSION UINT64_C(1000)
+
+/* That of the library that is linked: a program that compares the two finds a header of another version. */
+uint64_t elfmap_version(void);
+
+/* In place of a rule's number, in a `uint16_t`: the buffer has too few items. No rule has this number. */
 enum { ELFMAP_SHORT_ROOM = 0 };
 
 /* The first of the rules 1 to 33 that a file breaks. */
@@ -56,10 +66,15 @@ struct elfmap_extent {
     uint64_t len;
 };
 
-/* What a part of a file belongs to: the content of section i is ELFMAP_CONTENTS + i. */
-enum { ELFMAP_HEADER = 0, ELFMAP_SECTION_HEADERS = 1, ELFMAP_PROGRAM_HEADERS = 2, ELFMAP_CONTENTS = 3 };
+/* What a part of a file belongs to, in a `uint64_t`. */
+enum {
+    ELFMAP_HEADER = 0,          /* the ELF header */
+    ELFMAP_SECTION_HEADERS = 1, /* the section header table */
+    ELFMAP_PROGRAM_HEADERS = 2, /* the program header table */
+    ELFMAP_CONTENTS = 3         /* the content of section 0; that of section i is ELFMAP_CONTENTS + i */
+};
 
-/* In place of an owner: the part is a gap, which belongs to nothing. */
+/* In place of an owner, in a `uint64_t`: the part is a gap, which belongs to nothing. */
 #define ELFMAP_GAP UINT64_MAX
 
 /* The bytes at the offsets from `start` to below `start + len`, and what they belong to. */
@@ -86,48 +101,48 @@ struct elfmap_place {
     struct elfmap_extent field;  /* where the field is in the record */
 };
 
-/* The ELF header. */
+/* The ELF header, with its fields as the file has them. */
 struct elfmap_header {
-    uint8_t e_ident[16];
-    uint16_t e_type;
-    uint16_t e_machine;
-    uint32_t e_version;
-    uint64_t e_entry;
-    uint64_t e_phoff;
-    uint64_t e_shoff;
-    uint32_t e_flags;
-    uint16_t e_ehsize;
-    uint16_t e_phentsize;
-    uint16_t e_phnum;
-    uint16_t e_shentsize;
-    uint16_t e_shnum;
-    uint16_t e_shstrndx;
+    uint8_t e_ident[16];  /* the identification: magic number, class, data encoding, versions, and the ABI */
+    uint16_t e_type;      /* the kind of file: 1 is relocatable, 2 executable, 3 shared, 4 a core */
+    uint16_t e_machine;   /* the machine, as 62 for x86-64 */
+    uint32_t e_version;   /* the version of the format, 1 */
+    uint64_t e_entry;     /* the address at which the program begins, 0 for none */
+    uint64_t e_phoff;     /* the offset of the program header table, 0 for none */
+    uint64_t e_shoff;     /* the offset of the section header table, 0 for none */
+    uint32_t e_flags;     /* flags of the machine */
+    uint16_t e_ehsize;    /* the size of this header, 64 */
+    uint16_t e_phentsize; /* the size of a program header */
+    uint16_t e_phnum;     /* how many program headers there are; `0xffff` where section header 0 says it */
+    uint16_t e_shentsize; /* the size of a section header */
+    uint16_t e_shnum;     /* how many section headers there are; 0 also where section header 0 says it */
+    uint16_t e_shstrndx;  /* the section that has the names; `0xffff` where section header 0 says it */
 };
 
-/* A section header. */
+/* A section header, with its fields as the file has them. */
 struct elfmap_section {
-    uint32_t sh_name;
-    uint32_t sh_type;
-    uint64_t sh_flags;
-    uint64_t sh_addr;
-    uint64_t sh_offset;
-    uint64_t sh_size;
-    uint32_t sh_link;
-    uint32_t sh_info;
-    uint64_t sh_addralign;
-    uint64_t sh_entsize;
+    uint32_t sh_name;      /* where the name begins in the section name string table */
+    uint32_t sh_type;      /* the kind of section */
+    uint64_t sh_flags;     /* its flags: 1 is writable, 2 takes memory, 4 is executable */
+    uint64_t sh_addr;      /* its address in memory, 0 for none */
+    uint64_t sh_offset;    /* the offset of its content */
+    uint64_t sh_size;      /* the size of its content; of a section without bytes in the file, that in memory */
+    uint32_t sh_link;      /* the index of another section, which the type says */
+    uint32_t sh_info;      /* a number that the type says */
+    uint64_t sh_addralign; /* what its address is a multiple of; 0 and 1 say nothing */
+    uint64_t sh_entsize;   /* the size of an entry, where the content is a table */
 };
 
-/* A program header. */
+/* A program header, with its fields as the file has them. */
 struct elfmap_segment {
-    uint32_t p_type;
-    uint32_t p_flags;
-    uint64_t p_offset;
-    uint64_t p_vaddr;
-    uint64_t p_paddr;
-    uint64_t p_filesz;
-    uint64_t p_memsz;
-    uint64_t p_align;
+    uint32_t p_type;   /* the kind of segment; 1 is loaded */
+    uint32_t p_flags;  /* its permissions: 1 is executable, 2 writable, 4 readable */
+    uint64_t p_offset; /* the offset of its bytes in the file */
+    uint64_t p_vaddr;  /* its address in memory */
+    uint64_t p_paddr;  /* its physical address, where that counts */
+    uint64_t p_filesz; /* how many bytes it has in the file */
+    uint64_t p_memsz;  /* how many bytes it has in memory */
+    uint64_t p_align;  /* modulo which its address and its offset agree; 0 and 1 say nothing */
 };
 
 /* What the accessors of a table's entries need. If a part has no bytes, its `len` is 0. */
@@ -135,8 +150,8 @@ struct elfmap_table {
     struct elfmap_extent content; /* the content of the section */
     struct elfmap_extent linked;  /* of a symbol table its index table (SHT_SYMTAB_SHNDX), of a hash table its symbol table */
     struct elfmap_extent strings; /* of a symbol table and a hash table the symbols' names, of a dynamic array the strings of its entries */
-    uint64_t entries;             /* how many there are; in a dynamic array those before the first one with tag DT_NULL (0), in a hash table
-                                     its words */
+    uint64_t entries;             /* how many there are; in a dynamic array those before the first one with tag DT_NULL (0), in a note
+                                     section those before the first one that is cut, in a group, an index table and a hash table words */
     uint32_t sh_type;             /* the type of the section */
     uint8_t ei_data;              /* the data encoding: 1 is ELFDATA2LSB, 2 is ELFDATA2MSB */
 };
@@ -147,8 +162,8 @@ struct elfmap_symbol {
     uint64_t st_value;
     uint64_t st_size;
     uint32_t st_name;
-    uint32_t section; /* st_shndx, or the word of the index table if that is SHN_XINDEX (0xffff): the index of its section, unless
-                         st_shndx is 0 or from 0xff00 to 0xfffe */
+    uint32_t section; /* `st_shndx`, or the word of the index table if that is SHN_XINDEX (0xffff): the index of its section, unless
+                         `st_shndx` is 0 or from 0xff00 to 0xfffe */
     uint16_t st_shndx;
     uint8_t st_info;
     uint8_t st_other;
@@ -156,16 +171,16 @@ struct elfmap_symbol {
 
 /* An entry of a relocation section. */
 struct elfmap_relocation {
-    uint64_t r_offset;
-    int64_t r_addend;         /* 0 in a section of type SHT_REL (9), whose addends are in the bytes that are relocated */
-    uint32_t symbol;          /* the index of the symbol, the upper half of r_info */
-    uint32_t relocation_type; /* the type of the relocation, the lower half of r_info */
+    uint64_t r_offset;        /* where it applies: in a relocatable file the offset in the section that `sh_info` names */
+    int64_t r_addend;         /* the constant that is added; 0 in a section of type `SHT_REL` (9), where the relocated bytes have it */
+    uint32_t symbol;          /* the index of the symbol in the symbol table that `sh_link` names, the upper half of `r_info` */
+    uint32_t relocation_type; /* the type, which is the machine's, the lower half of `r_info` */
 };
 
 /* An entry of a dynamic array. */
 struct elfmap_dynamic {
-    int64_t d_tag;
-    uint64_t d_un; /* d_val or d_ptr, as the tag says */
+    int64_t d_tag; /* what the entry is: 1 names a library that is needed */
+    uint64_t d_un; /* its number or its address (`d_val` or `d_ptr`), as the tag says */
 };
 
 /* A note of a note section. */
@@ -209,7 +224,8 @@ bool elfmap_parts(const uint8_t *bytes, size_t len, struct elfmap_part *buffer, 
 /*
  * ---- The records. Each call, but elfmap_sections, returns true and fills in its last argument, or returns false and leaves it unchanged.
  * None of them changes the bytes or the file. The time of a call does not grow with the file, but with the length of a name, in elfmap_load
- * with the count of program headers, in elfmap_owner with that of section headers, and in elfmap_sections with what fits in the buffer.
+ * with the count of program headers, in elfmap_owner and elfmap_section_named with that of section headers, in elfmap_place with the notes
+ * before the byte, and in elfmap_sections with what fits in the buffer.
  *
  * These calls do not validate. If bytes break a rule, all but elfmap_load and elfmap_name return what is where the header and the section
  * headers say, if that lies in the file. The claims for elfmap_load and elfmap_name are about files that break none of rules 1 to 32.
@@ -262,6 +278,14 @@ bool elfmap_load(const struct elfmap_file *file, const uint8_t *bytes, size_t le
 bool elfmap_name(const struct elfmap_file *file, const uint8_t *bytes, size_t len, uint64_t index, struct elfmap_extent *name);
 
 /*
+ * The index of the first section whose name is the `name_len` bytes at `name`, without a closing zero. True exactly if there is one. The
+ * name is that of elfmap_name, which section headers of type SHT_NULL (0) do not have: the first section without a name is section 0. A
+ * section is passed over if elfmap_name returns false for it. Of each name no more is read than `name_len` bytes and one.
+ */
+bool elfmap_section_named(const struct elfmap_file *file, const uint8_t *bytes, size_t len, const uint8_t *name, size_t name_len,
+                          uint64_t *index);
+
+/*
  * The lowest owner from `first` on that has the byte at `offset`: ELFMAP_HEADER, ELFMAP_SECTION_HEADERS, ELFMAP_PROGRAM_HEADERS, or
  * ELFMAP_CONTENTS + i for the content of section i. True exactly if there is one. A byte of a file that breaks rule 33 may have any number
  * of owners; elfmap_parts names the only one of a file that breaks none. The header takes 64 bytes, each table as many headers as `file`
@@ -276,15 +300,17 @@ bool elfmap_owner(const struct elfmap_file *file, const uint8_t *bytes, size_t l
 /*
  * The record of an owner that has the byte at `offset`, and the field of the record that has it. The records of an owner follow one another
  * from its first byte on: the header is one, and a table has its headers. By the type of its section header, a content has symbols
- * (SHT_SYMTAB 2, SHT_DYNSYM 11), relocations (SHT_RELA 4, SHT_REL 9), entries of a dynamic array (SHT_DYNAMIC 6), or words of 4 bytes
- * (SHT_HASH 5, SHT_GROUP 17, SHT_SYMTAB_SHNDX 18). Each byte of e_ident is a field of its own. True exactly if the owner has the byte, and
- * has such records. The last record may pass the end of the owner, and that of the file.
+ * (SHT_SYMTAB 2, SHT_DYNSYM 11), relocations (SHT_RELA 4, SHT_REL 9), entries of a dynamic array (SHT_DYNAMIC 6), words of 4 bytes
+ * (SHT_HASH 5, SHT_GROUP 17, SHT_SYMTAB_SHNDX 18), or notes (SHT_NOTE 7). Each byte of e_ident is a field of its own. The fields of a note
+ * are three words, its name and its descriptor, the two with their padding. True exactly if the owner has the byte, and has such records;
+ * false for a byte of a note that is cut, as elfmap_note_at is, and after it. The last record may pass the end of the owner, and that of
+ * the file, unless it is a note.
  */
 bool elfmap_place(const struct elfmap_file *file, const uint8_t *bytes, size_t len, uint64_t offset, uint64_t owner,
                   struct elfmap_place *place);
 
 /*
- * ---- The tables. As above each call, but the three that fill a buffer, returns true and fills in its last argument, or returns false and
+ * ---- The tables. As above each call, but the four that fill a buffer, returns true and fills in its last argument, or returns false and
  * leaves it unchanged. It reads nothing outside of the bytes. A table is sound if it breaks none of rules 40 to 69. These calls do not test
  * them; elfmap_table_verdicts does. The claims below are about sound tables in files that break none of rules 1 to 32. Of a table that
  * breaks a rule the calls return the entries that lie in the file, but no symbol whose `st_shndx` is SHN_XINDEX (0xffff) and for which the
@@ -302,11 +328,12 @@ bool elfmap_place(const struct elfmap_file *file, const uint8_t *bytes, size_t l
 
 /*
  * What the other calls need of the table in section `index`: a symbol table (SHT_SYMTAB 2, SHT_DYNSYM 11), a relocation section (SHT_RELA
- * 4, SHT_REL 9), a note section (SHT_NOTE 7), a dynamic array (SHT_DYNAMIC 6) or a hash table (SHT_HASH 5). If the file breaks none of
- * rules 1 to 32, the result is false in exactly these cases: there is no section with this index, its type is another one, or the section
- * that it links to is not there, or, for a hash table, the section that its symbol table links to. A note section links to none. The call
- * goes once over the section headers for the index table of a symbol table, over the entries of a dynamic array up to the first one with
- * tag DT_NULL, and over the notes of a note section. Otherwise its time does not grow with the file.
+ * 4, SHT_REL 9), a note section (SHT_NOTE 7), a dynamic array (SHT_DYNAMIC 6), a hash table (SHT_HASH 5), a section group (SHT_GROUP 17) or
+ * an index table (SHT_SYMTAB_SHNDX 18). If the file breaks none of rules 1 to 32, the result is false in exactly these cases: there is no
+ * section with this index, its type is another one, or the section that it links to is not there, or, for a hash table, the section that
+ * its symbol table links to. A note section links to none. The call goes once over the section headers for the index table of a symbol
+ * table, over the entries of a dynamic array up to the first one with tag DT_NULL, and over the notes of a note section up to the first
+ * that is cut. Otherwise its time does not grow with the file.
  */
 bool elfmap_table(const struct elfmap_file *file, const uint8_t *bytes, size_t len, uint64_t index, struct elfmap_table *table);
 
@@ -326,11 +353,20 @@ bool elfmap_relocation(const struct elfmap_table *table, const uint8_t *bytes, s
 bool elfmap_dynamic(const struct elfmap_table *table, const uint8_t *bytes, size_t len, uint64_t index, struct elfmap_dynamic *entry);
 
 /*
- * Many of them at once: the symbols of a symbol table, the relocations of a relocation section, or the entries of a dynamic array, from
- * index `first` on, one after the other, in the first slots of a buffer of `count` entries. Returns how many these are: all that are below
- * `table->entries` and fit. The other slots are unchanged. Each entry is what the call for one entry returns. If that returns false for a
- * symbol of a table that breaks a rule, no symbol after it is in the buffer. The time of elfmap_symbols also grows with the lengths of the
- * names, which may share bytes. With a copy of the table in which `strings.len` is 0 it looks for no names, and each is of no bytes.
+ * Word `index` of a section group, an index table or a hash table. Word 0 of a group has its flags, and each after it the index of a
+ * section that is a member. An index table has a word for each symbol of its symbol table. A hash table begins with the number of its
+ * buckets and that of its symbols; a word for each bucket and one for each symbol follow. True exactly if `index` is below
+ * `table->entries`, also if the table breaks a rule.
+ */
+bool elfmap_word(const struct elfmap_table *table, const uint8_t *bytes, size_t len, uint64_t index, uint32_t *word);
+
+/*
+ * Many of them at once: the symbols of a symbol table, the relocations of a relocation section, the entries of a dynamic array, or the
+ * words of a group, an index table or a hash table, from index `first` on, one after the other, in the first slots of a buffer of `count`
+ * entries. Returns how many these are: all that are below `table->entries` and fit. The other slots are unchanged. Each entry is what the
+ * call for one entry returns. If that returns false for a symbol of a table that breaks a rule, no symbol after it is in the buffer. The
+ * time of elfmap_symbols also grows with the lengths of the names, which may share bytes. With a copy of the table in which `strings.len`
+ * is 0 it looks for no names, and each is of no bytes.
  */
 uint64_t elfmap_symbols(const struct elfmap_table *table, const uint8_t *bytes, size_t len, uint64_t first, struct elfmap_symbol *buffer,
                         size_t count);
@@ -338,6 +374,8 @@ uint64_t elfmap_relocations(const struct elfmap_table *table, const uint8_t *byt
                             struct elfmap_relocation *buffer, size_t count);
 uint64_t elfmap_dynamics(const struct elfmap_table *table, const uint8_t *bytes, size_t len, uint64_t first,
                          struct elfmap_dynamic *buffer, size_t count);
+uint64_t elfmap_words(const struct elfmap_table *table, const uint8_t *bytes, size_t len, uint64_t first, uint32_t *buffer,
+                      size_t count);
 
 /*
  * Where the string at an offset of `table->strings` is, without its closing zero. Use it for an entry of a dynamic array whose value is the
@@ -348,8 +386,8 @@ bool elfmap_string(const struct elfmap_table *table, const uint8_t *bytes, size_
 
 /*
  * Note `index` of a note section. Its name and descriptor lie in the bytes, and the next note begins at `note->next`, if there is one. True
- * exactly if `index` is below `table->entries`. The time grows with the index, because the call goes over the notes before it.
- * elfmap_note_at goes on from one to the next.
+ * exactly if `index` is below `table->entries`, also if a note is cut. The time grows with the index, because the call goes over the notes
+ * before it. elfmap_note_at goes on from one to the next.
  */
 bool elfmap_note(const struct elfmap_table *table, const uint8_t *bytes, size_t len, uint64_t index, struct elfmap_note *note);
 
@@ -377,12 +415,11 @@ bool elfmap_find(const struct elfmap_table *table, const uint8_t *bytes, size_t 
  * - If the status is ELFMAP_DONE, ELFMAP_REFUSED, ELFMAP_NOT_LINKED or ELFMAP_TOO_LONG, the first `outcome->length` bytes of the buffer are
  *   the whole output, and the bytes after them are unchanged.
  * - If it is ELFMAP_SMALL_ROOM, the output is longer than the buffer: `outcome->length` is how long the buffer has to be, and it is
- *   unchanged. To ask for this length, pass a size of 0 and any pointer that is not null.
+ *   unchanged. To ask for this length, pass a size of 0; the pointer may be null.
  * - If it is any other, there is no output, and the buffer is unchanged.
  *
  *     struct elfmap_outcome outcome;
- *     uint8_t none;
- *     if (elfmap_show(bytes, len, &none, 0, &outcome) == ELFMAP_SMALL_ROOM) {
+ *     if (elfmap_show(bytes, len, NULL, 0, &outcome) == ELFMAP_SMALL_ROOM) {
  *         uint8_t *text = malloc(outcome.length);
  *         if (text && elfmap_show(bytes, len, text, outcome.length, &outcome) == ELFMAP_DONE)
  *             fwrite(text, 1, outcome.length, stdout);
@@ -396,6 +433,7 @@ bool elfmap_find(const struct elfmap_table *table, const uint8_t *bytes, size_t 
  * ELFMAP_NO_MEMORY.
  */
 
+/* What an engine returns, a `uint32_t`. */
 enum {
     ELFMAP_DONE = 0,       /* nothing is refused */
     ELFMAP_REFUSED = 1,    /* file `file` breaks rule `rule`, lowest at the offset `at`, and no file before it breaks any */
@@ -481,8 +519,8 @@ uint32_t elfmap_link(const uint8_t *bytes, size_t len, const struct elfmap_exten
                      uint8_t *buffer, size_t size, struct elfmap_outcome *outcome);
 
 /*
- * Whether `count` files link, without the executable: by rules 1 to 11 of the link, and if `options->uses_rules` is not 0 by 12 to 16 too. An
- * `entry` of no bytes asks for no entry point. Returns ELFMAP_DONE, ELFMAP_REFUSED, ELFMAP_NOT_LINKED, ELFMAP_BAD_RULES, which is tested
+ * Whether `count` files link, without the executable: by rules 1 to 11 of the link, and if `options->uses_rules` is not 0 by 12 to 16 too.
+ * An `entry` of no bytes asks for no entry point. Returns ELFMAP_DONE, ELFMAP_REFUSED, ELFMAP_NOT_LINKED, ELFMAP_BAD_RULES, which is tested
  * first, or ELFMAP_BAD_FILES; `outcome->length` is 0. How long the executable would be is not tested.
  */
 uint32_t elfmap_link_verdict(const uint8_t *bytes, size_t len, const struct elfmap_extent *files, size_t count,

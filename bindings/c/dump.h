@@ -114,10 +114,13 @@ static void dump_sections(const struct elfmap_file *file, const uint8_t *bytes, 
     for (uint64_t i = 0; count; i += count) {
         count = at_once ? elfmap_sections(file, bytes, len, i, block, AT_ONCE) : elfmap_section(file, bytes, len, i, block);
         for (uint64_t k = 0; k < count; k++) {
+            uint64_t first = UINT64_MAX;
             dump_section(block[k]);
-            if (elfmap_name(file, bytes, len, i + k, &name))
+            if (elfmap_name(file, bytes, len, i + k, &name)) {
                 dump_bytes(bytes, name);
-            printf("\n");
+                elfmap_section_named(file, bytes, len, bytes + name.start, name.len, &first);
+            }
+            printf(" %" PRIu64 "\n", first);
         }
     }
 }
@@ -195,11 +198,26 @@ static void dump_dynamic(const struct elfmap_table *table, const uint8_t *bytes,
     }
 }
 
-/* The notes one after the other, and each by its index too. */
-static void dump_notes(const struct elfmap_table *table, const uint8_t *bytes, size_t len) {
+/* Whether the first and the last byte of a note are in it. */
+static bool is_placed(const struct elfmap_file *file, const uint8_t *bytes, size_t len, uint64_t section, uint64_t j,
+                      struct elfmap_extent note) {
+    const uint64_t ends[] = {note.start, note.start + note.len - 1};
+    struct elfmap_place place;
+    bool is_right = true;
+    for (int k = 0; k < 2; k++)
+        is_right = is_right && elfmap_place(file, bytes, len, ends[k], ELFMAP_CONTENTS + section, &place) && place.entry == j
+            && place.record.start == note.start && place.record.len == note.len
+            && place.field.start <= ends[k] - note.start && ends[k] - note.start < place.field.start + place.field.len;
+    return is_right;
+}
+
+/* The notes of a section one after the other, and each by its index too. */
+static void dump_notes(const struct elfmap_file *file, uint64_t section, const struct elfmap_table *table, const uint8_t *bytes,
+                       size_t len) {
     struct elfmap_note n, by_index;
     uint64_t j = 0;
     for (uint64_t at = 0; elfmap_note_at(table, bytes, len, at, &n); at = n.next, j++) {
+        struct elfmap_extent whole = {table->content.start + at, n.next - at};
         printf("note %" PRIu32 " %" PRIu64 " ", n.n_type, n.next);
         dump_bytes(bytes, n.name);
         printf(" ");
@@ -207,10 +225,21 @@ static void dump_notes(const struct elfmap_table *table, const uint8_t *bytes, s
         bool is_same = elfmap_note(table, bytes, len, j, &by_index) && by_index.name.start == n.name.start
             && by_index.name.len == n.name.len && by_index.desc.start == n.desc.start && by_index.desc.len == n.desc.len
             && by_index.next == n.next && by_index.n_type == n.n_type;
-        printf(is_same ? "\n" : " by its index it is another one\n");
+        printf(is_same ? "" : " by its index it is another one");
+        printf(is_placed(file, bytes, len, section, j, whole) ? "\n" : " its bytes are in another one\n");
     }
     if (elfmap_note(table, bytes, len, j, &by_index))
         printf("there is a note behind the last one\n");
+}
+
+static void dump_words(const struct elfmap_table *table, const uint8_t *bytes, size_t len, bool at_once) {
+    uint32_t block[AT_ONCE];
+    uint64_t count = 1;
+    for (uint64_t j = 0; count; j += count) {
+        count = at_once ? elfmap_words(table, bytes, len, j, block, AT_ONCE) : elfmap_word(table, bytes, len, j, block);
+        for (uint64_t k = 0; k < count; k++)
+            printf("word %" PRIu32 "\n", block[k]);
+    }
 }
 
 /* Which symbol is found by the name of each symbol of a hash table, and by one that none has. */
@@ -260,8 +289,10 @@ static void dump_tables(const struct elfmap_file *file, const uint8_t *bytes, si
         else if (t.sh_type == DYNAMIC)
             dump_dynamic(&t, bytes, len, at_once);
         else if (t.sh_type == NOTE)
-            dump_notes(&t, bytes, len);
-        else if (t.sh_type == HASH)
+            dump_notes(file, i, &t, bytes, len);
+        else
+            dump_words(&t, bytes, len, at_once);
+        if (t.sh_type == HASH)
             dump_found(&t, bytes, len);
     }
 }

@@ -614,6 +614,33 @@ static void check_too_many(void) {
     munmap(bytes, len);
 }
 
+static bool is_refused_as_short(uint32_t status, struct elfmap_outcome outcome) {
+    return status == ELFMAP_REFUSED && outcome.rule == 2 && outcome.at == 0 && outcome.file == 0 && outcome.length == 0;
+}
+
+/* Null, with a length of 0, is a file of no bytes, no files, no rules, an empty name, and a buffer of no bytes. */
+static void check_null(void) {
+    const struct elfmap_options options = {0x400000, 0x1000, 1};
+    uint8_t bytes[HEADER_SIZE];
+    struct elfmap_outcome outcome;
+    check(elfmap_show(NULL, 0, NULL, 0, &outcome) == ELFMAP_SMALL_ROOM && outcome.length == 12, "null is shown as no bytes are");
+    uint32_t status = elfmap_refused_tables(NULL, 0, NULL, 0, &outcome);
+    check(is_refused_as_short(status, outcome), "it has no tables");
+    status = elfmap_table_verdicts(NULL, 0, 0, NULL, 0, &outcome);
+    check(is_refused_as_short(status, outcome), "nor verdicts on them");
+    status = elfmap_rewrite(NULL, 0, NULL, 0, &outcome);
+    check(is_refused_as_short(status, outcome), "it is not rewritten");
+    status = elfmap_object_verdict(NULL, 0, &outcome);
+    check(is_refused_as_short(status, outcome), "and is no object");
+    check(elfmap_map(NULL, 0, NULL, 0, &options, NULL, 0, NULL, 0, &outcome) == ELFMAP_DONE && outcome.length == 0, "no files have an empty map");
+    check(elfmap_link(NULL, 0, NULL, 0, &options, NULL, 0, NULL, 0, NULL, 0, &outcome) == ELFMAP_NOT_LINKED && outcome.rule == 10,
+          "and no entry");
+    check(elfmap_link_verdict(NULL, 0, NULL, 0, &options, NULL, 0, NULL, 0, &outcome) == ELFMAP_DONE, "but they link without one");
+    make_header(bytes, ET_REL, 0, 0, 0);
+    check(elfmap_show(bytes, HEADER_SIZE, NULL, 0, &outcome) == ELFMAP_SMALL_ROOM && outcome.length > 0, "null is a buffer that is too small");
+    check(elfmap_table_verdicts(bytes, HEADER_SIZE, 0, NULL, 0, &outcome) == ELFMAP_DONE && outcome.length == 0, "and takes no verdicts");
+}
+
 /* ---- What an engine answers for files. */
 
 /* Appends the bytes of a file to those that are there. */
@@ -689,6 +716,7 @@ int main(int count, char **words) {
     check_link();
     check_link_verdict();
     check_too_many();
+    check_null();
     printf("%d passed, %d failed\n", passed, failed);
     return failed == 0 ? 0 : 1;
 }

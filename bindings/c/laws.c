@@ -7,6 +7,8 @@
  * - the verdicts on tables are the lines of `show`, and those on an object and a link are what `rewrite` and `link` end with;
  * - the parts of one that is accepted hold each byte once, in order, and the parts that are sections' are as long as these say;
  * - what `rewrite` writes is accepted, and rewritten gives itself; a name that a hash table finds is that of the symbol found;
+ * - the words of groups and hash tables are those of the lines of `show`, and come many at once as one by one;
+ * - as many notes are read as are counted, and each has its bytes; a section of a name has it, and none before it has;
  * - a link of the copy tells by a room of no bytes how long it is, and what is linked is accepted;
  * - `map` by relocation rules says first what it says without, and is refused as the link is, but for the entry symbol; each byte that it
  *   tells of a section is in the memory of what is linked, at the section's address.
@@ -160,6 +162,87 @@ static void tables(const struct elfmap_file *file, const uint8_t *bytes, size_t 
     }
 }
 
+/* A line of `show` on a group or a hash table has the numbers of its words: of a group its name is between them. */
+static void line_of_words(const struct elfmap_file *file, const uint8_t *bytes, size_t len, char *line) {
+    bool is_group = memcmp(line, "group ", 6) == 0;
+    struct elfmap_table table;
+    uint64_t index = strtoull(line + (is_group ? 6 : 5), &line, 10), count = 0;
+    uint32_t word;
+    if (!holds(elfmap_table(file, bytes, len, index, &table), "a group or a hash table has no numbers"))
+        return;
+    for (; *line == ' '; count++) {
+        uint64_t number = strtoull(line + 1, &line, 10);
+        holds(elfmap_word(&table, bytes, len, count, &word) && word == number, "a word is not the one that show prints");
+        if (is_group && count == 0)
+            line += 1 + strcspn(line + 1, " \n");
+    }
+    holds(count == (is_group ? table.entries : 2) && count <= table.entries, "there are other words than show prints");
+}
+
+/* The lines of `show` on tables of words; and their words at once. */
+static void words(const struct elfmap_file *file, const uint8_t *bytes, size_t len) {
+    struct elfmap_outcome outcome;
+    struct elfmap_table table;
+    uint32_t block[7], word;
+    if (elfmap_show(bytes, len, text, ROOM - 1, &outcome) == ELFMAP_DONE) {
+        text[outcome.length] = 0;
+        for (char *line = (char *) text; *line; line = strchr(line, '\n') + 1)
+            if (memcmp(line, "group ", 6) == 0 || memcmp(line, "hash ", 5) == 0)
+                line_of_words(file, bytes, len, line);
+    }
+    for (uint64_t i = 0; i < file->sections; i++) {
+        if (!elfmap_table(file, bytes, len, i, &table) || !elfmap_word(&table, bytes, len, 0, &word))
+            continue;
+        uint64_t j = 0, count = 1;
+        for (; count; j += count) {
+            count = elfmap_words(&table, bytes, len, j, block, 7);
+            for (uint64_t k = 0; k < count; k++)
+                holds(elfmap_word(&table, bytes, len, j + k, &word) && word == block[k], "words at once are others");
+        }
+        holds(j == table.entries, "there are not as many words as are counted");
+    }
+}
+
+/* The notes that are counted are read, one after the other, and each has its first and its last byte. */
+static void notes_of(const struct elfmap_file *file, const uint8_t *bytes, size_t len, uint64_t section) {
+    struct elfmap_table table;
+    struct elfmap_note note, next;
+    struct elfmap_place place;
+    if (!elfmap_table(file, bytes, len, section, &table) || table.sh_type != 7)
+        return;
+    uint64_t at = 0, count = 0;
+    for (; elfmap_note_at(&table, bytes, len, at, &note); at = note.next, count++) {
+        const uint64_t ends[] = {at, note.next - 1};
+        holds(count > 100 || (elfmap_note(&table, bytes, len, count, &next) && next.next == note.next),
+              "a note of an index is another one");
+        for (int k = 0; k < 2 && count <= 100; k++)
+            holds(elfmap_place(file, bytes, len, table.content.start + ends[k], ELFMAP_CONTENTS + section, &place) && place.entry == count
+                      && place.record.start == table.content.start + at && place.record.len == note.next - at,
+                  "a byte of a note is in another one");
+    }
+    holds(count == table.entries && !elfmap_note(&table, bytes, len, count, &next), "there are not as many notes as are counted");
+    if (at < table.content.len)
+        holds(!elfmap_place(file, bytes, len, table.content.start + at, ELFMAP_CONTENTS + section, &place),
+              "a byte of a note that is cut has a place");
+}
+
+/* A section of the name of each section is the first one that has it. */
+static void names(const struct elfmap_file *file, const uint8_t *bytes, size_t len) {
+    struct elfmap_extent name, other;
+    for (uint64_t i = 0; i < file->sections && i < 100; i++) {
+        uint64_t first = file->sections;
+        if (!holds(elfmap_name(file, bytes, len, i, &name), "a section has no name"))
+            return;
+        holds(elfmap_section_named(file, bytes, len, bytes + name.start, name.len, &first) && first <= i,
+              "a section is not found by its name");
+        for (uint64_t k = 0; k <= first && first <= i; k++) {
+            bool is_same = elfmap_name(file, bytes, len, k, &other) && other.len == name.len
+                && memcmp(bytes + other.start, bytes + name.start, name.len) == 0;
+            holds(is_same == (k == first), "another section is the first of a name");
+        }
+    }
+}
+
 static void rewritten(const uint8_t *bytes, size_t len) {
     struct elfmap_outcome outcome, second;
     struct elfmap_fault fault;
@@ -252,6 +335,10 @@ static bool validate(const uint8_t *bytes, size_t len) {
     } else if (holds(elfmap_file(bytes, len, &file), "there are no numbers")) {
         account(&file, bytes, len);
         tables(&file, bytes, len);
+        words(&file, bytes, len);
+        for (uint64_t i = 0; i < file.sections; i++)
+            notes_of(&file, bytes, len, i);
+        names(&file, bytes, len);
         refused_tables(&file, bytes, len);
         rewritten(bytes, len);
         linked(bytes, len);

@@ -85,7 +85,8 @@ static void check_record(const struct elfmap_file *file, struct guarded it, uint
     check(is_right, what);
 }
 
-/* By the figures of the gABI (chapter 4, ELF Header, Sections, Symbol Table, Relocation; chapter 5, Program Header, Dynamic Section). */
+/* By the figures of the gABI (chapter 4, ELF Header, Sections, Symbol Table, Relocation; chapter 5, Program Header, Note
+ * Section, Dynamic Section). */
 static void check_places(bool is_big) {
     uint8_t made[TABLES_SIZE], loaded[LOADED_SIZE];
     struct elfmap_file file;
@@ -99,6 +100,8 @@ static void check_places(bool is_big) {
     check_record(&file, it, ELFMAP_CONTENTS + 4, 0, RELA_AT, "888", "and a relocation");
     check_record(&file, it, ELFMAP_CONTENTS + 5, 0, REL_AT, "88", "and one without an addend");
     check_record(&file, it, ELFMAP_CONTENTS + 6, 2, DYNAMIC_AT + 32, "88", "and an entry of a dynamic array");
+    check_record(&file, it, ELFMAP_CONTENTS + 7, 0, NOTES_AT, "44448", "and a note, whose name and descriptor are padded");
+    check_record(&file, it, ELFMAP_CONTENTS + 7, 1, NOTES_AT + 24, "4444", "and one without a descriptor");
     check_record(&file, it, ELFMAP_CONTENTS + 8, 5, HASH_AT + 20, "4", "and a word of a hash table");
     give_back(it);
     put(made + TABLES_AT + 2 * SECTION_SIZE + 4, 4, 17, is_big);
@@ -118,7 +121,7 @@ static void check_places(bool is_big) {
 static void check_no_places(void) {
     const struct {
         uint64_t offset, owner;
-    } none[] = {{NAMES_AT, ELFMAP_CONTENTS + 2},      {NOTES_AT, ELFMAP_CONTENTS + 7},       {SYMBOLS_AT - 1, ELFMAP_CONTENTS + 1},
+    } none[] = {{NAMES_AT, ELFMAP_CONTENTS + 2},      {NOTES_AT + 40, ELFMAP_CONTENTS + 7},  {SYMBOLS_AT - 1, ELFMAP_CONTENTS + 1},
                 {NAMES_AT, ELFMAP_CONTENTS + 1},      {HEADER_SIZE, ELFMAP_HEADER},          {TABLES_AT - 1, ELFMAP_SECTION_HEADERS},
                 {TABLES_SIZE, ELFMAP_SECTION_HEADERS}, {SYMBOLS_AT, ELFMAP_CONTENTS + TABLES}, {0, ELFMAP_PROGRAM_HEADERS},
                 {SYMBOLS_AT, ELFMAP_GAP},             {SYMBOLS_AT, ELFMAP_CONTENTS + 9}};

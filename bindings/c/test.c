@@ -19,7 +19,7 @@
 enum { HEADER_SIZE = 64, SECTION_SIZE = 64, SEGMENT_SIZE = 56 };
 
 /* Types of sections. */
-enum { SYMTAB = 2, STRTAB = 3, RELA = 4, HASH = 5, DYNAMIC = 6, NOTE = 7, REL = 9, DYNSYM = 11, SYMTAB_SHNDX = 18 };
+enum { SYMTAB = 2, STRTAB = 3, RELA = 4, HASH = 5, DYNAMIC = 6, NOTE = 7, REL = 9, DYNSYM = 11, GROUP = 17, SYMTAB_SHNDX = 18 };
 
 static int passed, failed;
 
@@ -323,6 +323,7 @@ static void check_any_numbers(void) {
             elfmap_section(&file, it.bytes, it.len, index, &section);
             elfmap_sections(&file, it.bytes, it.len, index, sections, 2);
             elfmap_owner(&file, it.bytes, it.len, index, name_table, &owner);
+            elfmap_section_named(&file, it.bytes, it.len, it.bytes + it.len - k % 9, k % 9, &owner);
             elfmap_place(&file, it.bytes, it.len, index, name_table, &place);
             elfmap_load(&file, it.bytes, it.len, index, &byte);
             elfmap_segment(&file, it.bytes, it.len, index, &segment);
@@ -439,6 +440,27 @@ static void check_notes(const struct elfmap_table *table, struct guarded it) {
     check(!elfmap_note_at(table, it.bytes, it.len, n.next, &n) && n.n_type == 4, "no note begins behind the last one");
 }
 
+/* Of notes of which one is cut those before it are counted and read, and their bytes have places. */
+static void check_cut_notes(bool is_big) {
+    const uint64_t places[] = {0, 23, 24, 28, 39};
+    uint8_t made[TABLES_SIZE];
+    struct elfmap_file file;
+    struct elfmap_table table;
+    struct elfmap_note n;
+    struct elfmap_place place;
+    bool is_right = true;
+    make_tables(made, is_big);
+    put(made + NOTES_AT + 24 + 4, 4, 1, is_big);
+    struct guarded it = guarded_bytes(made, TABLES_SIZE, true);
+    check(elfmap_file(it.bytes, it.len, &file) && elfmap_table(&file, it.bytes, it.len, 7, &table) && table.entries == 1,
+          "a note that is cut is not counted");
+    check(elfmap_note(&table, it.bytes, it.len, 0, &n) && n.next == 24 && !elfmap_note(&table, it.bytes, it.len, 1, &n), "nor read");
+    for (int k = 0; k < 5; k++)
+        is_right = is_right && elfmap_place(&file, it.bytes, it.len, NOTES_AT + places[k], ELFMAP_CONTENTS + 7, &place) == (k < 2);
+    check(is_right, "none of its bytes has a place");
+    give_back(it);
+}
+
 static void check_tables(bool is_big) {
     uint8_t made[TABLES_SIZE];
     struct elfmap_file file;
@@ -528,7 +550,7 @@ static void check_tables_unchanged(void) {
     struct elfmap_relocation relocation = {1, 2, 3, 4};
     struct elfmap_dynamic entry = {1, 2};
     struct elfmap_note note = {{1, 2}, {3, 4}, 5, 6};
-    const uint64_t none[] = {0, 2, 3, 9, TABLES, UINT64_MAX};
+    const uint64_t none[] = {0, 2, 9, TABLES, UINT64_MAX};
     make_tables(bytes, false);
     check(elfmap_file(bytes, TABLES_SIZE, &file), "the numbers of the file are told");
     memset(&table, 0x5a, sizeof table);
@@ -559,6 +581,7 @@ static void check_other_kinds(void) {
     struct elfmap_relocation relocation;
     struct elfmap_dynamic entry;
     struct elfmap_note note;
+    uint32_t word;
     make_tables(bytes, false);
     check(elfmap_file(bytes, TABLES_SIZE, &file), "the numbers of the file are told");
     for (uint64_t i = 1; i < TABLES; i++) {
@@ -570,6 +593,9 @@ static void check_other_kinds(void) {
         check(elfmap_dynamic(&table, bytes, TABLES_SIZE, 0, &entry) == (table.sh_type == DYNAMIC), "only a dynamic array has its entries");
         check(elfmap_note(&table, bytes, TABLES_SIZE, 0, &note) == (table.sh_type == NOTE), "only a note section has notes");
         check(elfmap_note_at(&table, bytes, TABLES_SIZE, 0, &note) == (table.sh_type == NOTE), "at no offset of another one is a note");
+        check(elfmap_word(&table, bytes, TABLES_SIZE, 0, &word) == (table.sh_type == HASH || table.sh_type == SYMTAB_SHNDX)
+                  && !elfmap_words(&table, bytes, TABLES_SIZE, 0, &word, 1) == !elfmap_word(&table, bytes, TABLES_SIZE, 0, &word),
+              "only some tables have words");
     }
 }
 
@@ -581,24 +607,29 @@ static bool lies_in(struct elfmap_extent place, size_t len) {
 static void check_any_tables(void) {
     const uint64_t numbers[] = {0, 1, 3, 64, 135, 136, TABLES_SIZE - 24, TABLES_SIZE - 12, TABLES_SIZE - 1, TABLES_SIZE, UINT64_C(1) << 60,
                                 UINT64_MAX / 24, UINT64_MAX - 23, UINT64_MAX};
-    const uint32_t kinds[5] = {SYMTAB, RELA, REL, DYNAMIC, NOTE};
+    enum { KINDS = 6 };
+    const uint32_t kinds[KINDS] = {SYMTAB, RELA, REL, DYNAMIC, NOTE, GROUP};
     const size_t count = sizeof numbers / sizeof *numbers;
     uint8_t made[TABLES_SIZE];
     bool is_inside = true;
     make_tables(made, false);
     for (int at_end = 0; at_end < 2; at_end++) {
         struct guarded it = guarded_bytes(made, TABLES_SIZE, at_end);
-        for (size_t k = 0; k < 5 * count * count * count; k++) {
-            uint64_t start = numbers[k / 5 % count], size = numbers[k / 5 / count % count], index = numbers[k / 5 / count / count];
+        for (size_t k = 0; k < KINDS * count * count * count; k++) {
+            uint64_t start = numbers[k / KINDS % count], size = numbers[k / KINDS / count % count];
+            uint64_t index = numbers[k / KINDS / count / count];
             struct elfmap_extent part = {start, size}, place;
-            struct elfmap_table table = {part, part, part, UINT64_MAX, kinds[k % 5], (uint8_t) (k % 3)}, other;
+            struct elfmap_table table = {part, part, part, UINT64_MAX, kinds[k % KINDS], (uint8_t) (k % 3)}, other;
             struct elfmap_file file = {start, size, UINT64_MAX, UINT64_MAX, 0, (uint8_t) (k % 3)};
             struct elfmap_symbol symbol;
             struct elfmap_symbol symbols[2];
             struct elfmap_relocation relocation, relocations[2];
             struct elfmap_dynamic entry, entries[2];
             struct elfmap_note note;
+            uint32_t words[2];
             elfmap_table(&file, it.bytes, it.len, index, &other);
+            elfmap_word(&table, it.bytes, it.len, index, words);
+            elfmap_words(&table, it.bytes, it.len, index, words, 2);
             elfmap_relocation(&table, it.bytes, it.len, index, &relocation);
             elfmap_relocations(&table, it.bytes, it.len, index, relocations, 2);
             elfmap_dynamic(&table, it.bytes, it.len, index, &entry);
@@ -659,7 +690,10 @@ static void check_descending(void) {
 
 #include "bulk.h"
 #include "dump.h"
+#include "names.h"
+#include "nothing.h"
 #include "owners.h"
+#include "words.h"
 
 int main(int count, char **words) {
     for (int k = 1; k < count; k++)
@@ -681,10 +715,16 @@ int main(int count, char **words) {
         check_shared(is_big);
         check_places(is_big);
         check_many(is_big);
+        check_names(is_big);
+        check_tables_of_words(is_big);
     }
+    check_nothing();
+    check(elfmap_version() == ELFMAP_VERSION, "the library is of the version of its header");
     check_no_places();
     check_tables(false);
     check_tables(true);
+    check_cut_notes(false);
+    check_cut_notes(true);
     check_find(false);
     check_find(true);
     check_any_find();

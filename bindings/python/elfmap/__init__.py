@@ -23,7 +23,7 @@ import pickle
 from collections.abc import Callable, Iterable, Iterator, Sequence
 from typing import TYPE_CHECKING, Any, NamedTuple, Optional, TypeVar, Union
 
-from elfmap import _columns, _library, _rules
+from elfmap import _columns, _declared, _library, _rules
 
 # They are names of this module too. In `__all__` they would make `help` ten times as long.
 from elfmap.constants import (
@@ -84,6 +84,8 @@ _Record = TypeVar("_Record")
 _SMALL_ROOM = 64
 _SYMBOLS = (SHT.SYMTAB, SHT.DYNSYM)
 _RELOCATIONS = (SHT.RELA, SHT.REL)
+_WORDS = (SHT.GROUP, SHT.SYMTAB_SHNDX, SHT.HASH)
+_WORD_SIZE = 4
 _OWNERS = ("header", "section headers", "program headers")
 # ctypes would take this number for 0, and each one modulo it.
 _END = 2**64
@@ -371,31 +373,28 @@ class _Records(_Read[_Record]):
 
 class _Notes(_Read[Note]):
     """Notes, each of which says where the next one begins: they are read as far as they are asked
-    for, and to the last one to count them."""
+    for."""
 
-    def __init__(self, read: Callable[[int], Optional[tuple[Note, int]]]) -> None:
+    def __init__(self, count: int, read: Callable[[int], Optional[tuple[Note, int]]]) -> None:
+        self._indices = range(count)
         self._read = read
         # Where those begin that were passed.
         self._starts = [0]
 
     def __len__(self) -> int:
-        # The last one of these begins no note.
-        with contextlib.suppress(IndexError):
-            while True:
-                self._starts.append(self._at(self._starts[-1])[1])
-        return len(self._starts) - 1
+        return len(self._indices)
 
     def __getitem__(self, index: Any) -> Any:
         if isinstance(index, slice):
-            return [*self][index]
-        position = operator.index(index)
-        if position < 0:
-            return [*self][position]
-        while position >= len(self._starts):
-            self._starts.append(self._at(self._starts[-1])[1])
-        return self._at(self._starts[position])[0]
+            return [self._at(it) for it in self._indices[index]]
+        return self._at(self._indices[index])
 
-    def _at(self, start: int) -> tuple[Note, int]:
+    def _at(self, position: int) -> Note:
+        while position >= len(self._starts):
+            self._starts.append(self._found(self._starts[-1])[1])
+        return self._found(self._starts[position])[0]
+
+    def _found(self, start: int) -> tuple[Note, int]:
         found = self._read(start)
         if found is None:
             raise IndexError("the table has no entry of this index")
@@ -426,7 +425,7 @@ class File:
             # The bytes are free again also while the error is looked at.
             self._view.release()
             raise
-        self._numbers = self._filled(_library.Numbers, "elfmap_file")
+        self._numbers = self._filled(_declared.File, "elfmap_file")
 
     def close(self) -> None:
         """Releases the bytes. Contents that are still held keep them. What would read the bytes
@@ -445,7 +444,7 @@ class File:
     @property
     def header(self) -> Header:
         """The ELF header."""
-        e_ident, *fields = _values(self._filled(_library.Header, "elfmap_header"))
+        e_ident, *fields = _values(self._filled(_declared.Header, "elfmap_header"))
         return Header(bytes(e_ident), *fields)
 
     @property
@@ -467,10 +466,10 @@ class File:
     def parts(self) -> list[Part]:
         """What each byte belongs to: ascending parts, none of them empty."""
         count = ctypes.c_uint64()
-        fault = _library.Fault()
+        fault = _declared.Fault()
         wanted = 0
         for _ in range(2):
-            room = (_library.Part * wanted)()
+            room = (_declared.Part * wanted)()
             if self._call("elfmap_parts", room, wanted, count, fault):
                 return [_part(it) for it in room[: count.value]]
             wanted = fault.at  # This suffices.
@@ -491,22 +490,22 @@ class File:
         own. Then the entries that lie in the file are returned, without symbols whose
         word in an index table is missing: to ask for one by its index is an IndexError.
         """
-        return self._entries(section, _SYMBOLS, "elfmap_symbol", _library.Symbol, self._symbol)
+        return self._entries(section, _SYMBOLS, "elfmap_symbol", _declared.Symbol, self._symbol)
 
     def relocations(self, section: int) -> Sequence[Relocation]:
         """The relocations of a relocation section; none where it is none."""
-        kind = _library.Relocation
+        kind = _declared.Relocation
         return self._entries(section, _RELOCATIONS, "elfmap_relocation", kind, self._relocation)
 
     def dynamic(self, section: int) -> Sequence[Dynamic]:
         """The entries of the dynamic array in a section, before the first DT_NULL."""
-        kind = _library.Dynamic
+        kind = _declared.Dynamic
         return self._entries(section, (SHT.DYNAMIC,), "elfmap_dynamic", kind, self._dynamic)
 
     def notes(self, section: int) -> Sequence[Note]:
         """The notes of a note section; none where it is none."""
         table = self._table(section, (SHT.NOTE,))
-        note = _library.Note()
+        note = _declared.Note()
 
         def read(start: int) -> Optional[tuple[Note, int]]:
             if not table or not self._call("elfmap_note_at", start, note, of=(table,)):
@@ -515,7 +514,19 @@ class File:
             desc = self._at(note.desc.start, note.desc.len)
             return Note(bytes(name), note.n_type, desc), note.next
 
-        return _Notes(read)
+        return _Notes(table.entries if table else 0, read)
+
+    def words(self, section: int) -> _columns.Column:
+        """The words of a section group, an index table or a hash table, an array; none where the
+        section holds none.
+
+        Those of a group are its flags, and then the indices of its members.
+        """
+        table = self._table(section, _WORDS)
+        words = array.array("I", bytes(_WORD_SIZE * table.entries if table else 0))
+        if table:
+            self._call("elfmap_words", 0, *words.buffer_info(), of=(table,))
+        return words
 
     def columns(self, section: int) -> dict[str, _columns.Column]:
         """The numbers of a symbol table, relocation section or dynamic array: an array for each
@@ -554,13 +565,13 @@ class File:
 
     def _validate(self) -> None:
         """Raises Refused where a rule is broken."""
-        fault = _library.Fault()
+        fault = _declared.Fault()
         wanted = _SMALL_ROOM
         for _ in range(2):
-            room = (_library.Extent * wanted)()
+            room = (_declared.Extent * wanted)()
             if self._call("elfmap_verdict_in", room, wanted, fault):
                 return
-            if fault.rule != _library.SHORT_ROOM:
+            if fault.rule != _declared.SHORT_ROOM:
                 break
             wanted = fault.at  # This suffices.
         raise Refused(fault.rule, fault.at)
@@ -574,24 +585,24 @@ class File:
         return it
 
     def _section(self, index: int) -> Section:
-        fields = _values(self._filled(_library.Section, "elfmap_section", index))
-        it = self._filled(_library.Extent, "elfmap_name", index)
+        fields = _values(self._filled(_declared.Section, "elfmap_section", index))
+        it = self._filled(_declared.Extent, "elfmap_name", index)
         section = Section._make([*fields, bytes(self._at(it.start, it.len)), None])
         if section.sh_type in (SHT.NULL, SHT.NOBITS):
             return section
         return section._replace(content=self._at(section.sh_offset, section.sh_size))
 
     def _segment(self, index: int) -> Segment:
-        fields = _values(self._filled(_library.Segment, "elfmap_segment", index))
+        fields = _values(self._filled(_declared.Segment, "elfmap_segment", index))
         segment = Segment._make([*fields, None])
         if segment.p_type == PT.NULL:
             return segment
         return segment._replace(content=self._at(segment.p_offset, segment.p_filesz))
 
-    def _table(self, section: int, types: tuple[int, ...]) -> Optional[_library.Table]:
+    def _table(self, section: int, types: tuple[int, ...]) -> Optional[_declared.Table]:
         """The table in a section of one of these types."""
         index = operator.index(section)
-        table = _library.Table()
+        table = _declared.Table()
         of = (self._numbers,)
         is_there = 0 <= index < _END and self._call("elfmap_table", index, table, of=of)
         return table if is_there and table.sh_type in types else None
@@ -613,14 +624,14 @@ class File:
 
         return _Records(table.entries if table else 0, read)
 
-    def _symbol(self, _: _library.Table, it: _library.Symbol) -> Symbol:
+    def _symbol(self, _: _declared.Table, it: _declared.Symbol) -> Symbol:
         return Symbol(bytes(self._at(it.name.start, it.name.len)), *_values(it)[1:])
 
-    def _relocation(self, _: _library.Table, it: _library.Relocation) -> Relocation:
+    def _relocation(self, _: _declared.Table, it: _declared.Relocation) -> Relocation:
         return Relocation(*_values(it))
 
-    def _dynamic(self, table: _library.Table, it: _library.Dynamic) -> Dynamic:
-        place = _library.Extent()
+    def _dynamic(self, table: _declared.Table, it: _declared.Dynamic) -> Dynamic:
+        place = _declared.Extent()
         self._call("elfmap_string", it.d_un, place, of=(table,))
         return Dynamic(it.d_tag, it.d_un, bytes(self._at(place.start, place.len)))
 
@@ -634,9 +645,9 @@ def _values(struct: ctypes.Structure) -> list[Any]:
     return [getattr(struct, name) for name, _ in struct._fields_]
 
 
-def _part(it: _library.Part) -> Part:
+def _part(it: _declared.Part) -> Part:
     owner = _OWNERS[it.owner] if it.owner < len(_OWNERS) else it.owner - len(_OWNERS)
-    return Part(it.start, it.len, "gap" if it.owner == _library.GAP else owner)
+    return Part(it.start, it.len, "gap" if it.owner == _declared.GAP else owner)
 
 
 def parse(data: _Bytes) -> File:
@@ -679,7 +690,7 @@ def check(data: _Bytes) -> Summary:
 def show(data: _Bytes) -> str:
     """The lines of `elfmap show` on a file, also on one that is refused."""
     status, outcome, text = _said("elfmap_show", *_bytes_of(data))
-    if status not in (_library.DONE, _library.REFUSED):
+    if status not in (_declared.DONE, _declared.REFUSED):
         raise _failure(status, outcome)
     return text.decode("ascii")
 
@@ -693,13 +704,13 @@ def refused_tables(data: _Bytes) -> list[tuple[int, int, int]]:
     """
     address, size = _bytes_of(data)
     library = _library.library()
-    numbers = _library.Numbers()
+    numbers = _declared.File()
     library.elfmap_file(address, size, numbers)
     # Of a refused file no number need be true.
-    verdicts = (_library.Fault * min(numbers.sections, size // 64))()
-    outcome = _library.Outcome()
+    verdicts = (_declared.Fault * min(numbers.sections, size // 64))()
+    outcome = _declared.Outcome()
     status = library.elfmap_table_verdicts(address, size, 0, verdicts, len(verdicts), outcome)
-    if status != _library.DONE:
+    if status != _declared.DONE:
         raise _failure(status, outcome)
     return [(i, it.rule, it.at) for i, it in enumerate(verdicts) if it.rule]
 
@@ -793,8 +804,8 @@ def _number(value: int, what: str) -> int:
 def _linked(
     contents: list[memoryview], base: int, page: int, uses_rules: bool = True
 ) -> tuple[Any, ...]:
-    options = _library.LinkOptions(_number(base, "base"), _number(page, "page"), uses_rules)
-    places = (_library.Extent * len(contents))()
+    options = _declared.Options(_number(base, "base"), _number(page, "page"), uses_rules)
+    places = (_declared.Extent * len(contents))()
     start = 0
     for place, content in zip(places, contents):
         place.start = start
@@ -820,13 +831,13 @@ def _has_bytes(it: object) -> bool:
     return True
 
 
-def _said(name: str, *words: Any) -> tuple[int, _library.Outcome, bytes]:
+def _said(name: str, *words: Any) -> tuple[int, _declared.Outcome, bytes]:
     """All that an engine says, asked for twice: how long it is, and then for itself."""
     call = getattr(_library.library(), name)
-    outcome = _library.Outcome()
+    outcome = _declared.Outcome()
     room = ctypes.create_string_buffer(1)
     status = call(*words, room, 0, outcome)
-    if status == _library.SMALL_ROOM:
+    if status == _declared.SMALL_ROOM:
         room = ctypes.create_string_buffer(outcome.length)
         status = call(*words, room, outcome.length, outcome)
     return status, outcome, room.raw[: outcome.length]
@@ -834,29 +845,29 @@ def _said(name: str, *words: Any) -> tuple[int, _library.Outcome, bytes]:
 
 def _done(
     status: int,
-    outcome: _library.Outcome,
+    outcome: _declared.Outcome,
     said: bytes,
     contents: Sequence[memoryview] = (),
     entry: bytes = b"",
 ) -> bytes:
-    if status != _library.DONE:
+    if status != _declared.DONE:
         raise _failure(status, outcome, contents, entry)
     return said
 
 
 def _failure(
-    status: int, outcome: _library.Outcome, contents: Sequence[memoryview] = (), entry: bytes = b""
+    status: int, outcome: _declared.Outcome, contents: Sequence[memoryview] = (), entry: bytes = b""
 ) -> Exception:
     """What a status says, with the numbers of its outcome, and the name of the symbol in these
     files."""
-    if status == _library.REFUSED:
+    if status == _declared.REFUSED:
         return Refused(outcome.rule, outcome.at, outcome.file)
-    if status == _library.NOT_LINKED:
+    if status == _declared.NOT_LINKED:
         place = outcome.rule, outcome.file, outcome.index, outcome.at
         return NotLinked(*place, _symbol_of(*place, contents, entry))
-    if status == _library.TOO_LONG:
+    if status == _declared.TOO_LONG:
         return TooLong()
-    if status == _library.BAD_RULES:
+    if status == _declared.BAD_RULES:
         return BadRules(outcome.at)
     return MemoryError()
 

@@ -21,7 +21,7 @@ from collections import Counter
 from collections.abc import Iterator
 from typing import NamedTuple, Optional
 
-from elfmap import _library
+from elfmap import _declared, _library
 from elfmap._deviations import (
     DEBUG_SEGMENTS,
     SEGMENT_PAST_END,
@@ -150,8 +150,8 @@ class Checks:
         self._are_named = are_named
         self._library = _library.library()
         self._room = Room()
-        self._extents = (_library.Extent * _LEAST_EXTENTS)()
-        self._verdicts = (_library.Fault * (_LEAST_VERDICTS if tables else 0))()
+        self._extents = (_declared.Extent * _LEAST_EXTENTS)()
+        self._verdicts = (_declared.Fault * (_LEAST_VERDICTS if tables else 0))()
         # Whether the memory has other bytes than the file.
         self._is_changed = False
         # What known deviations the last file has, by their names.
@@ -176,18 +176,18 @@ class Checks:
             found.append(fault)
         return found
 
-    def parts(self, source: Source) -> tuple[list[_library.Part], Optional[Fault]]:
+    def parts(self, source: Source) -> tuple[list[_declared.Part], Optional[Fault]]:
         """What each byte of the file belongs to; or the rule of images that it breaks."""
         size = min(len(source), LONGEST)
         self._load(source, size)
         count = ctypes.c_uint64()
-        fault = _library.Fault()
+        fault = _declared.Fault()
         wanted = _LEAST_EXTENTS
         while True:
-            room = (_library.Part * wanted)()
+            room = (_declared.Part * wanted)()
             if self._library.elfmap_parts(self._room.address, size, room, wanted, count, fault):
                 return room[: count.value], None
-            if fault.rule != _library.SHORT_ROOM:
+            if fault.rule != _declared.SHORT_ROOM:
                 return [], Fault(fault.rule, fault.at)
             wanted = fault.at
 
@@ -208,9 +208,9 @@ class Checks:
             source.read_into(self._room.view[start:end], start)
 
     def _read_headers(self, source: Source, size: int) -> None:
-        header = _library.Header()
-        file = _library.Numbers()
-        name_table = _library.Section()
+        header = _declared.Header()
+        file = _declared.File()
+        name_table = _declared.Section()
         bytes_ = self._room.address, size
         self._library.elfmap_header(*bytes_, header)
         if header.e_shoff:
@@ -233,8 +233,8 @@ class Checks:
         table = self._room.view[file.e_shoff : file.e_shoff + 64 * file.sections]
         return [Table(index, *fields) for index, fields in enumerate(record.iter_unpack(table))]
 
-    def _file(self, size: int) -> _library.Numbers:
-        file = _library.Numbers()
+    def _file(self, size: int) -> _declared.File:
+        file = _declared.File()
         self._library.elfmap_file(self._room.address, size, file)
         return file
 
@@ -273,13 +273,13 @@ class Checks:
 
     def _image(self, size: int) -> Optional[Fault]:
         if len(self._extents) > _MOST_EXTENTS:
-            self._extents = (_library.Extent * _LEAST_EXTENTS)()
-        fault = _library.Fault()
+            self._extents = (_declared.Extent * _LEAST_EXTENTS)()
+        fault = _declared.Fault()
         verdict = self._library.elfmap_verdict_in
         while not verdict(self._room.address, size, self._extents, len(self._extents), fault):
-            if fault.rule != _library.SHORT_ROOM:
+            if fault.rule != _declared.SHORT_ROOM:
                 return Fault(fault.rule, fault.at)
-            self._extents = (_library.Extent * fault.at)()
+            self._extents = (_declared.Extent * fault.at)()
         return None
 
     def _table_faults(self, source: Source, whole: Batch) -> list[Fault]:
@@ -317,15 +317,15 @@ class Checks:
 
     def _refused(self, size: int, batch: Batch) -> Iterator[tuple[int, int, int]]:
         """The shown tables that break a rule: a section, the rule and the offset."""
-        outcome = _library.Outcome()
+        outcome = _declared.Outcome()
         if len(self._verdicts) > _MOST_VERDICTS:
-            self._verdicts = (_library.Fault * _LEAST_VERDICTS)()
+            self._verdicts = (_declared.Fault * _LEAST_VERDICTS)()
         count = len(batch.sections)
         if count > len(self._verdicts):
-            self._verdicts = (_library.Fault * count)()
+            self._verdicts = (_declared.Fault * count)()
         room = self._verdicts, len(self._verdicts)
         call = self._library.elfmap_table_verdicts
-        if call(self._room.address, size, 0, *room, outcome) != _library.DONE:
+        if call(self._room.address, size, 0, *room, outcome) != _declared.DONE:
             raise Unreadable("there is no memory for its tables")
         for it in batch.shown:
             fault = self._verdicts[it.section]
@@ -334,13 +334,13 @@ class Checks:
 
     def _object_fault(self, size: int) -> Optional[Fault]:
         """Why the file is read as no object, by the verdict of `elfmap rewrite`."""
-        outcome = _library.Outcome()
+        outcome = _declared.Outcome()
         status = self._library.elfmap_object_verdict(self._room.address, size, outcome)
-        if status == _library.REFUSED:
+        if status == _declared.REFUSED:
             return Fault(outcome.rule, outcome.at)
-        if status == _library.TOO_LONG:
+        if status == _declared.TOO_LONG:
             return Fault(TOO_LONG_AS_OBJECT, 0)
-        if status == _library.NO_MEMORY:
+        if status == _declared.NO_MEMORY:
             raise Unreadable("there is no memory for its tables")
         return None
 
@@ -350,22 +350,22 @@ class Checks:
         The rules before these are kept by any one file with these options. Those after
         them depend on other files: a name that is undefined here may be defined there.
         """
-        outcome = _library.Outcome()
-        file = (_library.Extent * 1)(_library.Extent(0, size))
-        options = _library.LinkOptions(0, 1, 0)
+        outcome = _declared.Outcome()
+        file = (_declared.Extent * 1)(_declared.Extent(0, size))
+        options = _declared.Options(0, 1, 0)
         entry = rules = _library.nowhere, 0
         status = self._library.elfmap_link_verdict(
             self._room.address, size, file, 1, options, *entry, *rules, outcome
         )
-        if status == _library.NO_MEMORY:
+        if status == _declared.NO_MEMORY:
             raise Unreadable("there is no memory for its tables")
-        if status != _library.NOT_LINKED or outcome.rule not in OF_ONE_FILE:
+        if status != _declared.NOT_LINKED or outcome.rule not in OF_ONE_FILE:
             return None
         at = Linked("", Words(source)).offset(outcome.rule, outcome.index)
         return Fault(outcome.rule, at, is_of_link=True)
 
 
-def _order(file: _library.Numbers) -> str:
+def _order(file: _declared.File) -> str:
     return ">" if file.ei_data == 2 else "<"
 
 

@@ -294,7 +294,7 @@ def _notes_of_8(copy: Mended, index: int) -> bool:
         name, size = sizes.unpack(content[at : at + 8].ljust(8, b"\0"))
         begin = at + (12 + name + 7) // 8 * 8
         end = begin + (size + 7) // 8 * 8
-        if len(content) < max(at + 12, end):
+        if len(content) < end:
             return False
         starts.append((len(packed), at))
         packed += content[at : at + 12 + name] + bytes(-name % 4)

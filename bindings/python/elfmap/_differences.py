@@ -237,7 +237,6 @@ class Canonical:
         self.machine = file.header.e_machine
         self.sections, self._names = sections_of(file, data, names)
         self._table = self._first(_SYMTAB)
-        self.order = order_of(is_big_endian(file.header.e_ident))
         self.symbols: Sequence[Symbol] = list(self._read_symbols()) if self._table else []
         strings = self._content(self.sections[self._table].sh_link) if self._table else b""
         at = names.of(strings, (it.st_name for it in self.symbols))
@@ -253,7 +252,7 @@ class Canonical:
             k for k, it in enumerate(self.sections) if has_debug_information(it, self._names[k])
         }
         for k, it in enumerate(self.sections):
-            members = self._words(k)[1:] if it.sh_type == _GROUP else []
+            members = [*self.file.words(k)[1:]] if it.sh_type == _GROUP else []
             if members and found.issuperset(members):
                 found.add(k)
         return found
@@ -265,26 +264,19 @@ class Canonical:
     def _content(self, index: int) -> bytes:
         return bytes(self.sections[index].content or b"")
 
-    def _words(self, index: int) -> list[int]:
-        """The content of a section as numbers of four bytes."""
-        return [it for (it,) in struct.iter_unpack(f"{self.order}I", self._content(index))]
-
     def _read_symbols(self) -> Iterator[Symbol]:
         """All symbols at once, without their names: `elfmap rewrite` wrote the table, so that each
         of its fields is sound."""
-        index_table = self._first(_SYMTAB_SHNDX)
-        words = self._words(index_table) if index_table else []
-        rows = struct.iter_unpack(f"{self.order}IBBHQQ", self._content(self._table))
+        words = self.file.words(self._first(_SYMTAB_SHNDX))
+        rows = zip(*self.file.columns(self._table).values())
         for k, (name, info, other, shndx, value, size) in enumerate(rows):
             section = words[k] if shndx == _IN_INDEX_TABLE else shndx
             yield Symbol(b"", value, size, name, section, shndx, info, other)
 
     def relocations(self, index: int) -> Iterator[Relocation]:
         """Those of a section, in the same way."""
-        has_addends = self.sections[index].sh_type == _RELA
-        layout = f"{self.order}QQ{'q' if has_addends else ''}"
-        for offset, info, *addend in struct.iter_unpack(layout, self._content(index)):
-            yield Relocation(offset, addend[0] if addend else 0, info >> 32, info & 0xFFFFFFFF)
+        found = self.file.columns(index)
+        return map(Relocation, *(found[it] for it in Relocation._fields))
 
     def place(self, it: Symbol) -> Place:
         """Where a symbol is defined."""
@@ -295,7 +287,7 @@ class Canonical:
 
     def members(self, index: int) -> tuple[int, dict[Place, int]]:
         """Of a group its flags and its members."""
-        flags, *members = self._words(index)
+        flags, *members = self.file.words(index)
         return flags, {self.section(it): it for it in members if it not in self._ignored}
 
     def _section_name(self, index: int, symbols: Sequence[Union[Text, OfSection]]) -> Name:

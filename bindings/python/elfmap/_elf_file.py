@@ -128,7 +128,8 @@ def with_sections(head: bytes, rows: Iterable[Row], is_big: bool) -> bytearray:
     offsets = [names.add(it.name) for it in every]
     every[-1] = every[-1]._replace(content=bytes(names.content))
     data = bytearray(head)
-    headers = _first_header(len(every) + 1, order)
+    # A file may have very many: each is put behind those before it, and these are not copied.
+    headers = bytearray(_first_header(len(every) + 1, order))
     for name, row in zip(offsets, every):
         offset, size = _placed(data, row)
         places = row.flags, row.address, offset, size, row.link, row.info, row.align, row.entsize

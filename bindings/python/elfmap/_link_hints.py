@@ -270,7 +270,7 @@ def _into_a_group(file: Linked, index: int, entry: int) -> Iterator[str]:
     name = words.section_string(target)
     at = file.relocation(index, entry)
     symbol = words.number(at + 8, 8) >> 32 if at >= 0 else 0
-    flags = words.section(file.section_of(symbol), "sh_flags")
+    flags = words.section(words.symbol_section(file.symbols, symbol), "sh_flags")
     if name == ".eh_frame" and flags & _IN_GROUP:
         yield (
             f"{name} refers to a function of a group that an earlier file has already:"

@@ -10,7 +10,7 @@ import ctypes
 from collections.abc import Sequence
 from typing import Any, NamedTuple, Optional, Union
 
-from elfmap import BadRules, NotLinked, Refused, TooLong, _library
+from elfmap import BadRules, NotLinked, Refused, TooLong, _declared, _library
 from elfmap._map_lines import LinkMap
 from elfmap._sources import LONGEST, Unreadable
 
@@ -36,7 +36,7 @@ class Link:
     def __init__(self, contents: Sequence[bytes], options: Options) -> None:
         self._options = options
         self._bytes = b"".join(contents)
-        self._places = (_library.Extent * len(contents))()
+        self._places = (_declared.Extent * len(contents))()
         start = 0
         for place, content in zip(self._places, contents):
             place.start = start
@@ -55,7 +55,7 @@ class Link:
     def map(self) -> Optional[LinkMap]:
         """The link map without relocations; None if the files break a rule before these."""
         status, outcome = self._call("elfmap_map", _NOTHING, room=_NOTHING)
-        if status != _library.SMALL_ROOM:
+        if status != _declared.SMALL_ROOM:
             _refusal(status, outcome)
             return LinkMap("")
         length = outcome.length
@@ -68,12 +68,12 @@ class Link:
 
     def _call(
         self, name: str, *texts: _Text, room: Optional[_Text] = None
-    ) -> tuple[int, _library.Outcome]:
+    ) -> tuple[int, _declared.Outcome]:
         """A call of an engine with its texts, the last of which is that of the rules, and the
         buffer for what it writes, if it writes anything."""
-        outcome = _library.Outcome()
+        outcome = _declared.Outcome()
         uses_rules = texts[-1] is not _NOTHING
-        options = _library.LinkOptions(self._options.base, self._options.page, uses_rules)
+        options = _declared.Options(self._options.base, self._options.page, uses_rules)
         files = self._bytes, len(self._bytes), self._places, len(self._places)
         words = (it for text in (*texts, *([room] if room else [])) for it in text)
         call = getattr(_library.library(), name)
@@ -85,15 +85,15 @@ class Link:
         return fault.line if isinstance(fault, BadRules) else 0
 
 
-def _refusal(status: int, it: _library.Outcome) -> Optional[Refusal]:
-    if status == _library.REFUSED:
+def _refusal(status: int, it: _declared.Outcome) -> Optional[Refusal]:
+    if status == _declared.REFUSED:
         return Refused(it.rule, it.at, it.file)
-    if status == _library.NOT_LINKED:
+    if status == _declared.NOT_LINKED:
         return NotLinked(it.rule, it.file, it.index, it.at)
-    if status == _library.TOO_LONG:
+    if status == _declared.TOO_LONG:
         return TooLong()
-    if status == _library.BAD_RULES:
+    if status == _declared.BAD_RULES:
         return BadRules(it.at)
-    if status == _library.NO_MEMORY:
+    if status == _declared.NO_MEMORY:
         raise Unreadable("there is no memory for the link")
     return None

@@ -165,10 +165,11 @@ class _Object:
     def symbols_in_arrays(self) -> dict[int, bytes]:
         """The symbols in sections that ld sorts into an array, and that array."""
         arrays = {index: _array_of(name) for index, name in self.names.items() if _array_of(name)}
-        columns = self._file.columns(self.linked.symbols) if arrays else {}
+        table = self.linked.symbols
+        columns = self._file.columns(table) if arrays else {}
         found = {}
         for index, own in enumerate(columns.get("st_shndx", ())):
-            section = self.linked.section_of(index) if own == XINDEX else own
+            section = self.words.symbol_section(table, index) if own == XINDEX else own
             if section in arrays:
                 found[index] = arrays[section]
         return found

@@ -24,7 +24,6 @@ from elfmap._words import (
     RELA,
     SECTION,
     SYMTAB,
-    XINDEX,
     Limit,
     Told,
     Words,
@@ -136,13 +135,6 @@ class Linked:
             if kind in (REL, RELA) and start <= at < end:
                 return position, (at - start) // ENTRY_SIZES[kind]
         return len(self.kept), 0
-
-    def section_of(self, symbol: int) -> int:
-        """The section that the symbol of an index is defined in, or its reserved index."""
-        words = self.words
-        own = words.symbol(self.symbols, symbol, "st_shndx")
-        table = words.index_table(self.symbols) if own == XINDEX else 0
-        return words.number(words.content(table)[0] + 4 * symbol, 4) if table else own
 
     def raw_name(self, position: int, most: int = LONGEST_NAME) -> bytes:
         """The name of the symbol at a position, or so many bytes of it."""

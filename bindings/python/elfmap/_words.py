@@ -15,7 +15,7 @@ from collections.abc import Iterable, Iterator
 from functools import cached_property
 from typing import NamedTuple, Optional, Protocol
 
-from elfmap import _library
+from elfmap import _declared
 from elfmap._names import relocation_type, section_type
 from elfmap._rules import RULES
 
@@ -38,15 +38,15 @@ def _layout(record: type[ctypes.Structure]) -> Layout:
     return {name: (field.offset, field.size) for name, field in fields}
 
 
-SECTION = _layout(_library.Section)
-SEGMENT = _layout(_library.Segment)
+SECTION = _layout(_declared.Section)
+SEGMENT = _layout(_declared.Segment)
 HEADER: Layout = {
     "the magic number": (0, 4),
     "the class in e_ident": (4, 1),
     "the data encoding in e_ident": (5, 1),
     "the version in e_ident": (6, 1),
     "the rest of e_ident": (7, 9),
-    **{name: at for name, at in _layout(_library.Header).items() if name != "e_ident"},
+    **{name: at for name, at in _layout(_declared.Header).items() if name != "e_ident"},
 }
 SYMBOL: Layout = {
     "st_name": (0, 4),
@@ -56,7 +56,7 @@ SYMBOL: Layout = {
     "st_value": (8, 8),
     "st_size": (16, 8),
 }
-DYNAMIC = _layout(_library.Dynamic)
+DYNAMIC = _layout(_declared.Dynamic)
 NOTE: Layout = {"namesz": (0, 4), "descsz": (4, 4), "type": (8, 4)}
 _IN_HEX = "flags addr off align entry value st_info r_info filesz memsz shndx".split()
 
@@ -252,6 +252,12 @@ class Words:
         begins = start + 24 * index
         return begins if begins + 24 <= end else None
 
+    def symbol_section(self, table: int, index: int) -> int:
+        """The section that a symbol is defined in, or its reserved index."""
+        own = self.symbol(table, index, "st_shndx")
+        words = self.index_table(table) if own == XINDEX else 0
+        return self.number(self.content(words)[0] + 4 * index, 4) if words else own
+
     # ---- in words
 
     def section_words(self, index: int) -> str:
@@ -268,7 +274,7 @@ class Words:
     def symbol_name(self, table: int, index: int) -> str:
         name = self.string(self.section(table, "sh_link"), self.symbol(table, index, "st_name"))
         if not name and self.symbol(table, index, "st_info") & 15 == 3:
-            return f"of section {self.section_string(self.symbol(table, index, 'st_shndx'))}"
+            return f"of section {self.section_string(self.symbol_section(table, index))}"
         return name or "(no name)"
 
     def symbol_words(self, table: int, index: int) -> str:
@@ -413,8 +419,10 @@ def entry_words(file: Words, index: int, at: int) -> str:
 
 
 def _symbol_entry(file: Words, index: int, position: int, at: int) -> str:
-    section = file.symbol(index, position, "st_shndx")
-    defined = f", defined in {file.section_words(section)}" if 0 < section < 0xFF00 else ""
+    own = file.symbol(index, position, "st_shndx")
+    is_defined = 0 < own < 0xFF00 or own == XINDEX and file.index_table(index) > 0
+    section = file.symbol_section(index, position)
+    defined = f", defined in {file.section_words(section)}" if is_defined else ""
     field = file.field_words(SYMBOL, file.content(index)[0] + 24 * position, at)
     return f"{file.symbol_words(index, position)}{defined}: {field}"
 

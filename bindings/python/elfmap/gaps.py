@@ -17,7 +17,7 @@ import os
 from collections.abc import Iterator, Sequence
 from typing import NamedTuple, Optional
 
-from elfmap import __version__, _library
+from elfmap import __version__, _declared
 from elfmap._archives import Content
 from elfmap._commands import DONE, UNREADABLE, USAGE, Parser, complain, run_script
 from elfmap._findings import Globs, Report
@@ -67,21 +67,21 @@ class Finder(Inspector):
             rule = f"{RULES[fault.rule][0]} ({fault.rule})"
             raise Unreadable(f"offset {fault.at:#x}: {rule}; elfmap-lint says more")
         words = Words(it.source)
-        gaps = [position for position, part in enumerate(parts) if part.owner == _library.GAP]
+        gaps = [position for position, part in enumerate(parts) if part.owner == _declared.GAP]
         own = [_gap(it, words, parts, position) for position in gaps]
         self.count += len(own)
         self.bytes -= sum(gap.less for gap in own)
         self.longest = heapq.nsmallest(self._most, [*self.longest, *own])
 
 
-def _gap(it: Content, words: Words, parts: Sequence[_library.Part], position: int) -> Gap:
+def _gap(it: Content, words: Words, parts: Sequence[_declared.Part], position: int) -> Gap:
     part = parts[position]
     after = _owner(words, parts[position + 1]) if position + 1 < len(parts) else ""
     is_zeros = not any(block.strip(b"\0") for block in _blocks(it.source, part.start, part.len))
     return Gap(-part.len, it.path, part.start, _owner(words, parts[position - 1]), after, is_zeros)
 
 
-def _owner(words: Words, part: _library.Part) -> str:
+def _owner(words: Words, part: _declared.Part) -> str:
     if part.owner < len(_OWNERS):
         return _OWNERS[part.owner]
     index = part.owner - len(_OWNERS)

@@ -1,9 +1,9 @@
 use alloc::vec::Vec;
 use core::fmt;
 
-use crate::raw::engines::{self as raw, Inputs, LinkOptions, Outcome};
-use crate::raw::engines::{BAD_RULES, DONE, NOT_LINKED, REFUSED, SMALL_ROOM, TOO_LONG};
-use crate::raw::{Extent, Fault};
+use crate::raw::engines::{self, Inputs};
+use crate::raw::{self, Extent, Fault, Outcome};
+use crate::raw::{BAD_RULES, DONE, NOT_LINKED, REFUSED, SMALL_ROOM, TOO_LONG};
 use crate::refusal::{LinkRefusal, Refusal};
 use crate::{Error, File};
 
@@ -87,7 +87,7 @@ impl Default for Options<'_> {
 ///
 /// [`Failure::OutOfMemory`] alone.
 pub fn show(bytes: &[u8]) -> Result<Vec<u8>, Failure> {
-    match said(|buffer| raw::show(bytes, buffer)) {
+    match said(|buffer| engines::show(bytes, buffer)) {
         Ok(text) | Err((REFUSED, _, text)) => Ok(text),
         Err((status, outcome, _)) => Err(failure(status, outcome)),
     }
@@ -109,7 +109,7 @@ pub fn refused_tables(bytes: &[u8]) -> Result<Vec<(usize, Refusal)>, Failure> {
     let is_there = verdicts.try_reserve_exact(count);
     is_there.map_err(|_| Failure::OutOfMemory)?;
     verdicts.resize(count, Fault::default());
-    let (status, outcome) = raw::table_verdicts(bytes, &mut verdicts);
+    let (status, outcome) = engines::table_verdicts(bytes, &mut verdicts);
     if status != DONE {
         return Err(failure(status, outcome));
     }
@@ -145,7 +145,7 @@ pub fn refused_tables(bytes: &[u8]) -> Result<Vec<(usize, Refusal)>, Failure> {
 /// );
 /// ```
 pub fn rewrite(bytes: &[u8]) -> Result<Vec<u8>, Failure> {
-    said(|buffer| raw::rewrite(bytes, buffer))
+    said(|buffer| engines::rewrite(bytes, buffer))
         .map_err(|(status, outcome, _)| failure(status, outcome))
 }
 
@@ -158,7 +158,7 @@ pub fn rewrite(bytes: &[u8]) -> Result<Vec<u8>, Failure> {
 pub fn link(files: &[&[u8]], options: &Options<'_>, rules: &str) -> Result<Vec<u8>, Failure> {
     let (bytes, places) = joined(files)?;
     let inputs = inputs(&bytes, &places, options, rules);
-    said(|buffer| raw::link(&inputs, options.entry, buffer))
+    said(|buffer| engines::link(&inputs, options.entry, buffer))
         .map_err(|(status, outcome, _)| failure(status, outcome))
 }
 
@@ -171,7 +171,7 @@ pub fn link(files: &[&[u8]], options: &Options<'_>, rules: &str) -> Result<Vec<u
 pub fn map(files: &[&[u8]], options: &Options<'_>, rules: &str) -> Result<Vec<u8>, Failure> {
     let (bytes, places) = joined(files)?;
     let inputs = inputs(&bytes, &places, options, rules);
-    said(|buffer| raw::map(&inputs, buffer))
+    said(|buffer| engines::map(&inputs, buffer))
         .map_err(|(status, outcome, _)| failure(status, outcome))
 }
 
@@ -249,7 +249,7 @@ fn inputs<'a>(
     Inputs {
         bytes,
         files,
-        options: LinkOptions {
+        options: raw::Options {
             base: options.base,
             page: options.page,
             uses_rules: 1,

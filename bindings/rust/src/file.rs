@@ -4,10 +4,7 @@ use core::fmt;
 
 use crate::constants::{PT_NULL, SHT_NOBITS, SHT_NULL};
 use crate::entries::{Entries, Entry, Place};
-#[cfg(feature = "alloc")]
-use crate::raw::Piece;
-use crate::raw::SectionHeader;
-use crate::raw::{self, Extent, Fault, Header, Numbers, ProgramHeader, Table, SHORT_ROOM};
+use crate::raw::{self, Extent, Fault, Header, ProgramHeader, SectionHeader, Table, SHORT_ROOM};
 use crate::refusal::Refusal;
 
 /// How many extents the first buffer has, on the stack: enough for a file with 61 sections.
@@ -39,7 +36,7 @@ const SMALL_ROOM: usize = 64;
 #[derive(Clone, Copy)]
 pub struct File<'a> {
     bytes: &'a [u8],
-    numbers: Numbers,
+    numbers: raw::File,
     header: Header,
 }
 
@@ -84,7 +81,7 @@ impl<'a> File<'a> {
     /// The first rule that they break, and the lowest offset at which they do.
     pub fn parse(bytes: &'a [u8]) -> Result<Self, Refusal> {
         validate(bytes).map_err(|Fault { rule, at }| Refusal { rule, offset: at })?;
-        let numbers = raw::numbers(bytes).expect("the rules were kept");
+        let numbers = raw::file(bytes).expect("the rules were kept");
         let header = raw::header(bytes).expect("the rules were kept");
         Ok(File {
             bytes,
@@ -165,10 +162,10 @@ impl<'a> File<'a> {
     /// little. It needs the feature `alloc`.
     #[cfg(feature = "alloc")]
     pub fn parts(&self) -> Option<Vec<Part>> {
-        let mut buffer: Vec<Piece> = Vec::new();
+        let mut buffer: Vec<raw::Part> = Vec::new();
         let wanted = raw::parts(self.bytes, &mut buffer).err()?.at as usize;
         buffer.try_reserve_exact(wanted).ok()?;
-        buffer.resize(wanted, Piece::default());
+        buffer.resize(wanted, raw::Part::default());
         let count = raw::parts(self.bytes, &mut buffer).ok()?;
         Some(buffer[..count as usize].iter().map(Part::of).collect())
     }
@@ -178,7 +175,7 @@ impl<'a> File<'a> {
         raw::load(&self.numbers, self.bytes, address)
     }
 
-    pub(crate) fn numbers(&self) -> &Numbers {
+    pub(crate) fn numbers(&self) -> &raw::File {
         &self.numbers
     }
 
@@ -263,16 +260,16 @@ pub struct Part {
 
 #[cfg(feature = "alloc")]
 impl Part {
-    fn of(piece: &Piece) -> Part {
+    fn of(it: &raw::Part) -> Part {
         Part {
-            start: piece.start as usize,
-            len: piece.len as usize,
-            owner: match piece.owner {
-                0 => Owner::Header,
-                1 => Owner::SectionHeaders,
-                2 => Owner::ProgramHeaders,
-                u64::MAX => Owner::Gap,
-                owner => Owner::Content(owner as usize - 3),
+            start: it.start as usize,
+            len: it.len as usize,
+            owner: match it.owner {
+                raw::HEADER => Owner::Header,
+                raw::SECTION_HEADERS => Owner::SectionHeaders,
+                raw::PROGRAM_HEADERS => Owner::ProgramHeaders,
+                raw::GAP => Owner::Gap,
+                owner => Owner::Content((owner - raw::CONTENTS) as usize),
             },
         }
     }

@@ -5,7 +5,7 @@ use crate::constants::{
     SHT_DYNAMIC, SHT_DYNSYM, SHT_HASH, SHT_NOTE, SHT_REL, SHT_RELA, SHT_SYMTAB,
 };
 use crate::entries::{Entries, Entry, Place};
-use crate::raw::{self, Dynamic, NoteEntry, Relocation, SymbolEntry, Table};
+use crate::raw::{self, Dynamic, Relocation, Table};
 use crate::File;
 
 /// A symbol of a symbol table.
@@ -128,7 +128,7 @@ impl<'a> File<'a> {
         Some(Entries::new(Place { file: *self, table }, count))
     }
 
-    fn note(&self, entry: NoteEntry) -> Note<'a> {
+    fn note(&self, entry: raw::Note) -> Note<'a> {
         Note {
             name: self.at(entry.name),
             desc: self.at(entry.desc),
@@ -156,13 +156,13 @@ impl<'a> Entry<'a> for Symbol<'a> {
 
 /// A symbol whose section is a word of an index table that has no such word. Its own table has some
 /// word in that place, which says nothing.
-fn without_its_word(from: &Place<'_>, index: usize) -> SymbolEntry {
+fn without_its_word(from: &Place<'_>, index: usize) -> raw::Symbol {
     let table = Table {
         linked: from.table.content,
         ..from.table
     };
     let entry = raw::symbol(&table, from.file.bytes(), index as u64);
-    SymbolEntry {
+    raw::Symbol {
         section: 0,
         ..entry.unwrap_or_default()
     }

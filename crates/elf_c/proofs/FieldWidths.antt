@@ -1,6 +1,8 @@
 -- The widths of fields, one after the other.
 use Rattle.std.proofs.Common.{◌≡◌, ℕ, ◌+◌, ◌<◌, ◌≤◌, List, [], ◌∷◌, ◌++◌, ap, arith, drop, get_or, take, take-append-drop, length}
 use Rattle.std.proofs.lemmas.List.{take_more}
+use Rattle.elf_c.specs.Fields.{IsFieldAt}
+use Rattle.elf_c_parts.specs.declared.room.Slot.{Slot}
 use Rattle.elf_field.specs.Record.{width_of}
 
 width-append : (xs ys : List ℕ) → width_of (xs ++ ys) ≡ width_of xs + width_of ys
@@ -20,3 +22,10 @@ width_part ws k =
     let whole = ap width_of (take-append-drop k ws) in
     let joined = width-append (take k ws) (drop k ws) in
     omega (arith, whole, joined)
+
+-- a field ends in its record
+pub field_inside : (ws : List ℕ) (x : ℕ) (field : Slot) → IsFieldAt ws x field → x < width_of ws
+field_inside ws x field is =
+    let more = width_more ws is.index is.there in
+    let part = width_part ws (is.index + 1) in
+    omega (arith, more, part, is.start, is.width, is.before)

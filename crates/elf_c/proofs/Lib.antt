@@ -1,5 +1,9 @@
 mod FieldWidths
 mod Listed
-mod ReadFiles
+mod NotePlaces
 mod ReadEntries
+mod ReadFiles
+mod ReadNames
 mod ReadTables
+mod ReadWords
+mod WholeNotes

@@ -3,32 +3,29 @@ use Rattle.std.proofs.Common.{◌≡◌, ◌<◌, ◌≤◌, ℕ, List, true, fa
 use Rattle.std.specs.List.{before_first, position_or_len}
 use Rattle.std.proofs.lemmas.Bool.{false_from_ne_true, cases_eq, cases_lt}
 use Rattle.std.proofs.lemmas.Bool.Decides.{Decides-int_eq}
-use Rattle.std.proofs.lemmas.List.{get_or-take, length-take, length-take-le, length-drop}
+use Rattle.std.proofs.lemmas.List.{get_or-take, length-take, length-take-le}
 use Rattle.std.proofs.lemmas.List.FromFn.{get_or-map-range_with_len, length-map-range_with_len}
 use Rattle.std.proofs.lemmas.List.Sums.{position_or_len_is}
 use Rattle.std.specs.Prelude.{slice_get, unwrap_or}
 use Rattle.std.proofs.lemmas.Option.{slice_get-get_or, slice_get_within, unwrap_or-slice_get}
-use Rattle.elf_c.proofs.ReadFiles.{content_listed, count_listed, section_listed}
-use Rattle.elf_c.proofs.ReadTables.{table_content, table_order, table_sound, table_strings, table_linked, index_bytes, index_words_long, table_kind}
+use Rattle.elf_c.proofs.ReadFiles.{content_listed}
+use Rattle.elf_c.proofs.ReadTables.{content_long, table_content, table_order, table_sound, table_strings, table_linked, index_bytes, index_words_long, table_kind}
 use Rattle.elf_c.specs.Files.{order_named}
-use Rattle.elf_c.specs.Tables.{entries_before_null, IsTableOf, length_of_table, slot_bytes, HasSymbol, no_note_value, NoteStandsAt}
+use Rattle.elf_c.specs.Tables.{entries_before_null, IsTableOf, length_of_table, slot_bytes, HasSymbol, no_note_value, NoteStandsAt, whole_notes}
 use Rattle.elf_c.specs.declared.shapes.Note.{Note}
 use Rattle.elf_c.specs.declared.shapes.Table.{Table}
 use Rattle.elf_c_parts.specs.declared.room.Slot.{Slot}
 use Rattle.elf_extent.specs.declared.extent.Extent.{Extent}
 use Rattle.elf_field.proofs.RecordTableLaws.{record_of_part}
-use Rattle.elf_field.specs.Abi.{DT_NULL, SHT_HASH, SHN_XINDEX, WORD_SIZE, NHDR_SIZE, N_DESCSZ_AT, N_NAMESZ_AT}
+use Rattle.elf_field.specs.Abi.{DT_NULL, SHN_XINDEX, WORD_SIZE, NHDR_SIZE, N_DESCSZ_AT, N_NAMESZ_AT}
 use Rattle.elf_field.specs.Entries.{word_at, word_laws}
 use Rattle.elf_field.specs.declared.dynamic.Dyn.{Dyn}
-use Rattle.elf_field.specs.declared.ehdr.Ehdr.{Ehdr}
 use Rattle.elf_field.specs.declared.number.Order.{Order}
-use Rattle.elf_field.specs.declared.shdr.Shdr.{Shdr}
-use Rattle.elf_image_rules.proofs.Public.{FirstIn-front, FirstIn-behind, sound_file, table_some}
-use Rattle.elf_image_rules.specs.KeepsRules.{HasSoundTables}
+use Rattle.elf_image_rules.proofs.Public.{FirstIn-front, FirstIn-behind}
 use Rattle.elf_image_rules.specs.Rows.{FirstIn}
-use Rattle.elf_image_rules.specs.Tables.{bytes_in, content_extent, file_counts, header, section_header_count, sections}
+use Rattle.elf_image_rules.specs.Tables.{bytes_in}
 use Rattle.elf_table_all.specs.Tables.{dynamic_strings}
-use Rattle.elf_table_hash.proofs.Public.{hash_content, names_of_section, sound_hash_type, valid_in_section}
+use Rattle.elf_table_hash.proofs.Public.{names_of_section, sound_hash_type, valid_in_section}
 use Rattle.elf_table_hash.specs.HashRules.{hash_table_rules}
 use Rattle.elf_table_hash.specs.HashTable.{Valid, hash_in, names_in, symbol_names_of}
 use Rattle.elf_table_hash.specs.HashView.{hash_of_section}
@@ -185,37 +182,13 @@ table_hash t b i is =
 
 -- ---- a table that breaks no rule is one for these names
 
-hash_inside : (len : ℕ) (h : Ehdr) (s : ℕ → Shdr) (i : ℕ) → HasSoundTables len h s → i < section_header_count h (s 0) →
-    (s i).sh_type ≡ SHT_HASH → 0 < (s i).sh_size → (s i).sh_offset + (s i).sh_size ≤ len
-hash_inside len h s zero sound below typed some =
-    let null = sound.null (table_some h (s 0) (omega arith)) in
-    absurd (omega arith)
-hash_inside len h s (suc i) sound below typed some =
-    sound.content (suc i) (omega arith) below (λ null. absurd (omega arith)) (λ bits. absurd (omega arith)) some
-
-hash_long : (b : List ℕ) (s : Shdr) → s.sh_type ≡ SHT_HASH → (0 < s.sh_size → s.sh_offset + s.sh_size ≤ length b) →
-    length (bytes_in b (content_extent s)) ≡ s.sh_size
-hash_long b s typed inside =
-    let whole = hash_content s typed in
-    let left = length-drop s.sh_offset b in
-    let cut = length-take s.sh_size (drop s.sh_offset b) in
-    rw whole (elim (cases_eq s.sh_size 0) [
-      | inl none ↦ omega arith
-      | inr some ↦ (let fits = inside (omega arith) in omega arith)
-    ])
-
 pub table_valid : (t : Table) (b : List ℕ) (i : ℕ) → IsTableOf HashTable t b i →
     let hash = hash_of_section (sections_in b) i in Valid hash.words hash.names
 table_valid t b i is =
     let f = sections_in b in
-    let h = header b in
     let sound = table_sound HashTable t b i is in
-    let below : i < (file_counts b).sections = subst (λ (n : ℕ). i < n) (count_listed b) is.there in
-    let same : section f i ≡ sections b h i = section_listed b i below in
     let typed = sound_hash_type f i sound in
-    let inside = hash_inside (length b) h (sections b h) i (sound_file b h refl is.kept) below (ap (λ (s : Shdr). s.sh_type) (sym same) ∙ typed) in
-    let own = subst (λ (s : Shdr). 0 < s.sh_size → s.sh_offset + s.sh_size ≤ length b) (sym same) inside in
-    valid_in_section f i sound (ap length (content_listed b i is.there) ∙ hash_long b (section f i) typed own)
+    valid_in_section f i sound (content_long b i is.kept is.there (λ null. omega arith) (λ bits. omega arith))
 
 -- By the numbers of a table of a file, order, content and linked contents are the section's, and so are the symbols read
 -- (`symbols_by_numbers`). Rules 50 and 51 give each symbol with index 0xffff a word in the index table. So symbol j is there exactly if j
@@ -310,8 +283,7 @@ symbol_by_numbers t b i j is within =
     sym (symbol_get (order_named t.ei_data) (slot_bytes b t.content) (slot_bytes b t.strings) (slot_bytes b t.linked) j within)
     ∙ ap (λ (symbols : List SymbolEntryValue). get_or symbols j no_symbol_entry) (symbols_by_numbers t b i is)
 
--- How many notes a content has: as many as begin in it. Each note begins where the one before it ends and is never empty, so n notes are
--- all as soon as note n would begin at the end or later.
+-- Each note begins where the one before it ends and is never empty, so there are n notes at most if note n would begin at the end or later.
 
 -- a note has a header at least
 pub note_end_above : (o : Order) (table : List ℕ) (x : ℕ) → x + NHDR_SIZE ≤ note_end o table x
@@ -319,7 +291,7 @@ unfolding note_end desc_start
 note_end_above o table x = omega arith
 
 -- each note begins where the one before it ends
-note_offset_next : (o : Order) (table : List ℕ) (x k : ℕ) → note_offset o table x (suc k) ≡ note_end o table (note_offset o table x k)
+pub note_offset_next : (o : Order) (table : List ℕ) (x k : ℕ) → note_offset o table x (suc k) ≡ note_end o table (note_offset o table x k)
 unfolding note_offset
 note_offset_next o table x zero = refl
 note_offset_next o table x (suc k) = note_offset_next o table (note_end o table x) k
@@ -342,19 +314,6 @@ no_more o table n past =
           absurd cc
       | inr past ↦ past
     ]
-
-at_least : (o : Order) (table : List ℕ) (n : ℕ) → ((k : ℕ) → k < n → note_offset o table 0 k < length table) → n ≤ length (notes_in o table 0)
-at_least o table zero begin = omega arith
-at_least o table (suc n) begin =
-    let there = slice_get_within (notes_in o table 0) n _ (note_entry o table 0 n (begin n (omega arith))) in
-    omega arith
-
-pub length_notes : (o : Order) (table : List ℕ) (n : ℕ) → ((k : ℕ) → k < n → note_offset o table 0 k < length table) →
-    length table ≤ note_offset o table 0 n → n ≡ length (notes_in o table 0)
-length_notes o table n begin past =
-    let low = at_least o table n begin in
-    let high = no_more o table n past in
-    omega arith
 
 -- The notes of a note section, read by the numbers of a table. A note's words and its end are the same in the content and in the file,
 -- shifted by the content's start; and since all notes are whole, note k is there exactly if its end lies in the content.
@@ -416,6 +375,15 @@ whole_by_numbers t b i is =
     subst (λ (o : Order). AreNotesWhole o (slot_bytes b t.content) 0) (sym (table_order NoteSection t b i is))
     (subst (λ (c : List ℕ). AreNotesWhole (order f) c 0) (sym (table_content NoteSection t b i is))
     (notes_whole (order f) (content f i) _ (table_sound NoteSection t b i is).1))
+
+-- its numbers have the count of those before the first that is cut
+pub table_whole : (t : Table) (b : List ℕ) (i : ℕ) → IsTableOf NoteSection t b i →
+    t.entries ≡ whole_notes (order_named t.ei_data) (slot_bytes b t.content)
+table_whole t b i is =
+    let f = sections_in b in
+    ap (λ (u : Table). u.entries) is.numbers ∙ ap (λ (k : Option TableKind). length_of_table k f i) is.typed
+    ∙ ap (λ (o : Order). whole_notes o (content f i)) (sym (table_order NoteSection t b i is))
+    ∙ ap (whole_notes (order_named t.ei_data)) (sym (table_content NoteSection t b i is))
 
 notes_by_numbers : (t : Table) (b : List ℕ) (i : ℕ) → IsTableOf NoteSection t b i →
     notes_in (order_named t.ei_data) (slot_bytes b t.content) 0 ≡ notes_of (sections_in b) i

@@ -1,6 +1,9 @@
 pub mod Bulk
 pub mod Fields
 pub mod Files
+pub mod Names
 pub mod Owners
 pub mod Places
 pub mod Tables
+pub mod Version
+pub mod Words

@@ -1,7 +1,7 @@
 -- The numbers of a table that the accessors of its entries need, and what they say about it. (gABI chapter 4, Sections, Symbol Table,
 -- Relocation; chapter 5, Note Section, Dynamic Section, Hash Table.)
-use Rattle.std.specs.Prelude.{◌≡◌, ℕ, ◌<◌, List, MatchOption, Option, None, Some, SomeIff, get_or, length, slice_index, ◌/◌, ◌+◌, ◌-◌, ◌==◌, ◌||◌, if◌then◌else◌, ◌*◌, ◌%◌, ◌≤◌, [], pos, unwrap_or}
-use Rattle.std.specs.List.{before_first}
+use Rattle.std.specs.Prelude.{◌≡◌, ℕ, ◌<◌, Bool, List, MatchOption, Option, None, Some, SomeIff, get_or, length, slice_index, ◌/◌, ◌+◌, ◌-◌, ◌==◌, ◌||◌, if◌then◌else◌, ◌*◌, ◌%◌, ◌≤◌, [], map, nat_lt, pos, unwrap_or}
+use Rattle.std.specs.List.{before_first, range_with_len}
 use Rattle.elf_c.specs.Files.{order_named}
 use Rattle.elf_c.specs.declared.shapes.DynamicEntry.{DynamicEntry}
 use Rattle.elf_c.specs.declared.shapes.Note.{Note}
@@ -11,9 +11,10 @@ use Rattle.elf_c.specs.declared.shapes.Table.{Table}
 use Rattle.elf_c_parts.specs.Slots.{extent_in}
 use Rattle.elf_c_parts.specs.declared.room.Slot.{Slot}
 use Rattle.elf_extent.specs.declared.extent.Extent.{Extent}
-use Rattle.elf_field.specs.Abi.{EI_DATA, WORD_SIZE, SHT_NULL, SHN_XINDEX}
+use Rattle.elf_field.specs.Abi.{EI_DATA, WORD_SIZE, SHT_NULL, SHT_SYMTAB_SHNDX, SHN_XINDEX}
 use Rattle.elf_field.specs.declared.dynamic.Dyn.{Dyn}
 use Rattle.elf_field.specs.declared.number.Order.{Order}
+use Rattle.elf_field.specs.declared.shdr.Shdr.{Shdr}
 use Rattle.elf_field.specs.declared.sym.Sym.{Sym}
 use Rattle.elf_image_rules.specs.Rows.{FirstIn}
 use Rattle.elf_image_rules.specs.Rules.{KeepsRecordRules}
@@ -22,7 +23,7 @@ use Rattle.elf_image_type.specs.ImageView.{string}
 use Rattle.elf_table_all.specs.Tables.{table_rules}
 use Rattle.elf_table_hash.specs.HashTable.{words_in}
 use Rattle.elf_table_lists.specs.Dynamic.{dynamic_array_of, dynamic_entries, dynamic_entry, dynamic_entry_count, is_null_entry, no_dynamic_entry}
-use Rattle.elf_table_lists.specs.Notes.{notes_of, notes_in, desc_start, descsz, name_start, namesz, NoteValue, note_end}
+use Rattle.elf_table_lists.specs.Notes.{desc_start, descsz, name_start, namesz, NoteValue, note_end, note_offset}
 use Rattle.elf_table_lists.specs.Relocations.{relocations_of, has_addends, no_relocation_entry, relocation_count, relocation_in}
 use Rattle.elf_table_symbols.specs.Sections.{Sections, content, count, order, section, sections_in, kind_of}
 use Rattle.elf_table_symbols.specs.SymbolView.{no_symbol_entry}
@@ -47,6 +48,20 @@ abbrev pub index_place : Sections → Option ℕ → Slot
 index_place f None = no_place
 index_place f (Some j) = content_place f j
 
+-- The notes of a content up to the first that is cut. (gABI chapter 5, Note Section.)
+
+-- where the notes of a content begin, as many as it could have bytes
+abbrev pub note_offsets : Order → List ℕ → List ℕ
+note_offsets o table = map (note_offset o table 0) (range_with_len 0 (length table))
+
+-- the note at offset x is cut: it does not end in the content
+abbrev pub is_cut : Order → List ℕ → ℕ → Bool
+is_cut o table x = nat_lt (length table) (note_end o table x)
+
+-- how many notes are before the first that is cut
+abbrev pub whole_notes : Order → List ℕ → ℕ
+whole_notes o table = length (before_first (is_cut o table) (note_offsets o table))
+
 -- ---- what a table of this kind in section i, which links to section `link`, is read by beside its own content
 
 -- the index table of a symbol table, the symbol table of a hash table
@@ -62,23 +77,30 @@ strings_place (Some DynamicArray) f link = content_place f link
 strings_place (Some HashTable) f link = content_place f (section f link).sh_link
 strings_place _ f link = no_place
 
--- the accessors read such a table, and the sections are there that it links to: a note section links to none
-abbrev pub IsLinkThere : Option TableKind → Sections → ℕ → Type 0
-IsLinkThere (Some SymbolTable) f link = link < count f
-IsLinkThere (Some RelocationTable) f link = link < count f
-IsLinkThere (Some DynamicArray) f link = link < count f
-IsLinkThere (Some HashTable) f link = (link < count f) × ((section f link).sh_link < count f)
-IsLinkThere (Some NoteSection) f link = Unit {0}
-IsLinkThere _ f link = ⊥
+-- the accessors read a table of this kind with this section header, and the sections are there that it links to: a note section links to
+-- none, and an index table, which is of no kind, to its symbol table
+abbrev pub IsLinkThere : Option TableKind → Sections → Shdr → Type 0
+IsLinkThere (Some SymbolTable) f s = s.sh_link < count f
+IsLinkThere (Some RelocationTable) f s = s.sh_link < count f
+IsLinkThere (Some SectionGroup) f s = s.sh_link < count f
+IsLinkThere (Some DynamicArray) f s = s.sh_link < count f
+IsLinkThere (Some HashTable) f s = (s.sh_link < count f) × ((section f s.sh_link).sh_link < count f)
+IsLinkThere (Some NoteSection) f s = Unit {0}
+IsLinkThere None f s = (s.sh_type ≡ SHT_SYMTAB_SHNDX) × (s.sh_link < count f)
 
--- how many entries it has; a hash table its words
+-- the words of section i: of a group, an index table or a hash table
+abbrev pub words_of : Sections → ℕ → List ℕ
+words_of f i = words_in (order f) (content f i)
+
+-- how many entries it has: a note section the notes before the first that is cut; a group, an index table and a hash table their words
 abbrev pub length_of_table : Option TableKind → Sections → ℕ → ℕ
 length_of_table (Some SymbolTable) f i = length (symbols_of f i)
 length_of_table (Some RelocationTable) f i = length (relocations_of f i)
+length_of_table (Some SectionGroup) f i = length (words_of f i)
 length_of_table (Some DynamicArray) f i = length (dynamic_array_of f i)
-length_of_table (Some HashTable) f i = length (words_in (order f) (content f i))
-length_of_table (Some NoteSection) f i = length (notes_of f i)
-length_of_table _ f i = 0
+length_of_table (Some HashTable) f i = length (words_of f i)
+length_of_table (Some NoteSection) f i = whole_notes (order f) (content f i)
+length_of_table None f i = length (words_of f i)
 
 -- ---- the numbers of a table
 
@@ -87,7 +109,7 @@ abbrev pub HoldsTable : List ℕ → ℕ → Type 0
 HoldsTable b i =
     let f = sections_in b in
     let s = section f i in
-    (i < count f) × IsLinkThere (kind_of s.sh_type) f s.sh_link
+    (i < count f) × IsLinkThere (kind_of s.sh_type) f s
 
 -- the numbers of the table in section i: of what the bytes hold
 abbrev pub table_in : List ℕ → ℕ → Table
@@ -122,14 +144,15 @@ pub record IsTableOf (kind : TableKind) (table : Table) (b : List ℕ) (i : ℕ)
 abbrev pub entries_before_null : Order → List ℕ → ℕ
 entries_before_null o table = length (before_first is_null_entry (dynamic_entries o table (dynamic_entry_count table)))
 
--- of a table of this kind in a section of this type: no accessor reads the members of a group
-abbrev pub length_in : TableKind → ℕ → Order → List ℕ → ℕ
-length_in SymbolTable type o table = entry_count table
-length_in RelocationTable type o table = relocation_count (has_addends type) table
-length_in SectionGroup type o table = 0
-length_in NoteSection type o table = length (notes_in o table 0)
-length_in DynamicArray type o table = entries_before_null o table
-length_in HashTable type o table = length table / WORD_SIZE
+-- of a table of this kind in a section of this type; an index table is of no kind
+abbrev pub length_in : Option TableKind → ℕ → Order → List ℕ → ℕ
+length_in (Some SymbolTable) type o table = entry_count table
+length_in (Some RelocationTable) type o table = relocation_count (has_addends type) table
+length_in (Some SectionGroup) type o table = length table / WORD_SIZE
+length_in (Some NoteSection) type o table = whole_notes o table
+length_in (Some DynamicArray) type o table = entries_before_null o table
+length_in (Some HashTable) type o table = length table / WORD_SIZE
+length_in None type o table = length table / WORD_SIZE
 
 -- Where strings, the names of sections and what notes hold are in a file. (gABI chapter 4, Sections, String Table; chapter 5, Note
 -- Section.)
@@ -237,6 +260,10 @@ abbrev pub HasNoteAt : Table → List ℕ → ℕ → Type 0
 HasNoteAt t b x =
     let notes = slot_bytes b t.content in
     IsTableOfKind NoteSection t × (note_end (order_named t.ei_data) notes x ≤ length notes)
+
+-- a note section has a note j that is whole, as each before it is
+abbrev pub HasNote : Table → List ℕ → ℕ → Type 0
+HasNote t b j = IsTableOfKind NoteSection t × (j < whole_notes (order_named t.ei_data) (slot_bytes b t.content))
 
 -- its name and its descriptor lie in a file of len bytes
 abbrev pub LiesInFile : Note → ℕ → Type 0

@@ -1,13 +1,17 @@
 //! Many entries at once, in a buffer of the caller.
 ghost use Rattle.std.specs.Prelude.{ℕ};
-ghost use Rattle.elf_table_symbols.specs.declared.table_section.TableKind.TheVariants.{DynamicArray, RelocationTable, SymbolTable};
+ghost use Rattle.elf_table_lists.specs.Groups.{group_of};
+ghost use Rattle.elf_table_symbols.specs.Sections.{sections_in};
+ghost use Rattle.elf_table_symbols.specs.declared.table_section.TableKind.TheVariants.{DynamicArray, RelocationTable, SectionGroup, SymbolTable};
 ghost use Rattle.elf_c.specs.Bulk.{IsFilled};
 ghost use Rattle.elf_c.specs.Files.{IsFileOf, ListsSection, ReadsSection};
-ghost use Rattle.elf_c.specs.Tables.{IsTableOf, ListsDynamic, ListsRelocation, ListsSymbol, ReadsDynamic, ReadsRelocation, ReadsSymbol};
+ghost use Rattle.elf_c.specs.Tables.{IsTableOf, ListsDynamic, ListsRelocation, ListsSymbol, ReadsDynamic, ReadsRelocation, ReadsSymbol, words_of};
+ghost use Rattle.elf_c.specs.Words.{AreWordsOf, ListsWord, ReadsWord, words_of_group};
 
 use crate::entries::{dynamic_of, relocation_of, symbol_of};
 use crate::file::section_in;
 use crate::shapes::{DynamicEntry, File, Relocation, Section, Symbol, Table};
+use crate::words::word_of;
 
 /// Puts the section headers from `first` on into the buffer, as many as lie in the file and fit. Returns how many these are.
 #[unsafe(no_mangle)]
@@ -68,6 +72,19 @@ pub extern "C" fn elfmap_dynamics(
         IsFilled (ListsDynamic bytes.now i) first buffer.old buffer.new result }
 {
     fill(buffer, first, |index| dynamic_of(table, bytes, index))
+}
+
+/// Puts the words of a section group, an index table or a hash table from `first` on into the buffer, as many as there are and fit. Returns
+/// how many these are.
+#[unsafe(no_mangle)]
+pub extern "C" fn elfmap_words(table: &Table, bytes: &[u8], first: u64, buffer: &mut [u32]) -> u64
+    ensures read { IsFilled (ReadsWord table.now bytes.now) first buffer.old buffer.new result }
+    ensures listed { (i : ℕ) → AreWordsOf table.now bytes.now i →
+        IsFilled (ListsWord (words_of (sections_in bytes.now) i)) first buffer.old buffer.new result }
+    ensures group { (i : ℕ) → IsTableOf SectionGroup table.now bytes.now i →
+        IsFilled (ListsWord (words_of_group (group_of (sections_in bytes.now) i))) first buffer.old buffer.new result }
+{
+    fill(buffer, first, |index| word_of(table, bytes, index))
 }
 
 /// Puts the entries from `first` on into the buffer, up to the first that is not there, and as many as fit. Returns how many these are.

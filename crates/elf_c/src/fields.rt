@@ -1,6 +1,6 @@
 //! The fields of records: which one a byte of a record is in (gABI chapter 4, ELF Header, Sections, Symbol Table, Relocation; chapter 5,
 //! Program Header, Dynamic Section).
-ghost use Rattle.std.specs.Prelude.{◌≡◌, ◌≤◌, MatchOption};
+ghost use Rattle.std.specs.Prelude.{◌≡◌, ◌≤◌, ◌<◌, ◌^◌, MatchOption};
 ghost use Rattle.elf_c.specs.Fields.{IsFieldAt, record_widths};
 ghost use Rattle.elf_field.specs.Record.{width_of};
 
@@ -29,23 +29,23 @@ pub enum RecordKind {
 
 // The widths of their fields, one after the other. Each byte of `e_ident` is a field of its own.
 
-const EHDR_WIDTHS: &[u8] = &[
+const EHDR_WIDTHS: &[u64] = &[
     1, 1, 1, 1, 1, 1, 1, 1, 1, 1, 1, 1, 1, 1, 1, 1, 2, 2, 4, 8, 8, 8, 4, 2, 2, 2, 2, 2, 2,
 ];
 
-const SHDR_WIDTHS: &[u8] = &[4, 4, 8, 8, 8, 8, 4, 4, 8, 8];
+const SHDR_WIDTHS: &[u64] = &[4, 4, 8, 8, 8, 8, 4, 4, 8, 8];
 
-const PHDR_WIDTHS: &[u8] = &[4, 4, 8, 8, 8, 8, 8, 8];
+const PHDR_WIDTHS: &[u64] = &[4, 4, 8, 8, 8, 8, 8, 8];
 
-const SYM_WIDTHS: &[u8] = &[4, 1, 1, 2, 8, 8];
+const SYM_WIDTHS: &[u64] = &[4, 1, 1, 2, 8, 8];
 
-const RELA_WIDTHS: &[u8] = &[8, 8, 8];
+const RELA_WIDTHS: &[u64] = &[8, 8, 8];
 
-const REL_WIDTHS: &[u8] = &[8, 8];
+const REL_WIDTHS: &[u64] = &[8, 8];
 
-const DYN_WIDTHS: &[u8] = &[8, 8];
+const DYN_WIDTHS: &[u64] = &[8, 8];
 
-const WORD_WIDTHS: &[u8] = &[4];
+const WORD_WIDTHS: &[u64] = &[4];
 
 /// The field of a record that has its byte at this offset from its beginning; None past its end.
 pub fn field_at(kind: RecordKind, at: u64) -> Option<Slot>
@@ -55,9 +55,9 @@ pub fn field_at(kind: RecordKind, at: u64) -> Option<Slot>
 }
 
 /// The widths of the fields of a record.
-fn widths_of(kind: RecordKind) -> &'static [u8]
+fn widths_of(kind: RecordKind) -> &'static [u64]
     ensures widths { result.now ≡ record_widths kind }
-    ensures short { width_of result.now ≤ 64 }
+    ensures short { width_of result.now < 2 ^ 64 }
 {
     match kind {
         RecordKind::Ehdr => EHDR_WIDTHS,
@@ -72,13 +72,13 @@ fn widths_of(kind: RecordKind) -> &'static [u8]
 }
 
 /// Of fields of these widths, one after the other, the one that has the byte at this offset; None past their end.
-fn field_in(widths: &[u8], at: u64) -> Option<Slot>
-    requires { width_of widths.now ≤ 64 }
+pub fn field_in(widths: &[u64], at: u64) -> Option<Slot>
+    requires { width_of widths.now < 2 ^ 64 }
     ensures { MatchOption result (width_of widths.now ≤ at) (IsFieldAt widths.now at) }
 {
     let mut start = 0;
     for k in 0..widths.len() {
-        let len = widths[k] as u64;
+        let len = widths[k];
         if at < start + len {
             return Some(Slot { start, len });
         }

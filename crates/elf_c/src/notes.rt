@@ -4,7 +4,7 @@ ghost use Rattle.std.specs.Bool.{OnFalse, OnTrue};
 ghost use Rattle.elf_table_symbols.specs.Sections.{content, order, sections_in};
 ghost use Rattle.elf_table_symbols.specs.declared.table_section.TableKind.TheVariants.{NoteSection};
 ghost use Rattle.elf_table_lists.specs.Notes.{note_at as note_of_content, note_end as note_end_of, note_offset, notes_of};
-ghost use Rattle.elf_c.specs.Tables.{HasNoteAt, LiesInFile, no_note_value, note_told, NoteStandsAt, IsTableOfKind, IsTableOf, slot_bytes};
+ghost use Rattle.elf_c.specs.Tables.{HasNote, HasNoteAt, LiesInFile, no_note_value, note_told, NoteStandsAt, IsTableOfKind, IsTableOf, slot_bytes};
 ghost use Rattle.elf_c.specs.Files.{order_named};
 
 use crate::places::{bytes_of, order_of};
@@ -28,6 +28,7 @@ pub extern "C" fn elfmap_note(table: &Table, bytes: &[u8], index: u64, note: &mu
         OnTrue result (note.new.next ≡ note_offset (order f) (content f i) 0 (index + 1)) }
     ensures stands { let t = table.now in let o = order_named t.ei_data in let notes = slot_bytes bytes.now t.content in
         OnTrue result (NoteStandsAt note.new o notes t.content.start (note_offset o notes 0 index)) }
+    ensures lies { IsTrue result ↔ HasNote table.now bytes.now index }
     ensures typed { OnTrue result (IsTableOfKind NoteSection table.now) }
     ensures inside { OnTrue result (LiesInFile note.new (length bytes.now)) }
     ensures unchanged { OnFalse result (note.new ≡ note.old) }
@@ -61,6 +62,7 @@ fn note_of_index(table: &Table, bytes: &[u8], index: u64) -> Option<Note>
         IfSome result (λ n. n.next ≡ note_offset (order f) (content f i) 0 (index + 1)) }
     ensures stands { let t = table.now in let o = order_named t.ei_data in let notes = slot_bytes bytes.now t.content in
         IfSome result (λ n. NoteStandsAt n o notes t.content.start (note_offset o notes 0 index)) }
+    ensures lies { IsSome result ↔ HasNote table.now bytes.now index }
     ensures typed { IfSome result (λ n. IsTableOfKind NoteSection table.now) }
     ensures inside { IfSome result (λ n. LiesInFile n (length bytes.now)) }
 {
@@ -90,8 +92,8 @@ fn note_of(table: &Table, bytes: &[u8], offset: u64) -> Option<Note>
     Some(note_in(order, bytes, at as usize, next))
 }
 
-/// Where the note at an offset of a content ends; None if it is cut.
-fn end_of_note(order: Order, content: &[u8], offset: u64) -> Option<usize>
+/// Where the note at an offset of a content ends; None if it is cut, and at the end.
+pub fn end_of_note(order: Order, content: &[u8], offset: u64) -> Option<usize>
     ensures { SomeIff result (note_end_of order content.now offset ≤ length content.now) (note_end_of order content.now offset) }
 {
     let len = content.len() as u64;

@@ -9,17 +9,19 @@ map and link says. C++ takes the header too."""
 
 import os
 import re
-from collections.abc import Iterable, Iterator
+from collections.abc import Iterator
 from dataclasses import replace
+
+from elfmap._declared import BAD_RULES, DONE, NOT_LINKED, REFUSED, TOO_LONG
 
 from .building import built
 from .dump import c_lines
-from .header import NUMBERS, calls, calls_in, structs, structs_in
+from .header import calls, version
 from .library import BOTH, ENGINES, FUNCTIONS, RENAMED, SOURCES, VERDICTS, WARNINGS
 from .reference import parsed, shown
 from .requirements import SANITIZERS
 from .suite import Tally, Test
-from .tree import LIBRARIES_OF, TOP, Options, read_bytes, read_text, said, texts_of, wanted, write
+from .tree import TOP, Options, read_bytes, read_text, said, wanted, write
 from .written_cases import Case, case_files, every_case
 
 CHECKERS = f"cc c++ clang nm objcopy {SANITIZERS}"
@@ -34,41 +36,10 @@ MACHINE_FILES = [
     "/usr/lib/x86_64-linux-gnu/crt1.o",
 ]
 # The results of the calls of each library, one or the other.
-RESULTS = {VERDICTS: "bool|uint64_t", ENGINES: "uint32_t"}
-# The status of an answer in C.
-DONE = 0
-REFUSED = 1
-NOT_LINKED = 2
-TOO_LONG = 3
-BAD_RULES = 6
+RESULTS = {VERDICTS: ["bool", "uint64_t"], ENGINES: ["uint32_t"]}
 COMMANDS = ("show", "rewrite", "map", "link")
 # What the engines may need of the C library beside the functions of memory.
 ON_BYTES = {"bcmp", "memchr", "memcmp", "memcpy", "memmove", "memset", "strlen"}
-# What a text in Rattle says above a struct: its tag in C.
-STRUCT = re.compile(r"`struct (elfmap_\w+)`.*\n(?:#.*\n)*pub struct (\w+) ")
-
-
-def text_of(crates: Iterable[str]) -> str:
-    """The code of these crates, with numbers for constants in types."""
-    paths = (it for crate in crates for it in texts_of(crate) if it.endswith(".rt"))
-    return "\n".join(read_text(it).replace("EI_NIDENT", "16") for it in paths)
-
-
-def compare_header(tally: Tally) -> None:
-    """The header and the texts of the library say the same: so the fields of a struct are at the
-    same offsets."""
-    text = text_of(it for it in LIBRARIES_OF if it == VERDICTS or it.startswith(f"{VERDICTS}_"))
-    declared = structs()
-    tags = {name: tag for tag, name in STRUCT.findall(text)}
-    # The struct that a program fills in itself.
-    del declared["elfmap_block"]
-    tally.same("the structs of the header", declared, structs_in(text, tags))
-    for crate, result in RESULTS.items():
-        text = text_of([crate])
-        tally.same(f"the calls of {crate}", calls(result), calls_in(text, tags))
-        results = re.findall(r" fn elfmap_\w+\([^)]*\) -> (\w+)", text)
-        own = {NUMBERS[it] for it in results}
-        tally.same(f"the results of {crate}", own, set(result.split("|")))
 
 
 def compare_names(
@@ -79,7 +50,7 @@ def compare_names(
     names = [it.split() for it in said("nm", "-g", library).stdout.splitlines() if " " in it]
     defined = sorted(it[-1] for it in names if it[-2] != "U")
     needed = {it[-1] for it in names if it[-2] == "U"}
-    tally.same(f"what {crate} exports", defined, sorted(calls(RESULTS[crate])))
+    tally.same(f"what {crate} exports", defined, sorted(calls(*RESULTS[crate])))
     tally.check(needed - may_need == needs, f"{crate} needs {sorted(needed)}")
 
 
@@ -175,7 +146,7 @@ def try_engines(tally: Tally, program: str) -> None:
 def try_c_library(tally: Tally, options: Options) -> None:
     room = tally.folder
     verdicts = built(VERDICTS)
-    compare_header(tally)
+    tally.same("the version of the header", version(), read_text("VERSION").splitlines()[0])
     compare_names(tally, verdicts, VERDICTS, set(), set())
     paths = [write(f"{room}/{name}", content) for content, name in case_files().items()]
     paths += filter(os.path.isfile, MACHINE_FILES)

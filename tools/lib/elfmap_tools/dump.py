@@ -12,6 +12,7 @@ from .reference import (
     DYNAMIC_SECTION,
     DYNSYM,
     ENTRY_SIZE,
+    GROUP,
     HASH,
     HEADER,
     LOAD,
@@ -58,6 +59,7 @@ OWNERS = {"header": 0, "sections": 1, "segments": 2, "content": 3, "gap": 2**64 
 # ---- the entries of tables: also of those that break a rule, as far as they lie in the file
 
 TABLES = (SYMTAB, DYNSYM, RELA, REL, DYNAMIC_SECTION, NOTE)
+OF_WORDS = (GROUP, SYMTAB_SHNDX, HASH)
 
 
 def content_of(f: Any, i: int | None) -> bytes:
@@ -212,15 +214,23 @@ def has_linked_sections(f: Any, i: int) -> bool:
     return kind != HASH or bool(is_section(f, f.section(link).sh_link))
 
 
+def word_lines(f: Any, i: int) -> Iterator[str]:
+    """Of a group, an index table or a hash table: its words; and what a hash table finds."""
+    for _, it in f.words(i):
+        yield f"word {it}"
+    if f.section(i).sh_type == HASH:
+        yield from found_lines(f, i)
+
+
 def table_lines(f: Any, i: int, kind: int) -> Iterator[str]:
     """Of a table whose linked sections are there: where it is and those beside it are, how many
     entries it has, and these."""
     if not has_linked_sections(f, i):
         return
-    lines = list(found_lines(f, i)) if kind == HASH else [own for own, _ in entries(f, i)]
-    if kind == NOTE:
-        count = len(notes(f, i))
-    elif kind == DYNAMIC_SECTION:
+    lines = list(word_lines(f, i)) if kind in OF_WORDS else [own for own, _ in entries(f, i)]
+    if kind in OF_WORDS:
+        count = len(f.words(i))
+    elif kind in (NOTE, DYNAMIC_SECTION):
         count = len(lines)
     else:
         count = f.section(i).sh_size // ENTRY_SIZE[kind]
@@ -251,15 +261,16 @@ def kept_lines(f: Any) -> Iterator[str]:
     counts = f"{f.section_count} {f.segment_count}"
     yield f"file {tables} {counts} {f.name_table} {f.bytes[5]}"
     yield f"header {f.bytes[:16].hex()} {fields(f.header, HEADER)}"
-    for _, it in f.sections():
-        yield f"section {fields(it, SECTION_HEADER)} {name_of(f, it).hex()}"
+    names = [name_of(f, it) for _, it in f.sections()]
+    for (_, it), name in zip(f.sections(), names):
+        yield f"section {fields(it, SECTION_HEADER)} {name.hex()} {names.index(name)}"
     for it in f.segments():
         yield f"segment {fields(it, PROGRAM_HEADER)}"
     for it in f.segments():
         if it.p_type == LOAD:
             yield from load_lines(f, it)
     for i, it in f.sections():
-        if it.sh_type in (*TABLES, HASH):
+        if it.sh_type in (*TABLES, *OF_WORDS):
             yield from table_lines(f, i, it.sh_type)
 
 

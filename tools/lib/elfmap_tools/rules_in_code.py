@@ -1,17 +1,19 @@
 """The tables of rules in the crates and the bindings, which `tools/release tables` makes of
 docs/RULES.md: the names of the rules of files, objects and links, for the faults of the crates:
 each `src/rule_names.rt`; and with their sentences for the bindings: bindings/rust/src/rules.rs and
-bindings/python/elfmap/_rules.py. It makes the constants of the crate for Rust, too."""
+bindings/python/elfmap/_rules.py. It makes the constants of the crate for Rust, too, and what both
+bindings and the page declare of include/elfmap.h."""
 
 import functools
 import glob
+import os
 import pprint
 import textwrap
 from collections.abc import Iterable, Iterator
 
-from . import constants_in_rust
+from . import constants_in_rust, header_in_code
 from .rules_page import Rule, file_rules, rules_of
-from .tree import TOP, Options, write
+from .tree import TOP, Options, read_text, write
 
 filled = functools.partial(textwrap.wrap, break_long_words=False, break_on_hyphens=False)
 MADE = "Made by `tools/release tables` from docs/RULES.md."
@@ -118,6 +120,9 @@ def tables() -> dict[str, str]:
         constants_in_rust.PATH: constants_in_rust.rust(),
         "bindings/rust/src/rules.rs": rust(),
         "bindings/python/elfmap/_rules.py": python(),
+        "bindings/rust/src/raw/declared.rs": header_in_code.rust(),
+        "bindings/python/elfmap/_declared.py": header_in_code.python(),
+        "page/declared.js": header_in_code.script(),
     }
     for path in sorted(glob.glob("crates/elf_*/src/rule_names.rt", root_dir=TOP)):
         crate = path.split("/")[1]
@@ -126,6 +131,8 @@ def tables() -> dict[str, str]:
 
 
 def write_tables(options: Options) -> None:
-    """`tools/release tables`."""
+    """`tools/release tables`. A right file keeps its time, so that no crate is built again."""
     for path, text in tables().items():
-        write(f"{TOP}/{path}", text)
+        own = f"{TOP}/{path}"
+        if not os.path.isfile(own) or read_text(own) != text:
+            write(own, text)

@@ -1,85 +1,10 @@
 //! The calls of the engines, which take memory. What an `unsafe` block relies on is in the module
 //! above.
 
-use super::{Extent, Fault};
-
-/// What an engine returns beside its status.
-#[derive(Clone, Copy, Default)]
-#[repr(C)]
-pub(crate) struct Outcome {
-    pub length: u64,
-    pub at: u64,
-    pub file: u64,
-    pub index: u64,
-    pub rule: u16,
-}
-
-#[derive(Clone, Copy, Default)]
-#[repr(C)]
-pub(crate) struct LinkOptions {
-    pub base: u64,
-    pub page: u64,
-    pub uses_rules: u32,
-}
-
-/// What an engine's status says.
-pub(crate) const DONE: u32 = 0;
-pub(crate) const REFUSED: u32 = 1;
-pub(crate) const NOT_LINKED: u32 = 2;
-pub(crate) const TOO_LONG: u32 = 3;
-pub(crate) const SMALL_ROOM: u32 = 4;
-pub(crate) const BAD_RULES: u32 = 6;
-
-extern "C" {
-    fn elfmap_show(
-        bytes: *const u8,
-        len: usize,
-        buffer: *mut u8,
-        size: usize,
-        outcome: &mut Outcome,
-    ) -> u32;
-    fn elfmap_table_verdicts(
-        bytes: *const u8,
-        len: usize,
-        first: u64,
-        buffer: *mut Fault,
-        count: usize,
-        outcome: &mut Outcome,
-    ) -> u32;
-    fn elfmap_rewrite(
-        bytes: *const u8,
-        len: usize,
-        buffer: *mut u8,
-        size: usize,
-        outcome: &mut Outcome,
-    ) -> u32;
-    fn elfmap_map(
-        bytes: *const u8,
-        len: usize,
-        files: *const Extent,
-        count: usize,
-        options: &LinkOptions,
-        rules: *const u8,
-        rules_len: usize,
-        buffer: *mut u8,
-        size: usize,
-        outcome: &mut Outcome,
-    ) -> u32;
-    fn elfmap_link(
-        bytes: *const u8,
-        len: usize,
-        files: *const Extent,
-        count: usize,
-        options: &LinkOptions,
-        entry: *const u8,
-        entry_len: usize,
-        rules: *const u8,
-        rules_len: usize,
-        buffer: *mut u8,
-        size: usize,
-        outcome: &mut Outcome,
-    ) -> u32;
-}
+use super::{
+    elfmap_link, elfmap_map, elfmap_rewrite, elfmap_show, elfmap_table_verdicts, Extent, Fault,
+    Options, Outcome,
+};
 
 pub(crate) fn show(bytes: &[u8], buffer: &mut [u8]) -> (u32, Outcome) {
     let (at, size) = (buffer.as_mut_ptr(), buffer.len());
@@ -111,7 +36,7 @@ pub(crate) fn rewrite(bytes: &[u8], buffer: &mut [u8]) -> (u32, Outcome) {
 pub(crate) struct Inputs<'a> {
     pub bytes: &'a [u8],
     pub files: &'a [Extent],
-    pub options: LinkOptions,
+    pub options: Options,
     pub rules: &'a [u8],
 }
 

@@ -6,12 +6,13 @@ use Rattle.elf_field.specs.declared.number.Order.{Order}
 use Rattle.elf_table_symbols.specs.declared.table_section.TableKind.TheVariants.{NoteSection}
 use Rattle.elf_table_symbols.specs.Sections.{content, order, sections_in}
 use Rattle.elf_table_lists.specs.Notes.{note_at, note_end, note_offset, notes_of}
-use Rattle.elf_c.specs.Tables.{note_told, slot_bytes}
+use Rattle.elf_c.specs.Tables.{note_told, slot_bytes, whole_notes}
 use Rattle.elf_c.specs.Files.{order_named}
 use Rattle.elf_c.specs.declared.shapes.Note.{Note}
 use Rattle.elf_c.proofs.ReadFiles.{none_there, some_same}
 use Rattle.elf_c.proofs.ReadEntries.{note_offset_after, none_behind, note_by_numbers, note_there}
 use Rattle.elf_c.proofs.ReadTables.{table_content, table_kind, table_order}
+use Rattle.elf_c.proofs.WholeNotes.{none_whole, whole_there}
 use Rattle.elf_c.proofs.notes.note_of_index.Goals as goal
 
 -- an offset by the bytes that were read is the one by the numbers of the table
@@ -22,14 +23,24 @@ same_offset o p s t x k is ordered read = is ∙ ap (λ (q : Order). note_offset
 abbrev IsCutBefore : ℕ → Order → List ℕ → Type 0
 IsCutBefore j o t = (k : ℕ) × (k < j) × (length t < note_end o t (note_offset o t 0 k))
 
+cut_by_numbers : (j : ℕ) (o p : Order) (s t : List ℕ) → o ≡ p → s ≡ t → IsCutBefore j o s → IsCutBefore j p t
+cut_by_numbers j o p s t ordered read cut = subst (λ (q : Order). IsCutBefore j q t) ordered (subst (IsCutBefore j o) read cut)
+
 pub returns-in_err-offset-clause-there : goal.returns-in_err-offset-clause-there
 returns-in_err-offset-clause-there c i is =
     let t = c.args.table.now in
     let b = c.args.bytes.now in
-    let cut : IsCutBefore c.args.index (order_named t.ei_data) (slot_bytes b t.content) =
-    subst (λ (o : Order). IsCutBefore c.args.index o (slot_bytes b t.content)) c.order_of.ensures
-    (subst (λ (s : List ℕ). IsCutBefore c.args.index c.order_of.result s) c.bytes_of-content.ensures.content c.in_err-offset.ensures.cut) in
+    let cut = cut_by_numbers c.args.index _ (order_named t.ei_data) _ (slot_bytes b t.content) c.order_of.ensures c.bytes_of-content.ensures.content
+    c.in_err-offset.ensures.cut in
     none_there _ _ c.from_residual.ensures (none_behind t b i cut.0 c.args.index is cut.1 cut.2)
+
+pub returns-in_err-offset-clause-lies : goal.returns-in_err-offset-clause-lies
+returns-in_err-offset-clause-lies c =
+    let t = c.args.table.now in
+    let o = order_named t.ei_data in
+    let s = slot_bytes c.args.bytes.now t.content in
+    let cut = cut_by_numbers c.args.index _ o _ s c.order_of.ensures c.bytes_of-content.ensures.content c.in_err-offset.ensures.cut in
+    none_there _ _ c.from_residual.ensures (λ has. none_whole o s cut.0 c.args.index cut.1 cut.2 has.1)
 
 pub returns-clause-there : goal.returns-clause-there
 returns-clause-there c i is =
@@ -77,3 +88,15 @@ returns-clause-stands c =
     let place = same_offset c.order_of.result o c.bytes_of-content.result.now s c.in_ok-offset.offset c.args.index c.in_ok-offset.ensures.found
     c.order_of.ensures c.bytes_of-content.ensures.content in
     rw (← place) c.note_of.ensures.stands
+
+pub returns-clause-lies : goal.returns-clause-lies
+returns-clause-lies c =
+    let t = c.args.table.now in
+    let o = order_named t.ei_data in
+    let s = slot_bytes c.args.bytes.now t.content in
+    let place = same_offset c.order_of.result o c.bytes_of-content.result.now s c.in_ok-offset.offset c.args.index c.in_ok-offset.ensures.found
+    c.order_of.ensures c.bytes_of-content.ensures.content in
+    let there = subst (λ (x : ℕ). note_end o s x ≤ length s ↔ (c.args.index < whole_notes o s)) (sym place) (whole_there o s c.args.index) in (
+      λ some. (let has = c.note_of.ensures.there.0 some in (has.0, there.0 has.1)),
+      λ has. c.note_of.ensures.there.1 (has.0, there.1 has.1),
+    )

@@ -7,7 +7,7 @@ pub returns : goal.returns
 returns c is =
     let (below, same) = c.in_ok-section.ensures.listed is in
     let (there, found) = c.in_ok-linked.ensures is in
-    table_gathered c.args.file.now c.args.bytes.now c.args.index c.in_ok-section.section c.in_ok-kind.kind c.place_of_content-place.result
-    c.in_ok-linked.linked c.in_ok-linked.strings c.length_of.result is below same c.in_ok-kind.ensures there
+    table_gathered c.args.file.now c.args.bytes.now c.args.index c.in_ok-section.section c.of-kind.result c.place_of_content-place.result
+    c.in_ok-linked.linked c.in_ok-linked.strings c.length_of.result is below same c.of-kind.ensures there
     (ap (λ (p : Slot × Slot). p.0) found) (ap (λ (p : Slot × Slot). p.1) found) c.place_of_content-place.ensures
     (rw (c.length_of.ensures, c.order_of.ensures, c.bytes_of-content.ensures.content) refl)

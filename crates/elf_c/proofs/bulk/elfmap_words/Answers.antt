@@ -1,0 +1,15 @@
+use Rattle.std.proofs.Common.{rules}
+use Rattle.elf_c.proofs.Listed.{filled_as}
+use Rattle.elf_c.proofs.ReadWords.{group_listed_as, word_listed_as}
+use Rattle.elf_c.proofs.bulk.elfmap_words.Goals as goal
+
+pub returns-clause-read : goal.returns-clause-read
+returns-clause-read c = filled_as _ _ (λ j r entry. search rules) _ _ _ _ c.fill.ensures
+
+pub returns-clause-listed : goal.returns-clause-listed
+returns-clause-listed c i are =
+    filled_as _ _ (λ j r entry. word_listed_as c.args.table.now c.args.bytes.now i j r are (search rules)) _ _ _ _ c.fill.ensures
+
+pub returns-clause-group : goal.returns-clause-group
+returns-clause-group c i is =
+    filled_as _ _ (λ j r entry. group_listed_as c.args.table.now c.args.bytes.now i j r is (search rules)) _ _ _ _ c.fill.ensures
