@@ -17,8 +17,8 @@ const COLOURS = {
 // Over the colour of bytes that a segment loads and that no section has.
 const LOADED_ONLY = "repeating-linear-gradient(45deg, transparent 0 4px, #fff6 4px 6px)";
 const LEGEND = { ...COLOURS, "loaded, in no section": `${LOADED_ONLY}, ${COLOURS.code}` };
-const OWNERS = ["the ELF header", "the section header table", "the program header table"];
-const FIRST_SECTION = 3;
+const OWNERS = { [ELFMAP.HEADER]: "the ELF header", [ELFMAP.SECTION_HEADERS]: "the section header table",
+    [ELFMAP.PROGRAM_HEADERS]: "the program header table" };
 const KIND_TITLES = { sections: "Sections", segments: "Segments", symbols: "Symbols", relocations: "Relocations", dynamic: "Dynamic", notes: "Notes" };
 
 const $ = (id) => document.getElementById(id);
@@ -228,10 +228,10 @@ async function zoom(from, to) {
     const own = ++state.zooms;
     state.range = [from, Math.max(to, from + 1)];
     state.width = $("map").clientWidth;
-    const owners = new Set(runs_of_parts().filter((it) => it.count === 1).map((it) => it.part.owner).filter((it) => it >= FIRST_SECTION));
+    const owners = new Set(runs_of_parts().filter((it) => it.count === 1).map((it) => it.part.owner).filter((it) => it >= ELFMAP.CONTENTS));
     for (const owner of owners) {
         if (state.sections.has(owner)) continue;
-        const [section] = await ask("sections", owner - FIRST_SECTION, 1);
+        const [section] = await ask("sections", owner - ELFMAP.CONTENTS, 1);
         state.sections.set(owner, section);
         if (own !== state.zooms) return;
     }
@@ -311,7 +311,7 @@ function kind_of_segment({ p_flags }) {
 
 function kind_of_part(owner, section) {
     if (owner === null) return "gap";
-    if (owner < FIRST_SECTION) return "header and tables";
+    if (owner < ELFMAP.CONTENTS) return "header and tables";
     if (!section) return "other";
     if ([2, 3, 5, 11, 18].includes(section.sh_type)) return "symbols and strings";
     if ([4, 9].includes(section.sh_type)) return "relocations";
@@ -327,7 +327,7 @@ function colour_of_part({ owner, segment }, section) {
 function owner_words({ owner, segment }, section) {
     if (segment) return `segment ${segment.index}, ${segment_flags(segment.p_flags)}, in no section`;
     if (owner === null) return "a gap: no record says whose these bytes are";
-    return OWNERS[owner] ?? `section ${owner - FIRST_SECTION} ${section ? section.name || "(no name)" : "…"}`;
+    return OWNERS[owner] ?? `section ${owner - ELFMAP.CONTENTS} ${section ? section.name || "(no name)" : "…"}`;
 }
 
 function map_button(run) {

@@ -1,18 +1,16 @@
 "use strict";
 // What the module tells of a file in its memory. The module is the library for C: each of its answers is proved; nothing here reads a byte
-// of the file itself, but for what is to be seen of it. LAYOUT has the structs of include/elfmap.h: the size of each, and of each field
-// its name, offset, width, whether it has a sign, and how many of them there are.
+// of the file itself, but for what is to be seen of it. ELFMAP has the constants of include/elfmap.h, and LAYOUT its structs: the size
+// of each, and of each field its name, offset, width, whether it has a sign, and how many of them there are.
 
 const PAGE = 65536;
 // No file of more bytes is accepted: of a longer one so many are read, and one more.
 const MOST_BYTES = 2 ** 30;
-const SHORT_ROOM = 0;
 // So many characters of a name are shown, and the rest if somebody asks for it. A character has at most so many bytes.
 const MOST_CHARACTERS = 200;
 const LONGEST_CHARACTER = 4;
 // So many bytes of a long name are put into words at once.
 const MOST_OF_NAME = 1 << 20;
-const NO_OWNER = 0xffffffffffffffffn;
 
 // What reads each struct of a layout.
 function struct_readers(layout) {
@@ -32,7 +30,7 @@ function field_reader({ struct, count, width, signed }, readers) {
     if (struct) return readers[struct];
     if (count) return (view, at) => Array.from({ length: count }, (_, k) => view.getUint8(at + k));
     if (width === 8) return signed ? (view, at) => small(view.getBigInt64(at, true)) : (view, at) => small(view.getBigUint64(at, true));
-    const get = `get${signed ? "Int" : "Uint"}${8 * width}`;
+    const get = `getUint${8 * width}`;
     return (view, at) => view[get](at, true);
 }
 
@@ -100,7 +98,7 @@ class Reader {
     verdict() {
         if (this.validated(this.next, 0)) return null;
         let fault = this.struct("elfmap_fault", this.elfmap_fault);
-        if (fault.rule !== SHORT_ROOM) return fault;
+        if (fault.rule !== ELFMAP.SHORT_ROOM) return fault;
         const room = this.place(fault.at * this.layout.elfmap_extent.size);
         const kept = this.validated(room, fault.at);
         fault = this.struct("elfmap_fault", this.elfmap_fault);
@@ -140,12 +138,6 @@ class Reader {
         return this.answer("elfmap_extent", "elfmap_name", this.elfmap_file, this.start, this.length, index);
     }
 
-    // The byte that the loadable segments give an address.
-    load(address) {
-        const is_there = this.call("elfmap_load", this.elfmap_file, this.start, this.length, address, this.record);
-        return is_there ? this.view().getUint8(this.record) : null;
-    }
-
     // ---- The parts: what each byte of a sound file belongs to
 
     // How many there are.
@@ -153,7 +145,7 @@ class Reader {
         this.next = this.parts.at;
         const asked = this.call("elfmap_parts", this.start, this.length, this.next, 0, this.record, this.elfmap_fault);
         const fault = this.struct("elfmap_fault", this.elfmap_fault);
-        if (!asked && fault.rule !== SHORT_ROOM) return 0;
+        if (!asked && fault.rule !== ELFMAP.SHORT_ROOM) return 0;
         this.parts.at = this.place(fault.at * this.layout.elfmap_part.size);
         const done = this.call("elfmap_parts", this.start, this.length, this.parts.at, fault.at, this.record, this.elfmap_fault);
         this.parts.count = done ? Number(this.view().getBigUint64(this.record, true)) : 0;
@@ -162,7 +154,7 @@ class Reader {
 
     part(index) {
         const part = this.struct("elfmap_part", this.parts.at + index * this.layout.elfmap_part.size);
-        return { ...part, owner: part.owner === NO_OWNER ? null : part.owner };
+        return { ...part, owner: part.owner === ELFMAP.GAP ? null : part.owner };
     }
 
     // ---- Tables

@@ -55,7 +55,6 @@ class Tables {
     broken(index) {
         const { sh_type, sh_link } = this.sections[index];
         if (sh_type === SHT.STRTAB) return this.first([[41, unclosed_string_table]], index);
-        if (!TABLE_RULES[sh_type]) return null;
         const own = ENTRY_SIZES[sh_type] ? this.first(OWN_RULES, index) : null;
         const linked = !own && LINKED_TYPES[sh_type] ? this.verdict(sh_link) : null;
         return own ?? linked ?? this.first(TABLE_RULES[sh_type], index);
@@ -294,10 +293,9 @@ function endless_chain(tables, index) {
             path.push(symbol);
             symbol = tables.word(chain + 4 * symbol);
         }
-        // 1 is on this path, 2 leads to an end, 3 does not.
-        const is_endless = symbol !== 0 && ends[symbol] !== 2;
-        for (const it of path) ends[it] = is_endless ? 3 : 2;
-        if (is_endless) return first + 4 * k;
+        // 1 is on this path, 2 leads to an end.
+        if (symbol && ends[symbol] === 1) return first + 4 * k;
+        for (const it of path) ends[it] = 2;
     }
     return -1;
 }

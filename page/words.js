@@ -20,7 +20,7 @@ const STRING_TAGS = [1, 14, 15, 29];
 const SECTION_FLAGS = ["W", "A", "X", "", "M", "S", "I", "L", "O", "G", "T", "C"];
 
 function named(kind, number) {
-    return (kind === "sh_type" ? SECTION_TYPES : NAMES[kind])[number] ?? hex(number);
+    return (kind === "sh_type" ? SECTION_TYPES : NAMES[kind])[number] ?? signed(number);
 }
 
 function machine_words(number) {

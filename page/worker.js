@@ -3,9 +3,6 @@
 // It runs beside the page, which stays quick.
 
 const SHARED_BYTE = 33;
-// The owners of parts, as the reader has them: sections have the numbers from FIRST_SECTION on.
-const SECTION_TABLE = 1;
-const FIRST_SECTION = 3;
 // What a table holds, by its type, and the fields of an entry by their offsets. A word has no fields.
 const ENTRY_WORDS = { 2: "symbol", 11: "symbol", 4: "relocation", 9: "relocation", 6: "entry", 17: "word", 5: "word", 18: "word" };
 const ENTRY_FIELDS = {
@@ -50,7 +47,6 @@ const QUESTIONS = {
     dynamic: (from, count, table, most) => rows(from, count, (k) => dynamic_row(table, k, most)),
     notes: (from, count, table, most) => rows(from, count, (k) => note_row(table, k, most)),
     bytes: (from, count) => reader.bytes(from, Math.max(0, Math.min(count, reader.length - from))).slice(),
-    around: (offset) => part_at(offset),
     name: (from, end) => reader.part_of_name(from, end),
     findings,
     finding_rows: (from, count) => faults.slice(from, from + count).map(finding_row),
@@ -216,8 +212,8 @@ function finding_row(it) {
 // What holds an offset of a sound file, in words, how many bytes that is, and the whole name of its symbol or section if it is cut.
 function place_of(at) {
     const part = part_at(at);
-    const section = part ? part.owner - FIRST_SECTION : -1;
-    if (part?.owner === SECTION_TABLE) {
+    const section = part ? part.owner - ELFMAP.CONTENTS : -1;
+    if (part?.owner === ELFMAP.SECTION_HEADERS) {
         const index = Math.floor((at - part.start) / 64);
         const { name, width } = LAYOUT.elfmap_section.fields.findLast((it) => part.start + 64 * index + it.at <= at);
         const { words, whole } = section_words(index);
@@ -236,7 +232,7 @@ function place_of(at) {
 
 // The field of an entry that holds an offset in it, as the beginning of a sentence, and where it ends.
 function field_in(kind, within, size) {
-    const fields = Object.entries(ENTRY_FIELDS[kind] ?? {}).filter(([, at]) => at < size);
+    const fields = Object.entries(ENTRY_FIELDS[kind] ?? {});
     const index = fields.findLastIndex(([, at]) => at <= within);
     return index < 0 ? ["", size] : [`${fields[index][0]} of `, fields[index + 1]?.[1] ?? size];
 }

@@ -3,16 +3,18 @@
 // `elfmap show` prints; for tools/test page to compare. Groups that break no rule have no lines here. Run by node.
 const fs = require("fs");
 const path = require("path");
+const { pathToFileURL } = require("url");
 const vm = require("vm");
 
 const [, , module_path, layout_path, ...paths] = process.argv;
 const LAYOUT = JSON.parse(fs.readFileSync(layout_path, "utf8"));
 // Beside the folder by which this script was named, also where that is a link.
 const page = path.resolve(__dirname, "../../page");
-const scripts = ["words.js", "reader.js", "tables.js"].map((it) => fs.readFileSync(`${page}/${it}`, "utf8")).join("\n");
+for (const name of ["declared.js", "words.js", "reader.js", "tables.js"]) {
+    vm.runInThisContext(fs.readFileSync(`${page}/${name}`, "utf8"), { filename: pathToFileURL(`${page}/${name}`).href });
+}
 // Classes and constants of a script are no properties of its global object: the last line gives what is used here.
-const { Reader, Tables, TABLE_RULES, KINDS, STRING_TAGS, hex } = vm.runInThisContext(
-    `${scripts}\n({ Reader, Tables, TABLE_RULES, KINDS, STRING_TAGS, hex });`);
+const { Reader, Tables, TABLE_RULES, KINDS, STRING_TAGS, hex } = vm.runInThisContext("({ Reader, Tables, TABLE_RULES, KINDS, STRING_TAGS, hex })");
 const compiled = new WebAssembly.Module(fs.readFileSync(module_path));
 const GAP_BYTES = 16;
 

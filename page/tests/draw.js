@@ -265,9 +265,73 @@ test("what comes of an earlier file is not drawn", async () => {
 
 test("a file that comes forgets what was said of the one before", () => {
     const page = opened([0, 64]);
+    for (const field of ["offset", "filter"]) page.by_id(field).value = "0x40";
+    for (const words of ["memory-words", "bytes-words", "table-words"]) page.by_id(words).textContent = "of the file before";
     page.script(`state.is_drawn = true; state.sections.set(3, {}); forget_file()`);
     assert.deepEqual(plain(page.script("[state.is_drawn, state.parts, state.part, state.sections.size, state.open]")), [false, [], null, 0, null]);
     assert.equal(page.by_id("main").hidden, true);
+    assert.deepEqual(["offset", "filter"].map((it) => page.by_id(it).value), ["", ""]);
+    assert.deepEqual(["memory-words", "bytes-words", "table-words"].map((it) => page.by_id(it).textContent), ["", "", ""]);
+});
+
+test("the tables to choose from are those of the file", async () => {
+    const page = opened([0, 64]);
+    const choice = async (turn, ...tables) => {
+        const rows = tables.map(([section, name]) => ({ section, name, kind: "symbols", entries: 1 }));
+        page.script(`state.turn = ${turn}; Object.assign(state.open, { file: {}, tables: ${JSON.stringify(rows)} }); show_choice("symbols", ${tables[0][0]})`);
+        return page.by_id("which").children.map((it) => it.textContent);
+    };
+    assert.deepEqual(await choice(1, [2, ".symtab"], [5, ".dynsym"]), ["2 .symtab", "5 .dynsym"]);
+    assert.deepEqual(await choice(2, [9, ".symtab"]), ["9 .symtab"]);
+});
+
+test("what a filter finds is shown from its first row on", async () => {
+    const page = opened([0, 64]);
+    page.script(`Object.assign(state.open, { file: { sections: 500, segments: 0 }, tables: [] }); open_table("sections", 0, 300)`);
+    await settled();
+    await page.answer([]);
+    page.by_id("filter").value = "text";
+    page.script("filter_rows()");
+    assert.deepEqual(plain(page.asked[0].words), ["sections", 0, 500, "text"]);
+    await page.answer([7, 301]);
+    assert.deepEqual(page.asked.map((it) => plain(it.words)), [[7, 1, 0], [301, 1, 0]]);
+    await page.answer([]);
+    await page.answer([]);
+    assert.equal(page.by_id("table-words").textContent, "Sections 1 to 2 of 2 found among 500");
+});
+
+test("a link to a row shows the hundred rows that it is among", async () => {
+    for (const [row, first, count] of [[0, 0, 100], [99, 0, 100], [100, 100, 100], [250, 200, 60]]) {
+        const page = opened([0, 64]);
+        page.script(`Object.assign(state.open, { file: { sections: 260, segments: 0 }, tables: [] })`);
+        page.script(`link_to({ kind: "sections", row: ${row} }, "")`).onclick({ preventDefault() {} });
+        assert.deepEqual(plain(page.asked[0].words), [first, count, 0]);
+        assert.equal(page.script("state.shown"), row);
+    }
+});
+
+test("a cell leads to what it names", () => {
+    const page = made_page();
+    const leads = (kind, title, row) => plain(page.script(`COLUMNS.${kind}.find(([it]) => it === "${title}")[2](${JSON.stringify(row)}) || null`));
+    for (const [kind, title, row, to] of [
+        ["sections", "offset", { sh_type: 1, sh_offset: 64, sh_size: 8 }, { bytes: 64, length: 8 }],
+        ["sections", "offset", { sh_type: 1, sh_offset: 64, sh_size: 0 }, null],
+        ["sections", "offset", { sh_type: 8, sh_offset: 64, sh_size: 8 }, null],
+        ["sections", "link", { sh_link: 3 }, { kind: "sections", row: 3 }],
+        ["sections", "link", { sh_link: 0 }, null],
+        // Of relocations sh_info is the index of a section, and of symbols it is a number.
+        ["sections", "info", { sh_type: 4, sh_info: 2 }, { kind: "sections", row: 2 }],
+        ["sections", "info", { sh_type: 9, sh_info: 2 }, { kind: "sections", row: 2 }],
+        ["sections", "info", { sh_type: 9, sh_info: 0 }, null],
+        ["sections", "info", { sh_type: 2, sh_info: 2 }, null],
+        ["segments", "offset", { p_offset: 64, p_filesz: 16, p_memsz: 4096 }, { bytes: 64, length: 16 }],
+        ["symbols", "section", { is_in_section: true, section: 70000 }, { kind: "sections", row: 70000 }],
+        ["symbols", "section", { is_in_section: false, section: 0 }, null],
+        ["relocations", "symbol", { linked: 5, symbol: 7 }, { kind: "symbols", table: 5, row: 7 }],
+        ["relocations", "applies to", { target: 2 }, { kind: "sections", row: 2 }],
+        ["relocations", "applies to", { target: 0 }, null],
+        ["notes", "descriptor", { desc: { start: 80, len: 4 } }, { bytes: 80, length: 4 }],
+    ]) assert.deepEqual(leads(kind, title, row), to, `${kind} ${title} ${JSON.stringify(row)}`);
 });
 
 test("an offset beyond what a number holds leads to the end", async () => {
@@ -298,6 +362,7 @@ test("numbers have their names, and flags their letters", () => {
     assert.equal(page.script(`named("d_tag", 1)`), "NEEDED");
     assert.equal(page.script(`named("d_tag", 30)`), "FLAGS");
     assert.equal(page.script(`named("d_tag", 0x6ffffef5)`), "0x6ffffef5");
+    assert.equal(page.script(`named("d_tag", -2)`), "-0x2");
     assert.equal(page.script(`named("p_type", 7)`), "TLS");
     assert.equal(page.script(`named("st_bind", 2)`), "WEAK");
     assert.equal(page.script(`named("st_type", 2)`), "FUNC");
@@ -319,7 +384,7 @@ test("a symbol is in a section, or in none", () => {
 });
 
 test("a script of the page leads nowhere and connects to nothing", () => {
-    for (const name of ["draw.js", "reader.js", "tables.js", "words.js", "worker.js"]) {
+    for (const name of ["declared.js", "draw.js", "reader.js", "tables.js", "words.js", "worker.js"]) {
         const found = text_of(name).match(/\b(location|open\(\s*["'`]|RTCPeerConnection|WebTransport|fetch|XMLHttpRequest|WebSocket|EventSource|sendBeacon|importScripts)\b/);
         assert.equal(found, null, name);
         for (const [, target] of text_of(name).matchAll(/href: "([^"]*)"/g)) assert.equal(target, "#", name);

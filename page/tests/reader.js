@@ -62,18 +62,22 @@ test("of a long name the first two hundred characters are shown", () => {
 });
 
 test("a very long name comes in parts, and no character is cut in two", () => {
-    const content = bytes("n", "é".repeat(600_000));
-    const reader = reader_of(content);
-    const parts = [];
-    let at = 0;
-    while (at < content.length) {
-        const { text, next } = reader.part_of_name(at, content.length);
-        parts.push(text);
-        assert.ok(next > at && next - at <= WORDS.MOST_OF_NAME);
-        at = next;
+    for (const name of [`n${"é".repeat(600_000)}`, `nn${"✓".repeat(400_000)}`, "n".repeat(1_200_000), `nnn${"😀".repeat(300_000)}`]) {
+        const content = bytes(name);
+        const reader = reader_of(content);
+        const parts = [];
+        let at = 0;
+        while (at < content.length) {
+            const { text, next } = reader.part_of_name(at, content.length);
+            parts.push(text);
+            assert.ok(next > at && next - at <= WORDS.MOST_OF_NAME);
+            at = next;
+        }
+        assert.equal(parts.length, 2);
+        assert.ok(parts.join("") === name);
     }
-    assert.equal(parts.length, 2);
-    assert.equal(parts.join(""), `n${"é".repeat(600_000)}`);
+    // What is no UTF-8 may be cut anywhere.
+    assert.deepEqual([[0x80, 0x80, 0x80, 0x80, 0x80], [0x41, 0x42]].map((it) => WORDS.character_end(Uint8Array.from(it))), [5, 2]);
 });
 
 test("a number that is not whole as a number stays as it is", () => {
@@ -107,6 +111,67 @@ test("the field of an entry that holds an offset", () => {
     assert.deepEqual(found("word", 0, 4), ["", 4]);
 });
 
+test("a note is looked for in its own section", () => {
+    const reader = reader_of(bytes());
+    const asked = [];
+    const entry = (struct, call, section, place) => asked.push([call, section, place]) && { next: 1000 * section + place + 16 };
+    Object.assign(reader, { entry, last_note: { of: -1, behind: 0, next: 0 } });
+    for (const [section, index] of [[1, 0], [1, 1], [2, 2], [2, 3], [1, 2]]) reader.note(section, index);
+    // The one behind the last note of its section is at an offset, and any other one has an index.
+    const right = [["elfmap_note", 1, 0], ["elfmap_note_at", 1, 1016], ["elfmap_note", 2, 2], ["elfmap_note_at", 2, 2018], ["elfmap_note", 1, 2]];
+    assert.deepEqual(asked, right);
+});
+
+// The functions of the worker, with a reader of these answers. A section without a name of its own is called by its index.
+function answered(reader, ...names) {
+    const { read_by, ...own } = made_worker("read_by: (it) => { reader = it; }", ...names);
+    const section = (index) => ({ sh_type: 1, sh_name: index });
+    const words = { name: (index) => ({ start: index, len: 1 }), name_words: ({ start, len }) => ({ name: len ? `.${start}` : "", whole: null }) };
+    read_by({ section, ...words, ...reader });
+    return own;
+}
+
+test("a symbol is in the section that the gABI says", () => {
+    for (const [st_shndx, section, where] of [
+        [0, 0, null], [1, 1, ".1"], [0xfeff, 0xfeff, ".65279"],
+        // From SHN_LORESERVE on there is no section; with SHN_XINDEX the index is in another table.
+        [0xff00, 0xff00, null], [0xfff1, 0xfff1, null], [0xfff2, 0xfff2, null], [0xffff, 70000, ".70000"],
+    ]) {
+        const symbol = { st_shndx, section, name: { start: 0, len: 0 } };
+        const found = answered({ symbol: () => symbol }, "symbol_row").symbol_row(1, 0);
+        assert.deepEqual([found.is_in_section, found.where], [where !== null, where ?? ""]);
+    }
+});
+
+test("the entries of a dynamic array whose value is a string have it", () => {
+    const row = (d_tag) => answered({ dynamic: () => ({ d_tag, d_un: 5 }), string: (table, at) => ({ start: at, len: 1 }) }, "dynamic_row").dynamic_row(1, 0);
+    const with_strings = Array.from({ length: 38 }, (_, tag) => tag).filter((tag) => row(tag).name === ".5");
+    // NEEDED, SONAME, RPATH and RUNPATH.
+    assert.deepEqual(with_strings, [1, 14, 15, 29]);
+});
+
+test("a place has words for its field, and is as long as that", () => {
+    const owned = (sh_type, start) => {
+        const parts = [{ start: 0, len: start, owner: 0 }, { start, len: 96, owner: 4 }];
+        const symbol = () => ({ st_shndx: 0, section: 0, name: { start: 7, len: 1 } });
+        return { symbol, section: () => ({ sh_type, sh_name: 1 }), part: (k) => parts[k], parts: { count: 2 } };
+    };
+    for (const [sh_type, at, words, length] of [
+        [2, 64 + 24 + 4, "st_info of symbol 1 .7 of section 1 .1", 1],
+        [2, 64 + 24 + 6, "st_shndx of symbol 1 .7 of section 1 .1", 2],
+        [2, 64 + 47, "st_size of symbol 1 .7 of section 1 .1", 1],
+        [4, 64 + 8, "r_info of relocation 0 of section 1 .1", 8],
+        [9, 64 + 16 + 8, "r_info of relocation 1 of section 1 .1", 8],
+        [6, 64 + 16, "d_tag of entry 1 of section 1 .1", 8],
+        [17, 64 + 4, "word 1 of section 1 .1", 4],
+        [1, 64 + 3, "byte 3 of section 1 .1", 1],
+        [1, 3, "this byte", 1],
+    ]) {
+        const found = answered(owned(sh_type, 64), "place_of").place_of(at);
+        assert.deepEqual([found.words, found.length], [words, length]);
+    }
+});
+
 // A worker whose notes have these names, and may take their time.
 function searched(name_of) {
     const { QUESTIONS, search } = made_worker("QUESTIONS", "search");
@@ -133,4 +198,16 @@ test("a search ends where a later one begins", async () => {
     const second = search(3, "name");
     assert.equal(await first, null);
     assert.deepEqual([...await second], [0, 1, 2]);
+});
+
+test("a file that is opened has names of its own", async () => {
+    const { Reader, open, section_name } = made_worker("Reader", "open", "section_name");
+    // The last byte of each file is the name of its only section.
+    Object.assign(Reader.prototype, { section: () => ({ sh_type: 1, sh_name: 1 }), name() { return { start: this.length - 1, len: 1 }; } });
+    Object.assign(Reader.prototype, { verdict: () => ({ rule: 1, at: 0 }), header: () => null, file: () => null });
+    for (const words of ["a", "xyb", "c"]) {
+        const content = bytes(words);
+        await open({ size: content.length, slice: (from, to) => ({ arrayBuffer: async () => content.slice(from, to).buffer }) });
+        assert.equal(section_name(1).name, words.at(-1));
+    }
 });

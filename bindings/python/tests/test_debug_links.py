@@ -11,7 +11,7 @@ from unittest import mock
 
 from elfmap import _debug_links, _sources, lint
 
-from tests.made import GOOD, Made, text, setUpModule  # noqa: F401
+from tests.made import GOOD, SHARING, Made, text, setUpModule  # noqa: F401
 from tests.test_deviations import DYN, NOBITS, DebugCase, program
 
 
@@ -60,6 +60,14 @@ class LinkTest(DebugCase):
             self.put(a=naming(b"a.debug", data, order), a__debug=data)
             self.assertEqual(self.lint("--debug-files", "a", "a.debug")[0], 0)
 
+    def test_names_of_each_length(self):
+        """Zeros fill the name to a multiple of 4, before its sum."""
+        data, _ = data_alone()
+        for name in ("a", "ab", "abc", "abcd", "abcde"):
+            self.put(**{"one": naming(name.encode(), data), name: data})
+            with self.subTest(name=name):
+                self.assertEqual(self.lint("--debug-files", "one", name)[0], 0)
+
     def test_what_names_another_file(self):
         data, _ = data_alone()
         for one in (
@@ -94,6 +102,11 @@ class LinkTest(DebugCase):
         self.assertIn("WRONG_SYMBOL_SECTION (51)", line)
         last = self.last("--tables", "--ignore", "51", "a", "a.debug")
         words = "0 findings in 0 of 2 ELF files, 1 suppressed; known deviations: 1 debug-segments"
+        self.assertEqual(last, words)
+        # Also beside a finding of the first check.
+        self.put(bad__o=SHARING)
+        last = self.last("--tables", "--ignore", "51", "--ignore", "33", "a", "a.debug", "bad.o")
+        words = "0 findings in 0 of 3 ELF files, 2 suppressed; known deviations: 1 debug-segments"
         self.assertEqual(last, words)
 
     def test_a_file_in_a_package(self):

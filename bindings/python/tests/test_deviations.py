@@ -96,6 +96,12 @@ class MipsTest(DeviationCase):
         reading = "`r_info` is read as the processor supplement for MIPS orders it"
         self.assertTrue(message.endswith(f"{reading} (known deviation mips-relocation-info)"))
 
+    def test_a_finding_of_objects_too(self):
+        """It is told once, with how the table was read."""
+        data, start = mips(2)
+        words = "relocation 0, of symbol 2, which", "(known deviation mips-relocation-info)"
+        self.assert_found(data, 54, start + 8, *words, options=["--object"])
+
     def test_other_machines_and_orders(self):
         self.assert_as_before(mips(1, machine=62)[0], 54)
         self.assert_as_before(mips(1, machine=SPARC_V9)[0], 54)

@@ -252,7 +252,8 @@ class LinkTest(unittest.TestCase):
         with self.assertRaises(elfmap.Refused) as raised:
             elfmap.link([self.start, self.executable], self.RULES)
         refused = raised.exception
-        self.assertEqual((refused.file, refused.rule, refused.offset), (1, 70, 16))
+        for it in refused, pickle.loads(pickle.dumps(refused)):
+            self.assertEqual((it.file, it.rule, it.offset), (1, 70, 16))
 
     def test_bad_rules(self):
         with self.assertRaises(elfmap.BadRules) as raised:
@@ -299,6 +300,7 @@ class ArgumentsTest(unittest.TestCase):
         "find": lambda file, it: file.find(it, b"f"),
         "load": elfmap.File.load,
         "columns": elfmap.File.columns,
+        "words": elfmap.File.words,
     }
     # What takes a path, and what takes nothing: tests/test_package.py has them.
     OTHERS = {"open", "close"}
@@ -603,6 +605,20 @@ class BuildTest(unittest.TestCase):
             own = dict(ELFMAP_LIB_DIR=self.room, XDG_CACHE_HOME=self.room)
             places.append(self.said("-c", script, **own))
         self.assertEqual((places[0] == places[1], places[0] == places[2]), (False, True))
+
+    def test_where_the_cache_is(self):
+        """A name that is empty is none (XDG Base Directory Specification)."""
+        script = "from elfmap import build; print(build.cached())"
+        for name, cache in (("", f"{self.room}/.cache"), (f"{self.room}/own", f"{self.room}/own")):
+            path = self.said("-c", script, HOME=self.room, XDG_CACHE_HOME=name)
+            self.assertTrue(path.startswith(f"{cache}/elfmap/"), path)
+
+    def test_with_its_version_in_its_name(self):
+        """As packages have it."""
+        self.said("-m", "elfmap.build", self.room)
+        path = f"{self.room}/libelfmap.so.0"
+        os.rename(f"{self.room}/libelfmap.so", path)
+        self.assertEqual(self.said("-c", self.PROGRAM, ELFMAP_LIB_DIR=self.room), path)
 
     def test_into_a_folder(self):
         path = f"{self.room}/libelfmap.so"

@@ -10,6 +10,8 @@ import json
 import os
 import re
 import resource
+import shutil
+import socket
 import struct
 import subprocess
 import sys
@@ -254,6 +256,23 @@ class LineTest(Case):
         self.assertEqual(self.place(made, start), "entry 0, of tag 1: d_tag, which is 1")
         self.assertEqual(self.place(made, start + 8), "entry 0, of tag 1: d_un, which is 7")
 
+    def test_symbols_of_sections_beyond_16_bits(self):
+        """The index is in the index table: that of a section's symbol, and of any other one."""
+        indexes = struct.pack("<3I", 0, 1, 1)
+        table = b".symtab_shndx", 18, indexes, dict(link=2, entsize=4)
+        own = symbols(3, (0, 3, 0xFFFF), (1, 0x10, 0xFFFF), info=2)
+        made = Made(text(), own, NAMES, table)
+        lead = "st_name, which is"
+        for index, words in ((1, f"of section .text{{}}: {lead} 0"), (2, f"f{{}}: {lead} 1")):
+            at = made.starts[2] + 24 * index
+            found = self.place(made, at)
+            defined = ", defined in section 1 .text"
+            self.assertEqual(found, f"symbol {index} {words.format(defined)}")
+        # Without that table its section is not known.
+        self.put(bad__o=made.with_field(4, "type", 1))
+        found = explained(f"refused 51 {made.starts[2] + 48}", ["bad.o"])
+        self.assertIn("symbol 2 f: st_name, which is 1", found)
+
     def test_symbols_of_no_section(self):
         made = Made(text(), symbols(3, (1, 0x10, 0xFFF1), (1, 0x10, 1)), NAMES)
         start = made.starts[2]
@@ -334,6 +353,19 @@ class LineTest(Case):
         ):
             self.assertTrue(self.said("good.o", stdin=b"refused " + numbers.encode()))
 
+    def test_more_segments_than_the_header_counts(self):
+        """If e_phnum is 0xffff, section header 0 has their number in sh_info (gABI, chapter 4)."""
+        made = Made(text(content=bytes(56 * 5)))
+        data = bytearray(made.data)
+        data[32:40] = made.starts[1].to_bytes(8, "little")
+        data[56:58] = b"\xff\xff"
+        data[made.at(0, "info")] = 3
+        data[made.at(0, "link")] = 1
+        self.put(bad__o=bytes(data))
+        for index, is_there in ((2, True), (3, False)):
+            found = explained(f"refused 25 {made.starts[1] + 56 * index + 8}", ["bad.o"])
+            self.assertEqual(f"program header {index}: p_offset, which is 0" in found, is_there)
+
     def test_a_closed_pipe_ends_it_silently(self):
         reading, writing = os.pipe()
         os.close(reading)
@@ -392,6 +424,13 @@ class CheckedTest(Case):
             os.close(own)
             os.close(its)
 
+    def by_socket(self, words, sent):
+        ours, its = socket.socketpair()
+        with its:
+            with ours:
+                ours.sendall(sent)
+            return self.ran(words, its)
+
     def unread(self, words):
         """What is said where nothing is sent, by what standard input is."""
         yield "a terminal", self.on_terminal(words)
@@ -402,6 +441,7 @@ class CheckedTest(Case):
         yield "an empty pipe", self.said(*words)
         yield "a file of other lines", self.ran(words, shell="< lines")
         yield "other lines in a pipe", self.said(*words, stdin=b"ok 680 3 0\n")
+        yield "other lines in a socket", self.by_socket(words, b"ok 680 3 0\n")
         yield "other lines, asked for", self.said("-", *words, stdin=b"ok 680 3 0\n")
         yield "a device, asked for", self.ran(["-", *words], subprocess.DEVNULL)
         yield "a terminal, asked for", self.on_terminal(["-", *words], b"ok 680 3 0\n\x04")
@@ -430,12 +470,19 @@ class CheckedTest(Case):
         self.put(lines=line)
         for found in (
             self.said("bad.o", stdin=line),
+            self.by_socket(["bad.o"], line),
             self.ran(["bad.o"], shell="< lines"),
             self.said("-", "bad.o", stdin=line),
             self.on_terminal(["-", "bad.o"], line + b"\x04"),
         ):
             self.assertTrue(found.startswith("refused 33 115 SHARED_BYTE: "), found)
             self.assertNotIn("checked here", found)
+
+    def test_an_object_that_does_not_link(self):
+        """A rule of the link is no reason against a file by itself."""
+        self.put(thread__o=bytes(Made((b".tdata", 1, bytes(4), dict(flags=0x403))).data))
+        read = "standard input refuses nothing; "
+        self.assertEqual(self.said("thread.o"), f"{read}{self.HEAD}thread.o no refusal")
 
     def test_a_file_that_is_standard_input(self):
         self.assertIn("SHARED_BYTE: ", self.ran(["/dev/stdin"], shell="< bad.o"))
@@ -624,6 +671,18 @@ class HintTest(Case):
         self.assertIn(f"compile with -fno-addrsig, or strip it: {command}", found)
         self.assertEqual(self.hints(made.data, 78, made.table + 64 + 40), "")
 
+    @unittest.skipUnless(shutil.which("bash"), "bash is not installed")
+    def test_paths_in_commands(self):
+        """A shell reads the path that was meant, whatever letters it has."""
+        for path in (
+            *(b"a.o", b"a b.o", b"it's.o", b"$HOME`x`\\x41.o", "na\u00efve.o".encode()),
+            *(b"\x1b[31m.o", b"it's\nx.o", b"\xff'\\x41.o", b"\x01b", b'\x7f"'),
+        ):
+            word = _hints.shell_word(path)
+            self.assertTrue(word.isprintable(), word)
+            command = ["bash", "-c", os.fsencode(f"printf %s {word}")]
+            self.assertEqual(subprocess.run(command, capture_output=True).stdout, path)
+
     def linked(self, machine=62, name=b"_GLOBAL_OFFSET_TABLE_", kind=9):
         strings = (b".strtab", 3, b"\0" + name + b"\0", {})
         made = Made(text(), symbols(3, (1, 0x10, 0)), strings, relocations(2, 1))
@@ -673,6 +732,13 @@ class HintTest(Case):
             self.assertIn(
                 words, " ".join(_link_hints.link_hints([self.linked(name=name)], 9, 0, 0, 0))
             )
+
+    def test_names_that_are_not_of_compilers(self):
+        """They have in their middle, or at their end, what those begin with."""
+        for name in (b"of__asan_init", b"a__gcov_", b"memcpy2", b"my_memcpy", b"__memcpy_chk_"):
+            with self.subTest(name=name):
+                found = _link_hints.link_hints([self.linked(name=name)], 9, 0, 0, 0)
+                self.assertEqual(list(found), [])
 
     def test_what_other_files_begin_with(self):
         """By the formats: LLVM's bitcode and its wrapper, Mach-O, gzip (RFC 1952), xz and zstd (RFC

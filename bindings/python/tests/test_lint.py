@@ -27,6 +27,7 @@ import elfmap
 from elfmap import (
     _archives,
     _checks,
+    _declared,
     _findings,
     _formats,
     _library,
@@ -395,7 +396,7 @@ class DepthTest(Case):
             ("--object", "elfmap_object_verdict"),
             ("--object", "elfmap_link_verdict"),
         ):
-            with mock.patch.object(_library.library(), call, return_value=_library.NO_MEMORY):
+            with mock.patch.object(_library.library(), call, return_value=_declared.NO_MEMORY):
                 status, out, said = self.lint(word, "good.o")
             self.assertEqual((status, out), (3, b"0 findings in 0 of 0 ELF files; 1 unreadable\n"))
             self.assertEqual(said, b"elfmap-lint: good.o: there is no memory for its tables\n")
@@ -714,14 +715,14 @@ class FormatTest(Case):
         for path, content in others:
             self.put(**{path: content})
             self.assertEqual({*self.fingerprints(path.replace("__", "."))} & {*before}, set())
-        rows = [relocations(2, 9), relocations(2, 9)]
+        rows = [relocations(2, 9)] * 3
         self.put(
-            twice__o=bytes(
+            thrice__o=bytes(
                 Made(text(), symbols(3, (1, 0x10, 1)), (b".strtab", 3, b"\0f\0", {}), *rows).data
             )
         )
-        found = self.fingerprints("twice.o")
-        self.assertEqual((len(found), len({*found})), (2, 2))
+        found = self.fingerprints("thrice.o")
+        self.assertEqual((len(found), len({*found})), (3, 3))
 
     def test_sarif_of_a_run(self):
         """It is successful if each file was read, whatever was found (3.20.14)."""
@@ -768,6 +769,14 @@ class FormatTest(Case):
         result = json.loads(self.lint("--format", "sarif", path)[1])["runs"][0]["results"][0]
         uri = result["locations"][0]["physicalLocation"]["artifactLocation"]["uri"]
         self.assertEqual((uri[:8], unquote_to_bytes(uri[7:])), ("file:///", os.fsencode(path)))
+
+    def test_sarif_of_a_path_with_a_colon(self):
+        """What is before it is no scheme of a URI (RFC 3986, 4.2)."""
+        self.put(**{"c:bad__o": SHARING})
+        log = json.loads(self.lint("--format", "sarif", "c:bad.o")[1])
+        self.assert_sarif(log)
+        place = log["runs"][0]["results"][0]["locations"][0]["physicalLocation"]
+        self.assertEqual(place["artifactLocation"]["uri"], "c%3Abad.o")
 
     def test_junit_of_members_of_one_name(self):
         """Each is a test case."""
@@ -1390,6 +1399,12 @@ class ArchiveTest(Case):
             ([], False),
         )
 
+    def test_a_long_name_at_the_end_of_the_table(self):
+        """No line feed follows it: it ends with the table, and not in the header after that."""
+        table = archive_member(b"/", b"a.o/\nlong.o/")
+        data = b"!<arch>\n" + table + archive_member(b"/5", GOOD, b"")
+        self.assertEqual(self.members(data), ([(b"long.o", GOOD)], True))
+
     def test_thin(self):
         os.makedirs("a/b")
         self.put(
@@ -1486,6 +1501,17 @@ class ArchiveTest(Case):
         two = b"!<arch>\n" + archive_member(b"bad.o", SHARING)
         self.put(outer__a=b"!<thin>\n" + table + b"".join(headers), one__a=one, two__a=two)
         lines = [b"outer.a(two.a(bad.o)): " + SHARED, b"1 finding in 1 of 3 ELF files"]
+        self.assertSaid(["outer.a"], 1, lines)
+
+    def test_a_thin_archive_of_the_second_member_of_a_name(self):
+        first = archive_member(b"x.o", GOOD)
+        table = archive_member(b"/", b"inner.a/\n")
+        named = archive_member(b"/0:%d" % (8 + len(first)), b"", b"")
+        self.put(
+            inner__a=b"!<arch>\n" + first + archive_member(b"x.o", SHARING),
+            outer__a=b"!<thin>\n" + table + named,
+        )
+        lines = [b"outer.a(inner.a(x.o#2)): " + SHARED, b"1 finding in 1 of 1 ELF file"]
         self.assertSaid(["outer.a"], 1, lines)
 
     def test_a_thin_archive_of_its_own_members(self):

@@ -65,6 +65,7 @@ class ConfigTest(Case):
             (["c"], 1),
             (["c", "a"], 1),
             (["-"], 1),
+            (["-", "a"], 0),
         ):
             with self.subTest(words=words):
                 self.assertEqual(self.lint(*words, stdin=SHARING)[0], status)
@@ -110,6 +111,8 @@ class ConfigTest(Case):
         self.assertSaid(["--config", "a/other.toml", "bad.o"], 0, [])
         out = Path("a/report").read_bytes()
         self.assertEqual(out, b"0 findings in 0 of 1 ELF file, 1 suppressed\n")
+        self.put(**{"a/other__toml": b'files0-from = "-"'})
+        self.assertSaid(["--config", "a/other.toml"], 1, [BAD, ONE], stdin=b"bad.o\0")
         self.assert_wrong("none.toml: no such file", "--config", "none.toml", "bad.o")
         self.assert_wrong(".: is a directory", "--config", ".", "bad.o")
 
@@ -187,6 +190,8 @@ class ColorTest(Case):
         self.assertEqual(self.on_a_terminal("bad.o"), self.colored)
         clean = b"\x1b[32m0 findings in 0 of 1 ELF file\x1b[0m\n"
         self.assertEqual(self.on_a_terminal("good.o"), clean)
+        lost = b"\x1b[31m0 findings in 0 of 1 ELF file; 1 unreadable\x1b[0m\n"
+        self.assertEqual(self.on_a_terminal("good.o", "none"), lost)
 
     def test_not_wanted(self):
         for words, environment in (

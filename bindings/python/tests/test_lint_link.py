@@ -14,7 +14,7 @@ from typing import NamedTuple
 from unittest import mock
 from xml.etree import ElementTree
 
-from elfmap import _checks, _library, _link_words, _rules, _sources, build, explain
+from elfmap import _checks, _declared, _link_words, _rules, _sources, build, explain
 
 from tests.made import (
     CLASS_32,
@@ -483,7 +483,7 @@ class VerdictTest(unittest.TestCase):
     def test_there_is_no_memory(self):
         checks = _checks.Checks(False, True)
         call = "elfmap_link_verdict"
-        with mock.patch.object(checks._library, call, return_value=_library.NO_MEMORY):
+        with mock.patch.object(checks._library, call, return_value=_declared.NO_MEMORY):
             with self.assertRaises(_sources.Unreadable) as raised:
                 self.faults(checks, GOOD)
         self.assertEqual(raised.exception.reason, "there is no memory for its tables")

@@ -180,6 +180,8 @@ class KindTest(PackageCase):
             ("compress -f", "Z"),
             ("xz --format=lzma", "lzma"),
             ("xz --format=lzma -9", "lzma"),
+            # As kernels have it.
+            ("lz4 -l", "lz4"),
         ):
             name = f"bad.ko.{end}"
             Path(name).write_bytes(self.made(*words.split(), "-c", input=SHARING))
@@ -306,6 +308,16 @@ class MemberTest(PackageCase):
     def test_a_size_in_binary(self):
         header = bytearray(tar_header(b"bad.o", 0))
         header[124:136] = b"\x80" + len(SHARING).to_bytes(11, "big")
+        header[148:156] = b" " * 8
+        header[148:156] = b"%06o\0 " % sum(header)
+        self.put(a__tar=bytes(header) + SHARING + bytes(-len(SHARING) % 512))
+        self.assertEqual(self.paths("a.tar"), ["a.tar(bad.o)"])
+
+    def test_times_in_a_header_of_gnu(self):
+        """They are where the layout of POSIX has the beginning of a long name."""
+        header = bytearray(tar_header(b"bad.o", len(SHARING)))
+        header[257:265] = b"ustar  \0"
+        header[345:369] = b"14000000000\0" * 2
         header[148:156] = b" " * 8
         header[148:156] = b"%06o\0 " % sum(header)
         self.put(a__tar=bytes(header) + SHARING + bytes(-len(SHARING) % 512))
@@ -543,6 +555,10 @@ class BoundTest(PackageCase):
         (line,) = self.lost("a.tgz", "--unpack-limit=2")
         words = "it is decompressed to more than 2 MiB; --unpack-limit allows more"
         self.assertEqual(line, f"elfmap-lint: a.tgz: {words}")
+        # It is one for each file.
+        self.put(b__tgz=content)
+        words = ["a.tgz", "b.tgz", "--unpack-limit", "4", "-j1"]
+        self.assertEqual(self.paths(*words), ["a.tgz(a.o)", "b.tgz(a.o)"])
         for number in (0, -1):
             status, _, said = self.lint(f"--unpack-limit={number}", "a.tgz")
             self.assertEqual((status, b"needs a positive number" in said), (2, True))

@@ -9,8 +9,9 @@ import subprocess
 import time
 import unittest
 from pathlib import Path
+from unittest import mock
 
-from elfmap import _findings, _origin, _sources, _suppressed, _words
+from elfmap import _checks, _findings, _origin, _sources, _suppressed, _words
 
 from tests.made import (
     GNU,
@@ -221,6 +222,15 @@ class BaselineTest(Case):
             self.put(**{"last/bad__o": content})
             self.assertEqual(self.lint("--baseline", "known", "last")[0], 1)
 
+    def test_the_entry_that_a_copy_uses_up(self):
+        """The first one by its path: the others fit what is at their paths, without a build id
+        too."""
+        self.put(**{"old/a__o": made(NOTE), "old/b__o": made(NOTE)})
+        self.lint("--write-baseline", "known", "old")
+        os.unlink("old/a.o")
+        self.put(**{"new/c__o": made(NOTE), "old/b__o": made()})
+        self.assertEqual(self.lint("--baseline", "known", "new", "old")[0], 0)
+
     def test_many_copies_of_a_build(self):
         """Each finding uses one entry up, of its own path first, in linear time."""
         count = 20000
@@ -274,6 +284,13 @@ class BaselineTest(Case):
         entry = {"path": "none.o"}
         Path("known").write_text(json.dumps({"findings": [], "unreadable": [entry]}))
         self.assertEqual(self.lint("--baseline", "known", "none.o")[0], 3)
+
+    def test_a_lack_of_memory_is_never_accepted(self):
+        """It is not due to the file."""
+        self.put(good__o=GOOD)
+        with mock.patch.object(_checks.Checks, "faults", side_effect=MemoryError):
+            self.assertEqual(self.lint("--write-baseline", "known", "good.o")[0], 3)
+        self.assertNotIn("unreadable", self.entries())
 
     def test_no_baseline(self):
         finding = {"path": "a", "rule": "SHARED_BYTE", "sections": []}

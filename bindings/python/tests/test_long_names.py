@@ -16,7 +16,7 @@ import unittest
 from pathlib import Path
 from unittest import mock
 
-from elfmap import _library, build, explain, gaps, lint, same
+from elfmap import _declared, _library, build, explain, gaps, lint, same
 from elfmap._differences import Names
 from elfmap._words import one_line, original_path, printable
 
@@ -313,7 +313,7 @@ class CostTest(Case):
             return made
 
         with contextlib.ExitStack() as stack:
-            for name in _library.CALLS:
+            for name in _declared.CALLS:
                 stack.enter_context(mock.patch.object(library, name, timed(getattr(library, name))))
             begun = time.process_time()
             said = self.said(module, *words, stdin=stdin)

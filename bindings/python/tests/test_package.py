@@ -25,6 +25,7 @@ from elfmap import _library, _link_words, build, constants
 
 from tests.made import (
     GOOD,
+    NAMES,
     PACKAGE,
     SHARING,
     FolderCase,
@@ -145,6 +146,7 @@ class ClosedTest(FolderCase):
             lambda: file.load(0),
             lambda: file.notes(2),
             lambda: file.columns(2),
+            lambda: file.words(2),
             lambda: sections[1],
             lambda: notes[0],
             lambda: [*notes],
@@ -345,6 +347,42 @@ class ColumnsTest(unittest.TestCase):
         self.assertLess(min(times), count * 1e-6)
 
 
+class WordsTest(unittest.TestCase):
+    def made(self, order="<"):
+        """A group, an index table and a hash table, with a word of each that takes four bytes."""
+        words = {
+            2: (0x11223344, 1),
+            4: (0, 0x55667788),
+            5: (1, 2, 1, 0, 0),
+        }
+        contents = {k: struct.pack(f"{order}{len(it)}I", *it) for k, it in words.items()}
+        rows = (
+            text(),
+            (b".group", 17, contents[2], dict(link=3, info=1, entsize=4)),
+            symbols(6, (1, 0x10, 0xFFFF), order=order),
+            (b".symtab_shndx", 18, contents[4], dict(link=3, entsize=4)),
+            (b".hash", 5, contents[5], dict(link=3, entsize=4)),
+            NAMES,
+        )
+        return elfmap.parse(Made(*rows, order=order).data), words
+
+    def test_each_kind_of_table(self):
+        for order in "<>":
+            file, words = self.made(order)
+            for index, right in words.items():
+                found = file.words(index)
+                self.assertEqual((found.typecode, tuple(found)), ("I", right))
+
+    def test_of_no_other_section(self):
+        file, words = self.made()
+        for index in {*range(10), 99, 2**64 + 2, -1} - words.keys():
+            self.assertEqual((file.words(index).typecode, [*file.words(index)]), ("I", []))
+
+    def test_a_word_that_is_cut(self):
+        made = Made(text(), (b".group", 17, bytes(range(7)), dict(link=3)), symbols(4), NAMES)
+        self.assertEqual([*elfmap.parse(made.data).words(2)], [0x03020100])
+
+
 class NotesTest(unittest.TestCase):
     def test_a_note_by_its_index(self):
         """Nothing is read but the notes before it."""
@@ -357,9 +395,9 @@ class NotesTest(unittest.TestCase):
             self.assertEqual((tuple(notes[0]), counted.call_count), (every[0], 1))
             self.assertEqual(tuple(notes[9]), every[9])
             self.assertLess(counted.call_count, 15)
-            # To count them each is read once.
-            self.assertEqual(len(notes), 2 * count)
-            self.assertLess(counted.call_count, 2 * count + 15)
+            # To count them none is read.
+            before = counted.call_count
+            self.assertEqual((len(notes), counted.call_count), (2 * count, before))
             self.assertEqual([tuple(notes[it]) for it in range(2 * count)], every)
             self.assertLess(counted.call_count, 5 * count)
 

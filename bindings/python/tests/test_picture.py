@@ -163,6 +163,14 @@ class Case(FolderCase):
             parts.append(picture.Part(16 * k, 16, f"section {k}", f".s{k}", "PROGBITS", "data"))
         self.assertEqual([it.length for it in picture.folded(parts)], [16] * 150 + [16 * 250])
 
+    def test_a_row_for_each_part(self):
+        """Of up to 300 parts; of one more the first 150 of equal ones."""
+        for count, rows in ((300, 300), (301, 151)):
+            parts = []
+            for k in range(count):
+                parts.append(picture.Part(16 * k, 16, f"section {k}", f".s{k}", "", "data"))
+            self.assertEqual(len(picture.folded(parts)), rows)
+
     def test_many_parts(self):
         gaps = "".join(f"part {hex(64 + k)} 0x1 gap 00\n" for k in range(1000))
         lines = f"{HEADER}{gaps}part 0x428 0x100 gap 00\n"

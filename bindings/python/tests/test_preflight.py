@@ -864,9 +864,11 @@ class RefusalTest(PreflightCase):
         self.refusal("UNPLACED", *files("-O0", "-fexceptions"))
         self.assertClean(*files("-O0", "-fno-exceptions"))
         # What the tables refer to is in no group.
-        frames = '.section .note,"",@progbits\nnote: .quad 0\n.section .eh_frame,"a"\n.quad note\n'
-        line = self.refusal("UNPLACED", self.start(), self.made("note", frames, compiler="as"))
-        self.assertNotIn("-fno-asynchronous-unwind-tables", line)
+        for own in ('"",@progbits', '"MS",@progbits,1'):
+            frames = f".section .own,{own}\nnote: .quad 0\n"
+            frames += '.section .eh_frame,"a"\n.quad note\n'
+            line = self.refusal("UNPLACED", self.start(), self.made("note", frames, compiler="as"))
+            self.assertNotIn("-fno-asynchronous-unwind-tables", line)
 
     def test_a_global_offset_table(self):
         source = (

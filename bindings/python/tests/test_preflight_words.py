@@ -16,6 +16,7 @@ from xml.etree import ElementTree
 from elfmap import (
     _link_hints,
     _link_map,
+    _link_warnings,
     _linker_names,
     _map_lines,
     _names,
@@ -74,6 +75,8 @@ class WordTest(PreflightCase):
         ):
             status, out, err = self.lint(*words)
             self.assertEqual((status, out, said in err.decode()), (2, b"", True), (words, err))
+        # So many files are not too many, though they define a name twice.
+        self.assertEqual(self.lint(*link, *[start] * 64)[0], 1)
         self.assertEqual(self.lint(*link, "--base", "00", "--page", "0x1", start)[0], 0)
         self.assertEqual(
             self.lint(*link, "--base", "%d" % (2**64 - 2**30), "--page", "1", start)[0], 0
@@ -483,10 +486,33 @@ class KnownTest(unittest.TestCase):
             (b".strtab", 3, b"\0f\0", {}),
             table,
         )
-        it = Linked("a.o", _words.Words(bytes(made.data)))
-        self.assertEqual([it.section_of(index) for index in range(4)], [0, 4, 1, 0])
-        without = Linked("a.o", _words.Words(made.with_field(4, "type", 1)))
-        self.assertEqual(without.section_of(2), 0xFFFF)
+        it = _words.Words(bytes(made.data))
+        self.assertEqual([it.symbol_section(2, index) for index in range(4)], [0, 4, 1, 0])
+        without = _words.Words(made.with_field(4, "type", 1))
+        self.assertEqual(without.symbol_section(2, 2), 0xFFFF)
+
+    def test_two_lines_for_a_kind(self):
+        """The first one counts, whatever zeros are before the number (docs/RULE_FILES.md)."""
+        found = _rule_files.read_rules("02 pc 4 signed\n0 none 0 any\n2 abs 8 any\n")
+        signed = _rule_files.Rule("pc", 4, "signed")
+        self.assertEqual(found, {2: signed, 0: _rule_files.Rule("none", 0, "any")})
+
+    def test_symbols_in_arrays(self):
+        """Also those whose index is in the index table."""
+        indexes = struct.pack("<4I", 0, 0, 5, 0)
+        array = b".init_array.00100", 14, bytes(8), dict(flags=3)
+        made = Made(
+            text(),
+            symbols(3, (1, 0x10, 1), (1, 0x10, 0xFFFF), (1, 0x10, 5)),
+            (b".strtab", 3, b"\0f\0", {}),
+            (b".symtab_shndx", 18, indexes, dict(link=2, entsize=4)),
+            array,
+        )
+        linked = Linked("a.o", _words.Words(bytes(made.data)))
+        addresses = {(0, number): 0 for number in range(len(linked.kept))}
+        link = mock.Mock(addresses=addresses, discarded=())
+        it = _link_warnings._Object(0, linked, bytes(made.data), link)
+        self.assertEqual(it.symbols_in_arrays(), {2: b".init_array", 3: b".init_array"})
 
     def test_default_versions(self):
         """Of a name the whole one, from where a string begins."""

@@ -18,6 +18,7 @@ from unittest import mock
 
 import elfmap
 from elfmap import _debug_relocations, _symbol_file, build, symbols
+from elfmap._elf_file import Row, object_head, with_sections
 from elfmap._link_values import Names
 
 from tests.made import (
@@ -108,7 +109,8 @@ class FileTest(Case):
             (b".debug_str", PROGBITS, b"x\0", dict(flags=MERGE | 0x20, entsize=1)),
             (b".comment", PROGBITS, b"by hand\0", dict(align=4)),
         ]
-        rows = [*START, row(7, GLOBAL, 0xFFF2, 8, 12), row(14, GLOBAL, 0xFFF2, 2, 3)]
+        # A byte is between the two common symbols.
+        rows = [*START, row(7, GLOBAL, 0xFFF2, 8, 11), row(14, GLOBAL, 0xFFF2, 2, 3)]
         self.put(a__o=made(sections, rows, b"\0start\0common\0small\0"))
         file = self.written("a.o")
         self.assertEqual((file.header.e_type, file.header.e_entry), (2, 0x1000))
@@ -137,7 +139,7 @@ class FileTest(Case):
             self.symbols_of(file),
             [
                 (b"start", GLOBAL, b".text", 0x1000, 0),
-                (b"common", GLOBAL | 1, b"COMMON", 0x1040, 12),
+                (b"common", GLOBAL | 1, b"COMMON", 0x1040, 11),
                 (b"small", GLOBAL | 1, b"COMMON", 0x104C, 3),
             ],
         )
@@ -358,6 +360,20 @@ class FileTest(Case):
         found = self.symbols_of(file)
         self.assertEqual([it[2] for it in found], [b"a0", b"b%d" % (count - 1)])
 
+    def test_counts_at_the_reserved_indexes(self):
+        """From 0xff00 sections on section header 0 counts them, and from that index on it has that
+        of their names (gABI, chapter 4)."""
+        for count, *fields in (
+            (0xFEFF, 0xFEFF, 0xFEFE),
+            (0xFF00, 0, 0xFEFF),
+            (0xFF01, 0, 0xFFFF),
+        ):
+            rows = [Row(b"", PROGBITS, b"")] * (count - 2)
+            file = elfmap.parse(with_sections(object_head(False, 62, 0), rows, False))
+            header = file.header
+            self.assertEqual([header.e_shnum, header.e_shstrndx], fields)
+            self.assertEqual((len(file.sections), file.sections[-1].name), (count, b".shstrtab"))
+
     def test_big_objects(self):
         """Of a file that has the most significant byte first all numbers are so."""
         order = ">"
@@ -496,6 +512,17 @@ class DebugTest(Case):
         self.put(a__o=made(sections, [row(0, 3, 3), *START], b"\0start\0", local=2))
         status, (line,) = self.ran("-o", "ours", "a.o")
         self.assertEqual((status, line[:36]), (1, "refused 14 0 3 0: FIELD_OUT_OF_RANGE"))
+
+    def test_a_field_at_the_end_that_is_nowhere(self):
+        entries = struct.pack("<QQ", 0, 1 << 32 | 1)
+        sections = [
+            (b".text", PROGBITS, b"\xc3", dict(flags=CODE)),
+            (b".debug_info", PROGBITS, b"\x71" * 8, {}),
+            (b".attributes", 0x7000_0003, b"A", {}),
+            (b".rel", REL, entries, dict(link=5, info=2, entsize=16)),
+        ]
+        self.put(a__o=made(sections, [row(0, 3, 3), *START], b"\0start\0", local=2))
+        self.assertEqual(bytes(self.written("a.o").sections[2].content), bytes(8))
 
     def test_compressed_lists_of_ranges(self):
         """The name of a section decides about its lists, whether it is compressed or not."""

@@ -3,8 +3,13 @@
 #![cfg(feature = "std")]
 
 use std::error::Error;
+use std::{env, fs, panic, process};
 
 use elfmap::{check, link, map, rules, Failure, File, LinkRefusal, Options, Refusal, Section};
+
+#[allow(dead_code)]
+#[path = "../build.rs"]
+mod build;
 
 /// A header, the names from 64 on, and from 88 on the section headers: NULL, `.bss`, `.shstrtab`.
 fn small_file() -> Vec<u8> {
@@ -58,6 +63,28 @@ fn each_rule_has_a_name_and_a_sentence() {
         refusal.rule = rule;
         assert_eq!(refusal.name(), "UNKNOWN_RULE");
     }
+}
+
+#[test]
+fn each_rule_of_the_link_has_a_name_and_a_sentence() {
+    let Err(Failure::NotLinked(mut refusal)) = link(&[START], &Options::default(), RULES) else {
+        panic!("a name is undefined");
+    };
+    for rule in 1..=16 {
+        refusal.rule = rule;
+        assert_ne!(refusal.name(), "UNKNOWN_RULE");
+        assert!(refusal
+            .sentence()
+            .starts_with("the link is refused because "));
+    }
+    for rule in [0, 17, u16::MAX] {
+        refusal.rule = rule;
+        assert_eq!(refusal.name(), "UNKNOWN_RULE");
+    }
+    refusal.rule = rules::link::TLS;
+    (refusal.index, refusal.entry) = (7, 9);
+    let front = "rule 3 (TLS) at entry 9 of 7 in file 0: the link is refused because ";
+    assert!(refusal.to_string().starts_with(front));
 }
 
 #[test]
@@ -158,4 +185,19 @@ fn what_does_not_link_is_told() {
     assert!(Failure::TooLong.source().is_none());
     let bad = map(&[START], &options, "4 pc 4 signed\n4 pc 3 signed\n");
     assert_eq!(bad, Err(Failure::BadRules { line: 2 }));
+}
+
+/// Also if another folder has the library.
+#[test]
+fn the_library_of_the_named_folder_is_linked() {
+    let folder = env::temp_dir().join(format!("elfmap-{}", process::id()));
+    fs::create_dir(&folder).unwrap();
+    let found = || build::folder_of_library(Some(folder.clone().into()));
+    let without_library = panic::catch_unwind(found);
+    fs::write(folder.join("libelfmap.a"), "").unwrap();
+    let with_library = panic::catch_unwind(found);
+    fs::remove_dir_all(&folder).unwrap();
+    let words = *without_library.unwrap_err().downcast::<String>().unwrap();
+    assert_eq!(words, format!("libelfmap.a is in none of [{folder:?}]"));
+    assert!(with_library.unwrap().ends_with(folder.file_name().unwrap()));
 }

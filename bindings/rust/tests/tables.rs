@@ -103,6 +103,46 @@ fn a_segment_is_longer_in_memory() {
     assert_eq!(loaded, [None, Some(b'c'), Some(0), Some(0), None]);
 }
 
+/// A segment of type `PT_NULL` has no bytes, whatever its header says; and an empty content may begin
+/// after the end of the file.
+#[test]
+fn what_has_no_bytes() {
+    let mut bytes = made(&[text(), (".empty", 1, vec![], 0, 0, 0)]);
+    let at = bytes.len();
+    bytes.extend(words(&[0, 4]));
+    bytes.extend(longs(&[64, 0, 0, 16, 16, 1]));
+    bytes[32..40].copy_from_slice(&(at as u64).to_le_bytes());
+    bytes[54..58].copy_from_slice(&[56, 0, 1, 0]);
+    let place = at - 64 * 2 + 24;
+    bytes[place..place + 8].copy_from_slice(&(1u64 << 40).to_le_bytes());
+    let file = File::parse(&bytes).unwrap();
+    assert_eq!(file.segment(0).unwrap().content(), None);
+    let empty = file.section(2).unwrap();
+    assert_eq!(
+        (empty.name(), empty.header().sh_offset),
+        (&b".empty"[..], 1 << 40)
+    );
+    assert_eq!(empty.content(), Some(&b""[..]));
+}
+
+/// The binding and the type are the upper and the lower half of `st_info`, also those of systems: 10 is
+/// GNU_UNIQUE and GNU_IFUNC.
+#[test]
+fn a_symbol_in_words() {
+    let mut table = symbols(&[1]);
+    table[24 + 4] = 0xaa;
+    let names = b"\0f\0".to_vec();
+    let bytes = made(&[
+        text(),
+        (".symtab", 2, table, 3, 1, 24),
+        (".strtab", 3, names, 0, 0, 0),
+    ]);
+    let symbol = File::parse(&bytes).unwrap().symbol(2, 1).unwrap();
+    assert_eq!((symbol.binding(), symbol.symbol_type()), (10, 10));
+    let shown = "Symbol { name: \"f\", st_value: 7, st_size: 8, section: 1, st_info: 170, .. }";
+    assert_eq!(format!("{symbol:?}"), shown);
+}
+
 #[test]
 fn more_sections_than_there_is_room_for_on_the_stack() {
     for count in [60, 61, 62, 300] {
@@ -124,7 +164,8 @@ fn each_kind_of_table() {
     let dynamic = longs(&[1, 3, 0, 0]);
     let note =
         |name: &[u8; 4], kind| [words(&[2, 4, kind]), name.to_vec(), b"desc".to_vec()].concat();
-    let notes = [note(b"a\0\0\0", 1), note(b"b\0\0\0", 2)].concat();
+    let nameless = words(&[0, 0, 3]);
+    let notes = [note(b"a\0\0\0", 1), nameless, note(b"b\0\0\0", 2)].concat();
     let rela = longs(&[4, 1 << 32 | 2, u64::MAX]);
     let rel = longs(&[8, 1 << 32 | 2]);
     let hash = words(&[1, 2, 1, 0, 0]);
@@ -164,7 +205,11 @@ fn each_kind_of_table() {
         .collect();
     assert_eq!(
         notes,
-        [(&b"a"[..], 1, &b"desc"[..]), (&b"b"[..], 2, &b"desc"[..])]
+        [
+            (&b"a"[..], 1, &b"desc"[..]),
+            (b"", 3, b""),
+            (b"b", 2, b"desc")
+        ]
     );
     assert_eq!(file.find(8, b"f"), Some(1));
     assert_eq!(file.find(8, b"g"), None);
@@ -187,6 +232,9 @@ fn entries_are_counted_and_passed() {
     assert_eq!((all.len(), all.size_hint()), (COUNT, (COUNT, Some(COUNT))));
     assert_eq!(all.clone().count(), COUNT);
     assert_eq!(all.clone().last().unwrap().name, b"f");
+    let mut passed = all.clone();
+    assert!(passed.nth(9).is_some() && passed.next_back().is_some());
+    assert_eq!(passed.count(), COUNT - 11);
     // Each by its number: the square of their count would take minutes.
     let started = Instant::now();
     for index in 0..COUNT {

@@ -688,7 +688,7 @@ class InChromium(Browser):
         self.sound_file("/bin/true")
         self.filter("text", "")
         # Each answer comes after those to earlier questions.
-        self.value("(async () => { for (let k = 0; k < 4; k++) await ask('around', 0); })()")
+        self.value("(async () => { for (let k = 0; k < 4; k++) await ask('bytes', 0, 1); })()")
         self.check(
             "found" not in self.text("#table-words"),
             f"without a filter: {self.text('#table-words')}",

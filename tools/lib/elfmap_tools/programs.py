@@ -140,8 +140,9 @@ DEV = [
     ),
     Command(
         "coverage",
-        "print which branches of the Python package its tests take",
+        "print which branches of the Python package and of the page their tests take",
         coverage.main,
+        [coverage.WORD],
     ),
     Command(
         "sweep",
@@ -209,7 +210,7 @@ RELEASE = [
     ),
     Command(
         "tables",
-        "write the tables of the rules' names, from docs/RULES.md",
+        "write what the crates and the bindings have of docs/RULES.md and include/elfmap.h",
         rules_in_code.write_tables,
     ),
     Command(

@@ -14,10 +14,10 @@ import os
 import shutil
 from typing import Any
 
-from elfmap import _library, _names as names
+from elfmap import _declared, _names as names
 
 from .building import built_below, is_current, kit, words
-from .header import STRUCTS
+from .header import class_name, of_library
 from .library import FOLDER, VERDICTS as CRATE
 from .rules_page import file_rules
 from .tree import TOP, filled, read_bytes, read_text, wanted
@@ -59,9 +59,7 @@ def module() -> str:
 def layout() -> Structs:
     """The structs of include/elfmap.h, as the Python package declares them: the size of each, and
     its fields with their offsets."""
-    tags = {
-        getattr(_library, name): tag for name, tag in STRUCTS.items() if hasattr(_library, name)
-    }
+    tags = {getattr(_declared, class_name(it.tag)): it.tag for it in of_library().structs}
     found: Structs = {}
     for made, tag in tags.items():
         found[tag] = {"size": ctypes.sizeof(made), "align": ctypes.alignment(made), "fields": []}
@@ -119,7 +117,8 @@ def page() -> str:
         "SECTION_TYPES": names.SECTION_TYPES,
         "RELOCATION_TYPES": relocations,
     }
-    common = constants(LAYOUT=layout(), **of_numbers) + read_text("page/words.js")
+    common = constants(LAYOUT=layout(), **of_numbers)
+    common += read_text("page/declared.js") + read_text("page/words.js")
     worker = common + "".join(read_text(f"page/{it}.js") for it in ("reader", "tables", "worker"))
     # Of each rule of files its name, why a file is refused, and what to do.
     rules = {
