@@ -1,6 +1,9 @@
 """Rules 1 to 33 of docs/RULES.md, on any file: each is a function of its name there, which gives
 every offset where the file breaks it. A rule is asked only of a file that keeps those before it.
-This is written from the rules' own words and shares nothing with the crates; it may be slow."""
+This is written from the rules' own words and shares nothing with the crates; it may be slow.
+
+The reference implementation is in Python, with the standard library alone. A test crate would be
+proved, and could share definitions with what it tests."""
 from functools import lru_cache
 
 from records import *

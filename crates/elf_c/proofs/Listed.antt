@@ -1,15 +1,18 @@
--- What is found by the numbers of a file or table is what a file lists that breaks no rule; and it is in the struct or the buffer that it is
+-- What is found by the numbers of a file or table is what a file lists that breaks no rule; and it is in the struct or the buffer that it
+-- is
 -- put into.
 use Rattle.std.proofs.Common.{◌≡◌, ◌<◌, ◌↔◌, Bool, ℕ, List, None, Option, Some, ap, inl, inr, length, refl, subst, sym, ◌∙◌}
 use Rattle.std.proofs.lemmas.Bool.{OnTrue_from, cases_lt}
 use Rattle.std.specs.Bool.{OnTrue}
 use Rattle.std.specs.Prelude.{IfSome, IsSome, IsTrue, SomeIff}
-use Rattle.elf_c.proofs.ReadEntries.{array_counted, array_counted_in, entry_before_null, entry_by_numbers, relocation_by_numbers, relocations_counted, symbol_by_numbers, symbol_there}
+use Rattle.elf_c.proofs.ReadEntries.{array_counted, array_counted_in, entry_before_null, entry_by_numbers, relocation_by_numbers}
+use Rattle.elf_c.proofs.ReadEntries.{relocations_counted, symbol_by_numbers, symbol_there}
 use Rattle.elf_c.proofs.ReadFiles.{section_at, section_below}
 use Rattle.elf_c.proofs.ReadTables.{table_kind}
 use Rattle.elf_c.specs.Bulk.{IsFilled}
 use Rattle.elf_c.specs.Files.{IsFileOf, ListsSection, ReadsSection, order_named, section_shape}
-use Rattle.elf_c.specs.Tables.{IsTableOf, ListsDynamic, ListsRelocation, ListsSymbol, ReadsDynamic, ReadsRelocation, ReadsSymbol, dynamic_shape, relocation_shape, slot_bytes, symbol_told}
+use Rattle.elf_c.specs.Tables.{IsTableOf, ListsDynamic, ListsRelocation, ListsSymbol, ReadsDynamic, ReadsRelocation, ReadsSymbol}
+use Rattle.elf_c.specs.Tables.{dynamic_shape, relocation_shape, slot_bytes, symbol_told}
 use Rattle.elf_c.specs.declared.shapes.DynamicEntry.{DynamicEntry}
 use Rattle.elf_c.specs.declared.shapes.File.{File}
 use Rattle.elf_c.specs.declared.shapes.Relocation.{Relocation}
@@ -30,7 +33,8 @@ section_listed_as f b j (Some x) is (has, same) =
     (below, same ∙ ap section_shape (section_at f b j is below).read)
 
 pub symbol_listed_as : (t : Table) (b : List ℕ) (i j : ℕ) (r : Option Symbol) → IsTableOf SymbolTable t b i → ReadsSymbol t b j r →
-    IfSome r (λ s. symbol_told b s ≡ symbol_entry_in (order_named t.ei_data) (slot_bytes b t.content) (slot_bytes b t.strings) (slot_bytes b t.linked) j) →
+    IfSome r (λ s. symbol_told b s ≡
+    symbol_entry_in (order_named t.ei_data) (slot_bytes b t.content) (slot_bytes b t.strings) (slot_bytes b t.linked) j) →
     ListsSymbol b i j r
 symbol_listed_as t b i j None is none told =
     let past = (symbol_there t b i j is).1 in
@@ -40,7 +44,8 @@ symbol_listed_as t b i j None is none told =
     ]
 symbol_listed_as t b i j (Some x) is (has, same) told = ((symbol_there t b i j is).0 has, told ∙ symbol_by_numbers t b i j is has.1)
 
-pub relocation_listed_as : (t : Table) (b : List ℕ) (i j : ℕ) (r : Option Relocation) → IsTableOf RelocationTable t b i → ReadsRelocation t b j r →
+pub relocation_listed_as : (t : Table) (b : List ℕ) (i j : ℕ) (r : Option Relocation) → IsTableOf RelocationTable t b i →
+    ReadsRelocation t b j r →
     ListsRelocation b i j r
 relocation_listed_as t b i j None is none =
     λ below. none (table_kind RelocationTable t b i is, subst (λ (n : ℕ). j < n) (sym (relocations_counted t b i is)) below)
@@ -52,7 +57,8 @@ pub dynamic_listed_as : (t : Table) (b : List ℕ) (i j : ℕ) (r : Option Dynam
 dynamic_listed_as t b i j None is none =
     λ below. none (
       table_kind DynamicArray t b i is,
-      entry_before_null (order_named t.ei_data) (slot_bytes b t.content) j (subst (λ (n : ℕ). j < n) (sym (array_counted_in t b i is)) below),
+      entry_before_null (order_named t.ei_data) (slot_bytes b t.content) j
+          (subst (λ (n : ℕ). j < n) (sym (array_counted_in t b i is)) below),
       subst (λ (n : ℕ). j < n) (sym (array_counted t b i is)) below,
     )
 dynamic_listed_as t b i j (Some x) is (has, same) =
@@ -73,7 +79,8 @@ put_value P v None b new none there put = OnTrue_from b _ (λ yes. (let some = t
 put_value P v (Some x) b new (holds, same) there put = OnTrue_from b _ (λ yes. put ∙ same)
 
 -- what is known of each entry is known of the entries in a buffer
-pub filled_as : {T : Type 0} (P Q : ℕ → Option T → Type 0) → ((j : ℕ) (r : Option T) → P j r → Q j r) → (first : ℕ) (old new : List T) (count : ℕ) →
+pub filled_as : {T : Type 0} (P Q : ℕ → Option T → Type 0) → ((j : ℕ) (r : Option T) → P j r → Q j r) →
+    (first : ℕ) (old new : List T) (count : ℕ) →
     IsFilled P first old new count → IsFilled Q first old new count
 filled_as {T} P Q weaker first old new count filled = record {
   long = filled.long;

@@ -1,5 +1,7 @@
--- Which note has a byte. The one that is read at the byte is it (`note_found`). No note that ends before the byte has it (`note_passed`), so
--- none has it if the next one is cut (`none_cut`), or if there are no more (`none_left`). Then: what is found in the content of a section is
+-- Which note has a byte. The one that is read at the byte is it (`note_found`). No note that ends before the byte has it (`note_passed`),
+-- so
+-- none has it if the next one is cut (`none_cut`), or if there are no more (`none_left`). Then: what is found in the content of a section
+-- is
 -- what the owner has there.
 use Rattle.std.proofs.Common.{◌≡◌, ◌<◌, ◌≤◌, ◌+◌, ◌-◌, ℕ, List, None, Option, Some, arith, inl, inr, length, subst, suc, sym}
 use Rattle.std.proofs.lemmas.Bool.{cases_lt}
@@ -28,14 +30,16 @@ pub width_of_note : (o : Order) (table : List ℕ) (x : ℕ) → x + width_of (n
 unfolding note_end desc_start
 width_of_note o table x = omega arith
 
-note_passed : (o : Order) (table : List ℕ) (start x entry : ℕ) (p : Place) → start + note_offset o table 0 entry ≤ x → IsNotePlace o table start x p →
+note_passed : (o : Order) (table : List ℕ) (start x entry : ℕ) (p : Place) → start + note_offset o table 0 entry ≤ x →
+    IsNotePlace o table start x p →
     entry ≤ p.entry
 note_passed o table start x entry p past is =
     let inside = field_inside _ _ _ is.field in
     let width = width_of_note o table (note_offset o table 0 p.entry) in
     let next = note_offset_next o table 0 p.entry in
     elim (cases_lt p.entry entry) [
-      | inl lower ↦ (let ascends = offset_ascends o table (suc p.entry) entry (omega arith) in absurd (omega (arith, is.record_start, is.from)))
+      | inl lower ↦
+          (let ascends = offset_ascends o table (suc p.entry) entry (omega arith) in absurd (omega (arith, is.record_start, is.from)))
       | inr enough ↦ enough
     ]
 
@@ -46,7 +50,8 @@ none_cut o table start x entry at place past cut p is =
     let below : entry < whole_notes o table = omega (arith, is.whole) in
     cut (subst (λ (y : ℕ). note_end o table y ≤ length table) (sym place) ((whole_there o table entry).1 below))
 
-pub none_left : (o : Order) (table : List ℕ) (start x entry at : ℕ) → at ≡ note_offset o table 0 entry → start + at ≤ x → length table ≤ entry →
+pub none_left : (o : Order) (table : List ℕ) (start x entry at : ℕ) → at ≡ note_offset o table 0 entry → start + at ≤ x →
+    length table ≤ entry →
     Never (IsNotePlace o table start x)
 none_left o table start x entry at place past all p is =
     let enough = note_passed o table start x entry p (omega arith) is in

@@ -1,5 +1,6 @@
 -- Entries that the library for C reads of tables are those of the file.
-use Rattle.std.proofs.Common.{◌≡◌, ◌<◌, ◌≤◌, ℕ, List, true, false, arith, get_or, length, sym, zero-add, ◌∙◌, Option, ap, subst, ◌+◌, None, drop, zero, suc, inl, inr, refl, ◌*◌, ◌++◌, ◌↔◌, Some, add-one, ◌-◌}
+use Rattle.std.proofs.Common.{◌≡◌, ◌<◌, ◌≤◌, ℕ, List, true, false, arith, get_or, length, sym, zero-add, ◌∙◌, Option, ap, subst, ◌+◌, None}
+use Rattle.std.proofs.Common.{drop, zero, suc, inl, inr, refl, ◌*◌, ◌++◌, ◌↔◌, Some, add-one, ◌-◌}
 use Rattle.std.specs.List.{before_first, position_or_len}
 use Rattle.std.proofs.lemmas.Bool.{false_from_ne_true, cases_eq, cases_lt}
 use Rattle.std.proofs.lemmas.Bool.Decides.{Decides-int_eq}
@@ -9,9 +10,11 @@ use Rattle.std.proofs.lemmas.List.Sums.{position_or_len_is}
 use Rattle.std.specs.Prelude.{slice_get, unwrap_or}
 use Rattle.std.proofs.lemmas.Option.{slice_get-get_or, slice_get_within, unwrap_or-slice_get}
 use Rattle.elf_c.proofs.ReadFiles.{content_listed}
-use Rattle.elf_c.proofs.ReadTables.{content_long, table_content, table_order, table_sound, table_strings, table_linked, index_bytes, index_words_long, table_kind}
+use Rattle.elf_c.proofs.ReadTables.{content_long, table_content, table_order, table_sound, table_strings, table_linked, index_bytes}
+use Rattle.elf_c.proofs.ReadTables.{index_words_long, table_kind}
 use Rattle.elf_c.specs.Files.{order_named}
-use Rattle.elf_c.specs.Tables.{entries_before_null, IsTableOf, length_of_table, slot_bytes, HasSymbol, no_note_value, NoteStandsAt, whole_notes}
+use Rattle.elf_c.specs.Tables.{entries_before_null, IsTableOf, length_of_table, slot_bytes, HasSymbol, no_note_value, NoteStandsAt}
+use Rattle.elf_c.specs.Tables.{whole_notes}
 use Rattle.elf_c.specs.declared.shapes.Note.{Note}
 use Rattle.elf_c.specs.declared.shapes.Table.{Table}
 use Rattle.elf_c_parts.specs.declared.room.Slot.{Slot}
@@ -30,15 +33,21 @@ use Rattle.elf_table_hash.specs.HashRules.{hash_table_rules}
 use Rattle.elf_table_hash.specs.HashTable.{Valid, hash_in, names_in, symbol_names_of}
 use Rattle.elf_table_hash.specs.HashView.{hash_of_section}
 use Rattle.elf_table_lists.proofs.Public.{length_relocations, relocation_get, no_note_entry, note_entry}
-use Rattle.elf_table_lists.specs.Dynamic.{IsNullEntry, dynamic_entries, dynamic_entry, dynamic_entry_count, is_null_entry, no_dynamic_entry, dynamic_array_of, dynamic_section_rules}
-use Rattle.elf_table_lists.specs.Notes.{NoteValue, desc_start, note_at, note_end, note_offset, notes_in, note_rules, note_section_rules, AreNotesWhole, descsz, name_start, namesz, notes_of, padded}
-use Rattle.elf_table_lists.specs.Relocations.{has_addends, no_relocation_entry, relocation_count, relocation_in, relocations_in, relocations_of}
+use Rattle.elf_table_lists.specs.Dynamic.{IsNullEntry, dynamic_entries, dynamic_entry, dynamic_entry_count, is_null_entry, no_dynamic_entry}
+use Rattle.elf_table_lists.specs.Dynamic.{dynamic_array_of, dynamic_section_rules}
+use Rattle.elf_table_lists.specs.Notes.{NoteValue, desc_start, note_at, note_end, note_offset, notes_in, note_rules, note_section_rules}
+use Rattle.elf_table_lists.specs.Notes.{AreNotesWhole, descsz, name_start, namesz, notes_of, padded}
+use Rattle.elf_table_lists.specs.Relocations.{has_addends, no_relocation_entry, relocation_count, relocation_in, relocations_in}
+use Rattle.elf_table_lists.specs.Relocations.{relocations_of}
 use Rattle.elf_table_lists.specs.declared.relocations.Relocation.{Relocation}
 use Rattle.elf_table_symbols.proofs.Public.{link_there, sound_link, length_symbols, symbol_get}
 use Rattle.elf_table_symbols.specs.Sections.{own_rules, order, section, sections_in, Sections, content, count}
 use Rattle.elf_table_symbols.specs.SymbolView.{no_symbol_entry}
-use Rattle.elf_table_symbols.specs.Symbols.{symbol_table_rules, index_table, index_words, linked_string_rules, symbol_parts, entry, entry_count, index_table_rules, place_rules, rest_rules, symbol_entry_rules, SymbolEntryValue, symbol_entry_in, symbols_in, symbols_of}
-use Rattle.elf_table_symbols.specs.declared.table_section.TableKind.TheVariants.{DynamicArray, RelocationTable, HashTable, SymbolTable, NoteSection}
+use Rattle.elf_table_symbols.specs.Symbols.{symbol_table_rules, index_table, index_words, linked_string_rules, symbol_parts, entry}
+use Rattle.elf_table_symbols.specs.Symbols.{entry_count, index_table_rules, place_rules, rest_rules, symbol_entry_rules, SymbolEntryValue}
+use Rattle.elf_table_symbols.specs.Symbols.{symbol_entry_in, symbols_in, symbols_of}
+use Rattle.elf_table_symbols.specs.declared.table_section.TableKind.TheVariants.{DynamicArray, RelocationTable, HashTable, SymbolTable}
+use Rattle.elf_table_symbols.specs.declared.table_section.TableKind.TheVariants.{NoteSection}
 use Rattle.elf_table_symbols.specs.declared.table_section.TableKind.{TableKind}
 
 -- The index of the first DT_NULL, or the number of entries without one, is the length of the dynamic array (`length_before_null`). Entry j
@@ -48,13 +57,15 @@ length_dynamic : (o : Order) (table : List ℕ) (n : ℕ) → length (dynamic_en
 unfolding dynamic_entries
 length_dynamic o table n = length-map-range_with_len (dynamic_entry o table) 0 n
 
-dynamic_get : (o : Order) (table : List ℕ) (n j : ℕ) → j < n → get_or (dynamic_entries o table n) j no_dynamic_entry ≡ dynamic_entry o table j
+dynamic_get : (o : Order) (table : List ℕ) (n j : ℕ) → j < n →
+    get_or (dynamic_entries o table n) j no_dynamic_entry ≡ dynamic_entry o table j
 unfolding dynamic_entries
 dynamic_get o table n j within = get_or-map-range_with_len (dynamic_entry o table) 0 n j j no_dynamic_entry within (zero-add j)
 
 -- the index of the first entry that ends the array is how many are before it
 pub length_before_null : (o : Order) (table : List ℕ) (end : ℕ) → end ≤ dynamic_entry_count table →
-    ((k : ℕ) → k < end → IsNullEntry (dynamic_entry o table k) → ⊥) → (end < dynamic_entry_count table → IsNullEntry (dynamic_entry o table end)) →
+    ((k : ℕ) → k < end → IsNullEntry (dynamic_entry o table k) → ⊥) →
+    (end < dynamic_entry_count table → IsNullEntry (dynamic_entry o table end)) →
     end ≡ entries_before_null o table
 length_before_null o table end within before found =
     let n = dynamic_entry_count table in
@@ -63,7 +74,8 @@ length_before_null o table end within before found =
     let inside : end ≤ length xs = omega arith in
     let other : (k : ℕ) → k < end → is_null_entry (get_or xs k no_dynamic_entry) ≡ false =
     λ k lt. (let below : k < n = omega arith in
-    rw (dynamic_get o table n k below) (false_from_ne_true _ (λ test. before k lt ((Decides-int_eq (dynamic_entry o table k).d_tag DT_NULL).0 test)))) in
+    rw (dynamic_get o table n k below)
+    (false_from_ne_true _ (λ test. before k lt ((Decides-int_eq (dynamic_entry o table k).d_tag DT_NULL).0 test)))) in
     let here : end < length xs → is_null_entry (get_or xs end no_dynamic_entry) ≡ true =
     λ lt. (let below : end < n = omega arith in
     rw (dynamic_get o table n end below) ((Decides-int_eq (dynamic_entry o table end).d_tag DT_NULL).1 (found below))) in
@@ -86,7 +98,8 @@ array_get o table j before =
     let xs = dynamic_entries o table n in
     let cut = length-take (position_or_len is_null_entry xs) xs in
     let first : j < position_or_len is_null_entry xs = omega arith in
-    get_or-take (position_or_len is_null_entry xs) xs j no_dynamic_entry first ∙ dynamic_get o table n j (entry_before_null o table j before)
+    get_or-take (position_or_len is_null_entry xs) xs j no_dynamic_entry first ∙
+    dynamic_get o table n j (entry_before_null o table j before)
 
 -- Relocations and dynamic entries, read by the numbers of a table. The numbers lead to the section's own bytes and order, so what is read
 -- of them is the section's list; each entry then follows by its index.
@@ -99,13 +112,15 @@ unfolding relocations_of
 relocations_by_numbers t b i is =
     let f = sections_in b in
     ap (λ (u : Table). relocations_in (has_addends u.sh_type) (order_named t.ei_data) (slot_bytes b t.content)) is.numbers
-    ∙ ap (λ (o : Order). relocations_in (has_addends (section f i).sh_type) o (slot_bytes b t.content)) (table_order RelocationTable t b i is)
+    ∙ ap (λ (o : Order). relocations_in (has_addends (section f i).sh_type) o (slot_bytes b t.content))
+    (table_order RelocationTable t b i is)
     ∙ ap (relocations_in (has_addends (section f i).sh_type) (order f)) (table_content RelocationTable t b i is)
 
 pub relocations_counted : (t : Table) (b : List ℕ) (i : ℕ) → IsTableOf RelocationTable t b i →
     relocation_count (has_addends t.sh_type) (slot_bytes b t.content) ≡ length (relocations_of (sections_in b) i)
 relocations_counted t b i is =
-    sym (length_relocations (has_addends t.sh_type) (order_named t.ei_data) (slot_bytes b t.content)) ∙ ap length (relocations_by_numbers t b i is)
+    sym (length_relocations (has_addends t.sh_type) (order_named t.ei_data) (slot_bytes b t.content)) ∙
+    ap length (relocations_by_numbers t b i is)
 
 pub relocation_by_numbers : (t : Table) (b : List ℕ) (i j : ℕ) → IsTableOf RelocationTable t b i →
     j < relocation_count (has_addends t.sh_type) (slot_bytes b t.content) →
@@ -129,7 +144,8 @@ array_by_numbers t b i is =
     ∙ ap (array_in (order f)) (table_content DynamicArray t b i is)
 
 -- the table's numbers have their count
-pub array_counted : (t : Table) (b : List ℕ) (i : ℕ) → IsTableOf DynamicArray t b i → t.entries ≡ length (dynamic_array_of (sections_in b) i)
+pub array_counted : (t : Table) (b : List ℕ) (i : ℕ) → IsTableOf DynamicArray t b i →
+    t.entries ≡ length (dynamic_array_of (sections_in b) i)
 array_counted t b i is =
     ap (λ (u : Table). u.entries) is.numbers ∙ ap (λ (k : Option TableKind). length_of_table k (sections_in b) i) is.typed
 
@@ -144,7 +160,8 @@ entry_by_numbers t b i j is below =
     ∙ ap (λ (entries : List Dyn). get_or entries j no_dynamic_entry) (array_by_numbers t b i is)
 
 -- and its strings are those that the section links to
-pub array_strings : (t : Table) (b : List ℕ) (i : ℕ) → IsTableOf DynamicArray t b i → slot_bytes b t.strings ≡ dynamic_strings (sections_in b) i
+pub array_strings : (t : Table) (b : List ℕ) (i : ℕ) → IsTableOf DynamicArray t b i →
+    slot_bytes b t.strings ≡ dynamic_strings (sections_in b) i
 unfolding dynamic_section_rules
 array_strings t b i is =
     let f = sections_in b in
@@ -167,17 +184,20 @@ strings_there f i sound =
 
 -- its words and the names of its symbols are those of the section
 pub table_hash : (t : Table) (b : List ℕ) (i : ℕ) → IsTableOf HashTable t b i →
-    hash_in (order_named t.ei_data) (slot_bytes b t.content) (slot_bytes b t.linked) (slot_bytes b t.strings) ≡ hash_of_section (sections_in b) i
+    hash_in (order_named t.ei_data) (slot_bytes b t.content) (slot_bytes b t.linked) (slot_bytes b t.strings) ≡
+    hash_of_section (sections_in b) i
 table_hash t b i is =
     let f = sections_in b in
     let sound = table_sound HashTable t b i is in
     let link = (section f i).sh_link in
     let own = table_order HashTable t b i is in
     let words = table_content HashTable t b i is in
-    let symbols : slot_bytes b t.linked ≡ content f link = table_linked HashTable t b i is ∙ sym (content_listed b link (symbols_there f i sound)) in
+    let symbols : slot_bytes b t.linked ≡ content f link =
+    table_linked HashTable t b i is ∙ sym (content_listed b link (symbols_there f i sound)) in
     let strings : slot_bytes b t.strings ≡ content f (section f link).sh_link =
     table_strings HashTable t b i is ∙ sym (content_listed b (section f link).sh_link (strings_there f i sound)) in
-    let named : names_in (order f) (content f link) (content f (section f link).sh_link) ≡ symbol_names_of f link = names_of_section f link in
+    let named : names_in (order f) (content f link) (content f (section f link).sh_link) ≡ symbol_names_of f link =
+    names_of_section f link in
     rw (own, words, symbols, strings, named) refl
 
 -- ---- a table that breaks no rule is one for these names
@@ -197,7 +217,8 @@ table_valid t b i is =
 -- ---- what is read by the numbers is what the rules look at
 
 pub symbols_by_numbers : (t : Table) (b : List ℕ) (i : ℕ) → IsTableOf SymbolTable t b i →
-    symbols_in (order_named t.ei_data) (slot_bytes b t.content) (slot_bytes b t.strings) (slot_bytes b t.linked) ≡ symbols_of (sections_in b) i
+    symbols_in (order_named t.ei_data) (slot_bytes b t.content) (slot_bytes b t.strings) (slot_bytes b t.linked) ≡
+    symbols_of (sections_in b) i
 unfolding symbols_of
 symbols_by_numbers t b i is =
     let f = sections_in b in
@@ -205,8 +226,10 @@ symbols_by_numbers t b i is =
     let names : slot_bytes b t.strings ≡ content f link =
     table_strings SymbolTable t b i is ∙ sym (content_listed b link (sound_link f i (table_sound SymbolTable t b i is))) in
     let words : slot_bytes b t.linked ≡ index_words f (index_table f i) = table_linked SymbolTable t b i is ∙ index_bytes b i in
-    ap (λ (o : Order). symbols_in o (slot_bytes b t.content) (slot_bytes b t.strings) (slot_bytes b t.linked)) (table_order SymbolTable t b i is)
-    ∙ ap (λ (table : List ℕ). symbols_in (order f) table (slot_bytes b t.strings) (slot_bytes b t.linked)) (table_content SymbolTable t b i is)
+    ap (λ (o : Order). symbols_in o (slot_bytes b t.content) (slot_bytes b t.strings) (slot_bytes b t.linked))
+    (table_order SymbolTable t b i is)
+    ∙ ap (λ (table : List ℕ). symbols_in (order f) table (slot_bytes b t.strings) (slot_bytes b t.linked))
+    (table_content SymbolTable t b i is)
     ∙ ap (λ (strings : List ℕ). symbols_in (order f) (content f i) strings (slot_bytes b t.linked)) names
     ∙ ap (λ (table : List ℕ). symbols_in (order f) (content f i) (content f link) table) words
 
@@ -218,7 +241,8 @@ index_table_kept : (f : Sections) (i : ℕ) → FirstIn (symbol_table_rules f i)
 unfolding symbol_table_rules rest_rules
 index_table_kept f i sound =
     let p = symbol_parts f i in
-    FirstIn-behind (symbol_entry_rules p) _ (FirstIn-behind (linked_string_rules p.names p.names_start) _ (FirstIn-behind (own_rules SymbolTable f i) _ sound))
+    FirstIn-behind (symbol_entry_rules p) _
+    (FirstIn-behind (linked_string_rules p.names p.names_start) _ (FirstIn-behind (own_rules SymbolTable f i) _ sound))
 
 -- the index table has a word for each symbol
 index_table_sized : (f : Sections) (i j : ℕ) → FirstIn (symbol_table_rules f i) None → index_table f i ≡ Some j →
@@ -256,14 +280,16 @@ word_there b i j t is within extended =
     rw found (omega arith)
 
 -- so the table has exactly the symbols of the list
-pub symbol_there : (t : Table) (b : List ℕ) (i j : ℕ) → IsTableOf SymbolTable t b i → HasSymbol t b j ↔ (j < length (symbols_of (sections_in b) i))
+pub symbol_there : (t : Table) (b : List ℕ) (i j : ℕ) → IsTableOf SymbolTable t b i →
+    HasSymbol t b j ↔ (j < length (symbols_of (sections_in b) i))
 symbol_there t b i j is =
     let f = sections_in b in
     let own = table_content SymbolTable t b i is in
     let ordered = table_order SymbolTable t b i is in
     let words : slot_bytes b t.linked ≡ index_words f (index_table f i) = table_linked SymbolTable t b i is ∙ index_bytes b i in
     let listed : length (symbols_of f i) ≡ entry_count (slot_bytes b t.content) =
-    ap length (sym (symbols_by_numbers t b i is)) ∙ length_symbols (order_named t.ei_data) (slot_bytes b t.content) (slot_bytes b t.strings) (slot_bytes b t.linked) in (
+    ap length (sym (symbols_by_numbers t b i is)) ∙
+    length_symbols (order_named t.ei_data) (slot_bytes b t.content) (slot_bytes b t.strings) (slot_bytes b t.linked) in (
       λ has. subst (λ (n : ℕ). j < n) (sym listed) has.1,
       λ below. (let within : j < entry_count (slot_bytes b t.content) = subst (λ (n : ℕ). j < n) listed below in (
         table_kind SymbolTable t b i is,
@@ -296,7 +322,8 @@ unfolding note_offset
 note_offset_next o table x zero = refl
 note_offset_next o table x (suc k) = note_offset_next o table (note_end o table x) k
 
-pub note_offset_after : (o : Order) (table : List ℕ) (x k : ℕ) → x ≡ note_offset o table 0 k → note_end o table x ≡ note_offset o table 0 (k + 1)
+pub note_offset_after : (o : Order) (table : List ℕ) (x k : ℕ) → x ≡ note_offset o table 0 k →
+    note_end o table x ≡ note_offset o table 0 (k + 1)
 note_offset_after o table x k place = rw (add-one k) (ap (note_end o table) place ∙ sym (note_offset_next o table 0 k))
 
 pub note_offset_zero : (o : Order) (table : List ℕ) (x : ℕ) → note_offset o table x zero ≡ x
@@ -348,7 +375,8 @@ note_stands_in_file n o b e x within (name, desc) =
     let named : padded (namesz o t x) ≡ padded (namesz o b (e.start + x)) = ap padded names in
     let begins : 0 + name_start (e.start + x) ≡ e.start + name_start x = omega arith in
     let told : 0 + desc_start o b (e.start + x) ≡ e.start + desc_start o t x = omega arith in (
-      name ∙ ap (λ (s : ℕ). slot s (namesz o b (e.start + x) - 1)) begins ∙ ap (λ (l : ℕ). slot (e.start + name_start x) (l - 1)) (sym names),
+      name ∙ ap (λ (s : ℕ). slot s (namesz o b (e.start + x) - 1)) begins ∙
+          ap (λ (l : ℕ). slot (e.start + name_start x) (l - 1)) (sym names),
       desc ∙ ap (λ (s : ℕ). slot s (descsz o b (e.start + x))) told ∙ ap (slot (e.start + desc_start o t x)) (sym descs),
     ) where
       slot : ℕ → ℕ → Slot
@@ -368,7 +396,8 @@ notes_whole o table start sound k below =
       | inr within ↦ within
     ]
 
-pub whole_by_numbers : (t : Table) (b : List ℕ) (i : ℕ) → IsTableOf NoteSection t b i → AreNotesWhole (order_named t.ei_data) (slot_bytes b t.content) 0
+pub whole_by_numbers : (t : Table) (b : List ℕ) (i : ℕ) → IsTableOf NoteSection t b i →
+    AreNotesWhole (order_named t.ei_data) (slot_bytes b t.content) 0
 unfolding note_section_rules
 whole_by_numbers t b i is =
     let f = sections_in b in
@@ -405,7 +434,8 @@ there_in o table k whole =
       ],
     )
 
-pub note_there : (t : Table) (b : List ℕ) (i k : ℕ) → IsTableOf NoteSection t b i → let o = order_named t.ei_data in let c = slot_bytes b t.content in
+pub note_there : (t : Table) (b : List ℕ) (i k : ℕ) → IsTableOf NoteSection t b i → let o = order_named t.ei_data in let c =
+    slot_bytes b t.content in
     note_end o c (note_offset o c 0 k) ≤ length c ↔ (k < length (notes_of (sections_in b) i))
 note_there t b i k is =
     let o = order_named t.ei_data in
@@ -414,14 +444,16 @@ note_there t b i k is =
     (there_in o c k (whole_by_numbers t b i is))
 
 -- after a note that is cut there is none
-pub none_behind : (t : Table) (b : List ℕ) (i k j : ℕ) → IsTableOf NoteSection t b i → let o = order_named t.ei_data in let c = slot_bytes b t.content in
+pub none_behind : (t : Table) (b : List ℕ) (i k j : ℕ) → IsTableOf NoteSection t b i → let o = order_named t.ei_data in let c =
+    slot_bytes b t.content in
     k < j → length c < note_end o c (note_offset o c 0 k) → j < length (notes_of (sections_in b) i) → ⊥
 none_behind t b i k j is before cut below =
     let there = (note_there t b i k is).1 (omega arith) in
     omega arith
 
 -- and it is the one of its index
-pub note_by_numbers : (t : Table) (b : List ℕ) (i k : ℕ) → IsTableOf NoteSection t b i → let o = order_named t.ei_data in let c = slot_bytes b t.content in
+pub note_by_numbers : (t : Table) (b : List ℕ) (i k : ℕ) → IsTableOf NoteSection t b i → let o = order_named t.ei_data in let c =
+    slot_bytes b t.content in
     note_end o c (note_offset o c 0 k) ≤ length c → note_at o c (note_offset o c 0 k) ≡ get_or (notes_of (sections_in b) i) k no_note_value
 note_by_numbers t b i k is ends =
     let o = order_named t.ei_data in

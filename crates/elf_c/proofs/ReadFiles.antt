@@ -1,5 +1,6 @@
 -- What the library for C reads of a file and of its sections.
-use Rattle.std.proofs.Common.{◌≡◌, ◌↔◌, Bool, None, Option, Some, ap, refl, subst, sym, ◌∙◌, ◌≢◌, ℕ, List, [], ◌∷◌, arith, inl, inr, ◌<◌, ◌+◌, ◌*◌, length, zero-add, ◌≤◌, ◌-◌, zero, suc, take, drop, true, false, cond, nat_lt}
+use Rattle.std.proofs.Common.{◌≡◌, ◌↔◌, Bool, None, Option, Some, ap, refl, subst, sym, ◌∙◌, ◌≢◌, ℕ, List, [], ◌∷◌, arith, inl, inr, ◌<◌}
+use Rattle.std.proofs.Common.{◌+◌, ◌*◌, length, zero-add, ◌≤◌, ◌-◌, zero, suc, take, drop, true, false, cond, nat_lt}
 use Rattle.std.proofs.lemmas.Bool.{OnTrue_from, cases_lt, cases_eq, ne_eqb}
 use Rattle.std.specs.Bool.{OnTrue}
 use Rattle.std.specs.Prelude.{IfSome, IsSome, IsTrue, SomeIff, slice_index}
@@ -16,9 +17,13 @@ use Rattle.elf_field.specs.declared.shdr.Shdr.{Shdr}
 use Rattle.elf_image_outline.specs.Image.{no_section_header}
 use Rattle.elf_image_rules.proofs.Public.{sections_read_at, sections_there, sound_file, table_some, name_table_below, records_kept}
 use Rattle.elf_image_rules.specs.Rows.{FirstIn, Ruled}
-use Rattle.elf_image_rules.specs.Rules.{header_rules, ident_rules, length_rules, IsFault, header_entry_rules, header_table_rules, image_rules, record_rules, rules_in, section_name_rules, program_table_rules, section_header_rules, section_table_rules, segment_rules, KeepsRecordRules}
-use Rattle.elf_image_rules.specs.Tables.{file_counts, header, order_of, sections, segments, bytes_in, content_extent, name_table, names, names_at, no_program_header, program_header_of}
-use Rattle.elf_image_type.specs.ImageView.{string, IsFirstWithAddress, loaded}
+use Rattle.elf_image_rules.specs.Rules.{header_rules, ident_rules, length_rules, IsFault, header_entry_rules, header_table_rules}
+use Rattle.elf_image_rules.specs.Rules.{image_rules, record_rules, rules_in, section_name_rules, program_table_rules, section_header_rules}
+use Rattle.elf_image_rules.specs.Rules.{section_table_rules, segment_rules, KeepsRecordRules}
+use Rattle.elf_image_rules.specs.Tables.{file_counts, header, order_of, sections, segments, bytes_in, content_extent, name_table, names}
+use Rattle.elf_image_rules.specs.Tables.{names_at, no_program_header, program_header_of}
+use Rattle.elf_field.specs.Strings.{string}
+use Rattle.elf_image_type.specs.ImageView.{IsFirstWithAddress, loaded}
 use Rattle.elf_table_symbols.specs.Sections.{content, count, section, sections_in}
 
 -- What is said of an answer that is there or isn't, and of the struct that it is put into.
@@ -29,7 +34,8 @@ none_there {T} P r none not_there =
     subst (λ (s : Option T). IsSome s ↔ P) (sym none) (λ wrong. cc, λ there. absurd (not_there there))
 
 -- a value that is reported is known by another name, where it is there
-pub some_same : {T V : Type 0} (told : T → V) (x y : V) (r : Option T) → IfSome r (λ n. told n ≡ x) → (IsSome r → x ≡ y) → IfSome r (λ n. told n ≡ y)
+pub some_same : {T V : Type 0} (told : T → V) (x y : V) (r : Option T) → IfSome r (λ n. told n ≡ x) → (IsSome r → x ≡ y) →
+    IfSome r (λ n. told n ≡ y)
 some_same told x y None none same = none
 some_same told x y (Some n) some same = some ∙ same refl
 
@@ -52,7 +58,8 @@ numbered (r ∷ rules) rule at numbers (inl here) is_zero = numbers.0 (sym here.
 numbered (r ∷ rules) rule at numbers (inr later) is_zero = numbered rules rule at numbers.1 later.1 is_zero
 
 all_numbered : (b : List ℕ) → AreNumbered (rules_in b)
-unfolding rules_in image_rules record_rules length_rules ident_rules header_rules header_table_rules section_table_rules program_table_rules header_entry_rules section_header_rules segment_rules section_name_rules
+unfolding rules_in image_rules record_rules length_rules ident_rules header_rules header_table_rules section_table_rules program_table_rules
+    header_entry_rules section_header_rules segment_rules section_name_rules
 all_numbered b = search arith
 
 pub fault_numbered : (b : List ℕ) (rule at : ℕ) → IsFault b (Some (rule, at)) → rule ≢ 0
@@ -134,7 +141,8 @@ content_listed b i below =
 pub found_listed : (f : File) (b : List ℕ) (i : ℕ) (r : Option Shdr) → IsFileOf f b →
     SomeIff r (HasEntry f.sections f.e_shoff SHDR_SIZE i (length b)) (shdr_at (file_order f) b (f.e_shoff + SHDR_SIZE * i)) →
     SomeIff r (i < count (sections_in b)) (section (sections_in b) i)
-found_listed f b i None is none = λ below. (let listed = subst (λ (n : ℕ). i < n) (count_listed b) below in none (section_at f b i is listed).there)
+found_listed f b i None is none =
+    λ below. (let listed = subst (λ (n : ℕ). i < n) (count_listed b) below in none (section_at f b i is listed).there)
 found_listed f b i (Some x) is (there, read) =
     let listed = section_below f b i (length b) is there in
     (subst (λ (n : ℕ). i < n) (sym (count_listed b)) listed, read ∙ (section_at f b i is listed).read ∙ sym (section_listed b i listed))
@@ -278,7 +286,8 @@ pub length-listed : (b : List ℕ) → length (segments_listed b) ≡ (file_coun
 length-listed b = length-map-range_with_len (segments b (header b)) 0 (file_counts b).segments
 
 -- what a segment gives an address: a byte of the file, or 0 after its bytes there
-pub loaded_inside : (b : List ℕ) (s : Phdr) (x : ℕ) → x - s.p_vaddr < s.p_filesz → slice_index b (s.p_offset + (x - s.p_vaddr)) ≡ loaded b s x
+pub loaded_inside : (b : List ℕ) (s : Phdr) (x : ℕ) → x - s.p_vaddr < s.p_filesz →
+    slice_index b (s.p_offset + (x - s.p_vaddr)) ≡ loaded b s x
 loaded_inside b s x lt =
     let test : nat_lt (x - s.p_vaddr) s.p_filesz ≡ true = grind (arith, nat_tests) in
     ap (λ (t : Bool). cond t (slice_index b (s.p_offset + (x - s.p_vaddr))) 0) (sym test)
@@ -298,5 +307,6 @@ inside_segment b j x s kept (lt, has, none) same inside =
     let each = records_kept (length b) h (sections b h) (segments b h) (names b h) kept in
     let load : (segments b h j).p_type ≡ 1 = subst (λ (p : Phdr). p.p_type ≡ 1) (listed_at b j below) has.0 in
     let within = each.segments.bytes j below (λ null. omega arith) in
-    let own : 0 < s.p_filesz → s.p_offset + s.p_filesz ≤ length b = subst (λ (p : Phdr). 0 < p.p_filesz → p.p_offset + p.p_filesz ≤ length b) (sym is) within in
+    let own : 0 < s.p_filesz → s.p_offset + s.p_filesz ≤ length b =
+    subst (λ (p : Phdr). 0 < p.p_filesz → p.p_offset + p.p_filesz ≤ length b) (sym is) within in
     omega arith

@@ -48,7 +48,8 @@ lowest_same P Q (Some x) same least = record {
 }
 
 -- and it is where it is put
-pub put_least : (P : ℕ → Type 0) (r : Option ℕ) (b : Bool) (new : ℕ) → IsLowest P r → (IsTrue b ↔ IsSome r) → IfSome r (λ x. new ≡ x) → OnTrue b (IsLeast P new)
+pub put_least : (P : ℕ → Type 0) (r : Option ℕ) (b : Bool) (new : ℕ) → IsLowest P r → (IsTrue b ↔ IsSome r) → IfSome r (λ x. new ≡ x) →
+    OnTrue b (IsLeast P new)
 put_least P None b new never there put = OnTrue_from b _ (λ yes. (let some = there.0 yes in absurd cc))
 put_least P (Some x) b new least there put = OnTrue_from b _ (λ yes. rw put least)
 

@@ -1,5 +1,6 @@
 -- Tables of the library for C: an index of symbol tables, and what is read of tables by number.
-use Rattle.std.proofs.Common.{◌≡◌, ◌≢◌, ◌<◌, ℕ, Bool, false, true, List, None, Option, Some, ap, inl, inr, refl, sym, ◌∙◌, ◌≤◌, ◌+◌, zero, suc, length, drop, subst, arith}
+use Rattle.std.proofs.Common.{◌≡◌, ◌≢◌, ◌<◌, ℕ, Bool, false, true, List, None, Option, Some, ap, inl, inr, refl, sym, ◌∙◌, ◌≤◌, ◌+◌, zero}
+use Rattle.std.proofs.Common.{suc, length, drop, subst, arith}
 use Rattle.std.proofs.lemmas.Bool.{cases_lt, eq-eqb, eqb-true, cases_eq, ne_eqb}
 use Rattle.std.specs.Cmp.Derive.{both_true}
 use Rattle.std.specs.Prelude.{◌==◌, ◌&&◌, ◌/◌}
@@ -8,7 +9,8 @@ use Rattle.std.proofs.lemmas.List.Quantifiers.{position-Some}
 use Rattle.std.proofs.lemmas.List.FromFn.{length-map-range_with_len}
 use Rattle.elf_c.proofs.ReadFiles.{count_listed, content_listed, section_listed}
 use Rattle.elf_c.specs.Files.{IsFileOf, order_named}
-use Rattle.elf_c.specs.Tables.{index_place, no_place, IsTableOfKind, IsTableOf, linked_place, slot_bytes, strings_place, length_in, HoldsTable, IsLinkThere, content_place, length_of_table, table_in, words_of}
+use Rattle.elf_c.specs.Tables.{index_place, no_place, IsTableOfKind, IsTableOf, linked_place, slot_bytes, strings_place, length_in}
+use Rattle.elf_c.specs.Tables.{HoldsTable, IsLinkThere, content_place, length_of_table, table_in, words_of}
 use Rattle.elf_c.specs.declared.shapes.File.{File}
 use Rattle.elf_c.specs.declared.shapes.Table.{Table}
 use Rattle.elf_c_parts.specs.Slots.{extent_in}
@@ -33,7 +35,8 @@ use Rattle.elf_table_lists.specs.Relocations.{has_addends, relocations_of}
 use Rattle.elf_table_symbols.proofs.Public.{lowest_position, length_symbols}
 use Rattle.elf_table_symbols.specs.Sections.{Sections, count, section, sections_in, Below, content, order, kind_of}
 use Rattle.elf_table_symbols.specs.Symbols.{IsIndexTable, index_table, index_words, symbol_parts, word, symbols_of}
-use Rattle.elf_table_symbols.specs.declared.table_section.TableKind.TheVariants.{SymbolTable, RelocationTable, SectionGroup, NoteSection, DynamicArray, HashTable}
+use Rattle.elf_table_symbols.specs.declared.table_section.TableKind.TheVariants.{SymbolTable, RelocationTable, SectionGroup, NoteSection}
+use Rattle.elf_table_symbols.specs.declared.table_section.TableKind.TheVariants.{DynamicArray, HashTable}
 use Rattle.elf_table_symbols.specs.declared.table_section.TableKind.{TableKind}
 
 -- The index table of a symbol table is the lowest section that is one. So a search section by section, up to the first such section or to
@@ -57,14 +60,16 @@ pub count_by_numbers : (f : File) (b : List ℕ) → IsFileOf f b → f.sections
 count_by_numbers f b is = ap (λ (g : File). g.sections) is.numbers ∙ sym (count_listed b)
 
 -- so where section j is one and none before it is, its content is at the place that is reported
-pub first_index_place : (f : Sections) (i j : ℕ) (s : Shdr) (place : Slot) → j < count f → s ≡ section f j → extent_in place ≡ content_extent s →
+pub first_index_place : (f : Sections) (i j : ℕ) (s : Shdr) (place : Slot) → j < count f → s ≡ section f j →
+    extent_in place ≡ content_extent s →
     s.sh_type ≡ SHT_SYMTAB_SHNDX → s.sh_link ≡ i → ((k : ℕ) → k < j → IsIndexTable f i k → ⊥) → place ≡ index_place f (index_table f i)
 first_index_place f i j s place below same extent typed linked before =
     let lowest : IsLowest (Below (count f) (IsIndexTable f i)) (Some j) = record {
       holds = (below, (ap (λ (t : Shdr). t.sh_type) (sym same) ∙ typed, ap (λ (t : Shdr). t.sh_link) (sym same) ∙ linked));
       lowest = λ k here. elim (cases_lt k j) [ inl lower ↦ absurd (before k lower here.1) | inr above ↦ above ];
     } in
-    ap (λ (e : Extent). slot e) extent ∙ ap (λ (t : Shdr). slot (content_extent t)) same ∙ ap (index_place f) (index_table_is f i (Some j) lowest) where
+    ap (λ (e : Extent). slot e) extent ∙ ap (λ (t : Shdr). slot (content_extent t)) same ∙
+    ap (index_place f) (index_table_is f i (Some j) lowest) where
       slot : Extent → Slot
       slot e = record { start = e.start; len = e.len }
 
@@ -86,7 +91,8 @@ content_by_numbers t b i numbers there = ap (λ (u : Table). slot_bytes b u.cont
 pub table_order : (kind : TableKind) (t : Table) (b : List ℕ) (i : ℕ) → IsTableOf kind t b i → order_named t.ei_data ≡ order (sections_in b)
 table_order kind t b i is = order_by_numbers t b i is.numbers
 
-pub table_content : (kind : TableKind) (t : Table) (b : List ℕ) (i : ℕ) → IsTableOf kind t b i → slot_bytes b t.content ≡ content (sections_in b) i
+pub table_content : (kind : TableKind) (t : Table) (b : List ℕ) (i : ℕ) → IsTableOf kind t b i →
+    slot_bytes b t.content ≡ content (sections_in b) i
 table_content kind t b i is = content_by_numbers t b i is.numbers is.there
 
 pub table_strings : (kind : TableKind) (t : Table) (b : List ℕ) (i : ℕ) → IsTableOf kind t b i →
@@ -107,7 +113,8 @@ pub table_kind : (kind : TableKind) (t : Table) (b : List ℕ) (i : ℕ) → IsT
 table_kind kind t b i is = ap (λ (u : Table). kind_of u.sh_type) is.numbers ∙ is.typed
 
 -- no rule of its kind is broken
-pub table_sound : (kind : TableKind) (t : Table) (b : List ℕ) (i : ℕ) → IsTableOf kind t b i → FirstIn (rules_of_kind (Some kind) (sections_in b) i) None
+pub table_sound : (kind : TableKind) (t : Table) (b : List ℕ) (i : ℕ) → IsTableOf kind t b i →
+    FirstIn (rules_of_kind (Some kind) (sections_in b) i) None
 unfolding table_rules
 table_sound kind t b i is = subst (λ (k : Option TableKind). FirstIn (rules_of_kind k (sections_in b) i) None) is.typed is.sound
 
@@ -118,7 +125,8 @@ content_inside : (len : ℕ) (h : Ehdr) (s : ℕ → Shdr) (i : ℕ) → HasSoun
 content_inside len h s zero sound below typed bits some = absurd (typed (sound.null (table_some h (s 0) (omega arith))))
 content_inside len h s (suc i) sound below typed bits some = sound.content (suc i) (omega arith) below typed bits some
 
-extent_long : (b : List ℕ) (s : Shdr) → s.sh_type ≢ SHT_NULL → s.sh_type ≢ SHT_NOBITS → (0 < s.sh_size → s.sh_offset + s.sh_size ≤ length b) →
+extent_long : (b : List ℕ) (s : Shdr) → s.sh_type ≢ SHT_NULL → s.sh_type ≢ SHT_NOBITS →
+    (0 < s.sh_size → s.sh_offset + s.sh_size ≤ length b) →
     length (bytes_in b (content_extent s)) ≡ s.sh_size
 extent_long b s typed bits inside =
     let whole : (content_extent s).len ≡ s.sh_size = rw (ne_eqb s.sh_type SHT_NULL typed, ne_eqb s.sh_type SHT_NOBITS bits) refl in
@@ -156,7 +164,8 @@ index_bytes_of : (b : List ℕ) (i : ℕ) (found : Option ℕ) → index_table (
 index_bytes_of b i None is = refl
 index_bytes_of b i (Some j) is = sym (content_listed b j (index_there (sections_in b) i j is).0)
 
-pub index_bytes : (b : List ℕ) (i : ℕ) → let f = sections_in b in slot_bytes b (index_place f (index_table f i)) ≡ index_words f (index_table f i)
+pub index_bytes : (b : List ℕ) (i : ℕ) → let f = sections_in b in
+    slot_bytes b (index_place f (index_table f i)) ≡ index_words f (index_table f i)
 index_bytes b i = index_bytes_of b i (index_table (sections_in b) i) refl
 
 pub index_words_long : (b : List ℕ) (i j : ℕ) → KeepsRecordRules b → index_table (sections_in b) i ≡ Some j →
@@ -197,10 +206,13 @@ numbers place linked strings entries type ei_data = record {
   ei_data = ei_data;
 }
 
-same_numbers : (a a' l l' s s' : Slot) (n n' t t' d d' : ℕ) → a ≡ a' → l ≡ l' → s ≡ s' → n ≡ n' → t ≡ t' → d ≡ d' → numbers a l s n t d ≡ numbers a' l' s' n' t' d'
+same_numbers : (a a' l l' s s' : Slot) (n n' t t' d d' : ℕ) → a ≡ a' → l ≡ l' → s ≡ s' → n ≡ n' → t ≡ t' → d ≡ d' →
+    numbers a l s n t d ≡ numbers a' l' s' n' t' d'
 same_numbers a a' l l' s s' n n' t t' d d' place linked strings entries type encoding =
-    ap (λ (x : Slot). numbers x l s n t d) place ∙ ap (λ (x : Slot). numbers a' x s n t d) linked ∙ ap (λ (x : Slot). numbers a' l' x n t d) strings
-    ∙ ap (λ (x : ℕ). numbers a' l' s' x t d) entries ∙ ap (λ (x : ℕ). numbers a' l' s' n' x d) type ∙ ap (λ (x : ℕ). numbers a' l' s' n' t' x) encoding
+    ap (λ (x : Slot). numbers x l s n t d) place ∙ ap (λ (x : Slot). numbers a' x s n t d) linked ∙
+    ap (λ (x : Slot). numbers a' l' x n t d) strings
+    ∙ ap (λ (x : ℕ). numbers a' l' s' x t d) entries ∙ ap (λ (x : ℕ). numbers a' l' s' n' x d) type ∙
+    ap (λ (x : ℕ). numbers a' l' s' n' t' x) encoding
 
 own_order : (file : File) (b : List ℕ) → IsFileOf file b → order_named file.ei_data ≡ order (sections_in b)
 unfolding order_of sections_in
@@ -210,7 +222,8 @@ own_data : (file : File) (b : List ℕ) (i : ℕ) → IsFileOf file b → file.e
 unfolding sections_in
 own_data file b i is = ap (λ (g : File). g.ei_data) is.numbers
 
-pub table_gathered : (file : File) (b : List ℕ) (i : ℕ) (s : Shdr) (kind : Option TableKind) (place linked strings : Slot) (n : ℕ) → IsFileOf file b →
+pub table_gathered : (file : File) (b : List ℕ) (i : ℕ) (s : Shdr) (kind : Option TableKind) (place linked strings : Slot) (n : ℕ) →
+    IsFileOf file b →
     let f = sections_in b in i < count f → s ≡ section f i → kind ≡ kind_of s.sh_type → IsLinkThere kind f s →
     linked ≡ linked_place kind f i s.sh_link → strings ≡ strings_place kind f s.sh_link → extent_in place ≡ content_extent s →
     n ≡ length_in kind s.sh_type (order_named file.ei_data) (slot_bytes b place) →
@@ -222,13 +235,20 @@ table_gathered file b i s kind place linked strings n is below same typed there 
     let read : slot_bytes b place ≡ content f i =
     ap (λ (e : Extent). slot_bytes b (slot e)) (extent ∙ ap content_extent same) ∙ sym (content_listed b i below) in
     let own = own_order file b is in (
-      (below, subst (λ (t : Shdr). IsLinkThere (kind_of t.sh_type) f t) same (subst (λ (k : Option TableKind). IsLinkThere k f s) typed there)),
+      (
+        below,
+        subst (λ (t : Shdr). IsLinkThere (kind_of t.sh_type) f t) same
+            (subst (λ (k : Option TableKind). IsLinkThere k f s) typed there),
+      ),
       same_numbers place (content_place f i) linked _ strings _ n _ s.sh_type _ file.ei_data _
           (ap slot (extent ∙ ap content_extent same))
-          (linked_is ∙ ap (λ (k : Option TableKind). linked_place k f i s.sh_link) typed ∙ ap (λ (t : Shdr). linked_place (kind_of t.sh_type) f i t.sh_link) same)
-          (strings_is ∙ ap (λ (k : Option TableKind). strings_place k f s.sh_link) typed ∙ ap (λ (t : Shdr). strings_place (kind_of t.sh_type) f t.sh_link) same)
+          (linked_is ∙ ap (λ (k : Option TableKind). linked_place k f i s.sh_link) typed ∙
+          ap (λ (t : Shdr). linked_place (kind_of t.sh_type) f i t.sh_link) same)
+          (strings_is ∙ ap (λ (k : Option TableKind). strings_place k f s.sh_link) typed ∙
+          ap (λ (t : Shdr). strings_place (kind_of t.sh_type) f t.sh_link) same)
           (counted ∙ ap (λ (o : Order). length_in kind s.sh_type o (slot_bytes b place)) own ∙ ap (length_in kind s.sh_type (order f)) read
-          ∙ ap (λ (t : ℕ). length_in kind t (order f) (content f i)) type ∙ length_by_content kind f i ∙ ap (λ (k : Option TableKind). length_of_table k f i) kinds)
+          ∙ ap (λ (t : ℕ). length_in kind t (order f) (content f i)) type ∙ length_by_content kind f i ∙
+          ap (λ (k : Option TableKind). length_of_table k f i) kinds)
           type
           (own_data file b i is),
     ) where

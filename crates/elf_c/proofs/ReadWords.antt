@@ -1,5 +1,6 @@
 -- The words that are read by the numbers of a table are those of its section; of a group they are its flags and its members.
-use Rattle.std.proofs.Common.{◌≡◌, ◌<◌, ◌+◌, ◌-◌, ◌∷◌, ℕ, List, None, Option, Some, ap, arith, get_or, inl, length, map, refl, subst, suc, sym, zero, zero-add, ◌∙◌}
+use Rattle.std.proofs.Common.{◌≡◌, ◌<◌, ◌+◌, ◌-◌, ◌∷◌, ℕ, List, None, Option, Some, ap, arith, get_or, inl, length, map, refl, subst, suc}
+use Rattle.std.proofs.Common.{sym, zero, zero-add, ◌∙◌}
 use Rattle.std.proofs.lemmas.List.FromFn.{get_or-map-range_with_len}
 use Rattle.std.specs.List.{range_with_len}
 use Rattle.std.specs.Prelude.{◌/◌}
@@ -46,7 +47,8 @@ pub word_listed_as : (t : Table) (b : List ℕ) (i j : ℕ) (r : Option ℕ) →
 word_listed_as t b i j None are none =
     let f = sections_in b in
     let type : t.sh_type ≡ (section f i).sh_type = ap (λ (u : Table). u.sh_type) are.numbers in
-    λ below. none (subst (λ (n : ℕ). HoldsRecords n Word) (sym type) are.typed, subst (λ (n : ℕ). j < n) (sym (words_there t b i are)) below)
+    λ below. none
+    (subst (λ (n : ℕ). HoldsRecords n Word) (sym type) are.typed, subst (λ (n : ℕ). j < n) (sym (words_there t b i are)) below)
 word_listed_as t b i j (Some x) are (has, same) =
     (subst (λ (n : ℕ). j < n) (words_there t b i are) has.1, same ∙ words_by_numbers t b i j are has.1)
 
@@ -57,7 +59,8 @@ map_later : (f : ℕ → ℕ) (a b n : ℕ) → b ≡ a + 1 → map f (range_wit
 map_later f a b zero is = refl
 map_later f a b (suc n) is = rw is (ap (λ (xs : List ℕ). f (a + 1) ∷ xs) (map_later f (a + 1) (a + 1 + 1) n refl))
 
-words_split : (o : Order) (table : List ℕ) (n : ℕ) → length table / WORD_SIZE ≡ suc n → words_in o table ≡ word o table 0 ∷ members_in o table
+words_split : (o : Order) (table : List ℕ) (n : ℕ) → length table / WORD_SIZE ≡ suc n →
+    words_in o table ≡ word o table 0 ∷ members_in o table
 unfolding words_in members_in
 words_split o table n counted =
     let less : suc n - 1 ≡ n = omega arith in

@@ -40,7 +40,8 @@ offset_ascends o table k (suc j) le = elim (cases_eq k (suc j)) [
 ]
 
 -- nor ends before it
-end_ascends : (o : Order) (table : List ℕ) (k j : ℕ) → k ≤ j → note_end o table (note_offset o table 0 k) ≤ note_end o table (note_offset o table 0 j)
+end_ascends : (o : Order) (table : List ℕ) (k j : ℕ) → k ≤ j →
+    note_end o table (note_offset o table 0 k) ≤ note_end o table (note_offset o table 0 j)
 end_ascends o table k j le = elim (cases_eq k j) [
   | inl same ↦ rw same (omega arith)
   | inr other ↦
@@ -77,7 +78,8 @@ whole_before o table j ends =
       | inr past ↦
           let within : n < length table = omega arith in
           let first : is_cut o table (get_or xs n 0) ≡ true = passes_at_first (is_cut o table) xs 0 (omega arith) in
-          let test : nat_lt (length table) (note_end o table (note_offset o table 0 n)) ≡ true = sym (ap (is_cut o table) (offset_get o table n within)) ∙ first in
+          let test : nat_lt (length table) (note_end o table (note_offset o table 0 n)) ≡ true =
+          sym (ap (is_cut o table) (offset_get o table n within)) ∙ first in
           let is_past : length table < note_end o table (note_offset o table 0 n) = grind (arith, nat_tests) in
           let later = end_ascends o table n j past in
           omega arith
@@ -93,14 +95,17 @@ before_whole o table j below =
     let first : j < n = omega arith in
     let within : j < length table = omega arith in
     let other : is_cut o table (get_or xs j 0) ≡ false = fails_before_first (is_cut o table) xs j 0 first in
-    let test : nat_lt (length table) (note_end o table (note_offset o table 0 j)) ≡ false = sym (ap (is_cut o table) (offset_get o table j within)) ∙ other in
+    let test : nat_lt (length table) (note_end o table (note_offset o table 0 j)) ≡ false =
+    sym (ap (is_cut o table) (offset_get o table j within)) ∙ other in
     grind (arith, nat_tests)
 
-pub whole_there : (o : Order) (table : List ℕ) (j : ℕ) → note_end o table (note_offset o table 0 j) ≤ length table ↔ (j < whole_notes o table)
+pub whole_there : (o : Order) (table : List ℕ) (j : ℕ) →
+    note_end o table (note_offset o table 0 j) ≤ length table ↔ (j < whole_notes o table)
 whole_there o table j = (whole_before o table j, before_whole o table j)
 
 -- after a note that is cut there is none
-pub none_whole : (o : Order) (table : List ℕ) (k j : ℕ) → k < j → length table < note_end o table (note_offset o table 0 k) → j < whole_notes o table → ⊥
+pub none_whole : (o : Order) (table : List ℕ) (k j : ℕ) → k < j → length table < note_end o table (note_offset o table 0 k) →
+    j < whole_notes o table → ⊥
 none_whole o table k j before cut below = (let ends = before_whole o table k (omega arith) in omega arith)
 
 pub whole_counted : (o : Order) (table : List ℕ) (n : ℕ) → ((k : ℕ) → k < n → note_end o table (note_offset o table 0 k) ≤ length table) →

@@ -14,7 +14,7 @@ use Rattle.elf_field.specs.declared.phdr.Phdr.{Phdr}
 use Rattle.elf_field.specs.declared.shdr.Shdr.{Shdr}
 use Rattle.elf_image_rules.specs.Rules.{KeepsRecordRules}
 use Rattle.elf_image_rules.specs.Tables.{file_counts, header, names, sections, segments}
-use Rattle.elf_image_type.specs.ImageView.{string}
+use Rattle.elf_field.specs.Strings.{string}
 
 -- the header lies in the file, and section header 0 does, where there is a section table: they have the counts
 abbrev pub HasCounts : List ℕ → Type 0

@@ -6,7 +6,7 @@ use Rattle.elf_field.specs.Abi.{SHDR_SIZE, SHT_NULL}
 use Rattle.elf_field.specs.Headers.{shdr_at}
 use Rattle.elf_field.specs.declared.shdr.Shdr.{Shdr}
 use Rattle.elf_image_rules.specs.Tables.{bytes_in, content_extent, file_counts}
-use Rattle.elf_image_type.specs.ImageView.{string}
+use Rattle.elf_field.specs.Strings.{string}
 
 -- a file that breaks none of rules 1 to 32 has a section i of this name
 abbrev pub HasSectionNamed : List ℕ → List ℕ → ℕ → Type 0
@@ -20,7 +20,8 @@ section_read f b i = shdr_at (file_order f) b (f.e_shoff + SHDR_SIZE * i)
 abbrev pub name_read : File → List ℕ → ℕ → List ℕ
 name_read f b i =
     let s = section_read f b i in
-    if (s.sh_type == SHT_NULL) || (f.name_table == 0) then [] else string (bytes_in b (content_extent (section_read f b f.name_table))) s.sh_name
+    if (s.sh_type == SHT_NULL) || (f.name_table == 0) then [] else string
+    (bytes_in b (content_extent (section_read f b f.name_table))) s.sh_name
 
 -- by these numbers section i is there, and has this name
 abbrev pub IsNamed : File → List ℕ → List ℕ → ℕ → Type 0

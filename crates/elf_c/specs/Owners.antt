@@ -17,7 +17,8 @@ IsInExtent e x = (e.start ≤ x) × (x < e.start + e.len)
 
 -- there is a section header table, header i lies in the file, and the content that it names has the offset
 abbrev pub IsInContentAt : File → List ℕ → ℕ → ℕ → Type 0
-IsInContentAt f b i x = (f.e_shoff ≢ 0) × HasSectionHeader f b i × IsInExtent (content_extent (shdr_at (file_order f) b (f.e_shoff + SHDR_SIZE * i))) x
+IsInContentAt f b i x =
+    (f.e_shoff ≢ 0) × HasSectionHeader f b i × IsInExtent (content_extent (shdr_at (file_order f) b (f.e_shoff + SHDR_SIZE * i))) x
 
 -- an owner has the offset: 0 is the header, 1 the section header table, 2 the program header table, and 3 + i the content of section i
 abbrev pub OwnsOffset : File → List ℕ → ℕ → ℕ → Type 0

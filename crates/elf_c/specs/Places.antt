@@ -9,7 +9,8 @@ use Rattle.elf_c.specs.declared.fields.RecordKind.{RecordKind}
 use Rattle.elf_c.specs.declared.records.Records.{Records}
 use Rattle.elf_c.specs.declared.shapes.File.{File}
 use Rattle.elf_c.specs.declared.shapes.Place.{Place}
-use Rattle.elf_field.specs.Abi.{SHDR_SIZE, SHT_DYNAMIC, SHT_DYNSYM, SHT_GROUP, SHT_HASH, SHT_NOTE, SHT_REL, SHT_RELA, SHT_SYMTAB, SHT_SYMTAB_SHNDX, WORD_SIZE}
+use Rattle.elf_field.specs.Abi.{SHDR_SIZE, SHT_DYNAMIC, SHT_DYNSYM, SHT_GROUP, SHT_HASH, SHT_NOTE, SHT_REL, SHT_RELA, SHT_SYMTAB}
+use Rattle.elf_field.specs.Abi.{SHT_SYMTAB_SHNDX, WORD_SIZE}
 use Rattle.elf_field.specs.Headers.{shdr_at}
 use Rattle.elf_field.specs.Record.{width_of}
 use Rattle.elf_field.specs.declared.number.Order.{Order}

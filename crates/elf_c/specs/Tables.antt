@@ -1,6 +1,7 @@
 -- The numbers of a table that the accessors of its entries need, and what they say about it. (gABI chapter 4, Sections, Symbol Table,
 -- Relocation; chapter 5, Note Section, Dynamic Section, Hash Table.)
-use Rattle.std.specs.Prelude.{◌≡◌, ℕ, ◌<◌, Bool, List, MatchOption, Option, None, Some, SomeIff, get_or, length, slice_index, ◌/◌, ◌+◌, ◌-◌, ◌==◌, ◌||◌, if◌then◌else◌, ◌*◌, ◌%◌, ◌≤◌, [], map, nat_lt, pos, unwrap_or}
+use Rattle.std.specs.Prelude.{◌≡◌, ℕ, ◌<◌, Bool, List, MatchOption, Option, None, Some, SomeIff, get_or, length, slice_index, ◌/◌, ◌+◌, ◌-◌}
+use Rattle.std.specs.Prelude.{◌==◌, ◌||◌, if◌then◌else◌, ◌*◌, ◌%◌, ◌≤◌, [], map, nat_lt, pos, unwrap_or}
 use Rattle.std.specs.List.{before_first, range_with_len}
 use Rattle.elf_c.specs.Files.{order_named}
 use Rattle.elf_c.specs.declared.shapes.DynamicEntry.{DynamicEntry}
@@ -19,16 +20,18 @@ use Rattle.elf_field.specs.declared.sym.Sym.{Sym}
 use Rattle.elf_image_rules.specs.Rows.{FirstIn}
 use Rattle.elf_image_rules.specs.Rules.{KeepsRecordRules}
 use Rattle.elf_image_rules.specs.Tables.{bytes_in, content_extent, file_counts, header, sections}
-use Rattle.elf_image_type.specs.ImageView.{string}
+use Rattle.elf_field.specs.Strings.{string}
 use Rattle.elf_table_all.specs.Tables.{table_rules}
 use Rattle.elf_table_hash.specs.HashTable.{words_in}
-use Rattle.elf_table_lists.specs.Dynamic.{dynamic_array_of, dynamic_entries, dynamic_entry, dynamic_entry_count, is_null_entry, no_dynamic_entry}
+use Rattle.elf_table_lists.specs.Dynamic.{dynamic_array_of, dynamic_entries, dynamic_entry, dynamic_entry_count, is_null_entry}
+use Rattle.elf_table_lists.specs.Dynamic.{no_dynamic_entry}
 use Rattle.elf_table_lists.specs.Notes.{desc_start, descsz, name_start, namesz, NoteValue, note_end, note_offset}
 use Rattle.elf_table_lists.specs.Relocations.{relocations_of, has_addends, no_relocation_entry, relocation_count, relocation_in}
 use Rattle.elf_table_symbols.specs.Sections.{Sections, content, count, order, section, sections_in, kind_of}
 use Rattle.elf_table_symbols.specs.SymbolView.{no_symbol_entry}
 use Rattle.elf_table_symbols.specs.Symbols.{index_table, symbols_of, entry_count, entry, word, SymbolEntryValue, place_of}
-use Rattle.elf_table_symbols.specs.declared.table_section.TableKind.TheVariants.{SymbolTable, RelocationTable, NoteSection, DynamicArray, HashTable, SectionGroup}
+use Rattle.elf_table_symbols.specs.declared.table_section.TableKind.TheVariants.{SymbolTable, RelocationTable, NoteSection, DynamicArray}
+use Rattle.elf_table_symbols.specs.declared.table_section.TableKind.TheVariants.{HashTable, SectionGroup}
 use Rattle.elf_table_symbols.specs.declared.table_section.TableKind.{TableKind}
 use Rattle.elf_table_lists.specs.declared.relocations.Relocation as listed
 

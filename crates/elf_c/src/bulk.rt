@@ -2,10 +2,12 @@
 ghost use Rattle.std.specs.Prelude.{ℕ};
 ghost use Rattle.elf_table_lists.specs.Groups.{group_of};
 ghost use Rattle.elf_table_symbols.specs.Sections.{sections_in};
-ghost use Rattle.elf_table_symbols.specs.declared.table_section.TableKind.TheVariants.{DynamicArray, RelocationTable, SectionGroup, SymbolTable};
+ghost use Rattle.elf_table_symbols.specs.declared.table_section.TableKind.TheVariants.{DynamicArray, RelocationTable, SectionGroup};
+ghost use Rattle.elf_table_symbols.specs.declared.table_section.TableKind.TheVariants.{SymbolTable};
 ghost use Rattle.elf_c.specs.Bulk.{IsFilled};
 ghost use Rattle.elf_c.specs.Files.{IsFileOf, ListsSection, ReadsSection};
-ghost use Rattle.elf_c.specs.Tables.{IsTableOf, ListsDynamic, ListsRelocation, ListsSymbol, ReadsDynamic, ReadsRelocation, ReadsSymbol, words_of};
+ghost use Rattle.elf_c.specs.Tables.{IsTableOf, ListsDynamic, ListsRelocation, ListsSymbol, ReadsDynamic, ReadsRelocation, ReadsSymbol};
+ghost use Rattle.elf_c.specs.Tables.{words_of};
 ghost use Rattle.elf_c.specs.Words.{AreWordsOf, ListsWord, ReadsWord, words_of_group};
 
 use crate::entries::{dynamic_of, relocation_of, symbol_of};
@@ -58,8 +60,8 @@ pub extern "C" fn elfmap_relocations(
     fill(buffer, first, |index| relocation_of(table, bytes, index))
 }
 
-/// Puts the entries of a dynamic array from `first` on into the buffer, as many as are before the first of tag `DT_NULL` and fit. Returns how
-/// many these are.
+/// Puts the entries of a dynamic array from `first` on into the buffer, as many as are before the first of tag `DT_NULL` and fit. Returns
+/// how many these are.
 #[unsafe(no_mangle)]
 pub extern "C" fn elfmap_dynamics(
     table: &Table,

@@ -3,16 +3,19 @@
 ghost use Rattle.std.specs.Prelude.{◌≡◌, ◌≢◌, ℕ, ◌*◌, ◌+◌, ◌^◌, ◌<◌, ◌≤◌, ◌↔◌, IfSome, IsSome, IsTrue, Some, SomeIff, get_or, length, None};
 ghost use Rattle.std.specs.Bool.{OnFalse, OnTrue};
 ghost use Rattle.elf_field.specs.Abi.{SHN_XINDEX as shn_xindex, WORD_SIZE as word_size};
-ghost use Rattle.elf_image_type.specs.ImageView.{string};
+ghost use Rattle.elf_field.specs.Strings.{string};
 ghost use Rattle.elf_table_all.specs.Tables.{dynamic_strings};
 ghost use Rattle.elf_table_symbols.specs.Sections.{content, order, sections_in};
-ghost use Rattle.elf_table_symbols.specs.declared.table_section.TableKind.TheVariants.{DynamicArray, RelocationTable, SymbolTable, HashTable};
+ghost use Rattle.elf_table_symbols.specs.declared.table_section.TableKind.TheVariants.{DynamicArray, RelocationTable, SymbolTable};
+ghost use Rattle.elf_table_symbols.specs.declared.table_section.TableKind.TheVariants.{HashTable};
 ghost use Rattle.elf_table_lists.specs.Dynamic.{dynamic_array_of, no_dynamic_entry};
 ghost use Rattle.elf_table_lists.specs.Relocations.{no_relocation_entry, relocations_of};
 ghost use Rattle.elf_table_symbols.specs.Symbols.{entry as entry_of, symbol_entry_in, symbols_of};
 ghost use Rattle.elf_table_symbols.specs.SymbolView.{no_symbol_entry};
 ghost use Rattle.elf_c_parts.specs.Slots.{extent_in};
-ghost use Rattle.elf_c.specs.Tables.{HasDynamic, HasRelocation, HasSymbol, ReadsDynamic, ReadsRelocation, ReadsSymbol, dynamic_read, dynamic_shape, relocation_read, relocation_shape, symbol_shape, section_index, symbol_record, symbol_told, string_place, IsTableOfKind, IsTableOf, slot_bytes};
+ghost use Rattle.elf_c.specs.Tables.{HasDynamic, HasRelocation, HasSymbol, ReadsDynamic, ReadsRelocation, ReadsSymbol, dynamic_read};
+ghost use Rattle.elf_c.specs.Tables.{dynamic_shape, relocation_read, relocation_shape, symbol_shape, section_index, symbol_record};
+ghost use Rattle.elf_c.specs.Tables.{symbol_told, string_place, IsTableOfKind, IsTableOf, slot_bytes};
 ghost use Rattle.elf_c.specs.Files.{order_named};
 ghost use Rattle.elf_table_hash.specs.HashView.{hash_of_section};
 ghost use Rattle.elf_table_hash.specs.HashTable.{HasSymbolNamed, IsProbed};
@@ -159,8 +162,8 @@ pub extern "C" fn elfmap_dynamic(
     put(dynamic_of(table, bytes, index), entry)
 }
 
-/// Entry `index` of a dynamic array; None if there is none of this index before the first entry of tag `DT_NULL`, and for a table of another
-/// kind.
+/// Entry `index` of a dynamic array; None if there is none of this index before the first entry of tag `DT_NULL`, and for a table of
+/// another kind.
 pub fn dynamic_of(table: &Table, bytes: &[u8], index: u64) -> Option<DynamicEntry>
     ensures { ReadsDynamic table.now bytes.now index result }
 {

@@ -3,10 +3,12 @@ ghost use Rattle.std.specs.Prelude.{◌≡◌, ◌≤◌, ◌↔◌, IsTrue, len
 ghost use Rattle.std.specs.Bool.{OnFalse, OnTrue};
 ghost use Rattle.elf_image_rules.specs.Rules.{KeepsRecordRules};
 ghost use Rattle.elf_image_rules.specs.Tables.{header as file_header, file_counts, header, sections, segments, bytes_in, program_header_of};
-ghost use Rattle.elf_c.specs.Files.{HasCounts, file_in, header_shape, HasEntry, IsFileOf, ReadsSection, file_order, section_shape, segment_shape, HasName, name_of_section, segments_listed};
+ghost use Rattle.elf_c.specs.Files.{HasCounts, file_in, header_shape, HasEntry, IsFileOf, ReadsSection, file_order, section_shape};
+ghost use Rattle.elf_c.specs.Files.{segment_shape, HasName, name_of_section, segments_listed};
 ghost use Rattle.elf_field.specs.Abi.{PHDR_SIZE as phdr_size, SHDR_SIZE as shdr_size};
 ghost use Rattle.elf_field.specs.Headers.{phdr_at, shdr_at};
-ghost use Rattle.elf_image_type.specs.ImageView.{string, HasAddress, HaveNoAddress, IsFirstWithAddress, LoadsFirst};
+ghost use Rattle.elf_field.specs.Strings.{string};
+ghost use Rattle.elf_image_type.specs.ImageView.{HasAddress, HaveNoAddress, IsFirstWithAddress, LoadsFirst};
 ghost use Rattle.elf_c_parts.specs.Slots.{extent_in};
 ghost use Rattle.elf_c.specs.Tables.{name_place, string_place, slot_bytes};
 

@@ -2,7 +2,7 @@
 ghost use Rattle.std.specs.Prelude.{◌≡◌, ◌<◌, ◌+◌, ◌^◌, ◌↔◌, IsTrue, length};
 ghost use Rattle.std.specs.Bool.{OnFalse, OnTrue};
 ghost use Rattle.elf_extent.specs.Extent.{IsLeast, IsLowest, Never};
-ghost use Rattle.elf_image_type.specs.ImageView.{string};
+ghost use Rattle.elf_field.specs.Strings.{string};
 ghost use Rattle.elf_c.specs.Files.{IsFileOf};
 ghost use Rattle.elf_c.specs.Names.{HasSectionNamed, IsNamed};
 

@@ -4,7 +4,8 @@ ghost use Rattle.std.specs.Bool.{OnFalse, OnTrue};
 ghost use Rattle.elf_table_symbols.specs.Sections.{content, order, sections_in};
 ghost use Rattle.elf_table_symbols.specs.declared.table_section.TableKind.TheVariants.{NoteSection};
 ghost use Rattle.elf_table_lists.specs.Notes.{note_at as note_of_content, note_end as note_end_of, note_offset, notes_of};
-ghost use Rattle.elf_c.specs.Tables.{HasNote, HasNoteAt, LiesInFile, no_note_value, note_told, NoteStandsAt, IsTableOfKind, IsTableOf, slot_bytes};
+ghost use Rattle.elf_c.specs.Tables.{HasNote, HasNoteAt, LiesInFile, no_note_value, note_told, NoteStandsAt, IsTableOfKind, IsTableOf};
+ghost use Rattle.elf_c.specs.Tables.{slot_bytes};
 ghost use Rattle.elf_c.specs.Files.{order_named};
 
 use crate::places::{bytes_of, order_of};

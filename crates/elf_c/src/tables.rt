@@ -3,7 +3,8 @@ ghost use Rattle.std.specs.Prelude.{◌≡◌, ℕ, length, ◌↔◌, IsTrue, S
 ghost use Rattle.std.specs.Bool.{OnFalse, OnTrue};
 ghost use Rattle.elf_table_lists.specs.Notes.{notes_of};
 ghost use Rattle.elf_table_symbols.specs.declared.table_section.TableKind.TheVariants.{NoteSection};
-ghost use Rattle.elf_c.specs.Tables.{length_in, HoldsTable, IsLinkThere, IsTableOf, IsTableOfKind, index_place, linked_place, strings_place, table_in, whole_notes};
+ghost use Rattle.elf_c.specs.Tables.{length_in, HoldsTable, IsLinkThere, IsTableOf, IsTableOfKind, index_place, linked_place};
+ghost use Rattle.elf_c.specs.Tables.{strings_place, table_in, whole_notes};
 ghost use Rattle.elf_table_symbols.specs.Sections.{kind_of, sections_in};
 ghost use Rattle.elf_table_symbols.specs.Symbols.{index_table};
 ghost use Rattle.elf_c.specs.Files.{IsFileOf};

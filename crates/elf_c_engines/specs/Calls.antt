@@ -72,7 +72,8 @@ UsesRules options text rules =
 -- what it says by these rules of the files that lie in the bytes
 abbrev pub MapCallSays : List ℕ → List Slot → LinkOptions → List ℕ → Verdict → List ℕ → Type 0
 MapCallSays b places options text verdict lines =
-    (rules : Option (List RelocRule)) × UsesRules options text rules × SaysOfFiles (MapSays (map_options options) rules) b places verdict lines
+    (rules : Option (List RelocRule)) × UsesRules options text rules ×
+    SaysOfFiles (MapSays (map_options options) rules) b places verdict lines
 
 -- why it says nothing: bad rules, which are looked at only where they are asked for; then a file that doesn't lie in the bytes
 abbrev pub MapCallFails : List ℕ → List Slot → LinkOptions → List ℕ → CallFault → Type 0

@@ -1,6 +1,7 @@
 //! What the calls of the library for C have in common: files that they are given, and what they return.
 ghost use Rattle.std.specs.Prelude.{◌≡◌, ◌≤◌, ◌++◌, drop, length, ◌+◌, Some, None, MatchOption, MatchResult, map};
-ghost use Rattle.elf_c_engines.specs.Calls.{AreFilesIn, IsTold, LacksFile, LacksRules, LiesWithin, fault_numbers, fault_status, length_alone, small_room_status, verdict_numbers, verdict_status};
+ghost use Rattle.elf_c_engines.specs.Calls.{AreFilesIn, IsTold, LacksFile, LacksRules, LiesWithin, fault_numbers, fault_status};
+ghost use Rattle.elf_c_engines.specs.Calls.{length_alone, small_room_status, verdict_numbers, verdict_status};
 ghost use Rattle.elf_image_rules.specs.Tables.{bytes_in};
 ghost use Rattle.elf_tool_rule_file.specs.RuleFile.{AreRules};
 ghost use Rattle.elf_c_parts.specs.Slots.{extent_in};

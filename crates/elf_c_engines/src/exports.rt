@@ -2,7 +2,8 @@
 ghost use Rattle.std.specs.Prelude.{◌≡◌, [], MatchResult, option_copied};
 ghost use Rattle.elf_tool_rewrite.specs.Rewrite.{RewriteSays};
 ghost use Rattle.elf_tool_show.specs.Show.{RefusedTablesSay, ShowSays};
-ghost use Rattle.elf_c_engines.specs.Calls.{IsEngineCall, IsWantOfMemory, AreLinkOptions, LacksFile, LinkCallFails, LinkCallSays, MapCallFails, MapCallSays, SaysOfFiles, map_options};
+ghost use Rattle.elf_c_engines.specs.Calls.{IsEngineCall, IsWantOfMemory, AreLinkOptions, LacksFile, LinkCallFails, LinkCallSays};
+ghost use Rattle.elf_c_engines.specs.Calls.{MapCallFails, MapCallSays, SaysOfFiles, map_options};
 ghost use Rattle.elf_tool_link.specs.Link.{FilesLink};
 ghost use Rattle.elf_tool_link.specs.Map.{MapSays};
 ghost use Rattle.elf_link_files.specs.declared.fault.Options.{Options as AnOptions};

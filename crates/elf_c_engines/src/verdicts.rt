@@ -1,6 +1,7 @@
 //! The calls of the library for C that return the verdict of an engine, without its output.
 ghost use Rattle.std.specs.Prelude.{◌≡◌, ℕ, List, MatchResult, option_copied};
-ghost use Rattle.elf_c_engines.specs.Calls.{AreFilesIn, AreVerdictOptions, IsLinkVerdictAlone, IsObjectVerdict, IsVerdictCall, IsWantOfMemory, LacksFile, LinkVerdictSays, MapCallFails, entry_named};
+ghost use Rattle.elf_c_engines.specs.Calls.{AreFilesIn, AreVerdictOptions, IsLinkVerdictAlone, IsObjectVerdict, IsVerdictCall};
+ghost use Rattle.elf_c_engines.specs.Calls.{IsWantOfMemory, LacksFile, LinkVerdictSays, MapCallFails, entry_named};
 ghost use Rattle.elf_link_files.specs.declared.fault.Options.{Options as AnOptions};
 ghost use Rattle.elf_tool_link.specs.Verdicts.{IsLinkVerdict};
 
@@ -37,7 +38,8 @@ pub extern "C" fn elfmap_link_verdict(
     rules: &[u8],
     outcome: &mut Outcome,
 ) -> u32
-    ensures { IsVerdictCall (IsLinkVerdictAlone bytes.now files.now options.now entry.now rules.now) (MapCallFails bytes.now files.now options.now rules.now)
+    ensures { IsVerdictCall (IsLinkVerdictAlone bytes.now files.now options.now entry.now rules.now)
+        (MapCallFails bytes.now files.now options.now rules.now)
         outcome.new result }
 {
     match verdict_on(alloc, bytes, files, options, entry, rules) {
@@ -74,7 +76,8 @@ fn verdict_by(
 ) -> Result<Verdict, CallFault>
     ensures { MatchResult result
         (λ verdict. (opt : AnOptions) × AreVerdictOptions options.now entry.now opt
-        × ((files_are : List (List ℕ)) × AreFilesIn bytes.now files.now files_are × IsLinkVerdict opt (option_copied rules.entry) files_are verdict))
+        × ((files_are : List (List ℕ)) × AreFilesIn bytes.now files.now files_are
+        × IsLinkVerdict opt (option_copied rules.entry) files_are verdict))
         (LacksFile bytes.now files.now) }
 {
     let contents = files_in(alloc, bytes, files)?;

@@ -1,6 +1,7 @@
 -- The extents of a file in the slots of a buffer: the first k slots hold the extents so far that have a byte. An extent with a byte is one
 -- slot more (`gathered_one`), and an empty one none (`gathered_none`). If slots ascend by their starts, so do their extents.
-use Rattle.std.proofs.Common.{◌<◌, ◌^◌, ℕ, List, arith, length, refl, ◌≡◌, ◌+◌, ◌++◌, true, false, [], ◌∷◌, map, filter, take, get_or, ap, sym, ◌∙◌, ◌==◌, Bool, cond, None, Option, subst}
+use Rattle.std.proofs.Common.{◌<◌, ◌^◌, ℕ, List, arith, length, refl, ◌≡◌, ◌+◌, ◌++◌, true, false, [], ◌∷◌, map, filter, take, get_or, ap}
+use Rattle.std.proofs.Common.{sym, ◌∙◌, ◌==◌, Bool, cond, None, Option, subst}
 use Rattle.std.specs.Prelude.{slice_set, Some}
 use Rattle.std.specs.List.{slice_get}
 use Rattle.std.specs.List.Sorted.{IsNonDecreasingBy, IsPermutation}
@@ -130,10 +131,12 @@ held_past es i e read within none =
     filter_more holds_any es i e within ∙ rw (here, test) (append-nil _)
 
 -- the members that are in the first slots, in another order
-pub members_moved : (es : List Extent) (room front moved : List Part) (k : ℕ) → AreMembers es (length es) (map member_of_part (take k room)) →
+pub members_moved : (es : List Extent) (room front moved : List Part) (k : ℕ) →
+    AreMembers es (length es) (map member_of_part (take k room)) →
     front ≡ take k room → IsPermutation front moved → AreMembers es (length es) (map member_of_part moved)
 members_moved es room front moved k given same permuted =
-    members_permuted es (length es) (map member_of_part front) (map member_of_part moved) (IsPermutation-map member_of_part front moved permuted)
+    members_permuted es (length es) (map member_of_part front) (map member_of_part moved)
+    (IsPermutation-map member_of_part front moved permuted)
     (subst (λ (ps : List Part). AreMembers es (length es) (map member_of_part ps)) (sym same) given)
 
 -- and their extents
@@ -165,7 +168,8 @@ pub member_at : (es : List Extent) (ps : List Part) (i : ℕ) (d : Part) → Are
     IsMemberAt es ps i (get_or ps i d) no_member
 member_at es ps i d given lt =
     let within : i < length (map member_of_part ps) = omega (arith, length-map ps member_of_part) in
-    let read : get_or (map member_of_part ps) i no_member ≡ member_of_part (get_or ps i d) = get_or-map member_of_part ps i d no_member lt in
+    let read : get_or (map member_of_part ps) i no_member ≡ member_of_part (get_or ps i d) =
+    get_or-map member_of_part ps i d no_member lt in
     let each : IsMember es (member_of_part (get_or ps i d)) = subst (IsMember es) read (given.each i no_member within) in
     record {
       within = within;

@@ -1,7 +1,8 @@
 -- The executable of a sound link, if it is not too long, is an image with its own header and program headers. Its parts are in order, and
 -- its records keep the rules: places and addresses are multiples of the page, and addresses ascend. So the laws of written files hold
 -- (`IsWritable`).
-use Rattle.std.proofs.Common.{◌≡◌, ◌≢◌, ◌<◌, ◌+◌, ◌^◌, ◌%◌, ℕ, zero, suc, Bool, true, false, List, [], ◌∷◌, length, map, get_or, refl, sym, ap, subst, inl, inr, arith, ◌≤◌, ◌*◌, take, drop, ◌∙◌, length-drop}
+use Rattle.std.proofs.Common.{◌≡◌, ◌≢◌, ◌<◌, ◌+◌, ◌^◌, ◌%◌, ℕ, zero, suc, Bool, true, false, List, [], ◌∷◌, length, map, get_or, refl, sym}
+use Rattle.std.proofs.Common.{ap, subst, inl, inr, arith, ◌≤◌, ◌*◌, take, drop, ◌∙◌, length-drop}
 use Rattle.std.specs.Prelude.{◌==◌, if◌then◌else◌, Some, None, slice_get, slice_index}
 use Rattle.std.specs.List.{AllByRecursion, flat_map}
 use Rattle.std.proofs.lemmas.Bool.{ne_eqb, cases_lt, cases_eq}
@@ -10,7 +11,8 @@ use Rattle.std.proofs.Math.Nat.{zero-mod}
 use Rattle.std.proofs.lemmas.Nat.{pow_pos}
 use Rattle.elf_link_relocate.proofs.Public.{load_some, load_stands, loads_ascend, memory_bytes}
 use Rattle.elf_link_relocate.specs.Loads.{file_size, no_load, load_in, loads}
-use Rattle.elf_exec.specs.Executable.{exec_header, load_part, program_header, program_headers, bytes_from, exec_bytes, header_bytes, load_parts, table_bytes, IsExecFile, IsSoundLink}
+use Rattle.elf_exec.specs.Executable.{exec_header, load_part, program_header, program_headers, bytes_from, exec_bytes, header_bytes}
+use Rattle.elf_exec.specs.Executable.{load_parts, table_bytes, IsExecFile, IsSoundLink}
 use Rattle.elf_link_relocate.specs.declared.load.Load.{Load}
 use Rattle.elf_extent.proofs.Public.{fits_length}
 use Rattle.elf_extent.specs.Place.{Fits, alignment}
@@ -28,8 +30,10 @@ use Rattle.elf_image_outline.specs.declared.outline.Owner.{Owner}
 use Rattle.elf_image_rules.specs.KeepsRules.{IsAlignment, KeepsEachRecordRule, KeepsProgramTableRules, KeepsSegmentRules}
 use Rattle.elf_image_rules.specs.Rules.{IsFault, IsLoad}
 use Rattle.elf_image_rules.specs.Tables.{order_of, program_header_of, program_header_count, section_header_of}
-use Rattle.elf_image_type.proofs.Public.{IsBytes-identification, identification_kept, in_spread, order_identified, written_accepted, written_is_bytes, written_read}
-use Rattle.elf_image_type.specs.WrittenFile.{WrittenPart, unaligned, AreFileParts, FileContents, HasContents, IsPartOf, IsWritable, owner_bytes, owner_start, spread, written}
+use Rattle.elf_image_type.proofs.Public.{IsBytes-identification, identification_kept, in_spread, order_identified, written_accepted}
+use Rattle.elf_image_type.proofs.Public.{written_is_bytes, written_read}
+use Rattle.elf_image_type.specs.WrittenFile.{WrittenPart, unaligned, AreFileParts, FileContents, HasContents, IsPartOf, IsWritable}
+use Rattle.elf_image_type.specs.WrittenFile.{owner_bytes, owner_start, spread, written}
 use Rattle.elf_link_field.specs.declared.rule.RelocRule.{RelocRule}
 use Rattle.elf_link_files.specs.Files.{no_object, object_at}
 use Rattle.elf_link_map.proofs.Public.{are_paged, outputs_stand, parts_apart}
@@ -38,7 +42,8 @@ use Rattle.elf_link_map.specs.Standing.{ObjectsFit, ArePaged, OutputsStand, Stan
 use Rattle.elf_link_relocate.specs.Fields.{content_of}
 use Rattle.elf_link_relocate.specs.Linked.{identity_of, HaveBytes}
 use Rattle.elf_link_relocate.specs.declared.linked.Identity.{Identity}
-use Rattle.elf_object_type.specs.Object.{BodyValue, ObjectValue, SectionValue, bits, group, no_bits, no_section, relocs, BodyFits, ObjectFits, SectionFits}
+use Rattle.elf_object_type.specs.Object.{BodyValue, ObjectValue, SectionValue, bits, group, no_bits, no_section, relocs, BodyFits}
+use Rattle.elf_object_type.specs.Object.{ObjectFits, SectionFits}
 
 -- The header of an executable fits its fields, if its identity does, and has a sound identification. By induction on the segments: each has
 -- its program header, its place is aligned, and bytes of its size fit there. There are also small facts on the parts of the file, in which
@@ -87,7 +92,8 @@ no_table i entry count none = rw none refl
 
 -- ---- the program headers
 
-pub length-program_headers : (page : ℕ) (ls : List Load) (places : List ℕ) → length places ≡ length ls → length (program_headers page ls places) ≡ length ls
+pub length-program_headers : (page : ℕ) (ls : List Load) (places : List ℕ) → length places ≡ length ls →
+    length (program_headers page ls places) ≡ length ls
 length-program_headers page [] places long = refl
 length-program_headers page (load ∷ ls) [] long = absurd (omega arith)
 length-program_headers page (load ∷ ls) (place ∷ places) long = ap suc (length-program_headers page ls places (omega arith))
@@ -101,7 +107,8 @@ program_header_is page (load ∷ ls) (place ∷ places) (suc j) long lt = progra
 
 -- something said of each program header
 pub each_program_header : (P : Phdr → Type 0) (page : ℕ) (ls : List Load) (places : List ℕ) → length places ≡ length ls →
-    ((j : ℕ) → j < length ls → P (program_header page (get_or ls j no_load) (get_or places j 0))) → AllByRecursion P (program_headers page ls places)
+    ((j : ℕ) → j < length ls → P (program_header page (get_or ls j no_load) (get_or places j 0))) →
+    AllByRecursion P (program_headers page ls places)
 each_program_header P page [] places long each = tt
 each_program_header P page (load ∷ ls) [] long each = absurd (omega arith)
 each_program_header P page (load ∷ ls) (place ∷ places) long each =
@@ -123,12 +130,14 @@ contents_fit page (load ∷ ls) (c ∷ contents) from (place ∷ places) long si
     (omega arith, le, subst (λ (n : ℕ). Fits (map unaligned contents) (place + n) places) (sym size) later)
 
 -- each place is a multiple of the part's alignment
-pub place_multiple : (page : ℕ) (ls : List Load) (from : ℕ) (places : List ℕ) (j : ℕ) → Fits (map (load_part page) ls) from places → j < length ls →
+pub place_multiple : (page : ℕ) (ls : List Load) (from : ℕ) (places : List ℕ) (j : ℕ) → Fits (map (load_part page) ls) from places →
+    j < length ls →
     get_or places j 0 % alignment (load_part page (get_or ls j no_load)).1 ≡ 0
 place_multiple page [] from places j fits lt = absurd (omega arith)
 place_multiple page (load ∷ ls) from [] j fits lt = absurd fits
 place_multiple page (load ∷ ls) from (place ∷ places) zero (multiple, le, rest) lt = multiple
-place_multiple page (load ∷ ls) from (place ∷ places) (suc j) (multiple, le, rest) lt = place_multiple page ls (place + file_size load) places j rest (omega arith)
+place_multiple page (load ∷ ls) from (place ∷ places) (suc j) (multiple, le, rest) lt =
+    place_multiple page ls (place + file_size load) places j rest (omega arith)
 
 -- ---- the parts of the file
 
@@ -213,7 +222,8 @@ offset_fits : (without : Bool) (place size : ℕ) → (without ≡ false → pla
 offset_fits true place size fits = omega arith
 offset_fits false place size fits = (let whole = fits refl in omega arith)
 
-bytes_within : (without : Bool) (place size len : ℕ) → (without ≡ false → 0 < size → place + size ≤ len) → 0 < (if without then 0 else size) →
+bytes_within : (without : Bool) (place size len : ℕ) → (without ≡ false → 0 < size → place + size ≤ len) →
+    0 < (if without then 0 else size) →
     (if without then 0 else place) + (if without then 0 else size) ≤ len
 bytes_within true place size len within some = absurd (omega arith)
 bytes_within false place size len within some = within refl some
@@ -223,7 +233,8 @@ congruent : (without : Bool) (address place page : ℕ) → address % page ≡ 0
 congruent true address place page here there = here ∙ sym (zero-mod page)
 congruent false address place page here there = here ∙ sym (there refl)
 
-multiple_with_bits : (without : Bool) (page x : ℕ) → without ≡ false → 0 < page → x % alignment (if without then 1 else page) ≡ 0 → x % page ≡ 0
+multiple_with_bits : (without : Bool) (page x : ℕ) → without ≡ false → 0 < page → x % alignment (if without then 1 else page) ≡ 0 →
+    x % page ≡ 0
 multiple_with_bits true page x with_bits some multiple = absurd (let never : true ≡ false = with_bits in cc)
 multiple_with_bits false zero x with_bits some multiple = absurd (omega arith)
 multiple_with_bits false (suc page) x with_bits some multiple = multiple
@@ -232,7 +243,8 @@ pub size_with_bits : (without : Bool) (size : ℕ) → without ≡ false → (if
 size_with_bits true size with_bits = absurd (let never : true ≡ false = with_bits in cc)
 size_with_bits false size with_bits = refl
 
-module _ (fs : List ObjectValue) (m : LinkMapValue) (rules : List RelocRule) (link : IsSoundLink fs m rules) (b : List ℕ) (file : IsExecFile fs m rules b) where
+module _ (fs : List ObjectValue) (m : LinkMapValue) (rules : List RelocRule) (link : IsSoundLink fs m rules) (b : List ℕ)
+    (file : IsExecFile fs m rules b) where
   -- ---- what the link gives
 
   pub stand : StandApart fs m
@@ -314,12 +326,15 @@ module _ (fs : List ObjectValue) (m : LinkMapValue) (rules : List RelocRule) (li
       )
 
   -- each part is at its place in the file, and ends in it
-  part_stands : (k : ℕ) → k < length all_bytes → take (length (get_or all_bytes k [])) (drop (get_or all_places k 0) b) ≡ get_or all_bytes k []
+  part_stands : (k : ℕ) → k < length all_bytes →
+      take (length (get_or all_bytes k [])) (drop (get_or all_places k 0) b) ≡ get_or all_bytes k []
   unfolding exec_bytes
   part_stands k lt =
-      ap (λ (s : List ℕ). take (length (get_or all_bytes k [])) (drop (get_or all_places k 0) s)) file.laid.bytes ∙ in_spread [] 0 all_places all_bytes k refl order lt
+      ap (λ (s : List ℕ). take (length (get_or all_bytes k [])) (drop (get_or all_places k 0) s)) file.laid.bytes ∙
+      in_spread [] 0 all_places all_bytes k refl order lt
 
-  part_within : (k : ℕ) → k < length all_bytes → 0 < length (get_or all_bytes k []) → get_or all_places k 0 + length (get_or all_bytes k []) ≤ length b
+  part_within : (k : ℕ) → k < length all_bytes → 0 < length (get_or all_bytes k []) →
+      get_or all_places k 0 + length (get_or all_bytes k []) ≤ length b
   part_within k lt some =
       let long = ap length (part_stands k lt) in
       let taken = length-take (length (get_or all_bytes k [])) (drop (get_or all_places k 0) b) in
@@ -330,13 +345,16 @@ module _ (fs : List ObjectValue) (m : LinkMapValue) (rules : List RelocRule) (li
   many = (let long = file.laid.memory.count in omega arith)
 
   -- byte i of segment j
-  pub content_byte : (j i : ℕ) → j < count → i < length (get_or contents j []) → slice_index b (get_or places j 0 + i) ≡ slice_index (get_or contents j []) i
+  pub content_byte : (j i : ℕ) → j < count → i < length (get_or contents j []) →
+      slice_index b (get_or places j 0 + i) ≡ slice_index (get_or contents j []) i
   content_byte j i lt i_in =
       let long = many in
       let stands = part_stands (suc (suc j)) (omega arith) in
-      sym (get_or-take (length (get_or contents j [])) (drop (get_or places j 0) b) i 0 i_in ∙ get_or-drop (get_or places j 0) b i 0) ∙ ap (λ (s : List ℕ). get_or s i 0) stands
+      sym (get_or-take (length (get_or contents j [])) (drop (get_or places j 0) b) i 0 i_in ∙ get_or-drop (get_or places j 0) b i 0) ∙
+      ap (λ (s : List ℕ). get_or s i 0) stands
 
-  content_within : (j : ℕ) → j < count → (load_in m j).no_bits ≡ false → 0 < (load_in m j).size → get_or places j 0 + (load_in m j).size ≤ length b
+  content_within : (j : ℕ) → j < count → (load_in m j).no_bits ≡ false → 0 < (load_in m j).size →
+      get_or places j 0 + (load_in m j).size ≤ length b
   content_within j lt with_bits some =
       let long = many in
       let size = content_long j lt ∙ size_with_bits (load_in m j).no_bits (load_in m j).size with_bits in
@@ -345,7 +363,9 @@ module _ (fs : List ObjectValue) (m : LinkMapValue) (rules : List RelocRule) (li
 
   parts_stand : AreFileParts exec_contents all_places parts
   parts_stand = record {
-    order = subst (λ (sizes : List (ℕ × ℕ)). Fits (unaligned (header_bytes fs m) ∷ unaligned (table_bytes fs m places) ∷ sizes) 0 all_places) (sym (sizes_of_gaps contents)) order;
+    order = subst
+        (λ (sizes : List (ℕ × ℕ)). Fits (unaligned (header_bytes fs m) ∷ unaligned (table_bytes fs m places) ∷ sizes) 0 all_places)
+        (sym (sizes_of_gaps contents)) order;
     owned = owned;
     each_owner = each_owner;
   }
@@ -354,7 +374,8 @@ module _ (fs : List ObjectValue) (m : LinkMapValue) (rules : List RelocRule) (li
           (get_or all_places k 0 ≡ owner_start exec_contents p.owner) × (p.bytes ≡ owner_bytes exec_contents p.owner)
       owned zero p at some =
           let same : record { owner = Header; bytes = header_bytes fs m } ≡ p = cc in
-          subst (λ (q : WrittenPart). (0 ≡ owner_start exec_contents q.owner) × (q.bytes ≡ owner_bytes exec_contents q.owner)) same (refl, header_is)
+          subst (λ (q : WrittenPart). (0 ≡ owner_start exec_contents q.owner) × (q.bytes ≡ owner_bytes exec_contents q.owner)) same
+          (refl, header_is)
       owned (suc zero) p at some =
           let same : record { owner = table_owner count; bytes = table_bytes fs m places } ≡ p = cc in
           let owner_is : p.owner ≡ table_owner count = ap (λ (q : WrittenPart). q.owner) (sym same) in
@@ -381,7 +402,8 @@ module _ (fs : List ObjectValue) (m : LinkMapValue) (rules : List RelocRule) (li
 
   bytes_are : b ≡ written all_places parts
   unfolding written exec_bytes
-  bytes_are = file.laid.bytes ∙ ap (λ (cs : List (List ℕ)). spread 0 all_places (header_bytes fs m ∷ table_bytes fs m places ∷ cs)) (sym (bytes_of_gaps contents))
+  bytes_are = file.laid.bytes ∙
+      ap (λ (cs : List (List ℕ)). spread 0 all_places (header_bytes fs m ∷ table_bytes fs m places ∷ cs)) (sym (bytes_of_gaps contents))
 
   -- ---- its records fit, and keep the rules
 
@@ -402,7 +424,8 @@ module _ (fs : List ObjectValue) (m : LinkMapValue) (rules : List RelocRule) (li
       record {
         p_type = omega arith;
         p_flags = stands.flags;
-        p_offset = offset_fits load.no_bits (get_or places j 0) load.size (λ with_bits. (let within = content_within j lt with_bits some in omega arith));
+        p_offset = offset_fits load.no_bits (get_or places j 0) load.size
+            (λ with_bits. (let within = content_within j lt with_bits some in omega arith));
         p_vaddr = omega arith;
         p_paddr = omega arith;
         p_filesz = omega arith;
@@ -428,7 +451,10 @@ module _ (fs : List ObjectValue) (m : LinkMapValue) (rules : List RelocRule) (li
   bytes_fit : AllByRecursion (λ p. IsBytes p.bytes) parts
   bytes_fit = (
     subst IsBytes (sym header_is) (ehdr_laws.are_bytes (order_of header.e_ident) header header_record),
-    (subst IsBytes (sym table_is) (IsBytes-table phdr_laws (order_of header.e_ident) segments segment_records), gaps_are_bytes contents content_bytes),
+    (
+      subst IsBytes (sym table_is) (IsBytes-table phdr_laws (order_of header.e_ident) segments segment_records),
+      gaps_are_bytes contents content_bytes,
+    ),
   )
 
   counted : program_header_count header (section_header_of [] 0) ≡ count
@@ -444,7 +470,8 @@ module _ (fs : List ObjectValue) (m : LinkMapValue) (rules : List RelocRule) (li
   page_multiple : (j : ℕ) → j < count → (load_in m j).no_bits ≡ false → get_or places j 0 % m.page ≡ 0
   unfolding load_parts
   page_multiple j lt with_bits =
-      multiple_with_bits (load_in m j).no_bits m.page (get_or places j 0) with_bits page_some (place_multiple m.page (loads m) (bytes_from m) places j file.laid.least.fits lt)
+      multiple_with_bits (load_in m j).no_bits m.page (get_or places j 0) with_bits page_some
+      (place_multiple m.page (loads m) (bytes_from m) places j file.laid.least.fits lt)
 
   program_table_kept : KeepsProgramTableRules (length b) header (section_header_of [] 0)
   program_table_kept = record {
@@ -467,13 +494,18 @@ module _ (fs : List ObjectValue) (m : LinkMapValue) (rules : List RelocRule) (li
 
   segments_kept : KeepsSegmentRules (length b) (program_header_count header (section_header_of [] 0)) (program_header_of segments)
   segments_kept = record {
-    bytes = λ j lt. subst (λ (g : Phdr). g.p_type ≢ PT_NULL → 0 < g.p_filesz → g.p_offset + g.p_filesz ≤ length b) (sym (segment_is j (below j lt)))
+    bytes = λ j lt. subst (λ (g : Phdr). g.p_type ≢ PT_NULL → 0 < g.p_filesz → g.p_offset + g.p_filesz ≤ length b)
+        (sym (segment_is j (below j lt)))
         (λ typed. bytes_within (load_in m j).no_bits (get_or places j 0) (load_in m j).size (length b) (content_within j (below j lt)));
     sizes = λ j lt. subst (λ (g : Phdr). IsLoad g → g.p_filesz ≤ g.p_memsz) (sym (segment_is j (below j lt)))
         (λ is_load. file_size_below (load_in m j).no_bits (load_in m j).size);
-    alignment = λ j lt. subst (λ (g : Phdr). IsLoad g → IsAlignment g.p_align) (sym (segment_is j (below j lt))) (λ is_load. inr paged.page);
-    congruence = λ j lt. subst (λ (g : Phdr). IsLoad g → 1 < g.p_align → g.p_vaddr % g.p_align ≡ g.p_offset % g.p_align) (sym (segment_is j (below j lt)))
-        (λ is_load some. congruent (load_in m j).no_bits (load_in m j).address (get_or places j 0) m.page (load_stands fs m stand outputs paged j (below j lt)).paged
+    alignment = λ j lt. subst (λ (g : Phdr). IsLoad g → IsAlignment g.p_align) (sym (segment_is j (below j lt)))
+        (λ is_load. inr paged.page);
+    congruence =
+        λ j lt. subst (λ (g : Phdr). IsLoad g → 1 < g.p_align → g.p_vaddr % g.p_align ≡ g.p_offset % g.p_align)
+        (sym (segment_is j (below j lt)))
+        (λ is_load some. congruent (load_in m j).no_bits (load_in m j).address (get_or places j 0) m.page
+        (load_stands fs m stand outputs paged j (below j lt)).paged
         (page_multiple j (below j lt)));
     order = λ k j lt is_load before. (
         let earlier : k < j = before.below in
@@ -489,7 +521,12 @@ module _ (fs : List ObjectValue) (m : LinkMapValue) (rules : List RelocRule) (li
 
   records_kept : KeepsEachRecordRule (length b) header (section_header_of []) (program_header_of segments) (value_names header [] [])
   records_kept = record {
-    file_length = record { not_too_long = file.short; not_too_short = (let long = many in let size = header_long in let within = part_within 0 (omega arith) (omega arith) in omega arith) };
+    file_length =
+        record {
+          not_too_long = file.short;
+          not_too_short =
+              (let long = many in let size = header_long in let within = part_within 0 (omega arith) (omega arith) in omega arith);
+        };
     ident = identification_kept identity.order identity.osabi identity.abi;
     header = record {
       version = refl;
@@ -530,7 +567,8 @@ module _ (fs : List ObjectValue) (m : LinkMapValue) (rules : List RelocRule) (li
     segment_count = segments_long ∙ sym counted;
     lengths = refl;
     placed = parts_stand;
-    kept = subst (λ (n : ℕ). KeepsEachRecordRule n header (section_header_of []) (program_header_of segments) (value_names header [] [])) (ap length bytes_are) records_kept;
+    kept = subst (λ (n : ℕ). KeepsEachRecordRule n header (section_header_of []) (program_header_of segments) (value_names header [] []))
+        (ap length bytes_are) records_kept;
   }
 
   -- ---- what is read of it

@@ -1,17 +1,21 @@
 -- The executable of a sound link is an image whose entry is the map's and that loads the link's memory. No other list of bytes is its
 -- executable (`one_exec`). Its header and segments are read as they were written (`exec_read`). These give memory's bytes and no others
 -- (`loads_memory`, `memory_loads`).
-use Rattle.std.proofs.Common.{◌≡◌, ◌<◌, ◌≤◌, ◌+◌, ◌-◌, ℕ, Bool, true, false, List, [], length, get_or, refl, sym, ap, subst, ◌∙◌, inl, inr, arith, ap₂, Ok, Err}
+use Rattle.std.proofs.Common.{◌≡◌, ◌<◌, ◌≤◌, ◌+◌, ◌-◌, ℕ, Bool, true, false, List, [], length, get_or, refl, sym, ap, subst, ◌∙◌, inl, inr}
+use Rattle.std.proofs.Common.{arith, ap₂, Ok, Err}
 use Rattle.std.specs.Prelude.{◌⊎◌, if◌then◌else◌, nat_lt, slice_index, ◌↔◌, MatchOption, None, Option, Some}
 use Rattle.std.proofs.lemmas.Bool.{le-ltb, lt-ltb}
 use Rattle.std.proofs.lemmas.List.{ext_get_or}
 use Rattle.std.specs.Io.KnownBytes.{Appends}
-use Rattle.elf_exec.proofs.ExecFile.{content_byte, content_long, outputs, segment_is, segments_long, size_with_bits, stand, exec_accepted, exec_is_bytes, exec_read}
+use Rattle.elf_exec.proofs.ExecFile.{content_byte, content_long, outputs, segment_is, segments_long, size_with_bits, stand, exec_accepted}
+use Rattle.elf_exec.proofs.ExecFile.{exec_is_bytes, exec_read}
 use Rattle.elf_exec.proofs.ExecText.{exec_laid, length-exec, sent_text, text_is}
-use Rattle.elf_link_relocate.proofs.Public.{load_of, load_there, at_commons, at_output, commons_ascend, commons_end, commons_some, any_options, field_in_content, memory_in, memory_zero, one_byte, some_byte}
+use Rattle.elf_link_relocate.proofs.Public.{load_of, load_there, at_commons, at_output, commons_ascend, commons_end, commons_some}
+use Rattle.elf_link_relocate.proofs.Public.{any_options, field_in_content, memory_in, memory_zero, one_byte, some_byte}
 use Rattle.elf_exec.specs.ExecWriting.{IsExec, load_contents, IsLoadable, WritesExec, exec_text, IsPlacedExec, PlacedExecValue}
 use Rattle.elf_link_relocate.specs.Loads.{load_at, load_in, loads}
-use Rattle.elf_exec.specs.Executable.{program_headers, IsExecFile, IsSoundLink, AreLoadBytes, ExecLaid, bytes_from, exec_bytes, load_parts, IsExecutable}
+use Rattle.elf_exec.specs.Executable.{program_headers, IsExecFile, IsSoundLink, AreLoadBytes, ExecLaid, bytes_from, exec_bytes, load_parts}
+use Rattle.elf_exec.specs.Executable.{IsExecutable}
 use Rattle.elf_link_relocate.specs.declared.load.Load.{Load}
 use Rattle.elf_extent.proofs.Public.{least_places, same_least}
 use Rattle.elf_field.specs.declared.ehdr.Ehdr.{Ehdr}
@@ -57,7 +61,8 @@ abbrev byte_of : List ℕ → Bool → ℕ → ℕ → ℕ → ℕ
 byte_of b without size place k =
     if nat_lt k (if without then 0 else size) then slice_index b ((if without then 0 else place) + k) else 0
 
-byte_with_bits : (b : List ℕ) (without : Bool) (size place k : ℕ) → without ≡ false → k < size → byte_of b without size place k ≡ slice_index b (place + k)
+byte_with_bits : (b : List ℕ) (without : Bool) (size place k : ℕ) → without ≡ false → k < size →
+    byte_of b without size place k ≡ slice_index b (place + k)
 byte_with_bits b true size place k with_bits lt = absurd (let never : true ≡ false = with_bits in cc)
 byte_with_bits b false size place k with_bits lt = rw (lt-ltb k size lt) refl
 
@@ -69,7 +74,8 @@ either : (b : Bool) → (b ≡ true) ⊎ (b ≡ false)
 either true = inl refl
 either false = inr refl
 
-module _ (fs : List ObjectValue) (m : LinkMapValue) (rules : List RelocRule) (link : IsSoundLink fs m rules) (b : List ℕ) (file : IsExecFile fs m rules b) where
+module _ (fs : List ObjectValue) (m : LinkMapValue) (rules : List RelocRule) (link : IsSoundLink fs m rules) (b : List ℕ)
+    (file : IsExecFile fs m rules b) where
   abbrev count : ℕ
   count = length (loads m)
 
@@ -87,7 +93,8 @@ module _ (fs : List ObjectValue) (m : LinkMapValue) (rules : List RelocRule) (li
   output_zero : (x k : ℕ) → k < length m.outputs → (output_at m k).no_bits ≡ true → IsInOutputAt m k x → IsMemory fs m rules x 0
   output_zero x k lt without here = memory_zero fs m rules (any_options fs m link.map) link.relocated x k lt here (λ i i_in (from, to). (
       let p = member_at (output_at m k) i in
-      let empty = no_content (section_in fs p.file p.section).body (((outputs fs m rules link b file).members k lt).kind i i_in ∙ without) in
+      let empty = no_content (section_in fs p.file p.section).body
+      (((outputs fs m rules link b file).members k lt).kind i i_in ∙ without) in
       omega arith))
 
   -- contents are before the commons
@@ -98,7 +105,8 @@ module _ (fs : List ObjectValue) (m : LinkMapValue) (rules : List RelocRule) (li
       omega arith
 
   zero_if_no_content : (x v : ℕ) → (HasContentAt fs m x → ⊥) → IsMemory fs m rules x v → v ≡ 0
-  zero_if_no_content x v none (inl (p, r, k, at, byte)) = absurd (none (field_in_content fs m rules (any_options fs m link.map) link.relocated x (p, r, k, at)))
+  zero_if_no_content x v none (inl (p, r, k, at, byte)) =
+      absurd (none (field_in_content fs m rules (any_options fs m link.map) link.relocated x (p, r, k, at)))
   zero_if_no_content x v none (inr (no_field, inl (f, s, k, at, byte))) = absurd (none (f, s, k, at))
   zero_if_no_content x v none (inr (no_field, inr (outside, area, zero_is))) = zero_is
 
@@ -120,8 +128,10 @@ module _ (fs : List ObjectValue) (m : LinkMapValue) (rules : List RelocRule) (li
       let size = content_long fs m rules link b file j lt ∙ size_with_bits load.no_bits load.size bits_there in
       let memory = (file.laid.memory.each j lt).memory k (omega arith) in
       let whole : load.address + k ≡ x = omega arith in
-      let byte = byte_with_bits b load.no_bits load.size (get_or places j 0) k bits_there (omega arith) ∙ content_byte fs m rules link b file j k lt (omega arith) in
-      subst (λ (w : ℕ). IsMemory fs m rules x w) (sym byte) (subst (λ (y : ℕ). IsMemory fs m rules y (slice_index (get_or contents j []) k)) whole memory)
+      let byte = byte_with_bits b load.no_bits load.size (get_or places j 0) k bits_there (omega arith) ∙
+      content_byte fs m rules link b file j k lt (omega arith) in
+      subst (λ (w : ℕ). IsMemory fs m rules x w) (sym byte)
+      (subst (λ (y : ℕ). IsMemory fs m rules y (slice_index (get_or contents j []) k)) whole memory)
 
   zero_without_bits : (j x : ℕ) → j < count → (load_in m j).no_bits ≡ true → HasLoad (load_in m j) x → IsMemory fs m rules x 0
   zero_without_bits j x lt without here = elim (load_of m j lt) [
@@ -139,13 +149,16 @@ module _ (fs : List ObjectValue) (m : LinkMapValue) (rules : List RelocRule) (li
       IsMemory fs m rules x (byte_of b (load_in m j).no_bits (load_in m j).size (get_or places j 0) (x - (load_in m j).address))
   load_memory j x lt here = elim (either (load_in m j).no_bits) [
     | inl without ↦
-        subst (λ (w : ℕ). IsMemory fs m rules x w) (sym (byte_without_bits b (load_in m j).no_bits (load_in m j).size (get_or places j 0) (x - (load_in m j).address) without))
+        subst (λ (w : ℕ). IsMemory fs m rules x w)
+        (sym (byte_without_bits b (load_in m j).no_bits (load_in m j).size (get_or places j 0) (x - (load_in m j).address) without))
         (zero_without_bits j x lt without here)
     | inr bits_there ↦ with_bits j x lt bits_there here
   ]
 
-  segment_memory : (j x : ℕ) → j < count → HasAddress (program_header_of segments j) x → IsMemory fs m rules x (loaded b (program_header_of segments j) x)
-  segment_memory j x lt = subst (λ (g : Phdr). HasAddress g x → IsMemory fs m rules x (loaded b g x)) (sym (segment_is fs m rules link b file j lt))
+  segment_memory : (j x : ℕ) → j < count → HasAddress (program_header_of segments j) x →
+      IsMemory fs m rules x (loaded b (program_header_of segments j) x)
+  segment_memory j x lt =
+      subst (λ (g : Phdr). HasAddress g x → IsMemory fs m rules x (loaded b g x)) (sym (segment_is fs m rules link b file j lt))
       (λ (is_load, from, to). load_memory j x lt (from, to))
 
   -- ---- each address of memory is one of a segment
@@ -161,7 +174,8 @@ module _ (fs : List ObjectValue) (m : LinkMapValue) (rules : List RelocRule) (li
   segment_there x (inr (j, k, j_in, k_in, from, to)) =
       let first = commons_ascend fs m 0 j (stand fs m rules link b file) (omega arith) j_in in
       let last = commons_end fs m k (length m.commons - 1) (stand fs m rules link b file) (omega arith) (omega arith) in
-      load_by (length m.outputs) x (omega arith) (subst (λ (load : Load). HasLoad load x) (sym (at_commons m (length m.outputs) (omega arith))) (omega arith, omega arith))
+      load_by (length m.outputs) x (omega arith)
+      (subst (λ (load : Load). HasLoad load x) (sym (at_commons m (length m.outputs) (omega arith))) (omega arith, omega arith))
 
   pub loads_memory : (x w : ℕ) → Loads b (program_headers m.page (loads m) file.laid.places) x w → IsMemory fs m rules x w
   loads_memory x w (j, lt, has, is) =
@@ -171,8 +185,13 @@ module _ (fs : List ObjectValue) (m : LinkMapValue) (rules : List RelocRule) (li
   pub memory_loads : (x w : ℕ) → IsMemory fs m rules x w → Loads b (program_headers m.page (loads m) file.laid.places) x w
   memory_loads x w memory =
       let long = segments_long fs m rules link b file in
-      let (j, lt, has) = segment_there x (memory_in fs m rules (any_options fs m link.map) link.relocated x w memory) in
-      (j, omega arith, has, one_byte fs m rules (any_options fs m link.map) link.relocated x w (loaded b (program_header_of segments j) x) memory (segment_memory j x lt has))
+      let (j, lt, has) = segment_there x (memory_in fs m rules (any_options fs m link.map) link.relocated x w memory) in (
+        j,
+        omega arith,
+        has,
+        one_byte fs m rules (any_options fs m link.map) link.relocated x w (loaded b (program_header_of segments j) x) memory
+            (segment_memory j x lt has),
+      )
 
 -- ---- what is found at an address, where the segments give what memory has there
 
@@ -191,14 +210,16 @@ some_exec l ready =
 
 -- ---- one and no other
 
-module _ (fs : List ObjectValue) (m : LinkMapValue) (rules : List RelocRule) (is : IsMapOfSome fs m) (sound : FirstAmong (applied_entry_rules fs m rules) None) where
+module _ (fs : List ObjectValue) (m : LinkMapValue) (rules : List RelocRule) (is : IsMapOfSome fs m)
+    (sound : FirstAmong (applied_entry_rules fs m rules) None) where
   -- the bytes of a segment are one list
   same_bytes : (load : Load) (s t : List ℕ) → AreLoadBytes fs m rules load s → AreLoadBytes fs m rules load t → s ≡ t
   same_bytes load s t are also =
       let first = are.long in
       let second = also.long in
       ext_get_or 0 s t (omega arith)
-      (λ k lt. one_byte fs m rules (any_options fs m is) sound (load.address + k) (slice_index s k) (slice_index t k) (are.memory k lt) (also.memory k (omega arith)))
+      (λ k lt. one_byte fs m rules (any_options fs m is) sound (load.address + k) (slice_index s k) (slice_index t k) (are.memory k lt)
+      (also.memory k (omega arith)))
 
   same_exec : (a b : List ℕ) → ExecLaid fs m rules a → ExecLaid fs m rules b → a ≡ b
   same_exec a b this that =
@@ -206,14 +227,17 @@ module _ (fs : List ObjectValue) (m : LinkMapValue) (rules : List RelocRule) (is
       let first = this.memory.count in
       let second = that.memory.count in
       let contents : this.contents ≡ that.contents = ext_get_or [] this.contents that.contents (omega arith)
-      (λ j lt. same_bytes (load_in m j) (get_or this.contents j []) (get_or that.contents j []) (this.memory.each j (omega arith)) (that.memory.each j (omega arith))) in
+      (λ j lt. same_bytes (load_in m j) (get_or this.contents j []) (get_or that.contents j []) (this.memory.each j (omega arith))
+      (that.memory.each j (omega arith))) in
       this.bytes ∙ ap₂ (exec_bytes fs m) places contents ∙ sym that.bytes
 
-pub one_exec : (fs : List ObjectValue) (m : LinkMapValue) (rules : List RelocRule) (a b : List ℕ) → IsMapOfSome fs m → FirstAmong (applied_entry_rules fs m rules) None →
+pub one_exec : (fs : List ObjectValue) (m : LinkMapValue) (rules : List RelocRule) (a b : List ℕ) → IsMapOfSome fs m →
+    FirstAmong (applied_entry_rules fs m rules) None →
     ExecLaid fs m rules a → ExecLaid fs m rules b → a ≡ b
 one_exec fs m rules a b is sound = same_exec fs m rules is sound a b
 
-pub executable : (fs : List ObjectValue) (m : LinkMapValue) (rules : List RelocRule) (b : List ℕ) → IsSoundLink fs m rules → IsExecFile fs m rules b →
+pub executable : (fs : List ObjectValue) (m : LinkMapValue) (rules : List RelocRule) (b : List ℕ) → IsSoundLink fs m rules →
+    IsExecFile fs m rules b →
     IsExecutable fs m rules b
 executable fs m rules b link file = record {
   accepted = exec_accepted fs m rules link b file;
@@ -250,7 +274,8 @@ module _ (p : PlacedExecValue) (placed : IsPlacedExec p) (link : IsSoundLink p.l
   pub exec_sent : (a b : Option (List ℕ)) (all : ℕ) → WentOut a b 0 (sent_text p) all → WritesExec p.linked a b (Ok tt)
   exec_sent a b all went = (exec_text p, loadable, subst (Appends a b) (sym (text_is p placed)) went.1)
 
-  pub exec_cut : (a b : Option (List ℕ)) (written : ℕ) → StoppedIn a b 0 (sent_text p) written → WritesExec p.linked a b (Err (record { written = written }))
+  pub exec_cut : (a b : Option (List ℕ)) (written : ℕ) → StoppedIn a b 0 (sent_text p) written →
+      WritesExec p.linked a b (Err (record { written = written }))
   exec_cut a b written stopped =
       let long = length-exec p.linked p.places placed.ready placed.least in
       let short = placed.short in

@@ -1,15 +1,20 @@
 -- The executable as it is written: the header, the program header table, and each segment's bytes after zeros. These bytes are memory's, by
 -- cases: commons, an output without bits, an output with bits. The length is the end of the last part.
-use Rattle.std.proofs.Common.{◌≡◌, ◌<◌, ◌≤◌, ◌-◌, ℕ, List, length, refl, ap, inl, inr, arith, ◌+◌, ◌⊎◌, zero, suc, [], ◌∷◌, ◌++◌, map, get_or, slice_index, replicate, sym, ap₂, ◌∙◌, append_assoc, length-append, true, false, subst, ◌*◌, Bool, Result, Ok, Err}
+use Rattle.std.proofs.Common.{◌≡◌, ◌<◌, ◌≤◌, ◌-◌, ℕ, List, length, refl, ap, inl, inr, arith, ◌+◌, ◌⊎◌, zero, suc, [], ◌∷◌, ◌++◌, map}
+use Rattle.std.proofs.Common.{get_or, slice_index, replicate, sym, ap₂, ◌∙◌, append_assoc, length-append, true, false, subst, ◌*◌, Bool}
+use Rattle.std.proofs.Common.{Result, Ok, Err}
 use Rattle.std.proofs.lemmas.Bool.{cases_lt, eq-eqb, ne_eqb}
 use Rattle.std.specs.List.{flat_map, range_with_len}
 use Rattle.std.proofs.lemmas.List.{get_or-append_right, get_or-replicate, get_or_append_left, length-replicate, get_or-map, length-map}
 use Rattle.std.specs.Prelude.{MatchOption, Option, None, Some, unwrap_or, IfErr}
 use Rattle.std.proofs.lemmas.Simd.{map-map}
 use Rattle.elf_link_relocate.proofs.Public.{load_of, any_options, memory_zero}
-use Rattle.elf_exec.specs.ExecWriting.{EndTooFar, file_end, piece, member_content, output_content, IsExec, IsTooLong, exec_text, load_content, load_contents, loads_text, placed_header, placed_table, IsPlacedExec, PlacedExecValue, exec_end, member_piece, IsPartsFault, IsPlacingFault}
+use Rattle.elf_exec.specs.ExecWriting.{EndTooFar, file_end, piece, member_content, output_content, IsExec, IsTooLong, exec_text}
+use Rattle.elf_exec.specs.ExecWriting.{load_content, load_contents, loads_text, placed_header, placed_table, IsPlacedExec, PlacedExecValue}
+use Rattle.elf_exec.specs.ExecWriting.{exec_end, member_piece, IsPartsFault, IsPlacingFault}
 use Rattle.elf_link_relocate.specs.Loads.{file_size, commons_load, load_in, loads, no_load, output_load, EndInTime}
-use Rattle.elf_exec.specs.Executable.{AreLoadBytes, bytes_from, exec_bytes, exec_header, header_bytes, load_part, load_parts, program_header, program_headers, table_bytes}
+use Rattle.elf_exec.specs.Executable.{AreLoadBytes, bytes_from, exec_bytes, exec_header, header_bytes, load_part, load_parts}
+use Rattle.elf_exec.specs.Executable.{program_header, program_headers, table_bytes}
 use Rattle.elf_exec.specs.declared.exec_writing.ExecFault.TheVariants.{TooLong, OutOfMemory, Io}
 use Rattle.elf_exec.specs.declared.exec_writing.ExecFault.{ExecFault}
 use Rattle.elf_link_relocate.specs.declared.load.Load.{Load}
@@ -28,7 +33,8 @@ use Rattle.elf_link_files.specs.Files.{section_in, is_loadable}
 use Rattle.elf_link_files.specs.Rows.{AreEach}
 use Rattle.elf_link_map.proofs.Public.{outputs_stand, parts_apart}
 use Rattle.elf_link_map.specs.LinkMap.{LinkMapValue}
-use Rattle.elf_link_map.specs.Standing.{size_in, MembersStand, address_in, member_address, member_at, member_part, no_member, or_zero, output_at}
+use Rattle.elf_link_map.specs.Standing.{size_in, MembersStand, address_in, member_address, member_at, member_part, no_member, or_zero}
+use Rattle.elf_link_map.specs.Standing.{output_at}
 use Rattle.elf_link_outputs.specs.Outputs.{is_no_bits, memory_size}
 use Rattle.elf_link_outputs.specs.Placed.{OutputValue}
 use Rattle.elf_link_outputs.specs.declared.placing.Member.{Member}
@@ -42,7 +48,8 @@ use Rattle.elf_object_type.specs.Object.{BodyValue, bits, no_bits, relocs, group
 pub end_none : (parts : List (ℕ × ℕ)) (from : ℕ) (places : List ℕ) → length parts ≡ 0 → file_end parts from places ≡ from
 end_none parts from places none = rw (eq-eqb (length parts) 0 none) refl
 
-pub end_some : (parts : List (ℕ × ℕ)) (from : ℕ) (places : List ℕ) → 0 < length parts → file_end parts from places ≡ end_of parts places (length parts - 1)
+pub end_some : (parts : List (ℕ × ℕ)) (from : ℕ) (places : List ℕ) → 0 < length parts →
+    file_end parts from places ≡ end_of parts places (length parts - 1)
 end_some parts from places some = rw (ne_eqb (length parts) 0 (λ none. omega arith)) refl
 
 -- no part ends after the last one
@@ -70,7 +77,8 @@ overflow_far parts from k (places, over) =
 
 -- ---- pieces
 
-same_from : (g h : ℕ → List ℕ) (a b n : ℕ) → ((k : ℕ) → k < n → g (a + k) ≡ h (b + k)) → flat_map g (range_with_len a n) ≡ flat_map h (range_with_len b n)
+same_from : (g h : ℕ → List ℕ) (a b n : ℕ) → ((k : ℕ) → k < n → g (a + k) ≡ h (b + k)) →
+    flat_map g (range_with_len a n) ≡ flat_map h (range_with_len b n)
 same_from g h a b zero same = refl
 same_from g h a b (suc n) same =
     let left : a ≡ a + 0 = omega arith in
@@ -81,7 +89,8 @@ same_from g h a b (suc n) same =
     let right : b + suc k ≡ b + 1 + k = omega arith in
     ap g left ∙ same (suc k) (omega arith) ∙ ap h right))
 
-same_piece : (from : ℕ) (place p size z : ℕ → ℕ) (content c : ℕ → List ℕ) (n : ℕ) → ((k : ℕ) → k < n → place k ≡ p k) → ((k : ℕ) → k < n → size k ≡ z k) →
+same_piece : (from : ℕ) (place p size z : ℕ → ℕ) (content c : ℕ → List ℕ) (n : ℕ) → ((k : ℕ) → k < n → place k ≡ p k) →
+    ((k : ℕ) → k < n → size k ≡ z k) →
     ((k : ℕ) → k < n → content k ≡ c k) → (k : ℕ) → k < n → piece from place size content k ≡ piece from p z c k
 same_piece from place p size z content c n places sizes contents zero lt =
     ap₂ (λ (x : ℕ) (s : List ℕ). replicate (x - from) 0 ++ s) (places 0 lt) (contents 0 lt)
@@ -89,21 +98,26 @@ same_piece from place p size z content c n places sizes contents (suc k) lt =
     let end : place k + size k ≡ p k + z k = ap₂ (λ (x y : ℕ). x + y) (places k (omega arith)) (sizes k (omega arith)) in
     ap₂ (λ (x : ℕ) (s : List ℕ). replicate x 0 ++ s) (ap₂ (λ (x y : ℕ). x - y) (places (suc k) lt) end) (contents (suc k) lt)
 
-pub same_pieces : (from : ℕ) (place p size z : ℕ → ℕ) (content c : ℕ → List ℕ) (n : ℕ) → ((k : ℕ) → k < n → place k ≡ p k) → ((k : ℕ) → k < n → size k ≡ z k) →
-    ((k : ℕ) → k < n → content k ≡ c k) → flat_map (piece from place size content) (range_with_len 0 n) ≡ flat_map (piece from p z c) (range_with_len 0 n)
+pub same_pieces : (from : ℕ) (place p size z : ℕ → ℕ) (content c : ℕ → List ℕ) (n : ℕ) → ((k : ℕ) → k < n → place k ≡ p k) →
+    ((k : ℕ) → k < n → size k ≡ z k) →
+    ((k : ℕ) → k < n → content k ≡ c k) →
+    flat_map (piece from place size content) (range_with_len 0 n) ≡ flat_map (piece from p z c) (range_with_len 0 n)
 same_pieces from place p size z content c n places sizes contents =
-    same_from (piece from place size content) (piece from p z c) 0 0 n (λ k lt. same_piece from place p size z content c n places sizes contents (0 + k) (omega arith))
+    same_from (piece from place size content) (piece from p z c) 0 0 n
+    (λ k lt. same_piece from place p size z content c n places sizes contents (0 + k) (omega arith))
 
 -- the piece of a part in a list
 part_piece : ℕ → List ℕ → List (List ℕ) → ℕ → List ℕ
 part_piece from q ps = piece from (slice_index q) (λ k. length (get_or ps k [])) (λ k. get_or ps k [])
 
-later_piece : (from x : ℕ) (q : List ℕ) (p : List ℕ) (ps : List (List ℕ)) (k : ℕ) → part_piece (x + length p) q ps k ≡ part_piece from (x ∷ q) (p ∷ ps) (suc k)
+later_piece : (from x : ℕ) (q : List ℕ) (p : List ℕ) (ps : List (List ℕ)) (k : ℕ) →
+    part_piece (x + length p) q ps k ≡ part_piece from (x ∷ q) (p ∷ ps) (suc k)
 unfolding part_piece
 later_piece from x q p ps zero = refl
 later_piece from x q p ps (suc k) = refl
 
-spread_by_pieces : (from : ℕ) (q : List ℕ) (ps : List (List ℕ)) → length q ≡ length ps → spread from q ps ≡ flat_map (part_piece from q ps) (range_with_len 0 (length ps))
+spread_by_pieces : (from : ℕ) (q : List ℕ) (ps : List (List ℕ)) → length q ≡ length ps →
+    spread from q ps ≡ flat_map (part_piece from q ps) (range_with_len 0 (length ps))
 unfolding part_piece
 spread_by_pieces from [] [] many = refl
 spread_by_pieces from (x ∷ q) [] many = absurd (omega arith)
@@ -118,7 +132,8 @@ spread_by_pieces from (x ∷ q) (p ∷ ps) many =
     sym (append_assoc zeros p (spread (x + length p) q ps)) ∙ ap (λ (s : List ℕ). (zeros ++ p) ++ s) (rest ∙ moved)
 
 pub spread_pieces : (from : ℕ) (q : List ℕ) (ps : List (List ℕ)) → length q ≡ length ps →
-    spread from q ps ≡ flat_map (piece from (slice_index q) (λ k. length (get_or ps k [])) (λ k. get_or ps k [])) (range_with_len 0 (length ps))
+    spread from q ps ≡
+    flat_map (piece from (slice_index q) (λ k. length (get_or ps k [])) (λ k. get_or ps k [])) (range_with_len 0 (length ps))
 unfolding part_piece
 spread_pieces from q ps many = spread_by_pieces from q ps many
 
@@ -134,7 +149,8 @@ IsPartByte q ps x v =
     ((j i : ℕ) × IsInPart q ps x j i × (v ≡ slice_index (get_or ps j []) i)) ⊎
     (((j i : ℕ) → IsInPart q ps x j i → ⊥) × (v ≡ 0))
 
-pub byte_of_spread : (from : ℕ) (q : List ℕ) (ps : List (List ℕ)) → Fits (map unaligned ps) from q → (k : ℕ) → k < length (spread from q ps) →
+pub byte_of_spread : (from : ℕ) (q : List ℕ) (ps : List (List ℕ)) → Fits (map unaligned ps) from q → (k : ℕ) →
+    k < length (spread from q ps) →
     IsPartByte q ps (from + k) (slice_index (spread from q ps) k)
 byte_of_spread from [] [] fits k lt = absurd (omega arith)
 byte_of_spread from (x ∷ q) [] fits k lt = absurd fits
@@ -153,26 +169,32 @@ byte_of_spread from (x ∷ q) (p ∷ ps) (multiple, le, rest) k lt =
         get_or_append_left zeros (p ++ behind) 0 k (omega arith) ∙ get_or-replicate (x - from) k 0 0 gap,
       )
       | inr past ↦
-          (let first : get_or (zeros ++ (p ++ behind)) k 0 ≡ get_or (p ++ behind) (k - (x - from)) 0 = get_or-append_right zeros (p ++ behind) (x - from) k 0 pad past in
+          (let first : get_or (zeros ++ (p ++ behind)) k 0 ≡ get_or (p ++ behind) (k - (x - from)) 0 =
+          get_or-append_right zeros (p ++ behind) (x - from) k 0 pad past in
           elim (cases_lt (k - (x - from)) (length p)) [
-            | inl here ↦ inl (0, k - (x - from), (omega arith, here, omega arith), first ∙ get_or_append_left p behind 0 (k - (x - from)) here)
+            | inl here ↦
+                inl (0, k - (x - from), (omega arith, here, omega arith), first ∙ get_or_append_left p behind 0 (k - (x - from)) here)
             | inr far ↦
                 (let m = k - (x - from) - length p in
-                let second : get_or (p ++ behind) (k - (x - from)) 0 ≡ get_or behind m 0 = get_or-append_right p behind (length p) (k - (x - from)) 0 refl far in
+                let second : get_or (p ++ behind) (k - (x - from)) 0 ≡ get_or behind m 0 =
+                get_or-append_right p behind (length p) (k - (x - from)) 0 refl far in
                 let same : x + length p + m ≡ from + k = omega arith in
-                behind_part q ps x p (from + k) (x + length p + m) (get_or (zeros ++ (p ++ behind)) k 0) (get_or behind m 0) same (omega arith) (first ∙ second)
+                behind_part q ps x p (from + k) (x + length p + m) (get_or (zeros ++ (p ++ behind)) k 0) (get_or behind m 0) same
+                (omega arith) (first ∙ second)
                 (byte_of_spread (x + length p) q ps rest m (omega arith)))
           ])
     ]
   where
-    in_gap : (q : List ℕ) (ps : List (List ℕ)) (x : ℕ) (p : List ℕ) (from k : ℕ) → from ≤ x → k < x - from → ((j : ℕ) → j < length ps → x + length p ≤ get_or q j 0) →
+    in_gap : (q : List ℕ) (ps : List (List ℕ)) (x : ℕ) (p : List ℕ) (from k : ℕ) → from ≤ x → k < x - from →
+        ((j : ℕ) → j < length ps → x + length p ≤ get_or q j 0) →
         (j i : ℕ) → IsInPart (x ∷ q) (p ∷ ps) (from + k) j i → ⊥
     in_gap q ps x p from k le gap later zero i (lt, i_in, at) = omega arith
     in_gap q ps x p from k le gap later (suc j) i (lt, i_in, at) = (let above = later j (omega arith) in omega arith)
 
     behind_part : (q : List ℕ) (ps : List (List ℕ)) (x : ℕ) (p : List ℕ) (y z v w : ℕ) → z ≡ y → x + length p ≤ y → v ≡ w →
         IsPartByte q ps z w → IsPartByte (x ∷ q) (p ∷ ps) y v
-    behind_part q ps x p y z v w same above equal (inl (j, i, (lt, i_in, at), is)) = inl (suc j, i, (omega arith, i_in, omega arith), equal ∙ is)
+    behind_part q ps x p y z v w same above equal (inl (j, i, (lt, i_in, at), is)) =
+        inl (suc j, i, (omega arith, i_in, omega arith), equal ∙ is)
     behind_part q ps x p y z v w same above equal (inr (none, is)) = inr (none_there, equal ∙ is)
       where
         none_there : (j i : ℕ) → IsInPart (x ∷ q) (p ∷ ps) y j i → ⊥
@@ -181,9 +203,11 @@ byte_of_spread from (x ∷ q) (p ∷ ps) (multiple, le, rest) k lt =
 
 -- ---- the items of a list, one by one
 
-pub same_map : {A B : Type 0} (f g : A → B) (none : A) (xs : List A) → ((i : ℕ) → i < length xs → f (get_or xs i none) ≡ g (get_or xs i none)) → map f xs ≡ map g xs
+pub same_map : {A B : Type 0} (f g : A → B) (none : A) (xs : List A) →
+    ((i : ℕ) → i < length xs → f (get_or xs i none) ≡ g (get_or xs i none)) → map f xs ≡ map g xs
 same_map f g none [] same = refl
-same_map f g none (x ∷ xs) same = ap₂ (λ (y : _) (ys : List _). y ∷ ys) (same 0 (omega arith)) (same_map f g none xs (λ i lt. same (suc i) (omega arith)))
+same_map f g none (x ∷ xs) same =
+    ap₂ (λ (y : _) (ys : List _). y ∷ ys) (same 0 (omega arith)) (same_map f g none xs (λ i lt. same (suc i) (omega arith)))
 
 pub size_at : (ps : List (List ℕ)) (k : ℕ) → get_or (map (λ (p : ℕ × ℕ). p.0) (map unaligned ps)) k 0 ≡ length (get_or ps k [])
 size_at [] k = refl
@@ -207,11 +231,13 @@ content_size (relocs rela target entries) with = refl
 content_size (group comdat signature members) with = refl
 
 copy_of : (fs : List ObjectValue) (m : LinkMapValue) (rules : List RelocRule) (f s : ℕ) (copy : Option (List ℕ)) →
-    MatchOption copy (HasLiveBits fs f s → ⊥) (AreBytesOf fs m rules f s) → HasLiveBits fs f s → AreBytesOf fs m rules f s (unwrap_or copy [])
+    MatchOption copy (HasLiveBits fs f s → ⊥) (AreBytesOf fs m rules f s) → HasLiveBits fs f s →
+    AreBytesOf fs m rules f s (unwrap_or copy [])
 copy_of fs m rules f s None none has = absurd (none has)
 copy_of fs m rules f s (Some bytes) are has = are
 
-module _ (l : LinkedValue) (ready : IsReadyLink l) (k : ℕ) (k_in : k < length l.map.outputs) (with : (output_at l.map k).no_bits ≡ false) where
+module _ (l : LinkedValue) (ready : IsReadyLink l) (k : ℕ) (k_in : k < length l.map.outputs)
+    (with : (output_at l.map k).no_bits ≡ false) where
   abbrev fs : List ObjectValue
   fs = l.objects
 
@@ -232,15 +258,20 @@ module _ (l : LinkedValue) (ready : IsReadyLink l) (k : ℕ) (k_in : k < length 
 
   member_in : (i : ℕ) → i < length o.members → HasLiveBits fs (member_at o i).file (member_at o i).section
   member_in i lt =
-      let alive = stand.live i lt in
-      ((alive.0, alive.1), alive.2, has_bits (section_in fs (member_at o i).file (member_at o i).section).body alive.2.1 (stand.kind i lt ∙ with))
+      let alive = stand.live i lt in (
+        (alive.0, alive.1),
+        alive.2,
+        has_bits (section_in fs (member_at o i).file (member_at o i).section).body alive.2.1 (stand.kind i lt ∙ with),
+      )
 
-  copy_at : (i : ℕ) → i < length o.members → AreBytesOf fs m l.rules (member_at o i).file (member_at o i).section (member_content l (member_at o i))
+  copy_at : (i : ℕ) → i < length o.members →
+      AreBytesOf fs m l.rules (member_at o i).file (member_at o i).section (member_content l (member_at o i))
   copy_at i lt =
       let p = member_at o i in
       copy_of fs m l.rules p.file p.section (bytes_at l p.file p.section) (ready.linked.bytes p.file p.section) (member_in i lt)
 
-  member_size : (i : ℕ) → i < length o.members → length (member_content l (member_at o i)) ≡ size_in fs (member_at o i).file (member_at o i).section
+  member_size : (i : ℕ) → i < length o.members →
+      length (member_content l (member_at o i)) ≡ size_in fs (member_at o i).file (member_at o i).section
   member_size i lt =
       let p = member_at o i in
       (copy_at i lt).long ∙ sym (content_size (section_in fs p.file p.section).body (stand.kind i lt ∙ with))
@@ -266,7 +297,8 @@ module _ (l : LinkedValue) (ready : IsReadyLink l) (k : ℕ) (k_in : k < length 
       let some = stand.some in
       let many = length-map o.members (member_content l) in
       let whole = length-spread o.address addresses parts n fits (omega arith) in
-      let last : o.address + o.length ≡ end_of (map unaligned parts) addresses n = subst (λ (ps : List (ℕ × ℕ)). o.address + o.length ≡ end_of ps addresses n) same_parts stand.last in
+      let last : o.address + o.length ≡ end_of (map unaligned parts) addresses n =
+      subst (λ (ps : List (ℕ × ℕ)). o.address + o.length ≡ end_of ps addresses n) same_parts stand.last in
       let size = size_at parts n in
       omega arith
 
@@ -282,13 +314,15 @@ module _ (l : LinkedValue) (ready : IsReadyLink l) (k : ℕ) (k_in : k < length 
         let part = part_is j within in
         let long = ap (λ (s : List ℕ). length s) part in
         let x : a + n ≡ o.address + i = omega arith in
-        let v : slice_index (member_content l p) n ≡ slice_index (output_content l o) i = ap (λ (s : List ℕ). slice_index s n) (sym part) ∙ sym is in
+        let v : slice_index (member_content l p) n ≡ slice_index (output_content l o) i =
+        ap (λ (s : List ℕ). slice_index s n) (sym part) ∙ sym is in
         subst (λ (y : ℕ). IsMemory fs m l.rules y (slice_index (output_content l o) i)) x
         (subst (λ (w : ℕ). IsMemory fs m l.rules (a + n) w) v (bytes n (omega arith))))
     | inr (none, is) ↦ (
         let long = length-output in
         subst (λ (w : ℕ). IsMemory fs m l.rules (o.address + i) w) (sym is)
-        (memory_zero fs m l.rules (any_options fs m ready.map) ready.linked.sound (o.address + i) k k_in (omega arith, omega arith) (in_none i none)))
+        (memory_zero fs m l.rules (any_options fs m ready.map) ready.linked.sound (o.address + i) k k_in (omega arith, omega arith)
+        (in_none i none)))
   ]
     where
       in_none : (i : ℕ) → ((j n : ℕ) → IsInPart addresses parts (o.address + i) j n → ⊥) → IsInNoMember fs m k (o.address + i)
@@ -344,7 +378,8 @@ content_at l j lt = get_or-map (load_content l) (loads l.map) j no_load [] lt
 length-contents : (l : LinkedValue) → length (load_contents l) ≡ length (loads l.map)
 length-contents l = length-map (loads l.map) (load_content l)
 
-contents_right : (l : LinkedValue) → IsReadyLink l → AreEach [] (λ j. AreLoadBytes l.objects l.map l.rules (load_in l.map j)) (length (loads l.map)) (load_contents l)
+contents_right : (l : LinkedValue) → IsReadyLink l →
+    AreEach [] (λ j. AreLoadBytes l.objects l.map l.rules (load_in l.map j)) (length (loads l.map)) (load_contents l)
 contents_right l ready = record {
   count = length-contents l;
   each = λ j lt. subst (AreLoadBytes l.objects l.map l.rules (load_in l.map j)) (sym (content_at l j lt)) (content_right l j ready lt);
@@ -383,8 +418,11 @@ loose [] (c ∷ cs) from q fits many sizes = absurd (omega arith)
 loose (p ∷ ps) [] from q fits many sizes = absurd (omega arith)
 loose (p ∷ ps) (c ∷ cs) from [] fits many sizes = absurd fits
 loose (p ∷ ps) (c ∷ cs) from (x ∷ q) (multiple, above, rest) many sizes =
-    let size : p.0 ≡ length c = sym (sizes 0 (omega arith)) in
-    (omega arith, above, loose ps cs (x + length c) q (subst (λ (n : ℕ). Fits ps (x + n) q) size rest) (omega arith) (λ i lt. sizes (suc i) (omega arith)))
+    let size : p.0 ≡ length c = sym (sizes 0 (omega arith)) in (
+      omega arith,
+      above,
+      loose ps cs (x + length c) q (subst (λ (n : ℕ). Fits ps (x + n) q) size rest) (omega arith) (λ i lt. sizes (suc i) (omega arith)),
+    )
 
 contents_fit : (l : LinkedValue) (places : List ℕ) → IsReadyLink l → Least (load_parts l.map) (bytes_from l.map) places →
     Fits (map unaligned (load_contents l)) (bytes_from l.map) places
@@ -402,7 +440,8 @@ pub length-header : (fs : List ObjectValue) (m : LinkMapValue) → length (heade
 unfolding header_bytes
 length-header fs m = (let i = identity_of fs in ehdr_laws.length_is i.order (exec_header i m.entry (length (loads m))))
 
-pub length-program_headers : (page : ℕ) (ls : List Load) (places : List ℕ) → length places ≡ length ls → length (program_headers page ls places) ≡ length ls
+pub length-program_headers : (page : ℕ) (ls : List Load) (places : List ℕ) → length places ≡ length ls →
+    length (program_headers page ls places) ≡ length ls
 length-program_headers page [] places many = refl
 length-program_headers page (load ∷ ls) [] many = absurd (omega arith)
 length-program_headers page (load ∷ ls) (x ∷ places) many = ap suc (length-program_headers page ls places (omega arith))
@@ -443,7 +482,8 @@ behind_length l places ready least =
           let n = length (load_parts l.map) - 1 in
           let whole = length-spread (bytes_from l.map) places (load_contents l) n fits (omega arith) in
           let end = end_some (load_parts l.map) (bytes_from l.map) places (omega arith) in
-          let size : get_or (map (λ (p : ℕ × ℕ). p.0) (load_parts l.map)) n 0 ≡ length (get_or (load_contents l) n []) = last_size l ready n (omega arith) in
+          let size : get_or (map (λ (p : ℕ × ℕ). p.0) (load_parts l.map)) n 0 ≡ length (get_or (load_contents l) n []) =
+          last_size l ready n (omega arith) in
           omega arith)
       | inr none ↦ (
           let end = end_none (load_parts l.map) (bytes_from l.map) places (omega arith) in
@@ -456,7 +496,8 @@ behind_length l places ready least =
     no_parts from (x ∷ q) [] none = refl
     no_parts from q (c ∷ cs) none = absurd (omega arith)
 
-    last_size : (l : LinkedValue) → IsReadyLink l → (n : ℕ) → n < length (loads l.map) → get_or (map (λ (p : ℕ × ℕ). p.0) (load_parts l.map)) n 0 ≡ length (get_or (load_contents l) n [])
+    last_size : (l : LinkedValue) → IsReadyLink l → (n : ℕ) → n < length (loads l.map) →
+        get_or (map (λ (p : ℕ × ℕ). p.0) (load_parts l.map)) n 0 ≡ length (get_or (load_contents l) n [])
     last_size l ready n lt =
         get_or-map (λ (p : ℕ × ℕ). p.0) (load_parts l.map) n (0, 0) 0 (let parts = many_parts l.map in omega arith)
         ∙ part_size l.map n lt ∙ sym (content_right l n ready lt).long ∙ ap (λ (s : List ℕ). length s) (sym (content_at l n lt))
@@ -493,7 +534,8 @@ loads_are p placed =
     let pieces = spread_pieces from p.places cs (omega arith) in
     pieces
     ∙ ap (λ (c : ℕ). flat_map (piece from (slice_index p.places) size (λ k. get_or cs k [])) (range_with_len 0 c)) contents
-    ∙ same_pieces from (slice_index p.places) (slice_index p.places) size (λ k. file_size (load_in m k)) (λ k. get_or cs k []) (λ k. load_content l (load_in m k)) n
+    ∙ same_pieces from (slice_index p.places) (slice_index p.places) size (λ k. file_size (load_in m k)) (λ k. get_or cs k [])
+    (λ k. load_content l (load_in m k)) n
     (λ k lt. refl)
     (λ k lt. ap (λ (s : List ℕ). length s) (content_at l k lt) ∙ (content_right l k placed.ready lt).long)
     (λ k lt. content_at l k lt)
@@ -519,7 +561,8 @@ too_long l ready (places, least, far) =
 -- The parts that are placed, and their start, are those of the map, so a fault of placing is the link's.
 
 -- zeros, and what is after them
-pub padded_sent : (a b c : Option (List ℕ)) (out mid n k : ℕ) (s t : List ℕ) (result : Result ℕ WriteFault) → WentOut a b out (replicate n 0) mid → n ≡ k → s ≡ t →
+pub padded_sent : (a b c : Option (List ℕ)) (out mid n k : ℕ) (s t : List ℕ) (result : Result ℕ WriteFault) →
+    WentOut a b out (replicate n 0) mid → n ≡ k → s ≡ t →
     Sends b c mid s result → Sends a c out (replicate k 0 ++ t) result
 padded_sent a b c out mid n k s t result zeros padding same sends =
     subst (λ (j : ℕ). Sends a c out (replicate j 0 ++ t) result) padding
@@ -527,17 +570,21 @@ padded_sent a b c out mid n k s t result zeros padding same sends =
     (sends_behind a b c out mid (replicate n 0) s result zeros sends))
 
 -- the bytes of an output, member by member
-pub output_text : (l : LinkedValue) (o : OutputValue) → output_content l o ≡ flat_map (member_piece l o) (range_with_len 0 (length o.members))
+pub output_text : (l : LinkedValue) (o : OutputValue) →
+    output_content l o ≡ flat_map (member_piece l o) (range_with_len 0 (length o.members))
 output_text l o =
     let q : List ℕ = map (member_address l.map) o.members in
     let ps : List (List ℕ) = map (member_content l) o.members in
     let n = length o.members in
     let places = length-map o.members (member_address l.map) in
     let contents = length-map o.members (member_content l) in
-    let content_at : (k : ℕ) → k < n → get_or ps k [] ≡ member_content l (member_at o k) = (λ k lt. get_or-map (member_content l) o.members k no_member [] lt) in
+    let content_at : (k : ℕ) → k < n → get_or ps k [] ≡ member_content l (member_at o k) =
+    (λ k lt. get_or-map (member_content l) o.members k no_member [] lt) in
     spread_pieces o.address q ps (omega arith)
-    ∙ ap (λ (c : ℕ). flat_map (piece o.address (λ k. get_or q k 0) (λ k. length (get_or ps k [])) (λ k. get_or ps k [])) (range_with_len 0 c)) contents
-    ∙ same_pieces o.address (λ k. get_or q k 0) (λ k. member_address l.map (member_at o k)) (λ k. length (get_or ps k [])) (λ k. length (member_content l (member_at o k)))
+    ∙ ap (λ (c : ℕ). flat_map (piece o.address (λ k. get_or q k 0) (λ k. length (get_or ps k [])) (λ k. get_or ps k []))
+    (range_with_len 0 c)) contents
+    ∙ same_pieces o.address (λ k. get_or q k 0) (λ k. member_address l.map (member_at o k)) (λ k. length (get_or ps k []))
+    (λ k. length (member_content l (member_at o k)))
     (λ k. get_or ps k []) (λ k. member_content l (member_at o k)) n
     (λ k lt. get_or-map (member_address l.map) o.members k no_member 0 lt)
     (λ k lt. ap (λ (s : List ℕ). length s) (content_at k lt))
@@ -555,11 +602,13 @@ parts_are m page ls paged are = ap (λ (n : ℕ). map (load_part n) ls) paged �
 pub from_is : (m : LinkMapValue) (ls : List Load) (n : ℕ) → ls ≡ loads m → n ≡ length ls → 64 + 56 * n ≡ bytes_from m
 from_is m ls n are count = (let long = ap (λ (xs : List Load). length xs) are in omega arith)
 
-placing_fault : (l : LinkedValue) (fault : ExecFault) → IsReadyLink l → IsPartsFault (load_parts l.map) (bytes_from l.map) fault → IsPlacingFault l fault
+placing_fault : (l : LinkedValue) (fault : ExecFault) → IsReadyLink l → IsPartsFault (load_parts l.map) (bytes_from l.map) fault →
+    IsPlacingFault l fault
 placing_fault l TooLong ready far = too_long l ready far
 placing_fault l OutOfMemory ready is = tt
 placing_fault l (Io written) ready never = never
 
-pub if_fault : {T : Type 0} (l : LinkedValue) (r : Result T ExecFault) → IsReadyLink l → IfErr r (IsPartsFault (load_parts l.map) (bytes_from l.map)) → IfErr r (IsPlacingFault l)
+pub if_fault : {T : Type 0} (l : LinkedValue) (r : Result T ExecFault) → IsReadyLink l →
+    IfErr r (IsPartsFault (load_parts l.map) (bytes_from l.map)) → IfErr r (IsPlacingFault l)
 if_fault l (Ok x) ready is = is
 if_fault l (Err fault) ready is = placing_fault l fault ready is

@@ -1,5 +1,6 @@
 -- What writing an executable does to what a writer holds.
-use Rattle.std.specs.Prelude.{◌≡◌, ◌<◌, ◌≤◌, ◌⊎◌, ℕ, List, length, Option, Result, Ok, Err, MatchResult, ◌-◌, ◌==◌, if◌then◌else◌, zero, suc, ◌+◌, [], ◌++◌, map, replicate, slice_index, unwrap_or}
+use Rattle.std.specs.Prelude.{◌≡◌, ◌<◌, ◌≤◌, ◌⊎◌, ℕ, List, length, Option, Result, Ok, Err, MatchResult, ◌-◌, ◌==◌, if◌then◌else◌, zero}
+use Rattle.std.specs.Prelude.{suc, ◌+◌, [], ◌++◌, map, replicate, slice_index, unwrap_or}
 use Rattle.std.specs.List.{flat_map, range_with_len}
 use Rattle.elf_link_relocate.specs.Loads.{loads, file_size, load_in}
 use Rattle.elf_exec.specs.Executable.{ExecLaid, IsExecFile, IsExecutable, bytes_from, load_parts, exec_bytes, header_bytes, table_bytes}

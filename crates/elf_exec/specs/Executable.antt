@@ -1,6 +1,7 @@
 -- What the executable of a link is, as a file: an image whose loadable segments give each address the byte that memory has there.
 -- (gABI chapter 4, ELF Header; chapter 5, Program Header.)
-use Rattle.std.specs.Prelude.{ℕ, ◌+◌, ◌^◌, ◌<◌, ◌==◌, if◌then◌else◌, List, length, map, ◌≡◌, ◌*◌, [], ◌∷◌, slice_index, ◌↔◌, ◌≤◌, MatchOption, Option, None}
+use Rattle.std.specs.Prelude.{ℕ, ◌+◌, ◌^◌, ◌<◌, ◌==◌, if◌then◌else◌, List, length, map, ◌≡◌, ◌*◌, [], ◌∷◌, slice_index, ◌↔◌, ◌≤◌}
+use Rattle.std.specs.Prelude.{MatchOption, Option, None}
 use Rattle.std.specs.List.{flat_map}
 use Rattle.elf_image_type.specs.WrittenFile.{identification}
 use Rattle.elf_link_relocate.specs.declared.load.Load.{Load}

@@ -30,7 +30,8 @@ pub fn some_exec()
 
 /// Some objects, their link map and relocation rules have at most one executable: no second list of bytes meets the definition.
 pub fn one_exec()
-    ensures { (fs : List ObjectValue) (m : LinkMapValue) (rules : List RelocRule) (a b : List ℕ) → IsMapOfSome fs m → FirstAmong (applied_entry_rules fs m rules) None →
+    ensures { (fs : List ObjectValue) (m : LinkMapValue) (rules : List RelocRule) (a b : List ℕ) → IsMapOfSome fs m →
+        FirstAmong (applied_entry_rules fs m rules) None →
         ExecLaid fs m rules a → ExecLaid fs m rules b → a ≡ b }
 {}
 

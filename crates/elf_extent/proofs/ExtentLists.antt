@@ -1,5 +1,6 @@
 -- Lists of extents: who holds a byte, which extents overlap, and what a sweep over them in order finds.
-use Rattle.std.proofs.Common.{◌≡◌, ℕ, ◌⊎◌, Option, None, Some, inl, inr, refl, ap, sym, subst, arith, zero, suc, ◌+◌, ◌<◌, ◌≤◌, true, false, cond, List, [], ◌∷◌, ◌∙◌, length, get_or, ◌≢◌, Bool, ◌++◌, map, take, ◌-◌}
+use Rattle.std.proofs.Common.{◌≡◌, ℕ, ◌⊎◌, Option, None, Some, inl, inr, refl, ap, sym, subst, arith, zero, suc, ◌+◌, ◌<◌, ◌≤◌, true, false}
+use Rattle.std.proofs.Common.{cond, List, [], ◌∷◌, ◌∙◌, length, get_or, ◌≢◌, Bool, ◌++◌, map, take, ◌-◌}
 use Rattle.std.proofs.Math.Nat.{min-eq_left, min-eq_right}
 use Rattle.std.proofs.lemmas.Bool.{cases_lt}
 use Rattle.std.specs.Prelude.{filter, nat_le, nat_lt, slice_get, IfNone, nat_eq}
@@ -14,7 +15,8 @@ use Rattle.std.proofs.lemmas.List.{get_or-map, get_or_default, length-map, appen
 use Rattle.std.proofs.lemmas.List.Quantifiers.{all_pairs_push}
 use Rattle.std.proofs.lemmas.Map.Keys.{IsDistinct-IsPermutation}
 use Rattle.std.proofs.lemmas.Map.Made.{AllPairs-from_IsDistinct, IsDistinct-from_AllPairs}
-use Rattle.elf_extent.specs.Extent.{IsLowest, lower_of, Doubly, Has, HasAt, holds_any, AreDisjoint, Never, AreMembers, IsMember, OverlapsEarlier}
+use Rattle.elf_extent.specs.Extent.{IsLowest, lower_of, Doubly, Has, HasAt, holds_any, AreDisjoint, Never, AreMembers, IsMember}
+use Rattle.elf_extent.specs.Extent.{OverlapsEarlier}
 use Rattle.elf_extent.specs.declared.extent.Extent.{Extent}
 use Rattle.elf_extent.specs.declared.sorted.Member.{Member}
 
@@ -346,7 +348,8 @@ held_skip es n ms e here none held =
     ∙ ap (λ (b : Bool). filter holds_any (take n es) ++ cond b (e ∷ []) []) (sym test) ∙ sym (held_next es n e here)
 
 pub held_more : (es : List Extent) (n : ℕ) (ms : List Member) (e : Extent) → slice_get es n ≡ Some e → 0 < e.len →
-    extents_of ms ≡ filter holds_any (take n es) → extents_of (ms ++ record { index = n; extent = e } ∷ []) ≡ filter holds_any (take (n + 1) es)
+    extents_of ms ≡ filter holds_any (take n es) →
+    extents_of (ms ++ record { index = n; extent = e } ∷ []) ≡ filter holds_any (take (n + 1) es)
 held_more es n ms e here some held =
     let m : Member = record { index = n; extent = e } in
     let test : holds_any e ≡ true = grind (arith, nat_tests) in

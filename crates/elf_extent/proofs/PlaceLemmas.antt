@@ -1,5 +1,6 @@
 -- The least place of a part, and the least places of a list of parts.
-use Rattle.std.proofs.Common.{◌≡◌, ℕ, zero, suc, ◌+◌, ◌<◌, ◌≤◌, List, [], ◌∷◌, length, get_or, ap, sym, ◌∙◌, arith, refl, ◌-◌, ◌*◌, ◌/◌, ◌%◌, ◌^◌, max, ◌++◌, drop, Option, None, Some, inl, inr, subst, append_assoc}
+use Rattle.std.proofs.Common.{◌≡◌, ℕ, zero, suc, ◌+◌, ◌<◌, ◌≤◌, List, [], ◌∷◌, length, get_or, ap, sym, ◌∙◌, arith, refl, ◌-◌, ◌*◌, ◌/◌}
+use Rattle.std.proofs.Common.{◌%◌, ◌^◌, max, ◌++◌, drop, Option, None, Some, inl, inr, subst, append_assoc}
 use Rattle.std.proofs.lemmas.List.{ext_get_or, append-nil, drop_more, drop_all, get_or_append_left, get_or_at, get_or-map, length_push}
 use Rattle.std.specs.Prelude.{MatchOption, SomeIff}
 use Rattle.std.proofs.Math.Nat.{mul-le-mul_left, mul-mod_right, max-eq_left}

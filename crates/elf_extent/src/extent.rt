@@ -108,7 +108,8 @@ impl<'a> Row for Counted<'a> {
 /// The lowest offset, in bytes, that two members of the row hold, be they equal or not; None if there is none.
 ///
 /// It looks at each extent once, up to the first one that shares a byte with an earlier one, and takes no memory. The starts never
-/// fall from one extent to the next, and each extent holds a byte.
+/// fall from one extent to the next, and each extent holds a byte. The contract counts how often it looks: one that compares every two
+/// extents finds the same offset, and is refused.
 pub fn sweep<R: Row>(row: &mut R) -> Option<u64>
     requires ascending { IsNonDecreasingBy (λ e. e.start) (R.extents row.old) }
     requires nonempty { All (λ e. 0 < e.len) (R.extents row.old) }

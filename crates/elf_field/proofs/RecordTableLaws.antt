@@ -1,7 +1,8 @@
 -- A table of records, for each kind of record that keeps `IsRecord`, by induction on the entries. Valid records are read back as they were
 -- written, and bytes inside the list are written back as they were read. From these, `record_at` reads record k at k times the size, and
 -- `record_of_part` reads a record of a part in the whole.
-use Rattle.std.proofs.Common.{◌≡◌, ◌≤◌, ◌<◌, ◌+◌, ◌-◌, ◌*◌, ℕ, zero, suc, List, [], ◌∷◌, ◌++◌, length, take, drop, get_or, take_all, map, refl, sym, ap, ap₂, ◌∙◌, arith, length-append, length-drop}
+use Rattle.std.proofs.Common.{◌≡◌, ◌≤◌, ◌<◌, ◌+◌, ◌-◌, ◌*◌, ℕ, zero, suc, List, [], ◌∷◌, ◌++◌, length, take, drop, get_or, take_all, map}
+use Rattle.std.proofs.Common.{refl, sym, ap, ap₂, ◌∙◌, arith, length-append, length-drop}
 use Rattle.std.specs.List.{AllByRecursion, flat_map, range_with_len}
 use Rattle.std.proofs.Math.Nat.{mul-add, mul-one, mul-suc, mul-zero}
 use Rattle.std.proofs.Math.Seq.{take-add}
@@ -38,10 +39,12 @@ record_read {at = at} laws o b x v fits stand = sym (laws.part o b x) ∙ ap (λ
 
 -- the bytes of the record read at a place are those that are there
 pub record_bytes : {A : Type 0} {size : ℕ} {at : Order → List ℕ → ℕ → A} {bytes : Order → A → List ℕ} {V : A → Type 0} →
-    IsRecord size at bytes V → (o : Order) (b : List ℕ) (x : ℕ) → IsBytes b → x + size ≤ length b → bytes o (at o b x) ≡ take size (drop x b)
+    IsRecord size at bytes V → (o : Order) (b : List ℕ) (x : ℕ) → IsBytes b → x + size ≤ length b →
+    bytes o (at o b x) ≡ take size (drop x b)
 record_bytes {size = size} {bytes = bytes} laws o b x are within =
     let there : size ≤ length (drop x b) = let e = length-drop x b in omega arith in
-    ap (bytes o) (sym (laws.part o b x)) ∙ laws.puts_got o (take size (drop x b)) (length-take-le size (drop x b) there) (IsBytes-take size (drop x b) (IsBytes-drop x b are))
+    ap (bytes o) (sym (laws.part o b x)) ∙
+    laws.puts_got o (take size (drop x b)) (length-take-le size (drop x b) there) (IsBytes-take size (drop x b) (IsBytes-drop x b are))
 
 -- what is first, and what is after it
 front_of : (n m : ℕ) (s f g : List ℕ) → length f ≡ n → take (n + m) s ≡ f ++ g → take n s ≡ f
@@ -101,9 +104,11 @@ record_at {size = size} {at = at} {bytes = bytes} laws o vs k d fit lt =
     let front : 0 + size * 0 ≡ 0 = let e = mul-zero size in omega arith in
     let place : size * k ≡ 0 + size * k = omega arith in
     let whole : take (size * length vs) (drop (0 + size * 0) b) ≡ b =
-    ap (λ (x : ℕ). take (size * length vs) (drop x b)) front ∙ take_all (size * length vs) b (let e = length-table laws o vs in omega arith) in
+    ap (λ (x : ℕ). take (size * length vs) (drop x b)) front ∙
+    take_all (size * length vs) b (let e = length-table laws o vs in omega arith) in
     let read = entries_read laws o b 0 0 vs fit whole in
-    ap (at o b) place ∙ sym (get_or-map-range_with_len (λ i. at o b (0 + size * i)) 0 (length vs) k k d lt (omega arith)) ∙ ap (λ (us : List _). get_or us k d) read
+    ap (at o b) place ∙ sym (get_or-map-range_with_len (λ i. at o b (0 + size * i)) 0 (length vs) k k d lt (omega arith)) ∙
+    ap (λ (us : List _). get_or us k d) read
 
 -- the record at a place of a part is that at its place in the whole
 pub record_of_part : {A : Type 0} {size : ℕ} {at : Order → List ℕ → ℕ → A} {bytes : Order → A → List ℕ} {V : A → Type 0} →

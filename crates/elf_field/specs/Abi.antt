@@ -1,5 +1,6 @@
--- Numbers of the gABI by their names there, chapters 4 (Object Files) and 5 (Program Loading and Dynamic Linking).
--- Where the gABI has no name of its own, a size is .._SIZE and the offset of a field in its record .._AT, in bytes.
+-- Numbers of the gABI by their names there, chapters 4 (Object Files) and 5 (Program Loading and Dynamic Linking). Where the gABI has no
+-- name of its own, a size is .._SIZE and the offset of a field in its record .._AT, in bytes. The code has these numbers a second time
+-- (`src/abi.rt`): if definitions used the code's constants, they would change with a wrong one.
 use Rattle.std.specs.Prelude.{ℕ, ℤ, pos, Bool, true, false, List, [], ◌∷◌}
 
 -- ---- e_ident: the identification (chapter 4, ELF Identification)

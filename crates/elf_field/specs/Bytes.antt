@@ -1,4 +1,5 @@
--- Numbers in a list of bytes (gABI chapter 4, Data Encoding).
+-- Numbers in a list of bytes (gABI chapter 4, Data Encoding). The laws hold for every list of bytes: a number past the end of a list reads
+-- as if zeros followed, so no law needs a condition on the place. Code never reads there.
 use Rattle.std.specs.Prelude.{◌≡◌, ◌≤◌, ◌<◌, ◌+◌, ℕ, zero, suc, List, [], ◌∷◌, length, drop, slice_index}
 use Rattle.std.proofs.Common.{◌*◌, ◌^◌, ◌++◌, take, refl, sym, ap, ◌∙◌, inl, inr, arith, length-append, lit<}
 use Rattle.std.proofs.Math.Nat.{add-mul, mod-lt, mul-le-mul_right}
@@ -6,7 +7,8 @@ use Rattle.std.proofs.lemmas.Bool.{cases_lt}
 use Rattle.std.proofs.lemmas.List.{append-nil, get_or-drop, length-take-le, take_all, take_at}
 use Rattle.std.specs.Int.{byte_at, bytes_high_first, bytes_low_first}
 use Rattle.byteorder.specs.Endian.{little_number, big_number, little_bytes, big_bytes, big_from, little_from}
-use Rattle.byteorder.specs.Numbers.{big_from-cons, big_from-lt, big_from-take, big_number-reads_back, length-bytes_high_first, length-bytes_low_first, little_from-cons, little_from-lt, little_from-take, little_number-reads_back}
+use Rattle.byteorder.specs.Numbers.{big_from-cons, big_from-lt, big_from-take, big_number-reads_back, length-bytes_high_first}
+use Rattle.byteorder.specs.Numbers.{length-bytes_low_first, little_from-cons, little_from-lt, little_from-take, little_number-reads_back}
 use Rattle.elf_field.specs.declared.number.Order.TheVariants.{Little, Big}
 use Rattle.elf_field.specs.declared.number.Order.{Order}
 
@@ -186,7 +188,8 @@ same_big (suc n) (a ∷ s) (b ∷ t) p q bs bt e =
     let lb = big_from-cons 0 n b t in
     let ls = big_from-lt 0 n s (IsBytes-rest a s bs) in
     let lt = big_from-lt 0 n t (IsBytes-rest b t bt) in
-    let whole : a * 256 ^ n + big_from 0 n s ≡ b * 256 ^ n + big_from 0 n t = ap (λ (x : ℕ). a * 256 ^ n + x) (sym la) ∙ e ∙ ap (λ (x : ℕ). b * 256 ^ n + x) lb in
+    let whole : a * 256 ^ n + big_from 0 n s ≡ b * 256 ^ n + big_from 0 n t =
+    ap (λ (x : ℕ). a * 256 ^ n + x) (sym la) ∙ e ∙ ap (λ (x : ℕ). b * 256 ^ n + x) lb in
     let front : a ≡ b = digits (256 ^ n) a b (big_from 0 n s) (big_from 0 n t) ls lt whole in
     let top : a * 256 ^ n ≡ b * 256 ^ n = ap (λ (x : ℕ). x * 256 ^ n) front in
     let back : big_from 0 n s ≡ big_from 0 n t = omega arith in
@@ -204,4 +207,5 @@ bytes_of-num o w s bytes long =
     let again = num-bytes_of o w (num o w s) [] (num-lt o w s bytes) in
     let first = num-take o w w s (omega arith) in
     let made : num o w (bytes_of o w (num o w s)) ≡ num o w s = rw (append-nil (bytes_of o w (num o w s))) at again in
-    same_bytes o w (bytes_of o w (num o w s)) (take w s) (length-bytes_of o w _) (length-take-le w s long) (IsBytes-bytes_of o w _) (IsBytes-take w s bytes) (made ∙ sym first)
+    same_bytes o w (bytes_of o w (num o w s)) (take w s) (length-bytes_of o w _) (length-take-le w s long) (IsBytes-bytes_of o w _)
+    (IsBytes-take w s bytes) (made ∙ sym first)

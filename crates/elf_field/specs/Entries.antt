@@ -6,8 +6,10 @@ use Rattle.std.specs.Int.{w64, cast_signed, cast_unsigned}
 use Rattle.std.proofs.Math.Facts.{Fits-of_lt, sfits_to_z}
 use Rattle.std.proofs.lemmas.Int.{ints, of_z-to_z, to_z-of_z}
 use Rattle.std.proofs.lemmas.List.{append-nil, take_all}
-use Rattle.elf_field.specs.Abi.{ST_INFO_AT, ST_NAME_AT, ST_OTHER_AT, ST_SHNDX_AT, ST_SIZE_AT, ST_VALUE_AT, SYM_SIZE, R_INFO_AT, R_OFFSET_AT, REL_SIZE, R_ADDEND_AT, RELA_SIZE, D_TAG_AT, D_UN_AT, DYN_SIZE, WORD_SIZE}
-use Rattle.elf_field.specs.Bytes.{IsBytes, field, At, bytes_of, num, IsBytes-bytes_of, IsBytes-drop, bytes_of-num, length-bytes_of, num-bytes_of, num-lt}
+use Rattle.elf_field.specs.Abi.{ST_INFO_AT, ST_NAME_AT, ST_OTHER_AT, ST_SHNDX_AT, ST_SIZE_AT, ST_VALUE_AT, SYM_SIZE, R_INFO_AT, R_OFFSET_AT}
+use Rattle.elf_field.specs.Abi.{REL_SIZE, R_ADDEND_AT, RELA_SIZE, D_TAG_AT, D_UN_AT, DYN_SIZE, WORD_SIZE}
+use Rattle.elf_field.specs.Bytes.{IsBytes, field, At, bytes_of, num, IsBytes-bytes_of, IsBytes-drop, bytes_of-num, length-bytes_of}
+use Rattle.elf_field.specs.Bytes.{num-bytes_of, num-lt}
 use Rattle.elf_field.specs.Record.{Layout, StandsAt, record_at, record_bytes, IsLayout, layout_fields_at, layout_laws, IsRecord, field-part}
 use Rattle.elf_field.specs.declared.dynamic.Dyn.{Dyn}
 use Rattle.elf_field.specs.declared.number.Order.{Order}
@@ -53,7 +55,15 @@ pub record IsSym (v : Sym) : Type 0 where
 -- its laws
 
 sym_is : IsLayout sym_layout SYM_SIZE IsSym
-sym_is = record { wide = refl; counted = λ v. refl; makes = λ v fits. refl; made = λ o b x fits. refl; fits = λ v fits. search rules; valid = λ o b x fits. search rules }
+sym_is = record {
+  wide = refl;
+  counted = λ v. refl;
+  makes = λ v fits. refl;
+  made = λ o b x fits. refl;
+  fits = λ v fits. search rules;
+  valid =
+      λ o b x fits. search rules;
+}
 
 pub sym_laws : IsRecord SYM_SIZE sym_at sym_bytes IsSym
 sym_laws = layout_laws sym_layout SYM_SIZE IsSym sym_is
@@ -91,7 +101,15 @@ pub record IsRel (v : Rel) : Type 0 where
 -- its laws
 
 rel_is : IsLayout rel_layout REL_SIZE IsRel
-rel_is = record { wide = refl; counted = λ v. refl; makes = λ v fits. refl; made = λ o b x fits. refl; fits = λ v fits. search rules; valid = λ o b x fits. search rules }
+rel_is = record {
+  wide = refl;
+  counted = λ v. refl;
+  makes = λ v fits. refl;
+  made = λ o b x fits. refl;
+  fits = λ v fits. search rules;
+  valid =
+      λ o b x fits. search rules;
+}
 
 pub rel_laws : IsRecord REL_SIZE rel_at rel_bytes IsRel
 rel_laws = layout_laws rel_layout REL_SIZE IsRel rel_is
@@ -134,8 +152,10 @@ rela_is : IsLayout rela_layout RELA_SIZE IsRela
 rela_is = record {
   wide = refl;
   counted = λ v. refl;
-  makes = λ v fits. ap (λ (z : ℤ). record { r_offset = v.r_offset; r_info = v.r_info; r_addend = z }) (to_z-of_z w64 v.r_addend fits.r_addend);
-  made = λ o b x fits. ap (λ (v : ℕ). field o b (x + R_OFFSET_AT) 8 ∷ field o b (x + R_INFO_AT) 8 ∷ v ∷ []) (of_z-to_z w64 (field o b (x + R_ADDEND_AT) 8) fits.1.1.0);
+  makes = λ v fits. ap (λ (z : ℤ). record { r_offset = v.r_offset; r_info = v.r_info; r_addend = z })
+      (to_z-of_z w64 v.r_addend fits.r_addend);
+  made = λ o b x fits. ap (λ (v : ℕ). field o b (x + R_OFFSET_AT) 8 ∷ field o b (x + R_INFO_AT) 8 ∷ v ∷ [])
+      (of_z-to_z w64 (field o b (x + R_ADDEND_AT) 8) fits.1.1.0);
   fits = λ v fits. (let small : cast_unsigned w64 v.r_addend < 256 ^ 8 = omega (arith, ints) in search rules);
   valid = λ o b x fits. (let tag = sfits_to_z (Fits-of_lt {w = w64} fits.1.1.0) in search rules);
 }

@@ -1,11 +1,20 @@
 -- The file header, section headers and program headers: their fields, and the laws of each record. (gABI chapter 4, ELF Header and
--- Sections; chapter 5, Program Header.)
+-- Sections; chapter 5, Program Header.) A field of one byte is defined like the others, as a number of width 1, so all records have one
+-- form. The identification is one field `e_ident` of sixteen bytes, as in the standard.
 use Rattle.std.specs.Prelude.{◌≡◌, ◌+◌, ◌<◌, ◌^◌, ℕ, List, [], ◌∷◌, length, take, drop}
 use Rattle.std.proofs.Common.{◌≤◌, ◌-◌, refl, sym, ap, ap₂, ◌∙◌, arith, rules, lit≤, length-drop}
 use Rattle.std.proofs.lemmas.List.{take_all}
-use Rattle.elf_field.specs.Abi.{EI_NIDENT, E_EHSIZE_AT, E_ENTRY_AT, E_FLAGS_AT, E_MACHINE_AT, E_PHENTSIZE_AT, E_PHNUM_AT, E_PHOFF_AT, E_SHENTSIZE_AT, E_SHNUM_AT, E_SHOFF_AT, E_SHSTRNDX_AT, E_TYPE_AT, E_VERSION_AT, EHDR_SIZE, SH_ADDRALIGN_AT, SH_ADDR_AT, SH_ENTSIZE_AT, SH_FLAGS_AT, SH_INFO_AT, SH_LINK_AT, SH_NAME_AT, SH_OFFSET_AT, SH_SIZE_AT, SH_TYPE_AT, SHDR_SIZE, P_ALIGN_AT, P_FILESZ_AT, P_FLAGS_AT, P_MEMSZ_AT, P_OFFSET_AT, P_PADDR_AT, P_TYPE_AT, P_VADDR_AT, PHDR_SIZE}
-use Rattle.elf_field.specs.Bytes.{IsBytes, first_bytes, bytes_of, field, IsBytes-drop, IsBytes-first_bytes, first_bytes-all, first_bytes-append, first_bytes-part, first_bytes-take, length-first_bytes}
-use Rattle.elf_field.specs.Record.{AreAt, spelled, FitWidths, fields_from, number_in, width_of, AreAt-fields_from, FitWidths-fields_from, IsBytes-spelled, fields_from-part, fields_from-spelled, length-spelled, spelled-fields_from, spelled-front, IsRecord, Layout, StandsAt, record_at, record_bytes, IsLayout, layout_fields_at, layout_laws}
+use Rattle.elf_field.specs.Abi.{EI_NIDENT, E_EHSIZE_AT, E_ENTRY_AT, E_FLAGS_AT, E_MACHINE_AT, E_PHENTSIZE_AT, E_PHNUM_AT, E_PHOFF_AT}
+use Rattle.elf_field.specs.Abi.{E_SHENTSIZE_AT, E_SHNUM_AT, E_SHOFF_AT, E_SHSTRNDX_AT, E_TYPE_AT, E_VERSION_AT, EHDR_SIZE, SH_ADDRALIGN_AT}
+use Rattle.elf_field.specs.Abi.{SH_ADDR_AT, SH_ENTSIZE_AT, SH_FLAGS_AT, SH_INFO_AT, SH_LINK_AT, SH_NAME_AT, SH_OFFSET_AT, SH_SIZE_AT}
+use Rattle.elf_field.specs.Abi.{SH_TYPE_AT, SHDR_SIZE, P_ALIGN_AT, P_FILESZ_AT, P_FLAGS_AT, P_MEMSZ_AT, P_OFFSET_AT, P_PADDR_AT, P_TYPE_AT}
+use Rattle.elf_field.specs.Abi.{P_VADDR_AT, PHDR_SIZE}
+use Rattle.elf_field.specs.Bytes.{IsBytes, first_bytes, bytes_of, field, IsBytes-drop, IsBytes-first_bytes, first_bytes-all}
+use Rattle.elf_field.specs.Bytes.{first_bytes-append, first_bytes-part, first_bytes-take, length-first_bytes}
+use Rattle.elf_field.specs.Record.{AreAt, spelled, FitWidths, fields_from, number_in, width_of, AreAt-fields_from, FitWidths-fields_from}
+use Rattle.elf_field.specs.Record.{IsBytes-spelled, fields_from-part, fields_from-spelled, length-spelled, spelled-fields_from}
+use Rattle.elf_field.specs.Record.{spelled-front, IsRecord, Layout, StandsAt, record_at, record_bytes, IsLayout, layout_fields_at}
+use Rattle.elf_field.specs.Record.{layout_laws}
 use Rattle.elf_field.specs.declared.ehdr.Ehdr.{Ehdr}
 use Rattle.elf_field.specs.declared.number.Order.{Order}
 use Rattle.elf_field.specs.declared.phdr.Phdr.{Phdr}
@@ -35,7 +44,8 @@ ehdr_of ident number = record {
 -- its numbers, which follow the identification
 abbrev pub ehdr_values : Ehdr → List ℕ
 ehdr_values v =
-    v.e_type ∷ v.e_machine ∷ v.e_version ∷ v.e_entry ∷ v.e_phoff ∷ v.e_shoff ∷ v.e_flags ∷ v.e_ehsize ∷ v.e_phentsize ∷ v.e_phnum ∷ v.e_shentsize ∷ v.e_shnum ∷ v.e_shstrndx ∷ []
+    v.e_type ∷ v.e_machine ∷ v.e_version ∷ v.e_entry ∷ v.e_phoff ∷ v.e_shoff ∷ v.e_flags ∷ v.e_ehsize ∷ v.e_phentsize ∷
+    v.e_phnum ∷ v.e_shentsize ∷ v.e_shnum ∷ v.e_shstrndx ∷ []
 
 -- their widths
 abbrev pub ehdr_widths : List ℕ
@@ -93,22 +103,28 @@ ehdr_gets_put o v fits =
     let numbers = spelled (bytes_of o) [] ehdr_widths (ehdr_values v) in
     let long : length ident ≡ EI_NIDENT = length-first_bytes EI_NIDENT v.e_ident in
     let read : first_bytes EI_NIDENT (ehdr_bytes o v) ≡ v.e_ident =
-    ap (first_bytes EI_NIDENT) (spelled-front o ident ehdr_widths (ehdr_values v)) ∙ first_bytes-append EI_NIDENT ident numbers long ∙ first_bytes-all EI_NIDENT v.e_ident fits.e_ident in
+    ap (first_bytes EI_NIDENT) (spelled-front o ident ehdr_widths (ehdr_values v)) ∙ first_bytes-append EI_NIDENT ident numbers long ∙
+    first_bytes-all EI_NIDENT v.e_ident fits.e_ident in
     ap₂ ehdr_made read (fields_from-spelled o ident EI_NIDENT ehdr_widths (ehdr_values v) (ehdr_fit v fits) long)
 
 ehdr_puts_got : (o : Order) (b : List ℕ) → length b ≡ EHDR_SIZE → IsBytes b → ehdr_bytes o (ehdr_at o b 0) ≡ b
 ehdr_puts_got o b long bytes =
-    let ident : first_bytes EI_NIDENT (first_bytes EI_NIDENT b) ≡ take EI_NIDENT b = first_bytes-all EI_NIDENT (first_bytes EI_NIDENT b) (length-first_bytes EI_NIDENT b) ∙ first_bytes-take EI_NIDENT b (omega arith) in
-    ap (λ (s : List ℕ). spelled (bytes_of o) s ehdr_widths (fields_from o b 0 EI_NIDENT ehdr_widths)) ident ∙ spelled-fields_from o b EI_NIDENT ehdr_widths bytes (omega arith) ∙ take_all EHDR_SIZE b (omega arith)
+    let ident : first_bytes EI_NIDENT (first_bytes EI_NIDENT b) ≡ take EI_NIDENT b =
+    first_bytes-all EI_NIDENT (first_bytes EI_NIDENT b) (length-first_bytes EI_NIDENT b) ∙ first_bytes-take EI_NIDENT b (omega arith) in
+    ap (λ (s : List ℕ). spelled (bytes_of o) s ehdr_widths (fields_from o b 0 EI_NIDENT ehdr_widths)) ident ∙
+    spelled-fields_from o b EI_NIDENT ehdr_widths bytes (omega arith) ∙ take_all EHDR_SIZE b (omega arith)
 
 pub ehdr_laws : IsRecord EHDR_SIZE ehdr_at ehdr_bytes IsEhdr
 ehdr_laws = record {
   gets_put = ehdr_gets_put;
   puts_got = ehdr_puts_got;
-  part = λ o b x. ap₂ ehdr_made (first_bytes-part EI_NIDENT EHDR_SIZE (drop x b) (lit≤ tt)) (fields_from-part o b EHDR_SIZE x EI_NIDENT ehdr_widths (lit≤ tt));
-  length_is = λ o v. length-spelled o (first_bytes EI_NIDENT v.e_ident) ehdr_widths (ehdr_values v) refl ∙ ap (λ (k : ℕ). k + width_of ehdr_widths) (length-first_bytes EI_NIDENT v.e_ident);
+  part = λ o b x. ap₂ ehdr_made (first_bytes-part EI_NIDENT EHDR_SIZE (drop x b) (lit≤ tt))
+      (fields_from-part o b EHDR_SIZE x EI_NIDENT ehdr_widths (lit≤ tt));
+  length_is = λ o v. length-spelled o (first_bytes EI_NIDENT v.e_ident) ehdr_widths (ehdr_values v) refl ∙
+      ap (λ (k : ℕ). k + width_of ehdr_widths) (length-first_bytes EI_NIDENT v.e_ident);
   valid = ehdr_valid;
-  are_bytes = λ o v fits. IsBytes-spelled o (first_bytes EI_NIDENT v.e_ident) ehdr_widths (ehdr_values v) (IsBytes-first_bytes EI_NIDENT v.e_ident fits.e_ident_bytes);
+  are_bytes = λ o v fits. IsBytes-spelled o (first_bytes EI_NIDENT v.e_ident) ehdr_widths (ehdr_values v)
+      (IsBytes-first_bytes EI_NIDENT v.e_ident fits.e_ident_bytes);
 }
 
 pub ehdr_fields_at : (o : Order) (b : List ℕ) (x : ℕ) → x + EHDR_SIZE ≤ length b → IsBytes b → IsEhdrAt o b x (ehdr_at o b x)
@@ -162,7 +178,15 @@ pub record IsShdr (v : Shdr) : Type 0 where
 -- its laws
 
 shdr_is : IsLayout shdr_layout SHDR_SIZE IsShdr
-shdr_is = record { wide = refl; counted = λ v. refl; makes = λ v fits. refl; made = λ o b x fits. refl; fits = λ v fits. search rules; valid = λ o b x fits. search rules }
+shdr_is = record {
+  wide = refl;
+  counted = λ v. refl;
+  makes = λ v fits. refl;
+  made = λ o b x fits. refl;
+  fits = λ v fits. search rules;
+  valid =
+      λ o b x fits. search rules;
+}
 
 pub shdr_laws : IsRecord SHDR_SIZE shdr_at shdr_bytes IsShdr
 shdr_laws = layout_laws shdr_layout SHDR_SIZE IsShdr shdr_is
@@ -212,7 +236,15 @@ pub record IsPhdr (v : Phdr) : Type 0 where
 -- its laws
 
 phdr_is : IsLayout phdr_layout PHDR_SIZE IsPhdr
-phdr_is = record { wide = refl; counted = λ v. refl; makes = λ v fits. refl; made = λ o b x fits. refl; fits = λ v fits. search rules; valid = λ o b x fits. search rules }
+phdr_is = record {
+  wide = refl;
+  counted = λ v. refl;
+  makes = λ v fits. refl;
+  made = λ o b x fits. refl;
+  fits = λ v fits. search rules;
+  valid =
+      λ o b x fits. search rules;
+}
 
 pub phdr_laws : IsRecord PHDR_SIZE phdr_at phdr_bytes IsPhdr
 phdr_laws = layout_laws phdr_layout PHDR_SIZE IsPhdr phdr_is

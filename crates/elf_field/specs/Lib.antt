@@ -3,3 +3,4 @@ pub mod Bytes
 pub mod Entries
 pub mod Headers
 pub mod Record
+pub mod Strings

@@ -1,6 +1,8 @@
 //! The records of an ELF-64 file (gABI chapters 4 and 5), read and written in both byte orders, and
 //! the gABI's numbers by their names ([`abi`]).
 //!
+//! Each record is written out, in a file of its own: a field's offset is beside its name, as in the standard. A macro would hide it.
+//!
 //! ```
 //! // A dynamic entry that says that a library is needed, its name at 7, most significant byte first.
 //! let entry = Dyn { d_tag: abi::DT_NEEDED, d_un: 7 };

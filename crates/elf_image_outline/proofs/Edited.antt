@@ -1,7 +1,8 @@
 -- An edit of the entry, of flags from section 1 on, of the gaps, or of a content keeps a sound image value sound. A content must keep its
 -- length and not be the name table's, and new numbers must fit their fields. No rule looks at what is changed, so the rules stay kept; the
 -- other fields follow one by one.
-use Rattle.std.proofs.Common.{◌≡◌, ◌≢◌, ◌<◌, ◌≤◌, ℕ, Bor, List, [], length, map, get_or, refl, sym, ap, ◌∙◌, arith, inl, inr, ◌*◌, ◌^◌, zero, suc, Bool, true, None, ◌∷◌, set, ap₂, subst, lit<}
+use Rattle.std.proofs.Common.{◌≡◌, ◌≢◌, ◌<◌, ◌≤◌, ℕ, Bor, List, [], length, map, get_or, refl, sym, ap, ◌∙◌, arith, inl, inr, ◌*◌, ◌^◌}
+use Rattle.std.proofs.Common.{zero, suc, Bool, true, None, ◌∷◌, set, ap₂, subst, lit<}
 use Rattle.std.specs.Prelude.{◌==◌, ◌+◌, if◌then◌else◌, replicate, Result, Ok, Err, OnOk, OnErr}
 use Rattle.std.proofs.lemmas.Bool.{cases_eq, ne_eqb}
 use Rattle.std.proofs.lemmas.List.{get_or-map, length-map, get_or-set_other, length-replicate, length-set}
@@ -17,11 +18,15 @@ use Rattle.elf_field.specs.declared.ehdr.Ehdr.{Ehdr}
 use Rattle.elf_field.specs.declared.phdr.Phdr.{Phdr}
 use Rattle.elf_field.specs.declared.shdr.Shdr.{Shdr}
 use Rattle.elf_image_outline.proofs.Standing.{clean_of, content_within, counted_of, table_there}
-use Rattle.elf_image_outline.specs.Image.{ImageValue, IsSoundImage, no_section_header, section_header_of, value_names, PlacedPart, gap_len, piece_of, program_header_of, value_extents, IsReplaceable, flagged, with_content, with_entry, with_flags, with_zero_gaps, zeroed}
+use Rattle.elf_image_outline.specs.Image.{ImageValue, IsSoundImage, no_section_header, section_header_of, value_names, PlacedPart, gap_len}
+use Rattle.elf_image_outline.specs.Image.{piece_of, program_header_of, value_extents, IsReplaceable, flagged, with_content, with_entry}
+use Rattle.elf_image_outline.specs.Image.{with_flags, with_zero_gaps, zeroed}
 use Rattle.elf_image_outline.specs.Outline.{OutlineValue, image_of, placed_part}
 use Rattle.elf_image_outline.specs.declared.outline.Part.{Part}
 use Rattle.elf_image_rules.specs.Rows.{FirstIn}
-use Rattle.elf_image_rules.specs.Rules.{MAX_LEN, header_rules, header_entry_rules, header_table_rules, image_rules, record_rules, section_name_rules, extents, program_table_rules, section_header_rules, section_table_rules, segment_rules}
+use Rattle.elf_image_rules.specs.Rules.{MAX_LEN, header_rules, header_entry_rules, header_table_rules, image_rules, record_rules}
+use Rattle.elf_image_rules.specs.Rules.{section_name_rules, extents, program_table_rules, section_header_rules, section_table_rules}
+use Rattle.elf_image_rules.specs.Rules.{segment_rules}
 use Rattle.elf_image_rules.specs.Tables.{content_extent, name_table, shdr_offset, program_header_count, section_header_count}
 
 -- A sound image value has one content for each section header, as long as it says; section headers and nonempty contents lie in the file.
@@ -54,24 +59,28 @@ names_there v sound some =
     elim (cases_eq v.header.e_shoff 0) [
       | inl none ↦
           let no_names = clean.no_names none in
-          let is_none : name_table v.header (section_header_of v.sections 0) ≡ 0 = rw (ne_eqb v.header.e_shstrndx SHN_XINDEX (omega arith)) no_names in
+          let is_none : name_table v.header (section_header_of v.sections 0) ≡ 0 =
+          rw (ne_eqb v.header.e_shstrndx SHN_XINDEX (omega arith)) no_names in
           absurd (some is_none)
       | inr there ↦ let below = clean.name_table there in omega arith
     ]
 
 -- ---- contents as they are held: borrowed from the file or the caller
 
-pub content_held : (v : ImageValue) (xs : List (Bor (List ℕ))) (i : ℕ) → IsSoundImage v → v.contents ≡ map (λ x. x.now) xs → i < length v.sections → i < length xs
+pub content_held : (v : ImageValue) (xs : List (Bor (List ℕ))) (i : ℕ) → IsSoundImage v → v.contents ≡ map (λ x. x.now) xs →
+    i < length v.sections → i < length xs
 content_held v xs i sound same within =
     let count = contents_count v sound in
     let held = ap (λ (cs : List (List ℕ)). length cs) same in
     let long = length-map xs (λ (x : Bor (List ℕ)). x.now) in
     omega arith
 
-pub held_at : (xs : List (Bor (List ℕ))) (i : ℕ) (x : Bor (List ℕ)) → i < length xs → x ≡ get_or xs i x → x.now ≡ get_or (map (λ x. x.now) xs) i []
+pub held_at : (xs : List (Bor (List ℕ))) (i : ℕ) (x : Bor (List ℕ)) → i < length xs → x ≡ get_or xs i x →
+    x.now ≡ get_or (map (λ x. x.now) xs) i []
 held_at xs i x within is = ap (λ (y : Bor (List ℕ)). y.now) is ∙ sym (get_or-map (λ (y : Bor (List ℕ)). y.now) xs i x [] within)
 
-pub content_size : (v : ImageValue) (xs : List (Bor (List ℕ))) (i : ℕ) (x : Bor (List ℕ)) → IsSoundImage v → v.contents ≡ map (λ x. x.now) xs → i < length v.sections →
+pub content_size : (v : ImageValue) (xs : List (Bor (List ℕ))) (i : ℕ) (x : Bor (List ℕ)) → IsSoundImage v →
+    v.contents ≡ map (λ x. x.now) xs → i < length v.sections →
     x ≡ get_or xs i x → length x.now ≡ (content_extent (section_header_of v.sections i)).len
 content_size v xs i x sound same within is =
     let here = held_at xs i x (content_held v xs i sound same within) is in
@@ -83,8 +92,10 @@ names_index v xs k sound same is some =
     let there = names_there v sound (λ none. some (is ∙ none)) in
     content_held v xs k sound same (omega arith)
 
-pub names_held : (v : ImageValue) (xs : List (Bor (List ℕ))) (k : ℕ) (x : Bor (List ℕ)) → IsSoundImage v → v.contents ≡ map (λ x. x.now) xs →
-    k ≡ name_table v.header (section_header_of v.sections 0) → k ≢ 0 → x ≡ get_or xs k x → x.now ≡ value_names v.header v.sections v.contents
+pub names_held : (v : ImageValue) (xs : List (Bor (List ℕ))) (k : ℕ) (x : Bor (List ℕ)) → IsSoundImage v →
+    v.contents ≡ map (λ x. x.now) xs →
+    k ≡ name_table v.header (section_header_of v.sections 0) → k ≢ 0 → x ≡ get_or xs k x →
+    x.now ≡ value_names v.header v.sections v.contents
 names_held v xs k x sound same is some here =
     let Names : ℕ → List ℕ = λ j. if j == 0 then [] else get_or v.contents j [] in
     let at = held_at xs k x (names_index v xs k sound same is some) here in
@@ -103,7 +114,8 @@ header_inside v i sound lt =
     let within = (clean_of v counted).section_table (table_there v counted (omega arith)) in
     omega arith
 
-pub content_inside : (v : ImageValue) (i : ℕ) → IsSoundImage v → i < length v.sections → 0 < (content_extent (section_header_of v.sections i)).len →
+pub content_inside : (v : ImageValue) (i : ℕ) → IsSoundImage v → i < length v.sections →
+    0 < (content_extent (section_header_of v.sections i)).len →
     (section_header_of v.sections i).sh_offset + (content_extent (section_header_of v.sections i)).len ≤ v.len
 content_inside v i sound lt some =
     content_within v (counted_of v sound) i (section_header_of v.sections i) (slice_get-get_or v.sections i no_section_header lt) some
@@ -128,7 +140,8 @@ map-set_same f (x ∷ xs) (suc i) y d same = ap (λ (zs : List _). f x ∷ zs) (
 -- ---- e_entry
 
 pub sound-with_entry : (v : ImageValue) (entry : ℕ) → IsSoundImage v → entry < 2 ^ 64 → IsSoundImage (with_entry v entry)
-unfolding image_rules record_rules header_table_rules header_entry_rules header_rules section_table_rules program_table_rules section_header_rules segment_rules section_name_rules extents
+unfolding image_rules record_rules header_table_rules header_entry_rules header_rules section_table_rules program_table_rules
+    section_header_rules segment_rules section_name_rules extents
 sound-with_entry v entry sound fits = let h = sound.header in record {
   header = record {
     e_ident = h.e_ident;
@@ -180,18 +193,22 @@ flags_at (suc k) flags = 0
 abbrev plain_at : ℕ → Shdr → Shdr
 plain_at k s = record s { sh_flags = flags_at k s.sh_flags }
 
-plain_at-flagged : (ss : List Shdr) (i flags k : ℕ) → 0 < i → plain_at k (section_header_of ss k) ≡ plain_at k (section_header_of (flagged ss i flags) k)
+plain_at-flagged : (ss : List Shdr) (i flags k : ℕ) → 0 < i →
+    plain_at k (section_header_of ss k) ≡ plain_at k (section_header_of (flagged ss i flags) k)
 plain_at-flagged [] i flags k above = refl
 plain_at-flagged (s ∷ ss) zero flags k above = absurd (omega arith)
 plain_at-flagged (s ∷ ss) (suc i) flags zero above = refl
 plain_at-flagged (s ∷ ss) (suc i) flags (suc k) above = plain-flagged ss i flags k
 
-extents-flagged : (h : Ehdr) (ss : List Shdr) (gs : List Phdr) (i flags : ℕ) → value_extents h ss gs ≡ value_extents h (flagged ss i flags) gs
+extents-flagged : (h : Ehdr) (ss : List Shdr) (gs : List Phdr) (i flags : ℕ) →
+    value_extents h ss gs ≡ value_extents h (flagged ss i flags) gs
 extents-flagged h ss gs i flags =
     let s = section_header_of ss i in
     let Table : ℕ → List Extent → List Extent = λ n cs.
-    record { start = 0; len = EHDR_SIZE } ∷ record { start = h.e_shoff; len = SHDR_SIZE * n } ∷ record { start = h.e_phoff; len = PHDR_SIZE * length gs } ∷ cs in
-    ap₂ Table (sym (length-set ss i (record s { sh_flags = flags }))) (sym (map-set_same content_extent ss i (record s { sh_flags = flags }) no_section_header refl))
+    record { start = 0; len = EHDR_SIZE } ∷ record { start = h.e_shoff; len = SHDR_SIZE * n } ∷ record
+    { start = h.e_phoff; len = PHDR_SIZE * length gs } ∷ cs in
+    ap₂ Table (sym (length-set ss i (record s { sh_flags = flags })))
+    (sym (map-set_same content_extent ss i (record s { sh_flags = flags }) no_section_header refl))
 
 flagged_fits : (s : Shdr) (flags : ℕ) → IsShdr s → flags < 2 ^ 64 → IsShdr (record s { sh_flags = flags })
 flagged_fits s flags fits fit = record {
@@ -207,15 +224,19 @@ flagged_fits s flags fits fit = record {
   sh_entsize = fits.sh_entsize;
 }
 
-pub sound-with_flags : (v : ImageValue) (i flags : ℕ) → IsSoundImage v → 0 < i → i < length v.sections → flags < 2 ^ 64 → IsSoundImage (with_flags v i flags)
-unfolding image_rules record_rules header_table_rules header_entry_rules header_rules section_table_rules program_table_rules section_header_rules segment_rules section_name_rules extents
+pub sound-with_flags : (v : ImageValue) (i flags : ℕ) → IsSoundImage v → 0 < i → i < length v.sections → flags < 2 ^ 64 →
+    IsSoundImage (with_flags v i flags)
+unfolding image_rules record_rules header_table_rules header_entry_rules header_rules section_table_rules program_table_rules
+    section_header_rules segment_rules section_name_rules extents
 sound-with_flags v i flags sound above within fits =
     let s = section_header_of v.sections i in
     let t : Shdr = record s { sh_flags = flags } in
-    let first : section_header_of v.sections 0 ≡ section_header_of (flagged v.sections i flags) 0 = plain_at-flagged v.sections i flags 0 above in
+    let first : section_header_of v.sections 0 ≡ section_header_of (flagged v.sections i flags) 0 =
+    plain_at-flagged v.sections i flags 0 above in
     let Names : Shdr → List ℕ = λ e. let k = name_table v.header e in if k == 0 then [] else get_or v.contents k [] in
     let Keeps : (ℕ → Shdr) → Type 0 = λ e. FirstIn (image_rules v.len v.header e (program_header_of v.segments) (Names (e 0))) None in
-    let all : (λ (k : ℕ). plain_at k (section_header_of v.sections k)) ≡ (λ (k : ℕ). plain_at k (section_header_of (flagged v.sections i flags) k)) =
+    let all : (λ (k : ℕ). plain_at k (section_header_of v.sections k)) ≡
+    (λ (k : ℕ). plain_at k (section_header_of (flagged v.sections i flags) k)) =
     λ j k. plain_at-flagged v.sections i flags k above j in
     record {
       header = sound.header;
@@ -226,7 +247,8 @@ sound-with_flags v i flags sound above within fits =
       segment_count = sound.segment_count ∙ ap (program_header_count v.header) first;
       lengths = sound.lengths ∙ sym (map-set_same (λ (e : Shdr). (content_extent e).len) v.sections i t no_section_header refl);
       bytes = sound.bytes;
-      accounts = subst (λ (es : List Extent). Accounts es v.len 0 (map piece_of v.parts)) (extents-flagged v.header v.sections v.segments i flags) sound.accounts;
+      accounts = subst (λ (es : List Extent). Accounts es v.len 0 (map piece_of v.parts))
+          (extents-flagged v.header v.sections v.segments i flags) sound.accounts;
       gaps = sound.gaps;
       clean = subst Keeps all sound.clean;
     }
@@ -240,7 +262,8 @@ names-set h ss cs i content other =
     ap (λ (names : List ℕ). if k == 0 then [] else names) (sym (get_or-set_other cs i k content [] (λ same. other (sym same))))
 
 pub sound-with_content : (v : ImageValue) (i : ℕ) (content : List ℕ) → IsSoundImage v → i < length v.sections →
-    length content ≡ (content_extent (section_header_of v.sections i)).len → (i ≡ name_table v.header (section_header_of v.sections 0) → ⊥) → IsBytes content →
+    length content ≡ (content_extent (section_header_of v.sections i)).len →
+    (i ≡ name_table v.header (section_header_of v.sections 0) → ⊥) → IsBytes content →
     IsSoundImage (with_content v i content)
 sound-with_content v i content sound within long other are = record {
   header = sound.header;
@@ -252,7 +275,8 @@ sound-with_content v i content sound within long other are = record {
   bytes = all_set IsBytes v.contents i content sound.bytes are;
   accounts = sound.accounts;
   gaps = sound.gaps;
-  clean = subst (λ (names : List ℕ). FirstIn (image_rules v.len v.header (section_header_of v.sections) (program_header_of v.segments) names) None)
+  clean = subst
+      (λ (names : List ℕ). FirstIn (image_rules v.len v.header (section_header_of v.sections) (program_header_of v.segments) names) None)
       (names-set v.header v.sections v.contents i content other) sound.clean;
 }
 
@@ -279,7 +303,8 @@ sound-with_zero_gaps v sound = record {
   segment_count = sound.segment_count;
   lengths = sound.lengths;
   bytes = sound.bytes;
-  accounts = subst (λ (qs : List Piece). Accounts (value_extents v.header v.sections v.segments) v.len 0 qs) (pieces-zeroed v.parts) sound.accounts;
+  accounts = subst (λ (qs : List Piece). Accounts (value_extents v.header v.sections v.segments) v.len 0 qs)
+      (pieces-zeroed v.parts) sound.accounts;
   gaps = gaps-zeroed v.parts;
   clean = sound.clean;
 }
@@ -293,9 +318,11 @@ pub parts-placed : (z : Bool) (file : List ℕ) (ps : List Part) → ps ≡ map 
 parts-placed z file [] = refl
 parts-placed z file (p ∷ ps) = ap (λ (qs : List Part). p ∷ qs) (parts-placed z file ps)
 
-pub image-zeroed : (o : OutlineValue) (cs : List (List ℕ)) (file : List ℕ) → image_of (record o { zeroed = true }) cs file ≡ with_zero_gaps (image_of o cs file)
+pub image-zeroed : (o : OutlineValue) (cs : List (List ℕ)) (file : List ℕ) →
+    image_of (record o { zeroed = true }) cs file ≡ with_zero_gaps (image_of o cs file)
 image-zeroed o cs file =
-    ap (λ (ps : List PlacedPart). let v : ImageValue = record { len = o.len; header = o.header; sections = o.sections; segments = o.segments; contents = cs; parts = ps } in v)
+    ap (λ (ps : List PlacedPart). let v : ImageValue =
+    record { len = o.len; header = o.header; sections = o.sections; segments = o.segments; contents = cs; parts = ps } in v)
     (placed-zeroed o.zeroed file o.parts)
 
 -- ---- what the calls answer
@@ -303,15 +330,19 @@ image-zeroed o cs file =
 -- flags that were set or refused leave a sound image
 pub sound-flagged : {E : Type 0} (r : Result (Unit {0}) E) (o new : OutlineValue) (cs : List (List ℕ)) (file : List ℕ) (i flags : ℕ) →
     OnOk r ((0 < i) × (i < length o.sections) × (new ≡ record o { sections = flagged o.sections i flags })) →
-    OnErr r ((¬ ((0 < i) × (i < length o.sections))) × (new ≡ o)) → flags < 2 ^ 64 → IsSoundImage (image_of o cs file) → IsSoundImage (image_of new cs file)
+    OnErr r ((¬ ((0 < i) × (i < length o.sections))) × (new ≡ o)) → flags < 2 ^ 64 → IsSoundImage (image_of o cs file) →
+    IsSoundImage (image_of new cs file)
 sound-flagged (Ok u) o new cs file i flags done refused fits sound =
-    subst (λ (w : OutlineValue). IsSoundImage (image_of w cs file)) (sym done.2) (sound-with_flags (image_of o cs file) i flags sound done.0 done.1 fits)
+    subst (λ (w : OutlineValue). IsSoundImage (image_of w cs file)) (sym done.2)
+    (sound-with_flags (image_of o cs file) i flags sound done.0 done.1 fits)
 sound-flagged (Err e) o new cs file i flags done refused fits sound =
     subst (λ (w : OutlineValue). IsSoundImage (image_of w cs file)) (sym refused.1) sound
 
 -- so does a content that was replaced
-pub sound-replaced : (v : ImageValue) (i : ℕ) (content : List ℕ) → IsSoundImage v → IsReplaceable v i content → IsBytes content → IsSoundImage (with_content v i content)
+pub sound-replaced : (v : ImageValue) (i : ℕ) (content : List ℕ) → IsSoundImage v → IsReplaceable v i content → IsBytes content →
+    IsSoundImage (with_content v i content)
 sound-replaced v i content sound able are =
     let s = section_header_of v.sections i in
-    let size : length content ≡ (content_extent s).len = rw (ne_eqb s.sh_type 0 able.section.1, ne_eqb s.sh_type 8 able.section.2) able.size in
+    let size : length content ≡ (content_extent s).len =
+    rw (ne_eqb s.sh_type 0 able.section.1, ne_eqb s.sh_type 8 able.section.2) able.size in
     sound-with_content v i content sound able.section.0.1 size able.no_names are

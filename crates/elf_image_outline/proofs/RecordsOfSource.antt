@@ -1,6 +1,9 @@
 -- Records of a source, and the ends of a string table of it.
-use Rattle.std.proofs.Common.{◌≡◌, ◌∙◌, ◌+◌, inl, inr, ℕ, List, Option, ap, arith, refl, sym, ◌++◌, take, drop, ap₂, ◌-◌, ◌≤◌, ◌⊎◌, [], length, length-append, ◌<◌, ◌*◌, ◌∷◌, map, subst, zero-add, zero, suc, replicate, get_or, slice_index, length-drop, rules}
-use Rattle.std.proofs.lemmas.List.{drop-drop, drop-take, take-take, get_or-drop, get_or-take, get_or-append_right, length-replicate, length-take-le}
+use Rattle.std.proofs.Common.{◌≡◌, ◌∙◌, ◌+◌, inl, inr, ℕ, List, Option, ap, arith, refl, sym, ◌++◌, take, drop, ap₂, ◌-◌, ◌≤◌, ◌⊎◌, []}
+use Rattle.std.proofs.Common.{length, length-append, ◌<◌, ◌*◌, ◌∷◌, map, subst, zero-add, zero, suc, replicate, get_or, slice_index}
+use Rattle.std.proofs.Common.{length-drop, rules}
+use Rattle.std.proofs.lemmas.List.{drop-drop, drop-take, take-take, get_or-drop, get_or-take, get_or-append_right, length-replicate}
+use Rattle.std.proofs.lemmas.List.{length-take-le}
 use Rattle.std.specs.List.{AllByRecursion, range_with_len}
 use Rattle.std.proofs.Math.Nat.{mul-add}
 use Rattle.std.proofs.lemmas.List.FromFn.{map-range_with_len_more}
@@ -24,7 +27,8 @@ pub extends_on : {T : Type 0} → (value : ℕ → T) (several : ℕ) (old now n
     Extends value several old now → one ≡ value several → next ≡ now ++ one ∷ [] → Extends value (several + 1) old next
 extends_on {T = T} value several old now next one before is grown from f same first =
     grown
-    ∙ ap₂ (λ (xs : List T) (x : T). xs ++ x ∷ []) (before from f (λ i lt. same i (omega arith)) first) (is ∙ sym (same several (omega arith)))
+    ∙ ap₂ (λ (xs : List T) (x : T). xs ++ x ∷ []) (before from f (λ i lt. same i (omega arith)) first)
+    (is ∙ sym (same several (omega arith)))
     ∙ sym (map-range_with_len_more f 0 (from + several) (from + several) (zero-add (from + several)))
     ∙ ap (λ (n : ℕ). map f (range_with_len 0 n)) (let e : from + several + 1 ≡ from + (several + 1) = omega arith in e)
 
@@ -35,7 +39,8 @@ all_more P (y ∷ ys) x all one = (all.0, all_more P ys x all.1 one)
 
 -- the record at an offset of a part of a list is the one after it in the list
 pub record_in_part : {A : Type 0} {size : ℕ} {at : Order → List ℕ → ℕ → A} {bytes : Order → A → List ℕ} {V : A → Type 0} →
-    IsRecord size at bytes V → (o : Order) (b : List ℕ) (start len x : ℕ) → x + size ≤ len → at o (take len (drop start b)) x ≡ at o b (start + x)
+    IsRecord size at bytes V → (o : Order) (b : List ℕ) (start len x : ℕ) →
+    x + size ≤ len → at o (take len (drop start b)) x ≡ at o b (start + x)
 record_in_part {size = size} {at = at} laws o b start len x within =
     let rest : take size (drop x (take len (drop start b))) ≡ take size (drop (start + x) b) =
     ap (λ (n : ℕ). take size (drop x (take n (drop start b)))) (let e : len ≡ x + (len - x) = omega arith in e)
@@ -48,7 +53,8 @@ record_in_part {size = size} {at = at} laws o b start len x within =
 pub table_on : {A : Type 0} {size : ℕ} {at : Order → List ℕ → ℕ → A} {bytes : Order → A → List ℕ} {V : A → Type 0} →
     IsRecord size at bytes V → (o : Order) (b block : List ℕ) (start table from several : ℕ) (old now : List A) →
     block ≡ take (size * several) (drop start b) → start ≡ table + size * from →
-    Extends (λ i. at o block (size * i)) several old now → old ≡ table_at (at o) size b table from → now ≡ table_at (at o) size b table (from + several)
+    Extends (λ i. at o block (size * i)) several old now → old ≡ table_at (at o) size b table from →
+    now ≡ table_at (at o) size b table (from + several)
 table_on {size = size} {at = at} laws o b block start table from several old now is begins extends first =
     extends from (λ i. at o b (table + size * i)) (λ i lt. same i lt) first
   where
@@ -68,7 +74,8 @@ failed_later content before old start new x same left (inr (still, (b, told, sho
 
 -- a fault of a later part of a table is one of the table
 pub fault_later : (content before : Option (List ℕ)) (old start new : Failures) (at n from m : ℕ) (fault : RecordsFault) →
-    before ≡ content → start ≡ old → at ≤ from → from + m ≤ at + n → IsRecordsFault before start new from m fault → IsRecordsFault content old new at n fault
+    before ≡ content → start ≡ old → at ≤ from → from + m ≤ at + n → IsRecordsFault before start new from m fault →
+    IsRecordsFault content old new at n fault
 fault_later content before old start new at n from m OutOfMemory same left low high is = is ∙ left
 fault_later content before old start new at n from m (Io x) same left low high (above, below, fails) = (
   omega arith,
@@ -81,10 +88,12 @@ fault_later content before old start new at n from m (Io x) same left low high (
 -- (`one_byte_table`).
 
 -- the byte at an index of a part of a list
-byte_in_part : (b : List ℕ) (byte start len i : ℕ) → i < len → byte ∷ [] ≡ take 1 (drop (start + i) b) → slice_index (take len (drop start b)) i ≡ byte
+byte_in_part : (b : List ℕ) (byte start len i : ℕ) → i < len → byte ∷ [] ≡ take 1 (drop (start + i) b) →
+    slice_index (take len (drop start b)) i ≡ byte
 byte_in_part b byte start len i within is =
     let there : slice_index (drop start b) i ≡ slice_index (drop (start + i) b) 0 =
-    get_or-drop start b i 0 ∙ ap (λ (n : ℕ). get_or b n 0) (let e : start + i ≡ start + i + 0 = omega arith in e) ∙ sym (get_or-drop (start + i) b 0 0) in
+    get_or-drop start b i 0 ∙ ap (λ (n : ℕ). get_or b n 0) (let e : start + i ≡ start + i + 0 = omega arith in e) ∙
+    sym (get_or-drop (start + i) b 0 0) in
     let one : slice_index (drop (start + i) b) 0 ≡ byte =
     sym (get_or-take 1 (drop (start + i) b) 0 0 (omega arith)) ∙ ap (λ (s : List ℕ). slice_index s 0) (sym is) in
     get_or-take len (drop start b) i 0 within ∙ there ∙ one
@@ -99,8 +108,10 @@ pub ends_in : (b : List ℕ) (start len first last : ℕ) → 0 < len → start 
 ends_in b start len first last some within begins ends =
     let long = part_long b start len within in record {
       len = sym long;
-      first = λ _. byte_in_part b first start len 0 some (begins ∙ ap (λ (n : ℕ). take 1 (drop n b)) (let e : start ≡ start + 0 = omega arith in e));
-      last = λ _. ap (λ (n : ℕ). slice_index (take len (drop start b)) (n - 1)) long ∙ byte_in_part b last start len (len - 1) (omega arith) ends;
+      first = λ _. byte_in_part b first start len 0 some
+          (begins ∙ ap (λ (n : ℕ). take 1 (drop n b)) (let e : start ≡ start + 0 = omega arith in e));
+      last = λ _. ap (λ (n : ℕ). slice_index (take len (drop start b)) (n - 1)) long ∙
+          byte_in_part b last start len (len - 1) (omega arith) ends;
     }
 
 -- a byte
@@ -119,17 +130,21 @@ some_table len first last many f l =
     let table : List ℕ = (first ∷ inner) ++ last ∷ [] in
     let between : length inner ≡ len - 2 = length-replicate (len - 2) 0 in
     let long : length (first ∷ inner) ≡ len - 1 = omega arith in
-    let all : length table ≡ len = length-append (first ∷ inner) (last ∷ []) ∙ (let e : length (first ∷ inner) + 1 ≡ len = omega arith in e) in (
+    let all : length table ≡ len =
+    length-append (first ∷ inner) (last ∷ []) ∙ (let e : length (first ∷ inner) + 1 ≡ len = omega arith in e) in (
       table,
       record {
         len = sym all;
         first = λ _. refl;
-        last = λ _. ap (λ (n : ℕ). slice_index table (n - 1)) all ∙ get_or-append_right (first ∷ inner) (last ∷ []) (len - 1) (len - 1) 0 long (omega arith)
+        last = λ _. ap (λ (n : ℕ). slice_index table (n - 1)) all ∙
+            get_or-append_right (first ∷ inner) (last ∷ []) (len - 1) (len - 1) 0 long (omega arith)
             ∙ ap (λ (n : ℕ). slice_index (last ∷ []) n) (let e : (len - 1) - (len - 1) ≡ 0 = omega arith in e);
       },
-      IsBytes-append (first ∷ inner) (last ∷ []) (IsBytes-append (first ∷ []) inner (IsBytes-one first f) (IsBytes-zeros (len - 2))) (IsBytes-one last l),
+      IsBytes-append (first ∷ inner) (last ∷ []) (IsBytes-append (first ∷ []) inner (IsBytes-one first f) (IsBytes-zeros (len - 2)))
+          (IsBytes-one last l),
     )
 
 -- a table of one byte
-pub one_byte_table : (byte : ℕ) → byte < 256 → (table : List ℕ) × AreEnds (record { len = 1; first = byte; last = byte }) table × IsBytes table
+pub one_byte_table : (byte : ℕ) → byte < 256 →
+    (table : List ℕ) × AreEnds (record { len = 1; first = byte; last = byte }) table × IsBytes table
 one_byte_table byte is = (byte ∷ [], record { len = refl; first = λ _. refl; last = λ _. refl }, IsBytes-one byte is)

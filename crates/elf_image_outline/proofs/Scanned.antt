@@ -1,5 +1,6 @@
 -- What a scan has read of a source is of the file, so what it returns is the file's own fault or outline.
-use Rattle.std.proofs.Common.{◌≡◌, ℕ, ◌+◌, List, [], ◌∷◌, ◌++◌, ap, arith, map, sym, ◌∙◌, ◌<◌, None, Some, Option, Result, Ok, Err, length, take, drop, refl, subst, inl, inr, ◌≢◌, ◌≤◌, ◌-◌, ◌⊎◌, min, length-drop, ◌^◌, suc, true, get_or, ap₂}
+use Rattle.std.proofs.Common.{◌≡◌, ℕ, ◌+◌, List, [], ◌∷◌, ◌++◌, ap, arith, map, sym, ◌∙◌, ◌<◌, None, Some, Option, Result, Ok, Err, length}
+use Rattle.std.proofs.Common.{take, drop, refl, subst, inl, inr, ◌≢◌, ◌≤◌, ◌-◌, ◌⊎◌, min, length-drop, ◌^◌, suc, true, get_or, ap₂}
 use Rattle.std.specs.List.{range_with_len, AllByRecursion}
 use Rattle.std.proofs.lemmas.List.FromFn.{map-range_with_len_more, length-map-range_with_len}
 use Rattle.std.specs.Prelude.{IfSome, IfErr, IfOk, OnOk, if◌then◌else◌, ◌==◌, replicate, slice_index}
@@ -21,15 +22,25 @@ use Rattle.elf_field.specs.declared.shdr.Shdr.{Shdr}
 use Rattle.elf_image_outline.proofs.Edited.{IsBytes-zeros, map-set_same, sound-with_flags, content_len, names_there}
 use Rattle.elf_image_outline.proofs.Standing.{extents_are, element_made, first_of_none, at_mapped}
 use Rattle.elf_image_outline.proofs.Theorem.{made_is_image, pieces_placed}
-use Rattle.elf_image_outline.specs.Image.{AreRecordsIn, value_extents, IsImage, part_piece, flagged, ImageValue, IsSoundImage, gap_len, value_names}
-use Rattle.elf_image_outline.specs.Outline.{image_in, outline_value, IsOutlineOf, IsSoundOutline, OutlineValue, blank_image, contents_in, image_of, placed_part}
-use Rattle.elf_image_outline.specs.Scanning.{KeepsHeadRules, KeepsTableRules, Scans, Stops, BreaksTables, HasTables, IsSharedFault, IsEndIn, KeepTables, names_extent, names_place}
+use Rattle.elf_image_outline.specs.Image.{AreRecordsIn, value_extents, IsImage, part_piece, flagged, ImageValue, IsSoundImage, gap_len}
+use Rattle.elf_image_outline.specs.Image.{value_names}
+use Rattle.elf_image_outline.specs.Outline.{image_in, outline_value, IsOutlineOf, IsSoundOutline, OutlineValue, blank_image, contents_in}
+use Rattle.elf_image_outline.specs.Outline.{image_of, placed_part}
+use Rattle.elf_image_outline.specs.Scanning.{KeepsHeadRules, KeepsTableRules, Scans, Stops, BreaksTables, HasTables, IsSharedFault, IsEndIn}
+use Rattle.elf_image_outline.specs.Scanning.{KeepTables, names_extent, names_place}
 use Rattle.elf_image_outline.specs.declared.outline.Part.{Part}
-use Rattle.elf_image_rules.proofs.Public.{FirstIn-sooner, fault_of_records, from_header, from_ident, from_length, from_program_table, from_section_table, from_tables, record_rules_of, sections_read_at, table_some, FirstIn-later, extents_within, sound_tables, Agree, FirstIn-same, same_rules, sections_none, rules_kept, rules_unbroken}
+use Rattle.elf_image_rules.proofs.Public.{FirstIn-sooner, fault_of_records, from_header, from_ident, from_length, from_program_table}
+use Rattle.elf_image_rules.proofs.Public.{from_section_table, from_tables, record_rules_of, sections_read_at, table_some, FirstIn-later}
+use Rattle.elf_image_rules.proofs.Public.{extents_within, sound_tables, Agree, FirstIn-same, same_rules, sections_none, rules_kept}
+use Rattle.elf_image_rules.proofs.Public.{rules_unbroken}
 use Rattle.elf_image_rules.specs.KeepsRules.{KeepsRules}
 use Rattle.elf_image_rules.specs.Rows.{FirstIn}
-use Rattle.elf_image_rules.specs.Rules.{header_rules, ident_rules, length_rules, program_table_rules, section_table_rules, header_entry_rules, header_table_rules, image_rules, record_rules, extents, AreEnds, IsFault, rules_in}
-use Rattle.elf_image_rules.specs.Tables.{counts_in, file_counts, header, order_of, program_header_count, section_header_count, sections, segments, shdr_offset, program_header_of, section_header_of, bytes_in, content_extent, name_table, names, names_at, no_program_header, no_section_header}
+use Rattle.elf_image_rules.specs.Rules.{header_rules, ident_rules, length_rules, program_table_rules, section_table_rules}
+use Rattle.elf_image_rules.specs.Rules.{header_entry_rules, header_table_rules, image_rules, record_rules, extents, AreEnds, IsFault}
+use Rattle.elf_image_rules.specs.Rules.{rules_in}
+use Rattle.elf_image_rules.specs.Tables.{counts_in, file_counts, header, order_of, program_header_count, section_header_count, sections}
+use Rattle.elf_image_rules.specs.Tables.{segments, shdr_offset, program_header_of, section_header_of, bytes_in, content_extent, name_table}
+use Rattle.elf_image_rules.specs.Tables.{names, names_at, no_program_header, no_section_header}
 use Rattle.elf_image_rules.specs.Rows.{Broken}
 use Rattle.elf_image_rules.specs.declared.name_rules.TableEnds.{TableEnds}
 use Rattle.elf_image_rules.specs.declared.tables.Counts.{Counts}
@@ -52,7 +63,8 @@ read_more {A} read n xs ys x pushed before is =
 -- the bytes' records (`tables_read`).
 
 -- the length that a source says is that of what it reports
-pub told_length : (content : Option (List ℕ)) (b : List ℕ) (len : ℕ) → content ≡ Some b → IfSome content (λ c. len ≡ length c) → len ≡ length b
+pub told_length : (content : Option (List ℕ)) (b : List ℕ) (len : ℕ) → content ≡ Some b → IfSome content (λ c. len ≡ length c) →
+    len ≡ length b
 told_length content b len told says = subst (λ (k : Option (List ℕ)). IfSome k (λ c. len ≡ length c)) told says
 
 -- the header in the first bytes of a file is the file's
@@ -70,7 +82,8 @@ pub scans_rule : {T : Type 0} (b : List ℕ) (IsAnswer : T → Type 0) (broken :
 scans_rule b IsAnswer broken (Ok t) run same = absurd same
 scans_rule b IsAnswer broken (Err fault) run same = subst (Stops b) (sym same) (fault_of_records b (broken.rule, broken.at) run)
 
-pub length_broken : (b : List ℕ) (len : ℕ) (fault : ℕ × ℕ) → len ≡ length b → FirstIn (length_rules len) (Some fault) → FirstIn (record_rules_of b) (Some fault)
+pub length_broken : (b : List ℕ) (len : ℕ) (fault : ℕ × ℕ) → len ≡ length b → FirstIn (length_rules len) (Some fault) →
+    FirstIn (record_rules_of b) (Some fault)
 length_broken b len fault says run =
     from_length b (header b) (Some fault) refl
     (FirstIn-sooner (length_rules (length b)) _ fault (subst (λ (n : ℕ). FirstIn (length_rules n) (Some fault)) says run))
@@ -96,25 +109,30 @@ scans_fault b IsAnswer fault (Err other) stops same = subst (Stops b) (sym same)
 head_of : (b : List ℕ) (len : ℕ) (h : Ehdr) → len ≡ length b → KeepsHeadRules len h → KeepsHeadRules (length b) h
 head_of b len h says kept = subst (λ (n : ℕ). KeepsHeadRules n h) says kept
 
-pub section_table_broken : (b : List ℕ) (len : ℕ) (h : Ehdr) (first : Shdr) (fault : ℕ × ℕ) → len ≡ length b → h ≡ header b → KeepsHeadRules len h →
+pub section_table_broken : (b : List ℕ) (len : ℕ) (h : Ehdr) (first : Shdr) (fault : ℕ × ℕ) → len ≡ length b → h ≡ header b →
+    KeepsHeadRules len h →
     first ≡ sections b h 0 → FirstIn (section_table_rules len h first) (Some fault) → FirstIn (record_rules_of b) (Some fault)
 section_table_broken b len h first fault says is kept read run =
     let head = head_of b len h says kept in
     from_tables b h (Some fault) is head.lengths head.ident head.header
     (from_section_table b h first (Some fault) read
-    (FirstIn-sooner (section_table_rules (length b) h first) _ fault (subst (λ (n : ℕ). FirstIn (section_table_rules n h first) (Some fault)) says run)))
+    (FirstIn-sooner (section_table_rules (length b) h first) _ fault
+    (subst (λ (n : ℕ). FirstIn (section_table_rules n h first) (Some fault)) says run)))
 
-pub program_table_broken : (b : List ℕ) (len : ℕ) (h : Ehdr) (first : Shdr) (fault : ℕ × ℕ) → len ≡ length b → h ≡ header b → KeepsHeadRules len h →
+pub program_table_broken : (b : List ℕ) (len : ℕ) (h : Ehdr) (first : Shdr) (fault : ℕ × ℕ) → len ≡ length b → h ≡ header b →
+    KeepsHeadRules len h →
     first ≡ sections b h 0 → FirstIn (section_table_rules len h first) None → FirstIn (program_table_rules len h first) (Some fault) →
     FirstIn (record_rules_of b) (Some fault)
 program_table_broken b len h first fault says is kept read table run =
     let head = head_of b len h says kept in
     from_tables b h (Some fault) is head.lengths head.ident head.header
     (from_program_table b h first (Some fault) read (subst (λ (n : ℕ). FirstIn (section_table_rules n h first) None) says table)
-    (FirstIn-sooner (program_table_rules (length b) h first) _ fault (subst (λ (n : ℕ). FirstIn (program_table_rules n h first) (Some fault)) says run)))
+    (FirstIn-sooner (program_table_rules (length b) h first) _ fault
+    (subst (λ (n : ℕ). FirstIn (program_table_rules n h first) (Some fault)) says run)))
 
 -- a file whose header and section header 0 keep rules 1 to 21 keeps them
-pub table_rules_kept : (b : List ℕ) (len : ℕ) (h : Ehdr) (first : Shdr) → len ≡ length b → h ≡ header b → KeepsHeadRules len h → first ≡ sections b h 0 →
+pub table_rules_kept : (b : List ℕ) (len : ℕ) (h : Ehdr) (first : Shdr) → len ≡ length b → h ≡ header b → KeepsHeadRules len h →
+    first ≡ sections b h 0 →
     FirstIn (section_table_rules len h first) None → FirstIn (program_table_rules len h first) None → KeepsTableRules b
 table_rules_kept b len h first says is kept read table segments =
     let Keeps : ℕ → Ehdr → Shdr → Type 0 = λ n k s.
@@ -125,7 +143,8 @@ table_rules_kept b len h first says is kept read table segments =
     record { head = head; section_table = sections_kept; program_table = segments_kept }
 
 -- section header 0 is where the table begins
-pub first_at : (b : List ℕ) (h : Ehdr) (first : Shdr) (count : ℕ) → first ≡ sections b h 0 → count ≡ section_header_count h first → 0 < count →
+pub first_at : (b : List ℕ) (h : Ehdr) (first : Shdr) (count : ℕ) → first ≡ sections b h 0 → count ≡ section_header_count h first →
+    0 < count →
     first ≡ shdr_at (order_of h.e_ident) b h.e_shoff
 first_at b h first count read counted some =
     let place : shdr_offset h 0 ≡ h.e_shoff = omega arith in
@@ -134,11 +153,13 @@ first_at b h first count read counted some =
     ∙ ap (shdr_at (order_of h.e_ident) b) place
 
 -- the counts by the header and section header 0 that were read are the file's
-pub counts_are : (b : List ℕ) (h : Ehdr) (first : Shdr) (c : Counts) → h ≡ header b → first ≡ sections b h 0 → c ≡ counts_in h first → c ≡ file_counts b
+pub counts_are : (b : List ℕ) (h : Ehdr) (first : Shdr) (c : Counts) → h ≡ header b → first ≡ sections b h 0 → c ≡ counts_in h first →
+    c ≡ file_counts b
 counts_are b h first c is read counted = counted ∙ ap (counts_in h) read ∙ ap (λ (x : Ehdr). counts_in x (sections b x 0)) is
 
 -- tables that were read of a file are those of its records
-pub tables_read : (b : List ℕ) (h : Ehdr) (first : Shdr) (c : Counts) (ss : List Shdr) (gs : List Phdr) → h ≡ header b → first ≡ sections b h 0 →
+pub tables_read : (b : List ℕ) (h : Ehdr) (first : Shdr) (c : Counts) (ss : List Shdr) (gs : List Phdr) → h ≡ header b →
+    first ≡ sections b h 0 →
     c ≡ counts_in h first → ss ≡ table_at (shdr_at (order_of h.e_ident)) SHDR_SIZE b h.e_shoff c.sections →
     gs ≡ table_at (phdr_at (order_of h.e_ident)) PHDR_SIZE b h.e_phoff c.segments → AreRecordsIn b h ss gs
 unfolding segments
@@ -177,7 +198,8 @@ unfolding record_rules header_table_rules
 entries_run len h c ss xs gs ys names found has sections segments run =
     let Entries : List Shdr → List Phdr → Counts → Type 0 =
     λ rs ps k. FirstIn (header_entry_rules len h k (section_header_of rs) (program_header_of ps) names) found in
-    let validated : Entries ss gs c = subst (λ (rs : List Shdr). Entries rs gs c) sections (subst (λ (ps : List Phdr). Entries xs ps c) segments run) in
+    let validated : Entries ss gs c =
+    subst (λ (rs : List Shdr). Entries rs gs c) sections (subst (λ (ps : List Phdr). Entries xs ps c) segments run) in
     FirstIn-later (length_rules len) _ found has.head.lengths
     (FirstIn-later (ident_rules h.e_ident) _ found has.head.ident
     (FirstIn-later (header_rules len h) _ found has.head.header
@@ -193,18 +215,22 @@ rule_broken len h ss gs names number at run =
     FirstIn-sooner (record_rules len h (section_header_of ss) (program_header_of gs) names) _ (number, at) run
 
 -- what stopped a part of a call stops the call
-pub stopped : {T : Type 0} (Stops : Fault → Type 0) (fault : Fault) (result : Result T Fault) → Stops fault → IsErrAnd result (λ other. other ≡ fault) →
+pub stopped : {T : Type 0} (Stops : Fault → Type 0) (fault : Fault) (result : Result T Fault) → Stops fault →
+    IsErrAnd result (λ other. other ≡ fault) →
     IfErr result Stops
 stopped Stops fault (Ok t) stops same = tt
 stopped Stops fault (Err other) stops same = subst Stops (sym same) stops
 
 tables_extents : (len : ℕ) (h : Ehdr) (c : Counts) (ss : List Shdr) (gs : List Phdr) → HasTables len h c ss gs →
-    value_extents h ss gs ≡ extents h (section_header_count h (section_header_of ss 0)) (program_header_count h (section_header_of ss 0)) (section_header_of ss)
+    value_extents h ss gs ≡
+    extents h (section_header_count h (section_header_of ss 0)) (program_header_count h (section_header_of ss 0)) (section_header_of ss)
 tables_extents len h c ss gs has =
-    sym (extents_are h ss gs _ _ (has.section_count ∙ ap (λ (k : Counts). k.sections) has.counts) (has.segment_count ∙ ap (λ (k : Counts). k.segments) has.counts))
+    sym (extents_are h ss gs _ _ (has.section_count ∙ ap (λ (k : Counts). k.sections) has.counts)
+    (has.segment_count ∙ ap (λ (k : Counts). k.segments) has.counts))
 
 -- the lowest byte that two of the extents hold is what all rules find where rules 1 to 32 are kept
-pub sharing_broken : (len : ℕ) (h : Ehdr) (c : Counts) (ss : List Shdr) (gs : List Phdr) (names : List ℕ) (fault : Fault) → HasTables len h c ss gs →
+pub sharing_broken : (len : ℕ) (h : Ehdr) (c : Counts) (ss : List Shdr) (gs : List Phdr) (names : List ℕ) (fault : Fault) →
+    HasTables len h c ss gs →
     Finds len h ss gs names None → IsSharedFault (value_extents h ss gs) fault → BreaksTables len h ss gs names fault
 unfolding image_rules
 sharing_broken len h c ss gs names OutOfMemory has kept shared = kept
@@ -231,7 +257,8 @@ extents_inside len h c ss gs names has kept =
     (extents_within len h (section_header_of ss) (sound_tables len h (section_header_of ss) (program_header_of gs) names kept))
 
 -- a call that ended well, with what that says by itself and of its value
-pub ended_well : {T E : Type 0} (r : Result T E) (Alone : Type 0) (Value Says : T → Type 0) → OnOk r Alone → IfOk r Value → ((t : T) → Alone → Value t → Says t) →
+pub ended_well : {T E : Type 0} (r : Result T E) (Alone : Type 0) (Value Says : T → Type 0) → OnOk r Alone → IfOk r Value →
+    ((t : T) → Alone → Value t → Says t) →
     IfOk r Says
 ended_well (Ok t) Alone Value Says alone value says = says t alone value
 ended_well (Err e) Alone Value Says alone value says = tt
@@ -241,7 +268,8 @@ ended_well (Err e) Alone Value Says alone value says = tt
 -- fault, tables and parts make the image of the bytes.
 
 -- section header 0 that was read is the file's
-pub first_same : (len : ℕ) (b : List ℕ) (h : Ehdr) (c : Counts) (ss : List Shdr) (gs : List Phdr) → HasTables len h c ss gs → AreRecordsIn b h ss gs →
+pub first_same : (len : ℕ) (b : List ℕ) (h : Ehdr) (c : Counts) (ss : List Shdr) (gs : List Phdr) → HasTables len h c ss gs →
+    AreRecordsIn b h ss gs →
     sections b h 0 ≡ section_header_of ss 0
 first_same len b h c ss gs has records =
     let n = section_header_count h (sections b h 0) in
@@ -269,7 +297,8 @@ pub unnamed : (h : Ehdr) (first : Shdr) → h.e_shstrndx ≡ 0 → name_table h 
 unnamed h first none = rw none refl
 
 -- the file's names are the bytes where the table of section header names says
-pub names_are : (len : ℕ) (b : List ℕ) (h : Ehdr) (c : Counts) (ss : List Shdr) (gs : List Phdr) → HasTables len h c ss gs → AreRecordsIn b h ss gs →
+pub names_are : (len : ℕ) (b : List ℕ) (h : Ehdr) (c : Counts) (ss : List Shdr) (gs : List Phdr) → HasTables len h c ss gs →
+    AreRecordsIn b h ss gs →
     names b h ≡ bytes_in b (names_extent ss c.name_table)
 unfolding names names_at
 names_are len b h c ss gs has records =
@@ -287,7 +316,8 @@ names_are len b h c ss gs has records =
     ]
 
 -- and that is where the file's name table is
-pub place_is : (len : ℕ) (b : List ℕ) (h : Ehdr) (c : Counts) (ss : List Shdr) (gs : List Phdr) → HasTables len h c ss gs → AreRecordsIn b h ss gs →
+pub place_is : (len : ℕ) (b : List ℕ) (h : Ehdr) (c : Counts) (ss : List Shdr) (gs : List Phdr) → HasTables len h c ss gs →
+    AreRecordsIn b h ss gs →
     names_extent ss c.name_table ≡ names_place b
 place_is len b h c ss gs has records =
     let k = c.name_table in
@@ -313,7 +343,8 @@ taken_there xs n m is = elim (cases_lt n (length xs)) [
       ∙ take_all (length xs) xs (omega arith) ∙ sym (take_all n xs (omega arith))
 ]
 
-length_there : (b : List ℕ) (e : Extent) (len there : ℕ) → len ≡ length b → there ≡ min (len - e.start) e.len → length (bytes_in b e) ≡ there
+length_there : (b : List ℕ) (e : Extent) (len there : ℕ) → len ≡ length b → there ≡ min (len - e.start) e.len →
+    length (bytes_in b e) ≡ there
 length_there b e len there says is =
     let rest = length-drop e.start b in
     let m : there ≡ min (length (drop e.start b)) e.len = is ∙ ap (λ (k : ℕ). min k e.len) (ap (λ (k : ℕ). k - e.start) says ∙ sym rest) in
@@ -322,14 +353,16 @@ length_there b e len there says is =
     ap length (sym same) ∙ length-take-le there (drop e.start b) below
 
 -- a read of one of the ends of the bytes that lie there is one of an end of the extent
-pub end_read : (b : List ℕ) (e : Extent) (len there at : ℕ) → len ≡ length b → there ≡ min (len - e.start) e.len → e.start ≤ at → at < e.start + there →
+pub end_read : (b : List ℕ) (e : Extent) (len there at : ℕ) → len ≡ length b → there ≡ min (len - e.start) e.len →
+    e.start ≤ at → at < e.start + there →
     (at ≡ e.start) ⊎ (at ≡ e.start + there - 1) → IsEndIn b e at
 end_read b e len there at says is from to end =
     let long = length_there b e len there says is in
     (omega arith, subst (λ (n : ℕ). (at ≡ e.start) ⊎ (at ≡ e.start + n - 1)) (sym long) end)
 
 -- the ends of the bytes that lie there are those of all
-pub ends_there : (b : List ℕ) (ends : TableEnds) (e : Extent) (len there : ℕ) → len ≡ length b → there ≡ min (len - e.start) e.len → ends.len ≡ there →
+pub ends_there : (b : List ℕ) (ends : TableEnds) (e : Extent) (len there : ℕ) → len ≡ length b → there ≡ min (len - e.start) e.len →
+    ends.len ≡ there →
     (e.start + there ≤ length b → AreEnds ends (take there (drop e.start b))) → AreEnds ends (bytes_in b e)
 ends_there b ends e len there says is long told =
     let rest = length-drop e.start b in
@@ -352,7 +385,8 @@ segment_same b h ss gs j records below =
     element_made (segments b h) gs no_program_header m (sym records.program_headers) j (omega arith)
 
 -- what was read of a file agrees with it, as far as the rules look
-agree_read : (len : ℕ) (b : List ℕ) (h : Ehdr) (c : Counts) (ss : List Shdr) (gs : List Phdr) → HasTables len h c ss gs → AreRecordsIn b h ss gs →
+agree_read : (len : ℕ) (b : List ℕ) (h : Ehdr) (c : Counts) (ss : List Shdr) (gs : List Phdr) → HasTables len h c ss gs →
+    AreRecordsIn b h ss gs →
     Agree h (section_header_of ss) (sections b h) (program_header_of gs) (segments b h)
 agree_read len b h c ss gs has records =
     let many = has.section_count in
@@ -365,7 +399,8 @@ agree_read len b h c ss gs has records =
       segments = λ j below. sym (segment_same b h ss gs j records (omega (arith, m_e)));
     }
 
-names_table_same : (len : ℕ) (b : List ℕ) (h : Ehdr) (c : Counts) (ss : List Shdr) (gs : List Phdr) → HasTables len h c ss gs → AreRecordsIn b h ss gs →
+names_table_same : (len : ℕ) (b : List ℕ) (h : Ehdr) (c : Counts) (ss : List Shdr) (gs : List Phdr) → HasTables len h c ss gs →
+    AreRecordsIn b h ss gs →
     section_header_of ss (name_table h (section_header_of ss 0)) ≡ sections b h (name_table h (section_header_of ss 0))
 names_table_same len b h c ss gs has records =
     let k = name_table h (section_header_of ss 0) in
@@ -380,7 +415,8 @@ names_table_same len b h c ss gs has records =
     ]
 
 -- what all rules find of tables that were read of a file is the file's fault
-pub verdict_of_tables : (len : ℕ) (b : List ℕ) (h : Ehdr) (c : Counts) (ss : List Shdr) (gs : List Phdr) (found : Option (ℕ × ℕ)) → len ≡ length b →
+pub verdict_of_tables : (len : ℕ) (b : List ℕ) (h : Ehdr) (c : Counts) (ss : List Shdr) (gs : List Phdr) (found : Option (ℕ × ℕ)) →
+    len ≡ length b →
     HasTables len h c ss gs → AreRecordsIn b h ss gs →
     FirstIn (image_rules len h (section_header_of ss) (program_header_of gs) (names b h)) found → IsFault b found
 unfolding rules_in
@@ -401,8 +437,10 @@ stops_of_tables len b h c ss gs (Rule number at) says has records breaks =
     verdict_of_tables len b h c ss gs (Some (number, at)) says has records breaks
 
 -- tables and parts that were read of a file that breaks no rule make its image
-pub image_of_tables : (len : ℕ) (b : List ℕ) (h : Ehdr) (c : Counts) (ss : List Shdr) (gs : List Phdr) (ps : List Part) → len ≡ length b → IsBytes b →
-    HasTables len h c ss gs → AreRecordsIn b h ss gs → KeepTables len h ss gs (names b h) ps → IsImage (image_in (outline_value len h ss gs ps) b) b
+pub image_of_tables : (len : ℕ) (b : List ℕ) (h : Ehdr) (c : Counts) (ss : List Shdr) (gs : List Phdr) (ps : List Part) → len ≡ length b →
+    IsBytes b →
+    HasTables len h c ss gs → AreRecordsIn b h ss gs → KeepTables len h ss gs (names b h) ps →
+    IsImage (image_in (outline_value len h ss gs ps) b) b
 image_of_tables len b h c ss gs ps says are has records keep =
     let clean = verdict_of_tables len b h c ss gs None says has records keep.clean in
     let image = made_is_image b h ss gs (map (λ s. bytes_in b (content_extent s)) ss) ps are records refl
@@ -433,7 +471,8 @@ gaps_blank (p ∷ ps) = ((IsBytes-zeros (gap_len p), length-replicate (gap_len p
 -- ---- the names: rules 1 to 33 look at how many bytes they have, and at their ends
 
 -- the index of the name table is that of a section
-named_below : (len : ℕ) (h : Ehdr) (c : Counts) (ss : List Shdr) (gs : List Phdr) → HasTables len h c ss gs → c.name_table ≢ 0 → c.name_table < length ss
+named_below : (len : ℕ) (h : Ehdr) (c : Counts) (ss : List Shdr) (gs : List Phdr) → HasTables len h c ss gs → c.name_table ≢ 0 →
+    c.name_table < length ss
 named_below len h c ss gs has some =
     let named : c.name_table ≡ name_table h (section_header_of ss 0) = ap (λ (x : Counts). x.name_table) has.counts in
     let below = has.named (λ none. some (named ∙ unnamed h (section_header_of ss 0) (has.head.nameless none))) in
@@ -458,7 +497,8 @@ inside_whole len e inside = elim (cases_lt 0 e.len) [
   | inr none ↦ min-eq_right (omega arith)
 ]
 
-names_inside : (len : ℕ) (h : Ehdr) (c : Counts) (ss : List Shdr) (gs : List Phdr) (names : List ℕ) → HasTables len h c ss gs → Finds len h ss gs names None →
+names_inside : (len : ℕ) (h : Ehdr) (c : Counts) (ss : List Shdr) (gs : List Phdr) (names : List ℕ) → HasTables len h c ss gs →
+    Finds len h ss gs names None →
     0 < (names_extent ss c.name_table).len → (names_extent ss c.name_table).start + (names_extent ss c.name_table).len ≤ len
 names_inside len h c ss gs names has kept =
     let k = c.name_table in
@@ -468,10 +508,12 @@ names_inside len h c ss gs names has kept =
       | inl none ↦ rw none (λ some. absurd (omega arith))
       | inr some ↦
           rw (ne_eqb k 0 some) (all (suc (suc (suc k))) (content_extent (section_header_of ss k))
-          (at_mapped content_extent ss k (section_header_of ss k) (slice_get-get_or ss k no_section_header (named_below len h c ss gs has some))))
+          (at_mapped content_extent ss k (section_header_of ss k)
+          (slice_get-get_or ss k no_section_header (named_below len h c ss gs has some))))
     ]
 
-pub whole_names : (len n : ℕ) (h : Ehdr) (c : Counts) (ss : List Shdr) (gs : List Phdr) (names : List ℕ) → HasTables len h c ss gs → Finds len h ss gs names None →
+pub whole_names : (len n : ℕ) (h : Ehdr) (c : Counts) (ss : List Shdr) (gs : List Phdr) (names : List ℕ) → HasTables len h c ss gs →
+    Finds len h ss gs names None →
     n ≡ min (len - (names_extent ss c.name_table).start) (names_extent ss c.name_table).len → n ≡ (names_extent ss c.name_table).len
 whole_names len n h c ss gs names has kept is =
     is ∙ inside_whole len (names_extent ss c.name_table) (names_inside len h c ss gs names has kept)
@@ -508,12 +550,14 @@ renamed len n h s g names long kept =
 
 -- ---- an outline as read, of whatever source
 
-pub blank_sound : (len : ℕ) (h : Ehdr) (c : Counts) (ss : List Shdr) (gs : List Phdr) (names : List ℕ) (ps : List Part) → HasTables len h c ss gs →
+pub blank_sound : (len : ℕ) (h : Ehdr) (c : Counts) (ss : List Shdr) (gs : List Phdr) (names : List ℕ) (ps : List Part) →
+    HasTables len h c ss gs →
     KeepTables len h ss gs names ps → length names ≡ (names_extent ss c.name_table).len → IsSoundOutline (outline_value len h ss gs ps)
 blank_sound len h c ss gs names ps has keep long =
     let n = (names_extent ss c.name_table).len in
     let kept = rules_unbroken len h (section_header_of ss) (program_header_of gs) (replicate n 0)
-    (renamed len n h (section_header_of ss) (program_header_of gs) names long (rules_kept len h (section_header_of ss) (program_header_of gs) names keep.clean)) in
+    (renamed len n h (section_header_of ss) (program_header_of gs) names long
+    (rules_kept len h (section_header_of ss) (program_header_of gs) names keep.clean)) in
     record {
       header = has.valid_header;
       section_headers = has.valid_sections;
@@ -524,7 +568,8 @@ blank_sound len h c ss gs names ps has keep long =
       bytes = bytes_blank ss;
       accounts = subst (λ (qs : List Piece). Accounts (value_extents h ss gs) len 0 qs) (sym (pieces_placed true [] ps)) keep.accounts;
       gaps = gaps_blank ps;
-      clean = subst (λ (zs : List ℕ). FirstIn (image_rules len h (section_header_of ss) (program_header_of gs) zs) None) (sym (names_blank len h c ss gs has)) kept;
+      clean = subst (λ (zs : List ℕ). FirstIn (image_rules len h (section_header_of ss) (program_header_of gs) zs) None)
+          (sym (names_blank len h c ss gs has)) kept;
     }
 
 -- ---- an outline of bytes

@@ -1,7 +1,9 @@
 -- A value that breaks no rule, and has as many records as it counts (`IsCounted`), has extents that share no byte and lie in its length.
 -- Its extents are those that the rules look at (`extents_are`), so this follows from the facts on clean files. Small facts on lists by
--- index come first.
-use Rattle.std.proofs.Common.{◌≡◌, ◌+◌, ℕ, List, [], ◌∷◌, ◌++◌, length, take, drop, map, sym, ap, ap₂, ◌∙◌, arith, append_assoc, length-append, ◌≢◌, ◌≤◌, ◌<◌, ◌*◌, zero, suc, None, Some, get_or, refl, subst, inl, inr, add-zero, lit≤}
+-- index come first. A written file is validated by its parts and owners: that no byte is shared follows from their order, and needs no
+-- proof about every two.
+use Rattle.std.proofs.Common.{◌≡◌, ◌+◌, ℕ, List, [], ◌∷◌, ◌++◌, length, take, drop, map, sym, ap, ap₂, ◌∙◌, arith, append_assoc}
+use Rattle.std.proofs.Common.{length-append, ◌≢◌, ◌≤◌, ◌<◌, ◌*◌, zero, suc, None, Some, get_or, refl, subst, inl, inr, add-zero, lit≤}
 use Rattle.std.specs.List.{AllByRecursion, flat_map, range_with_len}
 use Rattle.std.proofs.lemmas.List.{drop-drop, drop_at, take_at, take-append-drop, nil_from_length, take-take}
 use Rattle.std.proofs.Math.ListN.{drop_of_length-le}
@@ -16,12 +18,16 @@ use Rattle.elf_extent.specs.declared.extent.Piece.{Piece}
 use Rattle.elf_field.proofs.RecordTableLaws.{length-table, IsBytes-table, entries_read, record_read}
 use Rattle.elf_field.specs.Abi.{EHDR_SIZE, PHDR_SIZE, SHDR_SIZE}
 use Rattle.elf_field.specs.Bytes.{IsBytes, bytes_of, first_bytes, IsBytes-append, IsBytes-nil, first_bytes-all, length-first_bytes}
-use Rattle.elf_field.specs.Headers.{ehdr_bytes, shdr_bytes, shdr_laws, phdr_bytes, phdr_laws, ehdr_laws, IsEhdr, ehdr_values, ehdr_widths, IsShdr, IsPhdr}
+use Rattle.elf_field.specs.Headers.{ehdr_bytes, shdr_bytes, shdr_laws, phdr_bytes, phdr_laws, ehdr_laws, IsEhdr, ehdr_values, ehdr_widths}
+use Rattle.elf_field.specs.Headers.{IsShdr, IsPhdr}
 use Rattle.elf_field.specs.Record.{spelled, spelled-front}
 use Rattle.elf_field.specs.declared.ehdr.Ehdr.{Ehdr}
 use Rattle.elf_field.specs.declared.phdr.Phdr.{Phdr}
 use Rattle.elf_field.specs.declared.shdr.Shdr.{Shdr}
-use Rattle.elf_image_outline.specs.Image.{PlacedPart, piece_of, AreWithinBytes, ImageValue, IsSoundImage, value_rules, no_section_header, section_header_of, program_header_of, value_extents, value_names, gap_len, if_gap, joined, owned_bytes, owner_index, part_bytes, Stands, gap_in, part_piece, AreParts, IsExtentOf, IsOnlyPartAt}
+use Rattle.elf_image_outline.specs.Image.{PlacedPart, piece_of, AreWithinBytes, ImageValue, IsSoundImage, value_rules, no_section_header}
+use Rattle.elf_image_outline.specs.Image.{section_header_of, program_header_of, value_extents, value_names, gap_len, if_gap, joined}
+use Rattle.elf_image_outline.specs.Image.{owned_bytes, owner_index, part_bytes, Stands, gap_in, part_piece, AreParts, IsExtentOf}
+use Rattle.elf_image_outline.specs.Image.{IsOnlyPartAt}
 use Rattle.elf_image_outline.specs.declared.outline.Owner.TheVariants.{Header, ProgramTable, SectionTable, Content, Gap}
 use Rattle.elf_image_outline.specs.declared.outline.Owner.{Owner}
 use Rattle.elf_image_outline.specs.declared.outline.Part.{Part}
@@ -29,7 +35,8 @@ use Rattle.elf_image_rules.proofs.Public.{clean_records, content_some, extents_d
 use Rattle.elf_image_rules.specs.KeepsRules.{HasSoundTables}
 use Rattle.elf_image_rules.specs.Rows.{FirstIn}
 use Rattle.elf_image_rules.specs.Rules.{extents}
-use Rattle.elf_image_rules.specs.Tables.{content_extent, program_header_count, section_header_count, order_of, bytes_in, header, sections, segments}
+use Rattle.elf_image_rules.specs.Tables.{content_extent, program_header_count, section_header_count, order_of, bytes_in, header, sections}
+use Rattle.elf_image_rules.specs.Tables.{segments}
 
 -- Parts that account for every offset, joined: the list has the length of the account, and each part's bytes are at its offset. Conversely,
 -- parts that have a list's bytes at their offsets join to that list. By induction on the parts; each begins where the one before it ends.
@@ -81,7 +88,8 @@ at_index P (y ∷ ys) zero x all here = let same : y ≡ x = cc in subst P same 
 at_index P (y ∷ ys) (suc k) x all here = at_index P ys k x all.1 here
 
 -- where a mapped list has an element, it comes from one of the list
-pub mapped_at : {A B : Type 0} (f : A → B) (xs : List A) (k : ℕ) (y : B) → slice_get (map f xs) k ≡ Some y → (x : A) × (slice_get xs k ≡ Some x) × (f x ≡ y)
+pub mapped_at : {A B : Type 0} (f : A → B) (xs : List A) (k : ℕ) (y : B) → slice_get (map f xs) k ≡ Some y →
+    (x : A) × (slice_get xs k ≡ Some x) × (f x ≡ y)
 mapped_at f [] k y here = absurd (let none : None ≡ Some y = here in cc)
 mapped_at f (x ∷ xs) zero y here = (x, refl, cc)
 mapped_at f (x ∷ xs) (suc k) y here = mapped_at f xs k y here
@@ -112,12 +120,14 @@ map_by_index f (x ∷ xs) d =
 -- ---- the extents of a value
 
 -- the extents that the rules speak of are those of the value
-pub extents_are : (h : Ehdr) (ss : List Shdr) (gs : List Phdr) (n m : ℕ) → length ss ≡ n → length gs ≡ m → extents h n m (section_header_of ss) ≡ value_extents h ss gs
+pub extents_are : (h : Ehdr) (ss : List Shdr) (gs : List Phdr) (n m : ℕ) → length ss ≡ n → length gs ≡ m →
+    extents h n m (section_header_of ss) ≡ value_extents h ss gs
 unfolding extents
 extents_are h ss gs n m sections segments =
     subst (λ (k : ℕ). extents h k m (section_header_of ss) ≡ value_extents h ss gs) sections
     (subst (λ (k : ℕ). extents h (length ss) k (section_header_of ss) ≡ value_extents h ss gs) segments
-    (ap (λ (cs : List Extent). record { start = 0; len = EHDR_SIZE } ∷ record { start = h.e_shoff; len = SHDR_SIZE * length ss } ∷ record { start = h.e_phoff; len = PHDR_SIZE * length gs } ∷ cs)
+    (ap (λ (cs : List Extent). record { start = 0; len = EHDR_SIZE } ∷ record { start = h.e_shoff; len = SHDR_SIZE * length ss } ∷ record
+    { start = h.e_phoff; len = PHDR_SIZE * length gs } ∷ cs)
     (map_by_index content_extent ss no_section_header)))
 
 -- a value whose records are as many as it says, and that breaks no rule
@@ -140,7 +150,8 @@ pub disjoint_of : (v : ImageValue) → IsCounted v → AreDisjoint (value_extent
 disjoint_of v counted =
     let same = extents_are v.header v.sections v.segments _ _ counted.section_count counted.segment_count in
     subst AreDisjoint same
-    (extents_disjoint v.len v.header (section_header_of v.sections) (program_header_of v.segments) (value_names v.header v.sections v.contents) counted.clean)
+    (extents_disjoint v.len v.header (section_header_of v.sections) (program_header_of v.segments)
+    (value_names v.header v.sections v.contents) counted.clean)
 
 -- a section table that is not empty is there
 pub table_there : (v : ImageValue) → IsCounted v → 0 < length v.sections → v.header.e_shoff ≢ 0
@@ -154,12 +165,14 @@ pub content_within : (v : ImageValue) → IsCounted v → (k : ℕ) (s : Shdr) �
     s.sh_offset + (content_extent s).len ≤ v.len
 content_within v counted zero s at some =
     let is_first : section_header_of v.sections 0 ≡ s = get_or_at v.sections 0 s no_section_header at in
-    let null : s.sh_type ≡ 0 = ap (λ (t : Shdr). t.sh_type) (sym is_first) ∙ (clean_of v counted).null (table_there v counted (within_list v.sections 0 s at)) in
+    let null : s.sh_type ≡ 0 =
+    ap (λ (t : Shdr). t.sh_type) (sym is_first) ∙ (clean_of v counted).null (table_there v counted (within_list v.sections 0 s at)) in
     absurd ((content_some s some).0 null)
 content_within v counted (suc k) s at some =
     let is : section_header_of v.sections (suc k) ≡ s = get_or_at v.sections (suc k) s no_section_header at in
     let facts = content_some s some in
-    let below : suc k < section_header_count v.header (section_header_of v.sections 0) = let lt = within_list v.sections (suc k) s at in let count = counted.section_count in omega arith in
+    let below : suc k < section_header_count v.header (section_header_of v.sections 0) = let lt = within_list v.sections (suc k) s at in
+    let count = counted.section_count in omega arith in
     let P : Shdr → Type 0 = λ t. t.sh_type ≢ 0 → t.sh_type ≢ 8 → 0 < t.sh_size → t.sh_offset + t.sh_size ≤ v.len in
     let rule : P s = subst P is ((clean_of v counted).content (suc k) (omega arith) below) in
     rw facts.2 (rule facts.0 facts.1 (let same = facts.2 in omega arith))
@@ -221,12 +234,14 @@ pub length-content : (cs : List (List ℕ)) (ss : List Shdr) (i : ℕ) (e : Exte
 length-content [] [] i e lengths at = absurd (let none : None ≡ Some e = at in cc)
 length-content [] (s ∷ ss) i e lengths at = absurd cc
 length-content (c ∷ cs) [] i e lengths at = absurd cc
-length-content (c ∷ cs) (s ∷ ss) zero e lengths at = let head : length c ≡ (content_extent s).len = cc in head ∙ same_len (content_extent s) e at
+length-content (c ∷ cs) (s ∷ ss) zero e lengths at = let head : length c ≡ (content_extent s).len = cc in
+    head ∙ same_len (content_extent s) e at
 length-content (c ∷ cs) (s ∷ ss) (suc i) e lengths at =
     let tail : map length cs ≡ map (λ s. (content_extent s).len) ss = cc in length-content cs ss i e tail at
 
 length-owned : (v : ImageValue) → IsSoundImage v → (o : Owner) (gap : List ℕ) (start len : ℕ) →
-    IsOwned (value_extents v.header v.sections v.segments) v.len start len (owner_index o) → length gap ≡ if_gap o len 0 → length (owned_bytes v gap o) ≡ len
+    IsOwned (value_extents v.header v.sections v.segments) v.len start len (owner_index o) → length gap ≡ if_gap o len 0 →
+    length (owned_bytes v gap o) ≡ len
 length-owned v sound Header gap start len owned gaps = ehdr_laws.length_is _ v.header ∙ same_len _ _ owned
 length-owned v sound SectionTable gap start len owned gaps = length-table shdr_laws _ v.sections ∙ same_len _ _ owned
 length-owned v sound ProgramTable gap start len owned gaps = length-table phdr_laws _ v.segments ∙ same_len _ _ owned
@@ -249,13 +264,16 @@ lengths_of v sound = lengths_from v sound 0 v.parts sound.accounts sound.gaps
 pub length-joined : (v : ImageValue) → IsSoundImage v → length (joined v) ≡ v.len
 unfolding joined
 length-joined v sound =
-    let e = length-flat_parts (part_bytes v) (value_extents v.header v.sections v.segments) v.len 0 v.parts sound.accounts (lengths_of v sound) in
+    let e = length-flat_parts (part_bytes v) (value_extents v.header v.sections v.segments) v.len 0 v.parts sound.accounts
+    (lengths_of v sound) in
     omega arith
 
 -- each part's bytes are at its offset
-pub in_joined : (v : ImageValue) → IsSoundImage v → AllByRecursion (λ p. take p.part.len (drop p.part.start (joined v)) ≡ part_bytes v p) v.parts
+pub in_joined : (v : ImageValue) → IsSoundImage v →
+    AllByRecursion (λ p. take p.part.len (drop p.part.start (joined v)) ≡ part_bytes v p) v.parts
 unfolding joined
-in_joined v sound = in_flat_parts (part_bytes v) (value_extents v.header v.sections v.segments) v.len 0 [] v.parts sound.accounts (lengths_of v sound) refl
+in_joined v sound =
+    in_flat_parts (part_bytes v) (value_extents v.header v.sections v.segments) v.len 0 [] v.parts sound.accounts (lengths_of v sound) refl
 
 -- ---- an extent's bytes are at its offset
 
@@ -299,7 +317,8 @@ part_of_extent v sound i e here some =
     let within = within_of v (counted_of v sound) i e here some in
     let found = piece_for es v.len (map piece_of v.parts) i e (disjoint_of v (counted_of v sound)) sound.accounts here some (omega arith) in
     let from = mapped_at piece_of v.parts found.0 _ found.1 in
-    let stand = at_index (λ p. take p.part.len (drop p.part.start (joined v)) ≡ part_bytes v p) v.parts found.0 from.0 (in_joined v sound) from.1 in
+    let stand = at_index (λ p. take p.part.len (drop p.part.start (joined v)) ≡ part_bytes v p) v.parts found.0 from.0
+    (in_joined v sound) from.1 in
     let owner : owner_index from.0.part.owner ≡ Some i = ap (λ (q : Piece). q.owner) from.2 in
     let start : from.0.part.start ≡ e.start = ap (λ (q : Piece). q.start) from.2 in
     let len : from.0.part.len ≡ e.len = ap (λ (q : Piece). q.len) from.2 in (
@@ -312,7 +331,8 @@ part_of_extent v sound i e here some =
 
 -- the bytes at an extent are its owner's, also where it holds none
 holds : (v : ImageValue) → IsSoundImage v → (i : ℕ) (e : Extent) (o : Owner) →
-    slice_get (value_extents v.header v.sections v.segments) i ≡ Some e → ((p : Owner) → owner_index p ≡ Some i → p ≡ o) → length (owned_bytes v [] o) ≡ e.len →
+    slice_get (value_extents v.header v.sections v.segments) i ≡ Some e → ((p : Owner) → owner_index p ≡ Some i → p ≡ o) →
+    length (owned_bytes v [] o) ≡ e.len →
     ((gap : List ℕ) → owned_bytes v gap o ≡ owned_bytes v [] o) →
     take e.len (drop e.start (joined v)) ≡ owned_bytes v [] o
 holds v sound i e o here is long same =
@@ -327,22 +347,26 @@ holds v sound i e o here is long same =
     ]
 
 pub holds_header : (v : ImageValue) → IsSoundImage v → take EHDR_SIZE (joined v) ≡ ehdr_bytes (order_of v.header.e_ident) v.header
-holds_header v sound = holds v sound 0 (record { start = 0; len = EHDR_SIZE }) Header refl is_header (ehdr_laws.length_is _ v.header) (λ gap. refl)
+holds_header v sound =
+    holds v sound 0 (record { start = 0; len = EHDR_SIZE }) Header refl is_header (ehdr_laws.length_is _ v.header) (λ gap. refl)
 
 pub holds_sections : (v : ImageValue) → IsSoundImage v →
     take (SHDR_SIZE * length v.sections) (drop v.header.e_shoff (joined v)) ≡ flat_map (shdr_bytes (order_of v.header.e_ident)) v.sections
 holds_sections v sound =
-    holds v sound 1 (record { start = v.header.e_shoff; len = SHDR_SIZE * length v.sections }) SectionTable refl is_section_table (length-table shdr_laws _ v.sections) (λ gap. refl)
+    holds v sound 1 (record { start = v.header.e_shoff; len = SHDR_SIZE * length v.sections }) SectionTable refl is_section_table
+    (length-table shdr_laws _ v.sections) (λ gap. refl)
 
 pub holds_segments : (v : ImageValue) → IsSoundImage v →
     take (PHDR_SIZE * length v.segments) (drop v.header.e_phoff (joined v)) ≡ flat_map (phdr_bytes (order_of v.header.e_ident)) v.segments
 holds_segments v sound =
-    holds v sound 2 (record { start = v.header.e_phoff; len = PHDR_SIZE * length v.segments }) ProgramTable refl is_program_table (length-table phdr_laws _ v.segments) (λ gap. refl)
+    holds v sound 2 (record { start = v.header.e_phoff; len = PHDR_SIZE * length v.segments }) ProgramTable refl is_program_table
+    (length-table phdr_laws _ v.segments) (λ gap. refl)
 
 pub holds_content : (v : ImageValue) → IsSoundImage v → (i : ℕ) (e : Extent) → slice_get (map content_extent v.sections) i ≡ Some e →
     take e.len (drop e.start (joined v)) ≡ get_or v.contents i []
 holds_content v sound i e here =
-    holds v sound (suc (suc (suc i))) e (Content i) here (is_content i) (length-content v.contents v.sections i e sound.lengths here) (λ gap. refl)
+    holds v sound (suc (suc (suc i))) e (Content i) here (is_content i) (length-content v.contents v.sections i e sound.lengths here)
+    (λ gap. refl)
 
 -- A sound image value is represented by its joined parts. These hold the bytes of each record and content at its offset (`Holds`), and a
 -- record is read back from its bytes, so what is read of them is the value again.
@@ -361,11 +385,13 @@ IsBytes-owned v sound ProgramTable gap are = IsBytes-table phdr_laws _ v.segment
 IsBytes-owned v sound (Content i) gap are = IsBytes-get v.contents i sound.bytes
 IsBytes-owned v sound Gap gap are = are
 
-IsBytes-parts : (v : ImageValue) → IsSoundImage v → (ps : List PlacedPart) → AllByRecursion (λ p. IsBytes p.gap × (length p.gap ≡ gap_len p.part)) ps →
+IsBytes-parts : (v : ImageValue) → IsSoundImage v → (ps : List PlacedPart) →
+    AllByRecursion (λ p. IsBytes p.gap × (length p.gap ≡ gap_len p.part)) ps →
     IsBytes (flat_map (part_bytes v) ps)
 IsBytes-parts v sound [] gaps = IsBytes-nil
 IsBytes-parts v sound (p ∷ ps) gaps =
-    IsBytes-append (part_bytes v p) (flat_map (part_bytes v) ps) (IsBytes-owned v sound p.part.owner p.gap gaps.0.0) (IsBytes-parts v sound ps gaps.1)
+    IsBytes-append (part_bytes v p) (flat_map (part_bytes v) ps) (IsBytes-owned v sound p.part.owner p.gap gaps.0.0)
+    (IsBytes-parts v sound ps gaps.1)
 
 pub IsBytes-joined : (v : ImageValue) → IsSoundImage v → IsBytes (joined v)
 unfolding joined
@@ -386,23 +412,28 @@ header_read b h fits stand =
     rw same (sym (record_read ehdr_laws o b 0 h fits stand))
 
 -- the section headers, as many as there are
-pub sections_read : (b : List ℕ) (h : Ehdr) (ss : List Shdr) → (0 < length ss → h.e_shoff ≢ 0) → AllByRecursion IsShdr ss → take (SHDR_SIZE * length ss) (drop h.e_shoff b) ≡ flat_map (shdr_bytes (order_of h.e_ident)) ss →
+pub sections_read : (b : List ℕ) (h : Ehdr) (ss : List Shdr) → (0 < length ss → h.e_shoff ≢ 0) → AllByRecursion IsShdr ss →
+    take (SHDR_SIZE * length ss) (drop h.e_shoff b) ≡ flat_map (shdr_bytes (order_of h.e_ident)) ss →
     map (sections b h) (range_with_len 0 (length ss)) ≡ ss
 sections_read b h [] table fit stand = refl
 sections_read b h (s ∷ ss) table fit stand =
     let there : h.e_shoff ≢ 0 = table (omega arith) in
     let n = length (s ∷ ss) in
     ap (λ (f : ℕ → Shdr). map f (range_with_len 0 n)) (sections_read_at b h there)
-    ∙ entries_read shdr_laws (order_of h.e_ident) b h.e_shoff 0 (s ∷ ss) fit (ap (λ (x : ℕ). take (SHDR_SIZE * n) (drop x b)) (add-zero h.e_shoff) ∙ stand)
+    ∙ entries_read shdr_laws (order_of h.e_ident) b h.e_shoff 0 (s ∷ ss) fit
+    (ap (λ (x : ℕ). take (SHDR_SIZE * n) (drop x b)) (add-zero h.e_shoff) ∙ stand)
 
-pub segments_read : (b : List ℕ) (h : Ehdr) (gs : List Phdr) → AllByRecursion IsPhdr gs → take (PHDR_SIZE * length gs) (drop h.e_phoff b) ≡ flat_map (phdr_bytes (order_of h.e_ident)) gs →
+pub segments_read : (b : List ℕ) (h : Ehdr) (gs : List Phdr) → AllByRecursion IsPhdr gs →
+    take (PHDR_SIZE * length gs) (drop h.e_phoff b) ≡ flat_map (phdr_bytes (order_of h.e_ident)) gs →
     map (segments b h) (range_with_len 0 (length gs)) ≡ gs
 unfolding segments
 segments_read b h gs fit stand =
-    entries_read phdr_laws (order_of h.e_ident) b h.e_phoff 0 gs fit (ap (λ (x : ℕ). take (PHDR_SIZE * length gs) (drop x b)) (add-zero h.e_phoff) ∙ stand)
+    entries_read phdr_laws (order_of h.e_ident) b h.e_phoff 0 gs fit
+    (ap (λ (x : ℕ). take (PHDR_SIZE * length gs) (drop x b)) (add-zero h.e_phoff) ∙ stand)
 
 -- a list made by index has these elements
-pub element_made : {A : Type 0} (f : ℕ → A) (xs : List A) (d : A) (n : ℕ) → map f (range_with_len 0 n) ≡ xs → (i : ℕ) → i < n → f i ≡ get_or xs i d
+pub element_made : {A : Type 0} (f : ℕ → A) (xs : List A) (d : A) (n : ℕ) → map f (range_with_len 0 n) ≡ xs → (i : ℕ) → i < n →
+    f i ≡ get_or xs i d
 element_made f xs d n same i lt = sym (get_or-map-range_with_len f 0 n i i d lt (omega arith)) ∙ ap (λ (ys : List _). get_or ys i d) same
 
 -- ---- the value and its joined parts agree, as far as the rules look
@@ -424,7 +455,8 @@ first_of v sound = elim (cases_eq v.header.e_shoff 0) [
   | inr there ↦
       (let some = (clean_of v (counted_of v sound)).some there in
       let count = sound.section_count in
-      element_made (sections (joined v) v.header) v.sections no_section_header (length v.sections) (sections_joined v sound) 0 (omega arith))
+      element_made (sections (joined v) v.header) v.sections no_section_header (length v.sections) (sections_joined v sound) 0
+      (omega arith))
 ]
 
 pub stands_sections : (v : ImageValue) → IsSoundImage v →
@@ -456,7 +488,8 @@ pub stands_contents : (v : ImageValue) → IsSoundImage v → v.contents ≡ map
 stands_contents v sound = contents_read (joined v) v.contents v.sections sound.lengths (holds_content v sound)
 
 -- a gap's bytes are those at its offset, and no other part has any
-gap_read : (v : ImageValue) (b gap : List ℕ) (o : Owner) (start len : ℕ) → take len (drop start b) ≡ owned_bytes v gap o → length gap ≡ if_gap o len 0 →
+gap_read : (v : ImageValue) (b gap : List ℕ) (o : Owner) (start len : ℕ) → take len (drop start b) ≡ owned_bytes v gap o →
+    length gap ≡ if_gap o len 0 →
     gap ≡ if_gap o (take len (drop start b)) []
 gap_read v b gap Header start len stand long = nil_from_length gap long
 gap_read v b gap SectionTable start len stand long = nil_from_length gap long
@@ -464,7 +497,8 @@ gap_read v b gap ProgramTable start len stand long = nil_from_length gap long
 gap_read v b gap (Content i) start len stand long = nil_from_length gap long
 gap_read v b gap Gap start len stand long = sym stand
 
-gaps_read : (v : ImageValue) (b : List ℕ) (ps : List PlacedPart) → AllByRecursion (λ p. take p.part.len (drop p.part.start b) ≡ part_bytes v p) ps →
+gaps_read : (v : ImageValue) (b : List ℕ) (ps : List PlacedPart) →
+    AllByRecursion (λ p. take p.part.len (drop p.part.start b) ≡ part_bytes v p) ps →
     AllByRecursion (λ p. IsBytes p.gap × (length p.gap ≡ gap_len p.part)) ps → AllByRecursion (λ p. p.gap ≡ gap_in b p.part) ps
 gaps_read v b [] stand gaps = tt
 gaps_read v b (p ∷ ps) stand gaps =
@@ -490,7 +524,8 @@ joined_stands v sound = record {
 -- ---- a value and its byte list break the same rules
 
 -- content k of a value is the bytes there
-pub content_is : (b : List ℕ) (ss : List Shdr) (k : ℕ) → k < length ss → get_or (map (λ s. bytes_in b (content_extent s)) ss) k [] ≡ bytes_in b (content_extent (section_header_of ss k))
+pub content_is : (b : List ℕ) (ss : List Shdr) (k : ℕ) → k < length ss →
+    get_or (map (λ s. bytes_in b (content_extent s)) ss) k [] ≡ bytes_in b (content_extent (section_header_of ss k))
 content_is b [] k lt = absurd (omega arith)
 content_is b (s ∷ ss) zero lt = refl
 content_is b (s ∷ ss) (suc k) lt = content_is b ss k (omega arith)
@@ -509,13 +544,16 @@ abbrev part_of : PlacedPart → Part
 part_of p = p.part
 
 -- part k and piece k are of one placed part
-part_is_piece : (ps : List PlacedPart) (k : ℕ) (p : Part) → slice_get (map part_of ps) k ≡ Some p → slice_get (map piece_of ps) k ≡ Some (part_piece p)
+part_is_piece : (ps : List PlacedPart) (k : ℕ) (p : Part) → slice_get (map part_of ps) k ≡ Some p →
+    slice_get (map piece_of ps) k ≡ Some (part_piece p)
 part_is_piece ps k p here =
     let from = mapped_at part_of ps k p here in
     at_mapped piece_of ps k from.0 from.1 ∙ ap (λ (q : Part). Some (part_piece q)) from.2
 
-is_only : (ps : List PlacedPart) (x k : ℕ) (q : Piece) (p : PlacedPart) → slice_get ps k ≡ Some p → piece_of p ≡ q → q.start ≤ x → x < q.start + q.len →
-    ((j : ℕ) (r : Piece) → slice_get (map piece_of ps) j ≡ Some r → r.start ≤ x → x < r.start + r.len → j ≡ k) → IsOnlyPartAt (map part_of ps) x k p.part
+is_only : (ps : List PlacedPart) (x k : ℕ) (q : Piece) (p : PlacedPart) → slice_get ps k ≡ Some p → piece_of p ≡ q → q.start ≤ x →
+    x < q.start + q.len →
+    ((j : ℕ) (r : Piece) → slice_get (map piece_of ps) j ≡ Some r → r.start ≤ x → x < r.start + r.len → j ≡ k) →
+    IsOnlyPartAt (map part_of ps) x k p.part
 is_only ps x k q p here same from below only =
     let start : p.part.start ≡ q.start = ap (λ (r : Piece). r.start) same in
     let len : p.part.len ≡ q.len = ap (λ (r : Piece). r.len) same in
@@ -552,7 +590,8 @@ place_by_index v Gap start len owned = owned
 piece_of_part : (v : ImageValue) → IsSoundImage v → (k : ℕ) (p : Part) → slice_get (map part_of v.parts) k ≡ Some p →
     IsPiece (value_extents v.header v.sections v.segments) v.len 0 (part_piece p)
 piece_of_part v sound k p here =
-    piece_at (value_extents v.header v.sections v.segments) v.len 0 (map piece_of v.parts) k (part_piece p) sound.accounts (part_is_piece v.parts k p here)
+    piece_at (value_extents v.header v.sections v.segments) v.len 0 (map piece_of v.parts) k (part_piece p) sound.accounts
+    (part_is_piece v.parts k p here)
 
 pub are_parts : (v : ImageValue) → IsSoundImage v → AreParts v (map part_of v.parts)
 are_parts v sound = record {
@@ -560,7 +599,8 @@ are_parts v sound = record {
   owners = λ k p here. place_by_index v p.owner p.start p.len (piece_of_part v sound k p here).owned;
   nonempty = λ k p here. (piece_of_part v sound k p here).nonempty;
   ascending = λ j k p q lt first second.
-      pieces_ascend (value_extents v.header v.sections v.segments) v.len 0 (map piece_of v.parts) j k (part_piece p) (part_piece q) sound.accounts lt
+      pieces_ascend (value_extents v.header v.sections v.segments) v.len 0 (map piece_of v.parts) j k (part_piece p)
+      (part_piece q) sound.accounts lt
       (part_is_piece v.parts j p first) (part_is_piece v.parts k q second);
   within = λ k p here. (piece_of_part v sound k p here).within;
 }

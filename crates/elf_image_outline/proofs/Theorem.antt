@@ -1,7 +1,8 @@
 -- The theorem of images. A sound value is represented by its joined parts, which break no rule. No other list represents it, because the
 -- value determines the bytes of each part. Conversely, a value that bytes without a broken rule represent is sound, field by field. For
 -- both, the rules see the same records and names in the value and in the bytes (`same_clean`).
-use Rattle.std.proofs.Common.{◌≡◌, ◌≢◌, ◌≤◌, ◌<◌, ◌+◌, ◌*◌, ℕ, zero, suc, None, Some, List, [], ◌∷◌, length, take, drop, map, get_or, refl, sym, ap, ap₂, subst, ◌∙◌, inl, inr, arith, add-zero, length-drop}
+use Rattle.std.proofs.Common.{◌≡◌, ◌≢◌, ◌≤◌, ◌<◌, ◌+◌, ◌*◌, ℕ, zero, suc, None, Some, List, [], ◌∷◌, length, take, drop, map, get_or, refl}
+use Rattle.std.proofs.Common.{sym, ap, ap₂, subst, ◌∙◌, inl, inr, arith, add-zero, length-drop}
 use Rattle.std.specs.Prelude.{slice_get, Bool, false}
 use Rattle.std.specs.List.{AllByRecursion, flat_map, range_with_len}
 use Rattle.std.proofs.lemmas.Bool.{cases_eq, cases_lt, ne_eqb}
@@ -18,8 +19,12 @@ use Rattle.elf_field.specs.Headers.{IsEhdr, ehdr_bytes, IsShdr, shdr_bytes, shdr
 use Rattle.elf_field.specs.declared.ehdr.Ehdr.{Ehdr}
 use Rattle.elf_field.specs.declared.phdr.Phdr.{Phdr}
 use Rattle.elf_field.specs.declared.shdr.Shdr.{Shdr}
-use Rattle.elf_image_outline.proofs.Standing.{flat_parts_are, IsCounted, clean_of, content_within, counted_of, table_there, content_is, element_made, first_of_none, joined_stands, disjoint_of, records_within, within_of}
-use Rattle.elf_image_outline.specs.Image.{AreRecordsIn, ImageValue, IsImage, IsSoundImage, OfItsBytes, PlacedPart, Stands, gap_in, gap_len, if_gap, joined, no_program_header, no_section_header, owned_bytes, owner_index, part_bytes, piece_of, program_header_of, section_header_of, value_extents, value_names, value_rules, part_piece}
+use Rattle.elf_image_outline.proofs.Standing.{flat_parts_are, IsCounted, clean_of, content_within, counted_of, table_there, content_is}
+use Rattle.elf_image_outline.proofs.Standing.{element_made, first_of_none, joined_stands, disjoint_of, records_within, within_of}
+use Rattle.elf_image_outline.specs.Image.{AreRecordsIn, ImageValue, IsImage, IsSoundImage, OfItsBytes, PlacedPart, Stands, gap_in, gap_len}
+use Rattle.elf_image_outline.specs.Image.{if_gap, joined, no_program_header, no_section_header, owned_bytes, owner_index, part_bytes}
+use Rattle.elf_image_outline.specs.Image.{piece_of, program_header_of, section_header_of, value_extents, value_names, value_rules}
+use Rattle.elf_image_outline.specs.Image.{part_piece}
 use Rattle.elf_image_outline.specs.Outline.{image_of, outline_value, placed_part}
 use Rattle.elf_image_outline.specs.declared.outline.Owner.TheVariants.{Header, ProgramTable, SectionTable, Content, Gap}
 use Rattle.elf_image_outline.specs.declared.outline.Owner.{Owner}
@@ -27,7 +32,8 @@ use Rattle.elf_image_outline.specs.declared.outline.Part.{Part}
 use Rattle.elf_image_rules.proofs.Public.{clean_records, sections_none, sections_read_at, sound_tables, table_some, Agree, same_clean}
 use Rattle.elf_image_rules.specs.Rows.{FirstIn}
 use Rattle.elf_image_rules.specs.Rules.{image_rules, rules_in, contents, IsFault}
-use Rattle.elf_image_rules.specs.Tables.{bytes_in, content_extent, header, name_table, names, names_at, order_of, program_header_count, section_header_count, sections, segments}
+use Rattle.elf_image_rules.specs.Tables.{bytes_in, content_extent, header, name_table, names, names_at, order_of, program_header_count}
+use Rattle.elf_image_rules.specs.Tables.{section_header_count, sections, segments}
 use Rattle.elf_image_outline.proofs.Standing as holds
 
 -- ---- a value and its byte list break the same rules
@@ -109,20 +115,23 @@ names_same v b stands shared =
       | inr other ↦ rw (ne_eqb _ 0 other) (content_there other)
     ])
   where
-    below : name_table v.header (section_header_of v.sections 0) ≢ 0 → name_table v.header (section_header_of v.sections 0) < length v.sections
+    below : name_table v.header (section_header_of v.sections 0) ≢ 0 →
+        name_table v.header (section_header_of v.sections 0) < length v.sections
     below other = elim (cases_eq v.header.e_shoff 0) [
       | inl none ↦ absurd (other (let unnamed = shared.unnamed none in rw unnamed refl))
       | inr there ↦ shared.named there
     ]
 
     content_there : name_table v.header (section_header_of v.sections 0) ≢ 0 →
-        bytes_in b (content_extent (sections b v.header (name_table v.header (section_header_of v.sections 0)))) ≡ get_or v.contents (name_table v.header (section_header_of v.sections 0)) []
+        bytes_in b (content_extent (sections b v.header (name_table v.header (section_header_of v.sections 0)))) ≡
+        get_or v.contents (name_table v.header (section_header_of v.sections 0)) []
     content_there other =
         let k = name_table v.header (section_header_of v.sections 0) in
         let count = shared.count in
         let lt = below other in
         let entry = (agree_from v b stands shared).sections k (omega arith) in
-        ap (λ (s : Shdr). bytes_in b (content_extent s)) entry ∙ sym (content_is b v.sections k lt) ∙ ap (λ (cs : List (List ℕ)). get_or cs k []) (sym stands.contents)
+        ap (λ (s : Shdr). bytes_in b (content_extent s)) entry ∙ sym (content_is b v.sections k lt) ∙
+        ap (λ (cs : List (List ℕ)). get_or cs k []) (sym stands.contents)
 
 -- a clean value's byte list breaks no rule
 pub clean_bytes : (v : ImageValue) (b : List ℕ) → Reads v b → HasTablesOf v b → FirstIn (value_rules v) None → FirstIn (rules_in b) None
@@ -131,8 +140,11 @@ clean_bytes v b stands shared clean =
     let P : Ehdr → Type 0 = λ h. FirstIn (image_rules (length b) h (sections b h) (segments b h) (names b h)) None in
     let moved = same_clean v.len v.header _ _ _ _ _ (agree_back v b stands shared) clean in
     let named : FirstIn (image_rules v.len v.header (sections b v.header) (segments b v.header) (names b v.header)) None =
-    subst (λ (ns : List ℕ). FirstIn (image_rules v.len v.header (sections b v.header) (segments b v.header) ns) None) (sym (names_same v b stands shared)) moved in
-    subst P stands.records.header (subst (λ (n : ℕ). FirstIn (image_rules n v.header (sections b v.header) (segments b v.header) (names b v.header)) None) stands.len named)
+    subst (λ (ns : List ℕ). FirstIn (image_rules v.len v.header (sections b v.header) (segments b v.header) ns) None)
+    (sym (names_same v b stands shared)) moved in
+    subst P stands.records.header
+    (subst (λ (n : ℕ). FirstIn (image_rules n v.header (sections b v.header) (segments b v.header) (names b v.header)) None) stands.len
+    named)
 
 -- the rules of b, said with the header of the value
 rules_at_value : (v : ImageValue) (b : List ℕ) → Reads v b → FirstIn (rules_in b) None →
@@ -140,7 +152,8 @@ rules_at_value : (v : ImageValue) (b : List ℕ) → Reads v b → FirstIn (rule
 unfolding rules_in
 rules_at_value v b stands clean =
     let P : Ehdr → Type 0 = λ h. FirstIn (image_rules (length b) h (sections b h) (segments b h) (names b h)) None in
-    subst (λ (n : ℕ). FirstIn (image_rules n v.header (sections b v.header) (segments b v.header) (names b v.header)) None) (sym stands.len) (subst P (sym stands.records.header) clean)
+    subst (λ (n : ℕ). FirstIn (image_rules n v.header (sections b v.header) (segments b v.header) (names b v.header)) None) (sym stands.len)
+    (subst P (sym stands.records.header) clean)
 
 -- what is shared, from a clean byte list
 has_tables_by_reads : (v : ImageValue) (b : List ℕ) → Reads v b → FirstIn (rules_in b) None → HasTablesOf v b
@@ -159,7 +172,8 @@ clean_value : (v : ImageValue) (b : List ℕ) → Reads v b → FirstIn (rules_i
 clean_value v b stands clean =
     let shared = has_tables_by_reads v b stands clean in
     let moved = same_clean v.len v.header _ _ _ _ _ (agree_from v b stands shared) (rules_at_value v b stands clean) in
-    subst (λ (ns : List ℕ). FirstIn (image_rules v.len v.header (section_header_of v.sections) (program_header_of v.segments) ns) None) (names_same v b stands shared) moved
+    subst (λ (ns : List ℕ). FirstIn (image_rules v.len v.header (section_header_of v.sections) (program_header_of v.segments) ns) None)
+    (names_same v b stands shared) moved
 
 pub counted_by_reads : (v : ImageValue) (b : List ℕ) → Reads v b → FirstIn (rules_in b) None → IsCounted v
 counted_by_reads v b stands clean =
@@ -193,7 +207,8 @@ joined_is_image v sound = stands_is_image v (joined v) sound (joined_stands v so
 -- ---- and as nothing else: each part's bytes are those at its offset
 
 -- the header's bytes are the first ones of a list that it is read from
-header_bytes : (b : List ℕ) (h : Ehdr) → IsBytes b → EHDR_SIZE ≤ length b → h ≡ header b → ehdr_bytes (order_of h.e_ident) h ≡ take EHDR_SIZE b
+header_bytes : (b : List ℕ) (h : Ehdr) → IsBytes b → EHDR_SIZE ≤ length b → h ≡ header b →
+    ehdr_bytes (order_of h.e_ident) h ≡ take EHDR_SIZE b
 unfolding header
 header_bytes b h are long same =
     let o = order_of (take 16 b) in
@@ -205,13 +220,15 @@ section_bytes : (b : List ℕ) (h : Ehdr) (n : ℕ) → h.e_shoff ≢ 0 → IsBy
     flat_map (shdr_bytes (order_of h.e_ident)) (map (sections b h) (range_with_len 0 n)) ≡ take (SHDR_SIZE * n) (drop h.e_shoff b)
 section_bytes b h n there are within =
     ap (λ (f : ℕ → Shdr). flat_map (shdr_bytes (order_of h.e_ident)) (map f (range_with_len 0 n))) (sections_read_at b h there)
-    ∙ entries_bytes shdr_laws (order_of h.e_ident) b h.e_shoff 0 n are (omega arith) ∙ ap (λ (x : ℕ). take (SHDR_SIZE * n) (drop x b)) (add-zero h.e_shoff)
+    ∙ entries_bytes shdr_laws (order_of h.e_ident) b h.e_shoff 0 n are (omega arith) ∙
+    ap (λ (x : ℕ). take (SHDR_SIZE * n) (drop x b)) (add-zero h.e_shoff)
 
 segment_bytes : (b : List ℕ) (h : Ehdr) (n : ℕ) → IsBytes b → h.e_phoff + PHDR_SIZE * n ≤ length b →
     flat_map (phdr_bytes (order_of h.e_ident)) (map (segments b h) (range_with_len 0 n)) ≡ take (PHDR_SIZE * n) (drop h.e_phoff b)
 unfolding segments
 segment_bytes b h n are within =
-    entries_bytes phdr_laws (order_of h.e_ident) b h.e_phoff 0 n are (omega arith) ∙ ap (λ (x : ℕ). take (PHDR_SIZE * n) (drop x b)) (add-zero h.e_phoff)
+    entries_bytes phdr_laws (order_of h.e_ident) b h.e_phoff 0 n are (omega arith) ∙
+    ap (λ (x : ℕ). take (PHDR_SIZE * n) (drop x b)) (add-zero h.e_phoff)
 
 content_bytes : (b : List ℕ) (ss : List Shdr) (i : ℕ) (e : Extent) → slice_get (map content_extent ss) i ≡ Some e →
     get_or (map (λ s. bytes_in b (content_extent s)) ss) i [] ≡ take e.len (drop e.start b)
@@ -243,7 +260,8 @@ owned_at v b image SectionTable gap start len some owned gaps =
     let within = facts.section_table there in
     let count = counted.section_count in
     let same = (has_tables_by_bytes v b image).count in
-    ap (flat_map (shdr_bytes (order_of v.header.e_ident))) (stands.records.section_headers ∙ ap (λ (n : ℕ). map (sections b v.header) (range_with_len 0 n)) (sym same))
+    ap (flat_map (shdr_bytes (order_of v.header.e_ident)))
+    (stands.records.section_headers ∙ ap (λ (n : ℕ). map (sections b v.header) (range_with_len 0 n)) (sym same))
     ∙ section_bytes b v.header (length v.sections) there stands.bytes (omega arith) ∙ ap₂ (λ (m n : ℕ). take m (drop n b)) l e
 owned_at v b image ProgramTable gap start len some owned gaps =
     let stands = image.stands in
@@ -256,7 +274,8 @@ owned_at v b image ProgramTable gap start len some owned gaps =
     let positive : 0 < program_header_count v.header (section_header_of v.sections 0) = omega arith in
     let within = facts.program_table positive in
     let same = (has_tables_by_bytes v b image).segment_count in
-    ap (flat_map (phdr_bytes (order_of v.header.e_ident))) (stands.records.program_headers ∙ ap (λ (n : ℕ). map (segments b v.header) (range_with_len 0 n)) (sym same))
+    ap (flat_map (phdr_bytes (order_of v.header.e_ident)))
+    (stands.records.program_headers ∙ ap (λ (n : ℕ). map (segments b v.header) (range_with_len 0 n)) (sym same))
     ∙ segment_bytes b v.header (length v.segments) stands.bytes (omega arith) ∙ ap₂ (λ (m n : ℕ). take m (drop n b)) l e
 owned_at v b image (Content i) gap start len some owned gaps =
     ap (λ (cs : List (List ℕ)). get_or cs i []) image.stands.contents ∙ content_bytes b v.sections i _ owned
@@ -274,7 +293,8 @@ parts_at v b image at (p ∷ ps) accounts gaps = (
 pub only_joined : (v : ImageValue) (b : List ℕ) → IsImage v b → b ≡ joined v
 unfolding joined
 only_joined v b image =
-    sym (flat_parts_are (part_bytes v) b (value_extents v.header v.sections v.segments) v.len 0 v.parts image.stands.accounts image.stands.len
+    sym (flat_parts_are (part_bytes v) b
+    (value_extents v.header v.sections v.segments) v.len 0 v.parts image.stands.accounts image.stands.len
     (parts_at v b image 0 v.parts image.stands.accounts image.stands.gaps))
 
 -- ---- what is represented without fault is sound
@@ -285,17 +305,20 @@ length-part b e within = elim (cases_lt 0 e.len) [
   | inr none ↦ (let empty : e.len ≡ 0 = omega arith in ap (λ (n : ℕ). length (take n (drop e.start b))) empty ∙ sym empty)
 ]
 
-lengths_by : (b : List ℕ) (ss : List Shdr) → ((k : ℕ) (s : Shdr) → slice_get ss k ≡ Some s → 0 < (content_extent s).len → s.sh_offset + (content_extent s).len ≤ length b) →
+lengths_by : (b : List ℕ) (ss : List Shdr) →
+    ((k : ℕ) (s : Shdr) → slice_get ss k ≡ Some s → 0 < (content_extent s).len → s.sh_offset + (content_extent s).len ≤ length b) →
     map length (map (λ s. bytes_in b (content_extent s)) ss) ≡ map (λ s. (content_extent s).len) ss
 lengths_by b [] within = refl
 lengths_by b (s ∷ ss) within =
-    ap₂ (λ (x : ℕ) (xs : List ℕ). x ∷ xs) (length-part b (content_extent s) (within 0 s refl)) (lengths_by b ss (λ k t at. within (suc k) t at))
+    ap₂ (λ (x : ℕ) (xs : List ℕ). x ∷ xs) (length-part b (content_extent s) (within 0 s refl))
+    (lengths_by b ss (λ k t at. within (suc k) t at))
 
 IsBytes-contents : (b : List ℕ) (ss : List Shdr) → IsBytes b → AllByRecursion IsBytes (map (λ s. bytes_in b (content_extent s)) ss)
 IsBytes-contents b [] are = tt
 IsBytes-contents b (s ∷ ss) are = (IsBytes-take _ _ (IsBytes-drop _ b are), IsBytes-contents b ss are)
 
-gap_sound : (b gap : List ℕ) (o : Owner) (start len : ℕ) → IsBytes b → start + len ≤ length b → gap ≡ if_gap o (take len (drop start b)) [] →
+gap_sound : (b gap : List ℕ) (o : Owner) (start len : ℕ) → IsBytes b → start + len ≤ length b →
+    gap ≡ if_gap o (take len (drop start b)) [] →
     IsBytes gap × (length gap ≡ if_gap o len 0)
 gap_sound b gap Header start len are within same = (subst IsBytes (sym same) IsBytes-nil, ap length same)
 gap_sound b gap SectionTable start len are within same = (subst IsBytes (sym same) IsBytes-nil, ap length same)
@@ -306,7 +329,8 @@ gap_sound b gap Gap start len are within same = (
   ap length same ∙ length-take-le len (drop start b) (let l = length-drop start b in omega arith),
 )
 
-gaps_sound : (b : List ℕ) (es : List Extent) (total at : ℕ) (ps : List PlacedPart) → IsBytes b → total ≡ length b → Accounts es total at (map piece_of ps) →
+gaps_sound : (b : List ℕ) (es : List Extent) (total at : ℕ) (ps : List PlacedPart) → IsBytes b → total ≡ length b →
+    Accounts es total at (map piece_of ps) →
     AllByRecursion (λ p. p.gap ≡ gap_in b p.part) ps → AllByRecursion (λ p. IsBytes p.gap × (length p.gap ≡ gap_len p.part)) ps
 gaps_sound b es total at [] are whole accounts gaps = tt
 gaps_sound b es total at (p ∷ ps) are whole accounts gaps =
@@ -316,7 +340,8 @@ gaps_sound b es total at (p ∷ ps) are whole accounts gaps =
       gaps_sound b es total (at + p.part.len) ps are whole accounts.3 gaps.1,
     )
 
-fit_sections : (b : List ℕ) (h : Ehdr) (n : ℕ) → (0 < n → h.e_shoff ≢ 0) → IsBytes b → AllByRecursion IsShdr (map (sections b h) (range_with_len 0 n))
+fit_sections : (b : List ℕ) (h : Ehdr) (n : ℕ) → (0 < n → h.e_shoff ≢ 0) → IsBytes b →
+    AllByRecursion IsShdr (map (sections b h) (range_with_len 0 n))
 fit_sections b h zero table are = tt
 fit_sections b h (suc n) table are =
     subst (λ (f : ℕ → Shdr). AllByRecursion IsShdr (map f (range_with_len 0 (suc n)))) (sym (sections_read_at b h (table (omega arith))))
@@ -337,11 +362,15 @@ image_is_sound v b image =
     let whole = stands.len in
     record {
       header = subst IsEhdr (sym stands.records.header) (fit_header b stands.bytes);
-      section_headers = subst (AllByRecursion IsShdr) (sym stands.records.section_headers) (fit_sections b v.header _ (table_some v.header (sections b v.header 0)) stands.bytes);
+      section_headers =
+          subst (AllByRecursion IsShdr) (sym stands.records.section_headers)
+          (fit_sections b v.header _ (table_some v.header (sections b v.header 0)) stands.bytes);
       program_headers = subst (AllByRecursion IsPhdr) (sym stands.records.program_headers) (fit_segments b v.header _ stands.bytes);
       section_count = counted.section_count;
       segment_count = counted.segment_count;
-      lengths = ap (map length) stands.contents ∙ lengths_by b v.sections (λ k s at some. subst (λ (n : ℕ). s.sh_offset + (content_extent s).len ≤ n) whole (content_within v counted k s at some));
+      lengths = ap (map length) stands.contents ∙
+          lengths_by b v.sections
+          (λ k s at some. subst (λ (n : ℕ). s.sh_offset + (content_extent s).len ≤ n) whole (content_within v counted k s at some));
       bytes = subst (AllByRecursion IsBytes) (sym stands.contents) (IsBytes-contents b v.sections stands.bytes);
       accounts = stands.accounts;
       gaps = gaps_sound b (value_extents v.header v.sections v.segments) v.len 0 v.parts stands.bytes whole stands.accounts stands.gaps;
@@ -355,7 +384,8 @@ pub one_list : (v : ImageValue) (b c : List ℕ) → IsImage v b → Stands v c 
 one_list v b c one two = only_joined v b one ∙ sym (only_joined v c (stands_is_image v c (image_is_sound v b one) two))
 
 -- what holds of each list of bytes that represents an image holds of the one there is
-pub of_its_bytes : (v : ImageValue) (Says : List ℕ → Type 0) → (b : List ℕ) × IsImage v b → ((b : List ℕ) → IsImage v b → Says b) → OfItsBytes v Says
+pub of_its_bytes : (v : ImageValue) (Says : List ℕ → Type 0) → (b : List ℕ) × IsImage v b → ((b : List ℕ) → IsImage v b → Says b) →
+    OfItsBytes v Says
 of_its_bytes v Says (b, image) says = record {
   bytes = b;
   image = image;
@@ -383,12 +413,14 @@ made_reads b h ss gs cs ps records contents = record {
   contents = contents;
 }
 
-pub tables_disjoint : (b : List ℕ) (h : Ehdr) (ss : List Shdr) (gs : List Phdr) → AreRecordsIn b h ss gs → IsFault b None → AreDisjoint (value_extents h ss gs)
+pub tables_disjoint : (b : List ℕ) (h : Ehdr) (ss : List Shdr) (gs : List Phdr) → AreRecordsIn b h ss gs → IsFault b None →
+    AreDisjoint (value_extents h ss gs)
 tables_disjoint b h ss gs records clean =
     let cs = map (λ s. bytes_in b (content_extent s)) ss in
     disjoint_of (made b h ss gs cs []) (counted_by_reads (made b h ss gs cs []) b (made_reads b h ss gs cs [] records refl) clean)
 
-pub tables_within : (b : List ℕ) (h : Ehdr) (ss : List Shdr) (gs : List Phdr) → AreRecordsIn b h ss gs → IsFault b None → AreWithin (value_extents h ss gs) (length b)
+pub tables_within : (b : List ℕ) (h : Ehdr) (ss : List Shdr) (gs : List Phdr) → AreRecordsIn b h ss gs → IsFault b None →
+    AreWithin (value_extents h ss gs) (length b)
 tables_within b h ss gs records clean =
     let cs = map (λ s. bytes_in b (content_extent s)) ss in
     within_of (made b h ss gs cs []) (counted_by_reads (made b h ss gs cs []) b (made_reads b h ss gs cs [] records refl) clean)
@@ -402,7 +434,8 @@ gaps_of : (b : List ℕ) (ps : List Part) → AllByRecursion (λ (p : PlacedPart
 gaps_of b [] = tt
 gaps_of b (p ∷ ps) = (refl, gaps_of b ps)
 
-pub made_is_image : (b : List ℕ) (h : Ehdr) (ss : List Shdr) (gs : List Phdr) (cs : List (List ℕ)) (ps : List Part) → IsBytes b → AreRecordsIn b h ss gs →
+pub made_is_image : (b : List ℕ) (h : Ehdr) (ss : List Shdr) (gs : List Phdr) (cs : List (List ℕ)) (ps : List Part) → IsBytes b →
+    AreRecordsIn b h ss gs →
     cs ≡ map (λ s. bytes_in b (content_extent s)) ss → Accounts (value_extents h ss gs) (length b) 0 (map part_piece ps) → IsFault b None →
     IsImage (made b h ss gs cs ps) b
 made_is_image b h ss gs cs ps are records contents accounts clean = record {

@@ -1,5 +1,9 @@
--- An image: a file as a value, and the byte list that represents it. (gABI chapter 4, ELF Header, Sections; chapter 5, Program Header.)
-use Rattle.std.specs.Prelude.{◌≡◌, ◌<◌, ◌≤◌, ℕ, suc, ◌+◌, ◌*◌, ◌==◌, if◌then◌else◌, List, [], ◌∷◌, length, map, get_or, take, drop, Option, None, Some, ◌≢◌, replicate, set, slice_get}
+-- An image: a file as a value, and the byte list that represents it. (gABI chapter 4, ELF Header, Sections; chapter 5, Program Header.) A
+-- sound image is defined by facts about the value alone (`IsSoundImage`). One theorem connects it with bytes, so the proof of an edit
+-- proves no rule again. `Stands` asks that each record lies within the bytes. Otherwise a list that is too short would represent a value of
+-- zeros.
+use Rattle.std.specs.Prelude.{◌≡◌, ◌<◌, ◌≤◌, ℕ, suc, ◌+◌, ◌*◌, ◌==◌, if◌then◌else◌, List, [], ◌∷◌, length, map, get_or, take, drop, Option}
+use Rattle.std.specs.Prelude.{None, Some, ◌≢◌, replicate, set, slice_get}
 use Rattle.std.specs.List.{AllByRecursion, flat_map, range_with_len}
 pub use Rattle.elf_image_rules.specs.Tables.{no_program_header, no_section_header, program_header_of, section_header_of}
 use Rattle.elf_extent.specs.Account.{Accounts, IsGap}
@@ -18,7 +22,8 @@ use Rattle.elf_image_outline.specs.declared.outline.ReplaceFault.TheVariants.{No
 use Rattle.elf_image_outline.specs.declared.outline.ReplaceFault.{ReplaceFault}
 use Rattle.elf_image_rules.specs.Rows.{Ruled, FirstIn}
 use Rattle.elf_image_rules.specs.Rules.{image_rules, rules_in}
-use Rattle.elf_image_rules.specs.Tables.{bytes_in, content_extent, header, name_table, order_of, phdr_offset, program_header_count, section_header_count, sections, segments, shdr_offset}
+use Rattle.elf_image_rules.specs.Tables.{bytes_in, content_extent, header, name_table, order_of, phdr_offset, program_header_count}
+use Rattle.elf_image_rules.specs.Tables.{section_header_count, sections, segments, shdr_offset}
 
 -- a part of the file, and its own bytes where it is a gap (none where it has an owner)
 pub record PlacedPart : Type 0 where
@@ -52,7 +57,8 @@ value_names h ss cs =
 
 -- the rules of the image, of what the value says
 abbrev pub value_rules : ImageValue → List {1} (Ruled ℕ)
-value_rules v = image_rules v.len v.header (section_header_of v.sections) (program_header_of v.segments) (value_names v.header v.sections v.contents)
+value_rules v =
+    image_rules v.len v.header (section_header_of v.sections) (program_header_of v.segments) (value_names v.header v.sections v.contents)
 
 -- an owner as an index in the list of extents
 abbrev pub owner_index : Owner → Option ℕ

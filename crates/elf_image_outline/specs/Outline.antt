@@ -1,5 +1,6 @@
 -- An outline: the records and the parts of a file, without contents, and the image that it is of, with them.
-use Rattle.std.specs.Prelude.{ℕ, Bool, true, false, if◌then◌else◌, List, [], map, replicate, ◌≡◌, ◌<◌, ◌≤◌, ◌+◌, length, take, Option, None, Some, Result, Ok, Err, slice_get}
+use Rattle.std.specs.Prelude.{ℕ, Bool, true, false, if◌then◌else◌, List, [], map, replicate, ◌≡◌, ◌<◌, ◌≤◌, ◌+◌, length, take, Option, None}
+use Rattle.std.specs.Prelude.{Some, Result, Ok, Err, slice_get}
 use Rattle.std.specs.Io.KnownBytes.{Appends}
 use Rattle.elf_field.specs.declared.ehdr.Ehdr.{Ehdr}
 use Rattle.elf_field.specs.declared.phdr.Phdr.{Phdr}
@@ -99,7 +100,8 @@ pub record CopiedOut (content old new : Option (List ℕ)) (count : ℕ) (bytes 
 -- all of the bytes were written, or exactly the first `written` of them, fewer than all
 abbrev pub Copies : Option (List ℕ) → Option (List ℕ) → Option (List ℕ) → ℕ → (List ℕ → List ℕ) → Result (Unit {0}) CopyFault → Type 0
 Copies content old new len bytes (Ok u) = CopiedOut content old new len bytes
-Copies content old new len bytes (Err fault) = (bytes_out fault < len) × CopiedOut content old new (bytes_out fault) (λ b. take (bytes_out fault) (bytes b))
+Copies content old new len bytes (Err fault) =
+    (bytes_out fault < len) × CopiedOut content old new (bytes_out fault) (λ b. take (bytes_out fault) (bytes b))
 
 -- the offset of a failed read that is returned; None for any other result
 abbrev pub copy_failure : Result (Unit {0}) CopyFault → Option ℕ

@@ -13,7 +13,8 @@ use Rattle.elf_image_stream.specs.declared.source.Failures.{Failures}
 use Rattle.elf_image_stream.specs.declared.source.ReadFault.{ReadFault}
 
 -- the record of n bytes at an offset, whose fields fit, and no call failed; or a read failed
-abbrev pub ReadsRecord : {T : Type 0} → (List ℕ → ℕ → T) → (T → Type 0) → ℕ → Option (List ℕ) → Failures → Failures → ℕ → Result T ReadFault → Type 0
+abbrev pub ReadsRecord : {T : Type 0} → (List ℕ → ℕ → T) → (T → Type 0) → ℕ → Option (List ℕ) → Failures → Failures → ℕ →
+    Result T ReadFault → Type 0
 ReadsRecord record_at IsValid n content old new at (Ok v) = (new ≡ old) × IsValid v × ((b : List ℕ) → content ≡ Some b → v ≡ record_at b at)
 ReadsRecord record_at IsValid n content old new at (Err fault) = HasFailed content old new at n fault.at
 
@@ -27,7 +28,8 @@ Extends {T = T} value several old new = (from : ℕ) (f : ℕ → T) → ((i : �
     old ≡ map f (range_with_len 0 from) → new ≡ map f (range_with_len 0 (from + several))
 
 -- the records of n bytes from an offset on, whose fields fit, and no call failed
-pub record HasTable {T : Type 0} (record_at : List ℕ → ℕ → T) (IsValid : T → Type 0) (n : ℕ) (content : Option (List ℕ)) (old new : Failures) (at count : ℕ) (vs : List T) : Type 0 where
+pub record HasTable {T : Type 0} (record_at : List ℕ → ℕ → T) (IsValid : T → Type 0) (n : ℕ) (content : Option (List ℕ))
+    (old new : Failures) (at count : ℕ) (vs : List T) : Type 0 where
   pub failures : new ≡ old
   pub many : length vs ≡ count
   pub valid : AllByRecursion IsValid vs
@@ -48,7 +50,8 @@ abbrev pub ReadsByte : Option (List ℕ) → Failures → Failures → ℕ → R
 ReadsByte content old new at (Ok byte) = (new ≡ old) × ((b : List ℕ) → content ≡ Some b → byte ∷ [] ≡ take 1 (drop at b))
 ReadsByte content old new at (Err fault) = HasFailed content old new at 1 fault.at
 
--- the ends of a table of so many bytes from an offset on, and no call failed; or a read of one of them failed. Some table has these ends, which holds of
+-- the ends of a table of so many bytes from an offset on, and no call failed; or a read of one of them failed. Some table has these ends,
+-- which holds of
 -- a source that gives other bytes each time too
 abbrev pub ReadsEnds : Option (List ℕ) → Failures → Failures → ℕ → ℕ → Result TableEnds ReadFault → Type 0
 ReadsEnds content old new start len (Ok ends) =

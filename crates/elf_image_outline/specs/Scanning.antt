@@ -1,5 +1,6 @@
 -- What the stages of a scan return: a scan reads a source as an image, without its contents.
-use Rattle.std.specs.Prelude.{ℕ, List, Some, ◌≡◌, ◌≢◌, ◌≤◌, ◌<◌, ◌^◌, ◌+◌, ◌-◌, ◌⊎◌, ◌==◌, if◌then◌else◌, Option, None, Result, Ok, Err, length, map}
+use Rattle.std.specs.Prelude.{ℕ, List, Some, ◌≡◌, ◌≢◌, ◌≤◌, ◌<◌, ◌^◌, ◌+◌, ◌-◌, ◌⊎◌, ◌==◌, if◌then◌else◌, Option, None, Result, Ok, Err}
+use Rattle.std.specs.Prelude.{length, map}
 use Rattle.std.specs.List.{AllByRecursion}
 use Rattle.elf_extent.specs.Account.{Accounts}
 use Rattle.elf_extent.specs.Extent.{Doubly, IsLowest}
@@ -12,8 +13,10 @@ use Rattle.elf_field.specs.declared.shdr.Shdr.{Shdr}
 use Rattle.elf_image_outline.specs.Image.{part_piece, value_extents}
 use Rattle.elf_image_outline.specs.declared.outline.Part.{Part}
 use Rattle.elf_image_rules.specs.Rows.{FirstIn}
-use Rattle.elf_image_rules.specs.Rules.{IsFault, MAX_LEN, header_rules, ident_rules, length_rules, image_rules, record_rules, program_table_rules, section_table_rules}
-use Rattle.elf_image_rules.specs.Tables.{bytes_in, content_extent, counts_in, file_counts, header, phdr_offset, program_header_of, section_header_of, sections, shdr_offset}
+use Rattle.elf_image_rules.specs.Rules.{IsFault, MAX_LEN, header_rules, ident_rules, length_rules, image_rules, record_rules}
+use Rattle.elf_image_rules.specs.Rules.{program_table_rules, section_table_rules}
+use Rattle.elf_image_rules.specs.Tables.{bytes_in, content_extent, counts_in, file_counts, header, phdr_offset, program_header_of}
+use Rattle.elf_image_rules.specs.Tables.{section_header_of, sections, shdr_offset}
 use Rattle.elf_image_rules.specs.declared.tables.Counts.{Counts}
 use Rattle.elf_image_stream.specs.declared.fault.Fault.TheVariants.{OutOfMemory, Io, Rule}
 use Rattle.elf_image_stream.specs.declared.fault.Fault.{Fault}
@@ -27,7 +30,8 @@ scan_failure (Err (Rule number at)) = None
 
 -- where a file's section name string table is; nowhere without one
 abbrev pub names_place : List ℕ → Extent
-names_place b = let k = (file_counts b).name_table in if k == 0 then record { start = 0; len = 0 } else content_extent (sections b (header b) k)
+names_place b = let k = (file_counts b).name_table in
+    if k == 0 then record { start = 0; len = 0 } else content_extent (sections b (header b) k)
 
 -- the first or the last byte of an extent, of as much of it as lies in b
 abbrev pub IsEndIn : List ℕ → Extent → ℕ → Type 0
@@ -93,7 +97,8 @@ pub record HasTables (len : ℕ) (h : Ehdr) (c : Counts) (ss : List Shdr) (gs : 
 abbrev pub BreaksTables : ℕ → Ehdr → List Shdr → List Phdr → List ℕ → Fault → Type 0
 BreaksTables len h ss gs names OutOfMemory = FirstIn (record_rules len h (section_header_of ss) (program_header_of gs) names) None
 BreaksTables len h ss gs names (Io at) = ⊥
-BreaksTables len h ss gs names (Rule number at) = FirstIn (image_rules len h (section_header_of ss) (program_header_of gs) names) (Some (number, at))
+BreaksTables len h ss gs names (Rule number at) =
+    FirstIn (image_rules len h (section_header_of ss) (program_header_of gs) names) (Some (number, at))
 
 -- they break none, and these are the parts of a file that has them
 pub record KeepTables (len : ℕ) (h : Ehdr) (ss : List Shdr) (gs : List Phdr) (names : List ℕ) (ps : List Part) : Type 0 where

@@ -1,6 +1,7 @@
 //! The image of an outline onto a writer.
 ghost use Rattle.std.specs.Prelude.{◌≡◌, ◌<◌, ◌+◌, ◌^◌, ◌≤◌, ℕ, List, Some, drop, length, take, slice_get};
-ghost use Rattle.elf_image_outline.specs.Outline.{bytes_out, later, Copies, ReadsBehind, copy_failure, IsOutlineOf, IsSoundOutline, bytes_of_outline, image_in, placed_part, ReadsOfSource, ReadsPart};
+ghost use Rattle.elf_image_outline.specs.Outline.{bytes_out, later, Copies, ReadsBehind, copy_failure, IsOutlineOf, IsSoundOutline};
+ghost use Rattle.elf_image_outline.specs.Outline.{bytes_of_outline, image_in, placed_part, ReadsOfSource, ReadsPart};
 ghost use Rattle.elf_image_stream.specs.Source.{Reaches, Remembers};
 ghost use Rattle.elf_image_outline.specs.Image.{IsImage, part_bytes};
 

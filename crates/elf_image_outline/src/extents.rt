@@ -27,7 +27,8 @@ pub(crate) fn unshared_parts(
     requires segments { PHDR_SIZE * length segments.now < 2 ^ 64 }
     requires within { AreWithin (value_extents header.now sections.now segments.now) len }
     ensures unshared { OnOk result (IsLowest (Doubly (value_extents header.now sections.now segments.now)) None) }
-    ensures parts { IfOk result (λ parts. Accounts (value_extents header.now sections.now segments.now) len 0 (map part_piece parts.items)) }
+    ensures parts { IfOk result
+        (λ parts. Accounts (value_extents header.now sections.now segments.now) len 0 (map part_piece parts.items)) }
     ensures err { IfErr result (IsSharedFault (value_extents header.now sections.now segments.now)) }
 {
     let extents = extents_of(alloc, header, sections, segments)?;

@@ -116,7 +116,8 @@ pub fn read_record<T: Record, S: Source>(
     requires small { T.SIZE ≤ LONGEST_RECORD }
     requires fits { at + T.SIZE < 2 ^ 64 }
     ensures kept { S.content source.new ≡ S.content source.old }
-    ensures reads { ReadsRecord (T.at order) T.IsValid T.SIZE (S.content source.old) (S.failures source.old) (S.failures source.new) at result }
+    ensures reads { ReadsRecord (T.at order) T.IsValid T.SIZE (S.content source.old) (S.failures source.old) (S.failures source.new) at
+        result }
 {
     let mut block = [0; LONGEST_RECORD];
     let bytes = &mut block[..T::SIZE];
@@ -163,7 +164,8 @@ fn read_several<T: Record + Drop, S: Source>(
     ensures told { OnOk result ((b : List ℕ) (table from : ℕ) → S.content source.old ≡ Some b → at ≡ table + T.SIZE * from →
         records.old.items ≡ table_at (T.at order) T.SIZE b table from →
         records.new.items ≡ table_at (T.at order) T.SIZE b table (from + several)) }
-    ensures err { IfErr result (IsRecordsFault (S.content source.old) (S.failures source.old) (S.failures source.new) at (T.SIZE * several)) }
+    ensures err { IfErr result
+        (IsRecordsFault (S.content source.old) (S.failures source.old) (S.failures source.new) at (T.SIZE * several)) }
 {
     let mut block = [0; BLOCK];
     let bytes = &mut block[..T::SIZE * several];
@@ -187,7 +189,9 @@ pub fn read_records<T: Record + Drop, S: Source>(
     requires small { T.SIZE ≤ BLOCK }
     requires fits { 0 < count → at + T.SIZE * count < 2 ^ 64 }
     ensures kept { S.content source.new ≡ S.content source.old }
-    ensures ok { IfOk result (λ v. HasTable (T.at order) T.IsValid T.SIZE (S.content source.old) (S.failures source.old) (S.failures source.new) at count v.items) }
+    ensures ok { IfOk result
+        (λ v. HasTable (T.at order) T.IsValid T.SIZE (S.content source.old) (S.failures source.old) (S.failures source.new) at
+        count v.items) }
     ensures err { IfErr result (IsRecordsFault (S.content source.old) (S.failures source.old) (S.failures source.new) at (T.SIZE * count)) }
 {
     let mut records = Vec::with_capacity(alloc, count)?;

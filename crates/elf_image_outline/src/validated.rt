@@ -23,7 +23,8 @@ pub(crate) fn validated_parts(
     requires tables { HasTables len tables.now.header tables.now.counts tables.now.sections.items tables.now.segments.items }
     requires some { (names : List ℕ) × AreEnds ends names }
     requires place { 0 < ends.len → (section_header_of tables.now.sections.items tables.now.counts.name_table).sh_offset + ends.len ≤ len }
-    requires clipped { let names = names_extent tables.now.sections.items tables.now.counts.name_table in ends.len ≡ min (len - names.start) names.len }
+    requires clipped { let names = names_extent tables.now.sections.items tables.now.counts.name_table in
+        ends.len ≡ min (len - names.start) names.len }
     ensures ok { IfOk result (λ parts. (names : List ℕ) → AreEnds ends names →
         KeepTables len tables.now.header tables.now.sections.items tables.now.segments.items names parts.items) }
     ensures sound { IfOk result (λ parts.

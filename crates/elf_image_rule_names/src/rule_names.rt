@@ -1,6 +1,7 @@
 //! The names of rules by their numbers. Made by `tools/release tables` from docs/RULES.md.
 
-/// The name of a rule of images (1 to 33), tables (40 to 69) and files read as objects (70 to 79), as `TOO_LONG` of 1; empty where no rule has the number.
+/// The name of a rule of images (1 to 33), tables (40 to 69) and files read as objects (70 to 79), as `TOO_LONG` of 1; empty where no rule
+/// has the number.
 pub fn rule_name(rule: u16) -> &'static str {
     match NAMES.get(rule as usize) {
         Some(name) => name,

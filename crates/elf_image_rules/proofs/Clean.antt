@@ -1,7 +1,8 @@
 -- If none of rules 1 to 32 is broken, both tables and all nonempty contents lie in the file; rule 33 makes the extents disjoint. The name
 -- table's index is below the count, or 0 without a section table. These follow from the positive facts (`KeepsRules`); small facts on
 -- reading the section table follow from its definition.
-use Rattle.std.proofs.Common.{◌≡◌, ℕ, suc, ◌+◌, ◌-◌, ◌<◌, ◌≤◌, ◌⊎◌, min, Option, None, Some, List, length, get_or, inl, inr, sym, ◌∙◌, ap, subst, arith, ◌≢◌, zero, ◌*◌, refl, ◌∷◌, ◌++◌, map, ap₂}
+use Rattle.std.proofs.Common.{◌≡◌, ℕ, suc, ◌+◌, ◌-◌, ◌<◌, ◌≤◌, ◌⊎◌, min, Option, None, Some, List, length, get_or, inl, inr, sym, ◌∙◌, ap}
+use Rattle.std.proofs.Common.{subst, arith, ◌≢◌, zero, ◌*◌, refl, ◌∷◌, ◌++◌, map, ap₂}
 use Rattle.std.proofs.Math.Nat.{le-min, min-le_left, min-le_right}
 use Rattle.std.specs.List.{slice_get, range_with_len}
 use Rattle.std.proofs.lemmas.Bool.{cases_lt, cases_eq, ne_eqb}
@@ -20,8 +21,15 @@ use Rattle.elf_image_rules.proofs.KeepsRules.{records_kept, rules_kept}
 use Rattle.elf_image_rules.specs.ValidatedRecords.{file_extents, file_of}
 use Rattle.elf_image_rules.specs.KeepsRules.{HasSoundTables}
 use Rattle.elf_image_rules.specs.Rows.{FirstIn, Ruled, When}
-use Rattle.elf_image_rules.specs.Rules.{DoublyBelow, ExtentsAscend, LieBetween, LieOutside, SharedBelow, contents, extents, KeepsRecordRules, image_rules, record_rules, MAX_LEN, header_rules, ident_rules, length_rules, header_entry_rules, header_table_rules, section_name_rules, UnclosedAt, overlap_rules, program_table_rules, IsMisalignedSection, IsNamePastEnd, HasWrongSectionAlignment, IsContentPastEnd, SomeSectionHeader, section_header_rules, section_table_rules, IsIncongruentSegment, HasFileSizeAboveMemorySize, IsLoad, HasWrongSegmentAlignment, IsSegmentPastEnd, SomeSegment, load_out_of_order, segment_rules}
-use Rattle.elf_image_rules.specs.Tables.{content_extent, file_counts, header, sections, name_table, names, no_section_header, order_of, program_header_count, section_header_count, segments, shdr_offset, phdr_offset, counts_in}
+use Rattle.elf_image_rules.specs.Rules.{DoublyBelow, ExtentsAscend, LieBetween, LieOutside, SharedBelow, contents, extents}
+use Rattle.elf_image_rules.specs.Rules.{KeepsRecordRules, image_rules, record_rules, MAX_LEN, header_rules, ident_rules, length_rules}
+use Rattle.elf_image_rules.specs.Rules.{header_entry_rules, header_table_rules, section_name_rules, UnclosedAt, overlap_rules}
+use Rattle.elf_image_rules.specs.Rules.{program_table_rules, IsMisalignedSection, IsNamePastEnd, HasWrongSectionAlignment, IsContentPastEnd}
+use Rattle.elf_image_rules.specs.Rules.{SomeSectionHeader, section_header_rules, section_table_rules, IsIncongruentSegment}
+use Rattle.elf_image_rules.specs.Rules.{HasFileSizeAboveMemorySize, IsLoad, HasWrongSegmentAlignment, IsSegmentPastEnd, SomeSegment}
+use Rattle.elf_image_rules.specs.Rules.{load_out_of_order, segment_rules}
+use Rattle.elf_image_rules.specs.Tables.{content_extent, file_counts, header, sections, name_table, names, no_section_header, order_of}
+use Rattle.elf_image_rules.specs.Tables.{program_header_count, section_header_count, segments, shdr_offset, phdr_offset, counts_in}
 use Rattle.elf_image_rules.specs.declared.file_extents.FileExtents.{FileExtents}
 use Rattle.elf_image_rules.specs.declared.tables.Counts.{Counts}
 
@@ -215,7 +223,8 @@ count_some h first there large =
     ])
 
 -- the name table's index is below the count, where both indexes that name it are
-names_below : (h : Ehdr) (first : Shdr) (n : ℕ) → (h.e_shstrndx ≢ SHN_XINDEX → h.e_shstrndx < n) → (h.e_shstrndx ≡ SHN_XINDEX → first.sh_link < n) → name_table h first < n
+names_below : (h : Ehdr) (first : Shdr) (n : ℕ) → (h.e_shstrndx ≢ SHN_XINDEX → h.e_shstrndx < n) →
+    (h.e_shstrndx ≡ SHN_XINDEX → first.sh_link < n) → name_table h first < n
 names_below h first n plain extended =
     elim (cases_eq h.e_shstrndx SHN_XINDEX) [
       | inl escape ↦ rw escape (extended escape)
@@ -336,7 +345,8 @@ sections_there b h sound = elim (cases_eq h.e_shoff 0) [
 
 -- ---- what is read of the section table, or without one
 
-pub sections_read_at : (b : List ℕ) (h : Ehdr) → h.e_shoff ≢ 0 → sections b h ≡ (λ (i : ℕ). shdr_at (order_of h.e_ident) b (shdr_offset h i))
+pub sections_read_at : (b : List ℕ) (h : Ehdr) → h.e_shoff ≢ 0 →
+    sections b h ≡ (λ (i : ℕ). shdr_at (order_of h.e_ident) b (shdr_offset h i))
 unfolding sections
 sections_read_at b h there =
     let each : (i : ℕ) → sections b h i ≡ shdr_at (order_of h.e_ident) b (shdr_offset h i) = λ i. rw (ne_eqb h.e_shoff 0 there) refl in
@@ -349,7 +359,8 @@ sections_none b h none = rw none refl
 -- A file that keeps rules 1 to 32, with its header and its counts by any equal name, as code reads them.
 
 -- all its section headers and program headers lie in it
-pub kept_sections : (b : List ℕ) (h : Ehdr) (c : Counts) → KeepsRecordRules b → h ≡ header b → c ≡ file_counts b → shdr_offset h c.sections ≤ length b
+pub kept_sections : (b : List ℕ) (h : Ehdr) (c : Counts) → KeepsRecordRules b → h ≡ header b → c ≡ file_counts b →
+    shdr_offset h c.sections ≤ length b
 kept_sections b h c kept own_header own_counts =
     let there = sections_there b (header b) (sound_file b (header b) refl kept) in
     subst (λ (k : Ehdr). shdr_offset k c.sections ≤ length b) (sym own_header)
@@ -386,7 +397,8 @@ some_segment : (h : Ehdr) (g k : ℕ → Phdr) (end : ℕ) (P : Phdr → Type 0)
     (x : ℕ) → SomeSegment h end k P field x → SomeSegment h end g P field x
 some_segment h g k end P field agree x (j, below, broken, at) = (j, below, subst P (sym (agree j below)) broken, at)
 
-loads : (h : Ehdr) (g k : ℕ → Phdr) (m : ℕ) → ((j : ℕ) → j < m → g j ≡ k j) → (x : ℕ) → load_out_of_order h m k x → load_out_of_order h m g x
+loads : (h : Ehdr) (g k : ℕ → Phdr) (m : ℕ) → ((j : ℕ) → j < m → g j ≡ k j) → (x : ℕ) → load_out_of_order h m k x →
+    load_out_of_order h m g x
 loads h g k m agree x (i, j, below, load, before, falls, at) =
     let under = before.below in
     let gi : g i ≡ k i = agree i (omega arith) in
@@ -404,20 +416,24 @@ loads h g k m agree x (i, j, below, load, before, falls, at) =
       at,
     )
 
-map_agree : {B : Type 0} (f g : ℕ → B) (a n : ℕ) → ((i : ℕ) → i < a + n → f i ≡ g i) → map f (range_with_len a n) ≡ map g (range_with_len a n)
+map_agree : {B : Type 0} (f g : ℕ → B) (a n : ℕ) → ((i : ℕ) → i < a + n → f i ≡ g i) →
+    map f (range_with_len a n) ≡ map g (range_with_len a n)
 map_agree f g a zero agree = refl
-map_agree f g a (suc n) agree = ap₂ (λ (x : _) (xs : List _). x ∷ xs) (agree a (omega arith)) (map_agree f g (a + 1) n (λ i lt. agree i (omega arith)))
+map_agree f g a (suc n) agree =
+    ap₂ (λ (x : _) (xs : List _). x ∷ xs) (agree a (omega arith)) (map_agree f g (a + 1) n (λ i lt. agree i (omega arith)))
 
 same_extents : (h : Ehdr) (n m : ℕ) (s t : ℕ → Shdr) → ((i : ℕ) → i < n → s i ≡ t i) → extents h n m s ≡ extents h n m t
 unfolding extents
 same_extents h n m s t agree =
     let contents : map (λ i. content_extent (s i)) (range_with_len 0 n) ≡ map (λ i. content_extent (t i)) (range_with_len 0 n) =
     map_agree (λ i. content_extent (s i)) (λ i. content_extent (t i)) 0 n (λ i lt. ap content_extent (agree i (omega arith))) in
-    ap (λ (cs : List Extent). record { start = 0; len = EHDR_SIZE } ∷ record { start = h.e_shoff; len = SHDR_SIZE * n } ∷ record { start = h.e_phoff; len = PHDR_SIZE * m } ∷ cs) contents
+    ap (λ (cs : List Extent). record { start = 0; len = EHDR_SIZE } ∷ record { start = h.e_shoff; len = SHDR_SIZE * n } ∷ record
+    { start = h.e_phoff; len = PHDR_SIZE * m } ∷ cs) contents
 
 -- ---- the rules, run by run
 
-same_section_rules : (len : ℕ) (h : Ehdr) (n : ℕ) (s t : ℕ → Shdr) → ((i : ℕ) → i < n → s i ≡ t i) → AreSame (section_header_rules len h n s) (section_header_rules len h n t)
+same_section_rules : (len : ℕ) (h : Ehdr) (n : ℕ) (s t : ℕ → Shdr) → ((i : ℕ) → i < n → s i ≡ t i) →
+    AreSame (section_header_rules len h n s) (section_header_rules len h n t)
 unfolding section_header_rules
 same_section_rules len h n s t agree =
     let back : (i : ℕ) → i < n → t i ≡ s i = λ i lt. sym (agree i lt) in (
@@ -432,7 +448,8 @@ same_section_rules len h n s t agree =
       ),
     )
 
-same_segment_rules : (len : ℕ) (h : Ehdr) (m : ℕ) (g k : ℕ → Phdr) → ((j : ℕ) → j < m → g j ≡ k j) → AreSame (segment_rules len h m g) (segment_rules len h m k)
+same_segment_rules : (len : ℕ) (h : Ehdr) (m : ℕ) (g k : ℕ → Phdr) → ((j : ℕ) → j < m → g j ≡ k j) →
+    AreSame (segment_rules len h m g) (segment_rules len h m k)
 unfolding segment_rules
 same_segment_rules len h m g k agree =
     let back : (j : ℕ) → j < m → k j ≡ g j = λ j lt. sym (agree j lt) in (
@@ -485,7 +502,8 @@ same_entries len h c s t g k names sections segments table =
     (AreSame-append _ _ _ _ (same_segment_rules len h c.segments g k segments)
     (same_name_rules h c.sections c.name_table s t names sections table))
 
-same_overlap : (h : Ehdr) (n m : ℕ) (s t : ℕ → Shdr) → ((i : ℕ) → i < n → s i ≡ t i) → AreSame (overlap_rules h n m s) (overlap_rules h n m t)
+same_overlap : (h : Ehdr) (n m : ℕ) (s t : ℕ → Shdr) → ((i : ℕ) → i < n → s i ≡ t i) →
+    AreSame (overlap_rules h n m s) (overlap_rules h n m t)
 same_overlap h n m s t agree =
     let same = same_extents h n m s t agree in
     (refl, (λ x. subst (λ (es : List Extent). Doubly es x) same), (λ x. subst (λ (es : List Extent). Doubly es x) (sym same)), tt)

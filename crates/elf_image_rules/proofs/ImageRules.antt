@@ -1,7 +1,8 @@
 -- After runs of rules that found nothing, what the rest finds is what all find; the lemmas `from_..` chain the runs up to rule 32. A fault
 -- of these is the file's fault (`fault_of_records`). If there is none, the fault is rule 33 at the lowest byte that two extents hold, or no
 -- rule is broken (`fault_of_extents`).
-use Rattle.std.proofs.Common.{◌≡◌, ℕ, inl, inr, Option, None, Some, List, [], ◌∷◌, ◌++◌, Result, Ok, Err, refl, sym, ap, subst, ◌∙◌, arith, ◌<◌, ◌≤◌, ◌⊎◌, zero, suc, length}
+use Rattle.std.proofs.Common.{◌≡◌, ℕ, inl, inr, Option, None, Some, List, [], ◌∷◌, ◌++◌, Result, Ok, Err, refl, sym, ap, subst, ◌∙◌, arith}
+use Rattle.std.proofs.Common.{◌<◌, ◌≤◌, ◌⊎◌, zero, suc, length}
 use Rattle.std.specs.Result.{IsErrAnd}
 use Rattle.std.proofs.lemmas.Bool.{cases_lt}
 use Rattle.std.specs.Prelude.{IfErr, IfOk, OnErr}
@@ -11,7 +12,10 @@ use Rattle.elf_field.specs.declared.ehdr.Ehdr.{Ehdr}
 use Rattle.elf_field.specs.declared.phdr.Phdr.{Phdr}
 use Rattle.elf_field.specs.declared.shdr.Shdr.{Shdr}
 use Rattle.elf_image_rules.specs.Rows.{fault_of, FirstBy, FirstIn, Row, Ruled}
-use Rattle.elf_image_rules.specs.Rules.{IsLoad, IsLoadBefore, length_rules, ident_rules, header_rules, section_table_rules, program_table_rules, section_header_rules, segment_rules, section_name_rules, shared_fault, IsFault, KeepsRecordRules, extents_of_file, header_entry_rules, header_table_rules, image_rules, record_rules, rules_in}
+use Rattle.elf_image_rules.specs.Rules.{IsLoad, IsLoadBefore, length_rules, ident_rules, header_rules, section_table_rules}
+use Rattle.elf_image_rules.specs.Rules.{program_table_rules, section_header_rules, segment_rules, section_name_rules, shared_fault, IsFault}
+use Rattle.elf_image_rules.specs.Rules.{KeepsRecordRules, extents_of_file, header_entry_rules, header_table_rules, image_rules}
+use Rattle.elf_image_rules.specs.Rules.{record_rules, rules_in}
 use Rattle.elf_image_rules.specs.Tables.{counts_in, header, sections, segments, names, names_at, name_table}
 use Rattle.elf_image_rule_names.specs.declared.broken.Broken.{Broken}
 use Rattle.elf_image_rules.specs.declared.tables.Counts.{Counts}
@@ -289,15 +293,18 @@ pub from_entries : (b : List ℕ) (h : Ehdr) (first : Shdr) (c : Counts) (found 
 unfolding program_table_rules names
 from_entries b h first c found e counts_e table programs run =
     let counted = subst
-    (λ (k : Counts). FirstIn (header_entry_rules (length b) h k (sections b h) (segments b h) (names_at b h k.name_table)) found) counts_e run in
+    (λ (k : Counts). FirstIn (header_entry_rules (length b) h k (sections b h) (segments b h) (names_at b h k.name_table)) found) counts_e
+    run in
     let named = subst
-    (λ (f : Shdr). FirstIn (header_entry_rules (length b) h (counts_in h first) (sections b h) (segments b h) (names_at b h (name_table h f))) found) e counted in
+    (λ (f : Shdr). FirstIn
+    (header_entry_rules (length b) h (counts_in h first) (sections b h) (segments b h) (names_at b h (name_table h f))) found) e counted in
     from_program_table b h first found e table
     (FirstIn-later (program_table_rules (length b) h first) _ found programs named)
 
 -- the runs of rules 22 to 32, of abstract tables
 pub from_sections : (len : ℕ) (h : Ehdr) (c : Counts) (s : ℕ → Shdr) (g : ℕ → Phdr) (t : List ℕ) (found : Option (ℕ × ℕ)) →
-    FirstIn (section_header_rules len h c.sections s ++ (segment_rules len h c.segments g ++ section_name_rules h c.sections c.name_table s t)) found →
+    FirstIn (section_header_rules len h c.sections s ++
+    (segment_rules len h c.segments g ++ section_name_rules h c.sections c.name_table s t)) found →
     FirstIn (header_entry_rules len h c s g t) found
 unfolding header_entry_rules
 from_sections len h c s g t found run = run

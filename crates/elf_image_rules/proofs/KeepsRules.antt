@@ -1,6 +1,7 @@
 -- No rule is broken exactly if each rule's positive fact holds, run by run: a rule says that something is wrong, its fact that it is
 -- right, and each test of numbers is decidable.
-use Rattle.std.proofs.Common.{◌≡◌, ◌≢◌, ℕ, Bool, true, false, zero, suc, ◌+◌, ◌*◌, ◌/◌, ◌%◌, ◌^◌, ◌≤◌, ◌⊎◌, inl, inr, refl, sym, ◌∙◌, ap, arith, ◌<◌, ◌-◌, None, List, ◌∷◌, length}
+use Rattle.std.proofs.Common.{◌≡◌, ◌≢◌, ℕ, Bool, true, false, zero, suc, ◌+◌, ◌*◌, ◌/◌, ◌%◌, ◌^◌, ◌≤◌, ◌⊎◌, inl, inr, refl, sym, ◌∙◌, ap}
+use Rattle.std.proofs.Common.{arith, ◌<◌, ◌-◌, None, List, ◌∷◌, length}
 use Rattle.std.specs.Int.{IsPowerOfTwo}
 use Rattle.std.specs.Int.Count.{ones, ones_step}
 use Rattle.std.proofs.Math.Nat.{pow-suc}
@@ -14,9 +15,18 @@ use Rattle.elf_field.specs.declared.ehdr.Ehdr.{Ehdr}
 use Rattle.elf_field.specs.declared.phdr.Phdr.{Phdr}
 use Rattle.elf_field.specs.declared.shdr.Shdr.{Shdr}
 use Rattle.elf_image_rules.proofs.ImageRules.{FirstIn-behind, FirstIn-front, FirstIn-later}
-use Rattle.elf_image_rules.specs.KeepsRules.{IsAlignment, IsNullHeader, KeepsEachRecordRule, KeepsHeaderRules, KeepsIdentRules, KeepsLengthRules, KeepsNameRules, KeepsProgramTableRules, KeepsRules, KeepsSectionRules, KeepsSectionTableRules, KeepsSegmentRules}
+use Rattle.elf_image_rules.specs.KeepsRules.{IsAlignment, IsNullHeader, KeepsEachRecordRule, KeepsHeaderRules, KeepsIdentRules}
+use Rattle.elf_image_rules.specs.KeepsRules.{KeepsLengthRules, KeepsNameRules, KeepsProgramTableRules, KeepsRules, KeepsSectionRules}
+use Rattle.elf_image_rules.specs.KeepsRules.{KeepsSectionTableRules, KeepsSegmentRules}
 use Rattle.elf_image_rules.specs.Rows.{AtEntry, FirstIn}
-use Rattle.elf_image_rules.specs.Rules.{IsWrongAlignment, MAX_LEN, count_without_section_table, header_rules, ident_rules, length_rules, header_entry_rules, header_table_rules, image_rules, record_rules, section_name_rules, program_table_rules, wrong_extended_segment_count, wrong_segment_count, IsMisalignedSection, IsNamePastEnd, HasWrongSectionAlignment, IsContentPastEnd, SomeSectionHeader, section_header_rules, first_section_header_not_null, section_table_rules, wrong_extended_name_table_index, wrong_extended_section_count, wrong_name_table_index, IsIncongruentSegment, HasFileSizeAboveMemorySize, HasWrongSegmentAlignment, IsSegmentPastEnd, SomeSegment, segment_rules, UnclosedAt}
+use Rattle.elf_image_rules.specs.Rules.{IsWrongAlignment, MAX_LEN, count_without_section_table, header_rules, ident_rules, length_rules}
+use Rattle.elf_image_rules.specs.Rules.{header_entry_rules, header_table_rules, image_rules, record_rules, section_name_rules}
+use Rattle.elf_image_rules.specs.Rules.{program_table_rules, wrong_extended_segment_count, wrong_segment_count, IsMisalignedSection}
+use Rattle.elf_image_rules.specs.Rules.{IsNamePastEnd, HasWrongSectionAlignment, IsContentPastEnd, SomeSectionHeader, section_header_rules}
+use Rattle.elf_image_rules.specs.Rules.{first_section_header_not_null, section_table_rules, wrong_extended_name_table_index}
+use Rattle.elf_image_rules.specs.Rules.{wrong_extended_section_count, wrong_name_table_index, IsIncongruentSegment}
+use Rattle.elf_image_rules.specs.Rules.{HasFileSizeAboveMemorySize, HasWrongSegmentAlignment, IsSegmentPastEnd, SomeSegment, segment_rules}
+use Rattle.elf_image_rules.specs.Rules.{UnclosedAt}
 use Rattle.elf_image_rules.specs.Tables.{phdr_offset, program_header_count, section_header_count, shdr_offset}
 
 -- A number is a power of two exactly if one bit of it is set. From one bit to a power: by induction on a bound, an even number is twice its
@@ -187,7 +197,8 @@ header_unbroken len h kept = (
 
 -- ---- rules 13 to 17
 
-section_table_kept : (len : ℕ) (h : Ehdr) (first : Shdr) → FirstIn (section_table_rules len h first) None → KeepsSectionTableRules len h first
+section_table_kept : (len : ℕ) (h : Ehdr) (first : Shdr) → FirstIn (section_table_rules len h first) None →
+    KeepsSectionTableRules len h first
 unfolding section_table_rules
 section_table_kept len h first clean = record {
   null = λ there. record {
@@ -227,7 +238,8 @@ not_null h first kept x (inr (inr (inr (inr (inr (inl ((there, other), at)))))))
 not_null h first kept x (inr (inr (inr (inr (inr (inr (inl ((there, other), at)))))))) = other (kept there).sh_entsize
 not_null h first kept x (inr (inr (inr (inr (inr (inr (inr none))))))) = none
 
-right_section_count : (len : ℕ) (h : Ehdr) (first : Shdr) → KeepsSectionTableRules len h first → Never (wrong_extended_section_count h first)
+right_section_count : (len : ℕ) (h : Ehdr) (first : Shdr) → KeepsSectionTableRules len h first →
+    Never (wrong_extended_section_count h first)
 right_section_count len h first kept x ((there, inl (some, other)), at) = other ((kept.extended_section_count there).0 some)
 right_section_count len h first kept x ((there, inr (none, lt)), at) =
     let le = (kept.extended_section_count there).1 none in absurd (omega arith)
@@ -236,14 +248,16 @@ right_name_table : (len : ℕ) (h : Ehdr) (first : Shdr) → KeepsSectionTableRu
 right_name_table len h first kept x ((there, (plain, inl le)), at) = let lt = (kept.name_table_index there plain).0 in absurd (omega arith)
 right_name_table len h first kept x ((there, (plain, inr le)), at) = let lt = (kept.name_table_index there plain).1 in absurd (omega arith)
 
-right_extended_name_table : (len : ℕ) (h : Ehdr) (first : Shdr) → KeepsSectionTableRules len h first → Never (wrong_extended_name_table_index h first)
+right_extended_name_table : (len : ℕ) (h : Ehdr) (first : Shdr) → KeepsSectionTableRules len h first →
+    Never (wrong_extended_name_table_index h first)
 right_extended_name_table len h first kept x ((there, inl (escape, inl lt)), at) =
     let le = ((kept.extended_name_table_index there).0 escape).0 in absurd (omega arith)
 right_extended_name_table len h first kept x ((there, inl (escape, inr le)), at) =
     let lt = ((kept.extended_name_table_index there).0 escape).1 in absurd (omega arith)
 right_extended_name_table len h first kept x ((there, inr (plain, other)), at) = other ((kept.extended_name_table_index there).1 plain)
 
-section_table_unbroken : (len : ℕ) (h : Ehdr) (first : Shdr) → KeepsSectionTableRules len h first → FirstIn (section_table_rules len h first) None
+section_table_unbroken : (len : ℕ) (h : Ehdr) (first : Shdr) → KeepsSectionTableRules len h first →
+    FirstIn (section_table_rules len h first) None
 unfolding section_table_rules
 section_table_unbroken len h first kept = (
   not_null h first kept.null,
@@ -258,7 +272,8 @@ section_table_unbroken len h first kept = (
 
 -- ---- rules 18 to 21
 
-program_table_kept : (len : ℕ) (h : Ehdr) (first : Shdr) → FirstIn (program_table_rules len h first) None → KeepsProgramTableRules len h first
+program_table_kept : (len : ℕ) (h : Ehdr) (first : Shdr) → FirstIn (program_table_rules len h first) None →
+    KeepsProgramTableRules len h first
 unfolding program_table_rules
 program_table_kept len h first clean = record {
   table_and_count = (
@@ -279,12 +294,14 @@ right_segment_count len h first kept x (inl (none, some), at) = some (kept.table
 right_segment_count len h first kept x (inr (inl (some, none)), at) = some (kept.table_and_count.1 none)
 right_segment_count len h first kept x (inr (inr (escape, none)), at) = kept.table_and_count.2 escape none
 
-right_extended_count : (len : ℕ) (h : Ehdr) (first : Shdr) → KeepsProgramTableRules len h first → Never (wrong_extended_segment_count h first)
+right_extended_count : (len : ℕ) (h : Ehdr) (first : Shdr) → KeepsProgramTableRules len h first →
+    Never (wrong_extended_segment_count h first)
 right_extended_count len h first kept x ((there, inl (escape, lt)), at) =
     let le = (kept.extended_segment_count there).0 escape in absurd (omega arith)
 right_extended_count len h first kept x ((there, inr (plain, other)), at) = other ((kept.extended_segment_count there).1 plain)
 
-program_table_unbroken : (len : ℕ) (h : Ehdr) (first : Shdr) → KeepsProgramTableRules len h first → FirstIn (program_table_rules len h first) None
+program_table_unbroken : (len : ℕ) (h : Ehdr) (first : Shdr) → KeepsProgramTableRules len h first →
+    FirstIn (program_table_rules len h first) None
 unfolding program_table_rules
 program_table_unbroken len h first kept = (
   right_segment_count len h first kept,
@@ -315,7 +332,8 @@ unfolding section_header_rules
 sections_kept len h n s clean = record {
   alignment = λ i low high typed. is_alignment _ (section_kept h n s HasWrongSectionAlignment _ clean.0 i low high typed);
   address = λ i low high typed some. equal _ _ (λ other. section_kept h n s IsMisalignedSection _ clean.1.0 i low high typed (some, other));
-  content = λ i low high typed bits some. at_most _ _ (λ lt. section_kept h n s (IsContentPastEnd len) _ clean.1.1.0 i low high typed (bits, some, lt));
+  content = λ i low high typed bits some. at_most _ _
+      (λ lt. section_kept h n s (IsContentPastEnd len) _ clean.1.1.0 i low high typed (bits, some, lt));
 }
 
 sections_unbroken : (len : ℕ) (h : Ehdr) (n : ℕ) (s : ℕ → Shdr) → KeepsSectionRules len n s → FirstIn (section_header_rules len h n s) None
@@ -325,7 +343,8 @@ sections_unbroken len h n s kept = (
   (
     section_never h n s IsMisalignedSection _ (λ i low high typed (some, other). other (kept.address i low high typed some)),
     (
-      section_never h n s (IsContentPastEnd len) _ (λ i low high typed (bits, some, lt). let le = kept.content i low high typed bits some in absurd (omega arith)),
+      section_never h n s (IsContentPastEnd len) _
+          (λ i low high typed (bits, some, lt). let le = kept.content i low high typed bits some in absurd (omega arith)),
       tt,
     ),
   ),
@@ -337,7 +356,8 @@ segment_kept : (h : Ehdr) (m : ℕ) (g : ℕ → Phdr) (P : Phdr → Type 0) (fi
     (j : ℕ) → j < m → P (g j) → ⊥
 segment_kept h m g P field never j below broken = entry_kept m (λ k. P (g k)) (λ k. phdr_offset h k + field) never j below broken
 
-segment_never : (h : Ehdr) (m : ℕ) (g : ℕ → Phdr) (P : Phdr → Type 0) (field : ℕ) → ((j : ℕ) → j < m → P (g j) → ⊥) → Never (SomeSegment h m g P field)
+segment_never : (h : Ehdr) (m : ℕ) (g : ℕ → Phdr) (P : Phdr → Type 0) (field : ℕ) → ((j : ℕ) → j < m → P (g j) → ⊥) →
+    Never (SomeSegment h m g P field)
 segment_never h m g P field kept = entry_never m (λ k. P (g k)) (λ k. phdr_offset h k + field) kept
 
 segments_kept : (len : ℕ) (h : Ehdr) (m : ℕ) (g : ℕ → Phdr) → FirstIn (segment_rules len h m g) None → KeepsSegmentRules len m g
@@ -346,14 +366,16 @@ segments_kept len h m g clean = record {
   bytes = λ j below typed some. at_most _ _ (λ lt. segment_kept h m g (IsSegmentPastEnd len) _ clean.0 j below (typed, some, lt));
   sizes = λ j below load. at_most _ _ (λ lt. segment_kept h m g HasFileSizeAboveMemorySize _ clean.1.0 j below (load, lt));
   alignment = λ j below load. is_alignment _ (λ wrong. segment_kept h m g HasWrongSegmentAlignment _ clean.1.1.0 j below (load, wrong));
-  congruence = λ j below load some. equal _ _ (λ other. segment_kept h m g IsIncongruentSegment _ clean.1.1.1.0 j below (load, some, other));
+  congruence =
+      λ j below load some. equal _ _ (λ other. segment_kept h m g IsIncongruentSegment _ clean.1.1.1.0 j below (load, some, other));
   order = λ k j below load before. at_most _ _ (λ lt. clean.1.1.1.1.0 _ (k, j, below, load, before, lt, refl));
 }
 
 segments_unbroken : (len : ℕ) (h : Ehdr) (m : ℕ) (g : ℕ → Phdr) → KeepsSegmentRules len m g → FirstIn (segment_rules len h m g) None
 unfolding segment_rules
 segments_unbroken len h m g kept = (
-  segment_never h m g (IsSegmentPastEnd len) _ (λ j below (typed, some, lt). let le = kept.bytes j below typed some in absurd (omega arith)),
+  segment_never h m g (IsSegmentPastEnd len) _
+      (λ j below (typed, some, lt). let le = kept.bytes j below typed some in absurd (omega arith)),
   (
     segment_never h m g HasFileSizeAboveMemorySize _ (λ j below (load, lt). let le = kept.sizes j below load in absurd (omega arith)),
     (
@@ -368,7 +390,8 @@ segments_unbroken len h m g kept = (
 
 -- ---- rules 30 to 32
 
-names_kept : (h : Ehdr) (n k : ℕ) (s : ℕ → Shdr) (names : List ℕ) → FirstIn (section_name_rules h n k s names) None → KeepsNameRules n k s names
+names_kept : (h : Ehdr) (n k : ℕ) (s : ℕ → Shdr) (names : List ℕ) → FirstIn (section_name_rules h n k s names) None →
+    KeepsNameRules n k s names
 unfolding section_name_rules
 names_kept h n k s names clean = record {
   name_table_type = λ some. equal _ _ (λ other. clean.0 _ ((some, other), refl));
@@ -376,7 +399,9 @@ names_kept h n k s names clean = record {
     equal _ _ (λ other. clean.1.0 _ (inl ((some, other), refl))),
     equal _ _ (λ other. clean.1.0 _ (inr (inl ((some, other), refl)))),
   );
-  names_begin = λ i low high typed named. above _ _ (λ le. section_kept h n s (IsNamePastEnd (length names)) _ clean.1.1.0 i low high typed (named, le));
+  names_begin =
+      λ i low high typed named. above _ _
+      (λ le. section_kept h n s (IsNamePastEnd (length names)) _ clean.1.1.0 i low high typed (named, le));
 }
 
 closed_never : (names : List ℕ) (start : ℕ) → (0 < length names → (slice_index names 0 ≡ 0) × (slice_index names (length names - 1) ≡ 0)) →
@@ -385,14 +410,16 @@ closed_never names start kept x (inl ((some, other), at)) = other (kept some).0
 closed_never names start kept x (inr (inl ((some, other), at))) = other (kept some).1
 closed_never names start kept x (inr (inr none)) = none
 
-names_unbroken : (h : Ehdr) (n k : ℕ) (s : ℕ → Shdr) (names : List ℕ) → KeepsNameRules n k s names → FirstIn (section_name_rules h n k s names) None
+names_unbroken : (h : Ehdr) (n k : ℕ) (s : ℕ → Shdr) (names : List ℕ) → KeepsNameRules n k s names →
+    FirstIn (section_name_rules h n k s names) None
 unfolding section_name_rules
 names_unbroken h n k s names kept = (
   (λ x ((some, other), at). other (kept.name_table_type some)),
   (
     closed_never names _ kept.closed,
     (
-      section_never h n s (IsNamePastEnd (length names)) _ (λ i low high typed (named, le). let lt = kept.names_begin i low high typed named in absurd (omega arith)),
+      section_never h n s (IsNamePastEnd (length names)) _
+          (λ i low high typed (named, le). let lt = kept.names_begin i low high typed named in absurd (omega arith)),
       tt,
     ),
   ),
@@ -449,4 +476,5 @@ pub rules_unbroken : (len : ℕ) (h : Ehdr) (s : ℕ → Shdr) (g : ℕ → Phdr
     KeepsRules len h s g names → FirstIn (image_rules len h s g names) None
 unfolding image_rules
 rules_unbroken len h s g names kept =
-    FirstIn-later (record_rules len h s g names) _ None (records_unbroken len h s g names kept.records) (never_from_disjoint _ kept.disjoint, tt)
+    FirstIn-later (record_rules len h s g names) _ None (records_unbroken len h s g names kept.records)
+    (never_from_disjoint _ kept.disjoint, tt)

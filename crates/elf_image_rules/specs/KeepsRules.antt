@@ -4,7 +4,8 @@
 use Rattle.std.specs.Prelude.{◌≡◌, ◌≢◌, ◌<◌, ◌≤◌, ◌+◌, ℕ, ◌-◌, ◌%◌, ◌⊎◌, List, length, slice_index, None, [], ◌∷◌}
 use Rattle.std.specs.Int.{IsPowerOfTwo}
 use Rattle.elf_extent.specs.Extent.{AreDisjoint}
-use Rattle.elf_field.specs.Abi.{EHDR_SIZE, PN_XNUM, SHT_NOBITS, SHT_NULL, EI_CLASS, EI_DATA, EI_VERSION, ELFCLASS64, ELFDATA2LSB, ELFDATA2MSB, EV_CURRENT, MAGIC, PHDR_SIZE, PT_NULL, SHDR_SIZE, SHN_LORESERVE, SHN_XINDEX, SHT_STRTAB}
+use Rattle.elf_field.specs.Abi.{EHDR_SIZE, PN_XNUM, SHT_NOBITS, SHT_NULL, EI_CLASS, EI_DATA, EI_VERSION, ELFCLASS64, ELFDATA2LSB}
+use Rattle.elf_field.specs.Abi.{ELFDATA2MSB, EV_CURRENT, MAGIC, PHDR_SIZE, PT_NULL, SHDR_SIZE, SHN_LORESERVE, SHN_XINDEX, SHT_STRTAB}
 use Rattle.elf_field.specs.declared.ehdr.Ehdr.{Ehdr}
 use Rattle.elf_field.specs.declared.phdr.Phdr.{Phdr}
 use Rattle.elf_field.specs.declared.shdr.Shdr.{Shdr}
@@ -29,7 +30,8 @@ pub record HasSoundTables (len : ℕ) (h : Ehdr) (s : ℕ → Shdr) : Type 0 whe
   pub name_table : h.e_shoff ≢ 0 → name_table h (s 0) < section_header_count h (s 0)
   -- the program table lies in the file, and so does each content that is not empty
   pub program_table : 0 < program_header_count h (s 0) → phdr_offset h (program_header_count h (s 0)) ≤ len
-  pub content : (i : ℕ) → 0 < i → i < section_header_count h (s 0) → (s i).sh_type ≢ SHT_NULL → (s i).sh_type ≢ SHT_NOBITS → 0 < (s i).sh_size →
+  pub content : (i : ℕ) → 0 < i → i < section_header_count h (s 0) → (s i).sh_type ≢ SHT_NULL → (s i).sh_type ≢ SHT_NOBITS →
+      0 < (s i).sh_size →
       (s i).sh_offset + (s i).sh_size ≤ len
 
 -- rules 1 and 2: the file has a header, and is not longer than the longest

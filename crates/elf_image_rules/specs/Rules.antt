@@ -1,19 +1,27 @@
 -- Rules 1 to 33, each as the row of offsets where it is broken, in the order in which they count. (gABI chapters 4 and 5.)
-use Rattle.std.specs.Prelude.{◌≡◌, ◌≢◌, ℕ, ◌+◌, ◌^◌, ◌<◌, ◌≤◌, ◌⊎◌, List, [], ◌∷◌, length, slice_index, ◌-◌, ◌%◌, ◌*◌, Option, None, Some, map, slice_get, ◌++◌}
+use Rattle.std.specs.Prelude.{◌≡◌, ◌≢◌, ℕ, ◌+◌, ◌^◌, ◌<◌, ◌≤◌, ◌⊎◌, List, [], ◌∷◌, length, slice_index, ◌-◌, ◌%◌, ◌*◌, Option, None, Some}
+use Rattle.std.specs.Prelude.{map, slice_get, ◌++◌}
 use Rattle.std.specs.Int.{IsPowerOfTwo}
 use Rattle.std.specs.List.{range_with_len}
 use Rattle.elf_extent.specs.Extent.{Doubly, HasAt}
 use Rattle.elf_extent.specs.declared.extent.Extent.{Extent}
-use Rattle.elf_field.specs.Abi.{EHDR_SIZE, EI_CLASS, EI_DATA, EI_VERSION, ELFCLASS64, ELFDATA2LSB, ELFDATA2MSB, EV_CURRENT, E_EHSIZE_AT, E_SHENTSIZE_AT, E_SHNUM_AT, E_SHOFF_AT, E_SHSTRNDX_AT, E_VERSION_AT, MAGIC, SHDR_SIZE, SHN_LORESERVE, SHN_XINDEX, SHT_NULL, SH_ADDRALIGN_AT, SH_ADDR_AT, SH_ENTSIZE_AT, SH_FLAGS_AT, SH_LINK_AT, SH_NAME_AT, SH_OFFSET_AT, SH_SIZE_AT, SH_TYPE_AT, E_PHENTSIZE_AT, E_PHNUM_AT, E_PHOFF_AT, PHDR_SIZE, PN_XNUM, SH_INFO_AT, SHT_NOBITS, PT_LOAD, PT_NULL, P_ALIGN_AT, P_FILESZ_AT, P_OFFSET_AT, P_VADDR_AT, SHT_STRTAB}
+use Rattle.elf_field.specs.Abi.{EHDR_SIZE, EI_CLASS, EI_DATA, EI_VERSION, ELFCLASS64, ELFDATA2LSB, ELFDATA2MSB, EV_CURRENT, E_EHSIZE_AT}
+use Rattle.elf_field.specs.Abi.{E_SHENTSIZE_AT, E_SHNUM_AT, E_SHOFF_AT, E_SHSTRNDX_AT, E_VERSION_AT, MAGIC, SHDR_SIZE, SHN_LORESERVE}
+use Rattle.elf_field.specs.Abi.{SHN_XINDEX, SHT_NULL, SH_ADDRALIGN_AT, SH_ADDR_AT, SH_ENTSIZE_AT, SH_FLAGS_AT, SH_LINK_AT, SH_NAME_AT}
+use Rattle.elf_field.specs.Abi.{SH_OFFSET_AT, SH_SIZE_AT, SH_TYPE_AT, E_PHENTSIZE_AT, E_PHNUM_AT, E_PHOFF_AT, PHDR_SIZE, PN_XNUM}
+use Rattle.elf_field.specs.Abi.{SH_INFO_AT, SHT_NOBITS, PT_LOAD, PT_NULL, P_ALIGN_AT, P_FILESZ_AT, P_OFFSET_AT, P_VADDR_AT, SHT_STRTAB}
 use Rattle.elf_field.specs.declared.ehdr.Ehdr.{Ehdr}
 use Rattle.elf_field.specs.declared.phdr.Phdr.{Phdr}
 use Rattle.elf_field.specs.declared.shdr.Shdr.{Shdr}
 pub use Rattle.elf_image_rule_names.specs.Longest.{MAX_LEN}
 use Rattle.elf_image_rules.specs.Rows.{Row, Ruled, rule, When, Either, AtEntry, FirstIn}
-use Rattle.elf_image_rules.specs.Tables.{section_header_count, shdr_offset, program_header_count, phdr_offset, content_extent, counts_in, header, sections, segments, names}
-use Rattle.elf_image_rules.specs.declared.entry_rules.SectionRule.TheVariants.{ContentPastEnd, MisalignedSection, NamePastEnd, WrongSectionAlignment}
+use Rattle.elf_image_rules.specs.Tables.{section_header_count, shdr_offset, program_header_count, phdr_offset, content_extent, counts_in}
+use Rattle.elf_image_rules.specs.Tables.{header, sections, segments, names}
+use Rattle.elf_image_rules.specs.declared.entry_rules.SectionRule.TheVariants.{ContentPastEnd, MisalignedSection, NamePastEnd}
+use Rattle.elf_image_rules.specs.declared.entry_rules.SectionRule.TheVariants.{WrongSectionAlignment}
 use Rattle.elf_image_rules.specs.declared.entry_rules.SectionRule.{SectionRule}
-use Rattle.elf_image_rules.specs.declared.entry_rules.SegmentRule.TheVariants.{FileSizeAboveMemorySize, IncongruentSegment, SegmentPastEnd, WrongSegmentAlignment}
+use Rattle.elf_image_rules.specs.declared.entry_rules.SegmentRule.TheVariants.{FileSizeAboveMemorySize, IncongruentSegment, SegmentPastEnd}
+use Rattle.elf_image_rules.specs.declared.entry_rules.SegmentRule.TheVariants.{WrongSegmentAlignment}
 use Rattle.elf_image_rules.specs.declared.entry_rules.SegmentRule.{SegmentRule}
 use Rattle.elf_image_rules.specs.declared.name_rules.TableEnds.{TableEnds}
 use Rattle.elf_image_rules.specs.declared.tables.Counts.{Counts}

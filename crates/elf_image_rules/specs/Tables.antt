@@ -47,7 +47,20 @@ counts_in h first = record {
 
 -- the section header used for one that isn't there
 abbrev pub no_section_header : Shdr
-no_section_header = record { sh_name = 0; sh_type = 0; sh_flags = 0; sh_addr = 0; sh_offset = 0; sh_size = 0; sh_link = 0; sh_info = 0; sh_addralign = 0; sh_entsize = 0 }
+no_section_header =
+    record {
+      sh_name = 0;
+      sh_type = 0;
+      sh_flags = 0;
+      sh_addr = 0;
+      sh_offset = 0;
+      sh_size = 0;
+      sh_link = 0;
+      sh_info = 0;
+      sh_addralign =
+          0;
+      sh_entsize = 0;
+    }
 
 -- the program header used for one that isn't there
 abbrev pub no_program_header : Phdr

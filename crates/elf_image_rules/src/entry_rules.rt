@@ -1,6 +1,8 @@
 //! Rules of one section header or one program header (gABI chapter 4, Sections; chapter 5, Program Header).
 ghost use Rattle.std.specs.Prelude.{◌↔◌, IsTrue, ◌+◌, ◌<◌, ◌≡◌, ◌^◌, ℕ, ◌≢◌, ◌%◌};
-ghost use Rattle.elf_image_rules.specs.Rules.{IsWrongAlignment, BreaksSectionHeader, IsMisalignedSection, IsContentPastEnd, SomeSectionHeader, section_field, section_header_rules, BreaksSegment, SomeSegment, load_out_of_order, segment_field, segment_rules};
+ghost use Rattle.elf_image_rules.specs.Rules.{IsWrongAlignment, BreaksSectionHeader, IsMisalignedSection, IsContentPastEnd};
+ghost use Rattle.elf_image_rules.specs.Rules.{SomeSectionHeader, section_field, section_header_rules, BreaksSegment, SomeSegment};
+ghost use Rattle.elf_image_rules.specs.Rules.{load_out_of_order, segment_field, segment_rules};
 ghost use Rattle.elf_extent.specs.Extent.{IsLowest};
 ghost use Rattle.elf_image_rules.specs.Rows.{fault_of, FirstIn};
 ghost use Rattle.elf_image_rules.specs.Tables.{shdr_offset, phdr_offset};

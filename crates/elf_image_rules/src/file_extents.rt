@@ -1,7 +1,11 @@
 //! The extents of a file, read as they are asked for: no memory is taken.
+//!
+//! Whether extents share a byte is found in two ways. [`verdict`](crate::verdict) promises to take no memory, so it cannot sort; `check`
+//! sorts. Both have one definition, `IsFault`.
 ghost use Rattle.std.specs.Prelude.{◌≡◌, ◌≤◌, ◌<◌, ◌+◌, ◌↔◌, IsFalse, IsTrue, IfOk, OnErr, Some, length, slice_get};
 ghost use Rattle.elf_extent.specs.Extent.{Doubly, Has, IsLowest, lower_of};
-ghost use Rattle.elf_image_rules.specs.Rules.{extents_of_file, DoublyBelow, ExtentsAscend, IsOutside, LieBetween, LieOutside, SharedBelow, IsFault, shared_fault};
+ghost use Rattle.elf_image_rules.specs.Rules.{extents_of_file, DoublyBelow, ExtentsAscend, IsOutside, LieBetween, LieOutside, SharedBelow};
+ghost use Rattle.elf_image_rules.specs.Rules.{IsFault, shared_fault};
 ghost use Rattle.elf_image_rules.specs.ValidatedRecords.{file_of};
 
 use crate::tables::extent_of_content;

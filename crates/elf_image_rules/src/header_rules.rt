@@ -2,7 +2,10 @@
 ghost use Rattle.std.specs.Prelude.{◌≡◌, ◌+◌, ◌≤◌, IfNone, OnOk, ◌≢◌, ◌<◌, ◌^◌, ◌↔◌, IsTrue};
 ghost use Rattle.elf_extent.specs.Extent.{IsLowest};
 ghost use Rattle.elf_image_rules.specs.Rows.{fault_of, FirstIn};
-ghost use Rattle.elf_image_rules.specs.Rules.{count_without_section_table, length_rules, ident_rules, header_rules, HasWrongExtendedNameTableIndex, HasWrongExtendedSectionCount, HasWrongNameTableIndex, first_section_header_not_null, section_table_rules, HasWrongExtendedSegmentCount, HasWrongSegmentCount, program_table_rules};
+ghost use Rattle.elf_image_rules.specs.Rules.{count_without_section_table, length_rules, ident_rules, header_rules};
+ghost use Rattle.elf_image_rules.specs.Rules.{HasWrongExtendedNameTableIndex, HasWrongExtendedSectionCount, HasWrongNameTableIndex};
+ghost use Rattle.elf_image_rules.specs.Rules.{first_section_header_not_null, section_table_rules, HasWrongExtendedSegmentCount};
+ghost use Rattle.elf_image_rules.specs.Rules.{HasWrongSegmentCount, program_table_rules};
 ghost use Rattle.elf_image_rules.specs.Tables.{name_table, section_header_count, shdr_offset, phdr_offset, program_header_count};
 
 use crate::rules::*;

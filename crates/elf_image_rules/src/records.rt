@@ -1,4 +1,6 @@
 //! Where the records of a file are read: in its bytes, or in tables in memory.
+//!
+//! One code over a trait ([`Records`]) tests both. A record that is missing in memory counts as zeros.
 ghost use Rattle.std.specs.Prelude.{◌≡◌, ◌≢◌, ◌≤◌, ◌+◌, length};
 
 use crate::tables::{NO_SECTION, NO_SEGMENT, section_at, segment_at};

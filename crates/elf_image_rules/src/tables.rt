@@ -1,7 +1,8 @@
 //! A file's header, section headers and program headers, and what they say of the file
 //! (gABI chapter 4, ELF Header and Sections; chapter 5, Program Header).
 ghost use Rattle.std.specs.Prelude.{◌≡◌, ◌≢◌, ◌≤◌, ◌<◌, ◌+◌, ◌^◌, length};
-ghost use Rattle.elf_image_rules.specs.Tables.{counts_in, order_of, shdr_offset, phdr_offset, header, sections, segments, section_header_count, program_header_count, name_table, bytes_in, content_extent};
+ghost use Rattle.elf_image_rules.specs.Tables.{counts_in, order_of, shdr_offset, phdr_offset, header, sections, segments};
+ghost use Rattle.elf_image_rules.specs.Tables.{section_header_count, program_header_count, name_table, bytes_in, content_extent};
 
 use elf_extent::Extent;
 use elf_field::abi::*;

@@ -1,5 +1,7 @@
 -- What users of a source need of its definitions.
-use Rattle.std.proofs.Common.{◌≡◌, ◌∙◌, ◌+◌, ◌%◌, ◌^◌, inl, inr, ℕ, List, None, Option, Some, ap, arith, refl, sym, ◌++◌, take, drop, ap₂, take-add, ◌-◌, ◌≤◌, ◌⊎◌, [], Result, Ok, Err, IfSome, OnOk, length, append-nil, append_assoc, length-append, take_all}
+use Rattle.std.proofs.Common.{◌≡◌, ◌∙◌, ◌+◌, ◌%◌, ◌^◌, inl, inr, ℕ, List, None, Option, Some, ap, arith, refl, sym, ◌++◌, take, drop, ap₂}
+use Rattle.std.proofs.Common.{take-add, ◌-◌, ◌≤◌, ◌⊎◌, [], Result, Ok, Err, IfSome, OnOk, length, append-nil, append_assoc, length-append}
+use Rattle.std.proofs.Common.{take_all}
 use Rattle.std.proofs.lemmas.List.{drop-drop, take_rest}
 use Rattle.std.proofs.KnownBytes.{Consumes-kept, Consumes-nil, Consumes-trans, Appends-trans}
 use Rattle.std.specs.Io.KnownBytes.{Appends, Consumes, IsAtEnd, Keeps}
@@ -11,9 +13,11 @@ use Rattle.elf_image_stream.specs.Source.{HasFailed, Fails, Reaches, Remembers, 
 use Rattle.elf_image_stream.specs.declared.source.Failures.{Failures}
 
 -- a read of bytes that the source has fails only where a call does
-pub failed_within : (content : Option (List ℕ)) (old new : Failures) (at n x : ℕ) → Reaches content (at + n) → HasFailed content old new at n x → Fails old new x
+pub failed_within : (content : Option (List ℕ)) (old new : Failures) (at n x : ℕ) → Reaches content (at + n) →
+    HasFailed content old new at n x → Fails old new x
 failed_within content old new at n x reaches (above, below, inl fails) = fails
-failed_within content old new at n x reaches (above, below, inr (still, (b, told, short))) = absurd (let long = reaches b told in omega arith)
+failed_within content old new at n x reaches (above, below, inr (still, (b, told, short))) =
+    absurd (let long = reaches b told in omega arith)
 
 -- one failure more is never none
 none_more : (c : ℕ) → c ≡ (c + 1) % 2 ^ 64 → ⊥
@@ -56,7 +60,8 @@ pub read_more : (a b c : Option (List ℕ)) (front old mid new : List ℕ) (n m 
     → IsReadBehind a b front (take n old) → Consumes b c (take m (drop n new)) → IsReadBehind a c front (take (n + m) new)
 read_more a b c front old mid new n m room kept before read = record {
   given = before.given ++ take m (drop n new);
-  behind = take-add n m new ∙ ap (λ l. l ++ take m (drop n new)) (kept ∙ room ∙ before.behind) ∙ append_assoc front before.given (take m (drop n new));
+  behind = take-add n m new ∙ ap (λ l. l ++ take m (drop n new)) (kept ∙ room ∙ before.behind) ∙
+      append_assoc front before.given (take m (drop n new));
   taken = Consumes-trans a b c before.given (take m (drop n new)) before.taken read;
 }
 
@@ -72,7 +77,8 @@ read_none a b c front old mid new n room kept before none = record {
 -- a read that failed gave nothing
 pub read_failed : (a b c : Option (List ℕ)) (front old mid new : List ℕ) (n : ℕ) → take n mid ≡ take n old → take n new ≡ take n mid
     → IsReadBehind a b front (take n old) → Keeps b c → IsReadBehind a c front (take n new)
-read_failed a b c front old mid new n room kept before same = read_none a b c front old mid new n room kept before (Consumes-kept b b c [] (Consumes-nil b) same)
+read_failed a b c front old mid new n room kept before same =
+    read_none a b c front old mid new n room kept before (Consumes-kept b b c [] (Consumes-nil b) same)
 
 -- a reader that is at its end, or gave n bytes, gave its first n
 pub gives_first : {U E : Type 0} (a b : Option (List ℕ)) (result : Result U E) (xs : List ℕ) (n : ℕ) → Consumes a b xs → length xs ≤ n
@@ -86,14 +92,16 @@ gives_first (Some bytes) (Some rest) (Ok u) xs n taken within (inl end) =
 gives_first (Some bytes) (Some rest) (Ok u) xs n taken within (inr long) = rw (taken, ← long) (sym (take-append_seam xs rest))
 
 -- a reader that is at its end, or filled what holds at most n bytes, gave its first bytes, up to n in all
-pub gives_up_to : {U E : Type 0} (a b : Option (List ℕ)) (result : Result U E) (old new : List ℕ) (n : ℕ) → IsReadBehind a b old new → length new ≤ n
+pub gives_up_to : {U E : Type 0} (a b : Option (List ℕ)) (result : Result U E) (old new : List ℕ) (n : ℕ) → IsReadBehind a b old new →
+    length new ≤ n
     → OnOk result (IsAtEnd b ⊎ (length new ≡ n)) → OnOk result (IfSome a (λ bytes. new ≡ old ++ take (n - length old) bytes))
 gives_up_to a b (Err e) old new n read within ends = tt
 gives_up_to None b (Ok u) old new n read within ends = tt
 gives_up_to {E = E} (Some bytes) b (Ok u) old new n read within ends =
     let counted : length new ≡ length old + length read.given = rw read.behind (length-append old read.given) in
     let most : length read.given ≤ n - length old = omega (omega_arith, counted, within) in
-    read.behind ∙ ap (λ l. old ++ l) (gives_first {E = E} (Some bytes) b (Ok u) read.given (n - length old) read.taken most (full ends counted))
+    read.behind ∙
+    ap (λ l. old ++ l) (gives_first {E = E} (Some bytes) b (Ok u) read.given (n - length old) read.taken most (full ends counted))
   where
     full : IsAtEnd b ⊎ (length new ≡ n) → length new ≡ length old + length read.given → IsAtEnd b ⊎ (length read.given ≡ n - length old)
     full (inl end) counted = inl end

@@ -1,7 +1,9 @@
 -- Bytes that are written piece by piece. After k pieces exactly these are written. If the next piece fails, its first bytes follow, so what
 -- is written is a beginning of all, and its count is the sum of both.
-use Rattle.std.proofs.Common.{◌≡◌, ◌<◌, ◌≤◌, ◌+◌, ℕ, List, length, take, drop, get_or, sym, ◌∙◌, arith, [], ◌∷◌, ◌++◌, Option, ap, subst, length-append, ◌^◌, Result, Ok, Err, take_all, refl, zero-add}
-use Rattle.std.proofs.lemmas.List.{append-nil, length-replicate, replicate-append-replicate, take-append-drop, take-append-le, take-replicate, take_more}
+use Rattle.std.proofs.Common.{◌≡◌, ◌<◌, ◌≤◌, ◌+◌, ℕ, List, length, take, drop, get_or, sym, ◌∙◌, arith, [], ◌∷◌, ◌++◌, Option, ap, subst}
+use Rattle.std.proofs.Common.{length-append, ◌^◌, Result, Ok, Err, take_all, refl, zero-add}
+use Rattle.std.proofs.lemmas.List.{append-nil, length-replicate, replicate-append-replicate, take-append-drop, take-append-le}
+use Rattle.std.proofs.lemmas.List.{take-replicate, take_more}
 use Rattle.std.specs.Prelude.{replicate}
 use Rattle.std.specs.List.{flat_map, range_with_len}
 use Rattle.std.specs.Io.KnownBytes.{Appends}
@@ -14,12 +16,16 @@ use Rattle.elf_image_stream.specs.declared.fault.WriteFault.{WriteFault}
 
 -- ---- zeros
 
-pub zeros_ok : (m n : ℕ) (a b c : Option (List ℕ)) (ys : List ℕ) → ys ≡ replicate n 0 → Appends a b (replicate m 0) → Appends b c ys → Appends a c (replicate (m + n) 0)
+pub zeros_ok : (m n : ℕ) (a b c : Option (List ℕ)) (ys : List ℕ) → ys ≡ replicate n 0 → Appends a b (replicate m 0) → Appends b c ys →
+    Appends a c (replicate (m + n) 0)
 zeros_ok m n a b c ys here before went =
-    subst (λ (s : List ℕ). Appends a c s) (ap (λ (s : List ℕ). replicate m 0 ++ s) here ∙ replicate-append-replicate {A = ℕ} m n 0) (Appends-trans a b c (replicate m 0) ys before went)
+    subst (λ (s : List ℕ). Appends a c s) (ap (λ (s : List ℕ). replicate m 0 ++ s) here ∙ replicate-append-replicate {A = ℕ} m n 0)
+    (Appends-trans a b c (replicate m 0) ys before went)
 
-pub zeros_err : (count m size n : ℕ) (a b c : Option (List ℕ)) (ys : List ℕ) → m + size ≤ count → ys ≡ replicate size 0 → Appends a b (replicate m 0) →
-    (n < length ys) × Appends b c (take n ys) → (m + n < length {A = ℕ} (replicate count 0)) × Appends a c (take (m + n) (replicate count 0))
+pub zeros_err : (count m size n : ℕ) (a b c : Option (List ℕ)) (ys : List ℕ) → m + size ≤ count → ys ≡ replicate size 0 →
+    Appends a b (replicate m 0) →
+    (n < length ys) × Appends b c (take n ys) →
+    (m + n < length {A = ℕ} (replicate count 0)) × Appends a c (take (m + n) (replicate count 0))
 zeros_err count m size n a b c ys within here before failed =
     let long = length-replicate {A = ℕ} count 0 in
     let short : length ys ≡ size = ap (λ (s : List ℕ). length s) here ∙ length-replicate {A = ℕ} size 0 in
@@ -35,7 +41,8 @@ zeros_err count m size n a b c ys within here before failed =
 pub nothing_out : (a : Option (List ℕ)) (out : ℕ) → out < 2 ^ 64 → WentOut a a out [] out
 nothing_out a out fits = (omega arith, Appends-nil a)
 
-pub both_out : (a b c : Option (List ℕ)) (out mid all : ℕ) (s t : List ℕ) → WentOut a b out s mid → WentOut b c mid t all → WentOut a c out (s ++ t) all
+pub both_out : (a b c : Option (List ℕ)) (out mid all : ℕ) (s t : List ℕ) → WentOut a b out s mid → WentOut b c mid t all →
+    WentOut a c out (s ++ t) all
 both_out a b c out mid all s t first second =
     let whole = length-append s t in
     let before = first.0 in
@@ -46,15 +53,21 @@ pub stopped_later : (a b c : Option (List ℕ)) (out mid written : ℕ) (s t : L
     StoppedIn a c out (s ++ t) written
 stopped_later a b c out mid written s t first (n, is, below, went) =
     let whole = length-append s t in
-    let before = first.0 in
-    (length s + n, omega arith, omega arith, subst (Appends a c) (sym (take-append-add s t n)) (Appends-trans a b c s (take n t) first.1 went))
+    let before = first.0 in (
+      length s + n,
+      omega arith,
+      omega arith,
+      subst (Appends a c) (sym (take-append-add s t n)) (Appends-trans a b c s (take n t) first.1 went),
+    )
 
-pub stopped_longer : (a c : Option (List ℕ)) (out written : ℕ) (s t : List ℕ) → StoppedIn a c out s written → StoppedIn a c out (s ++ t) written
+pub stopped_longer : (a c : Option (List ℕ)) (out written : ℕ) (s t : List ℕ) → StoppedIn a c out s written →
+    StoppedIn a c out (s ++ t) written
 stopped_longer a c out written s t (n, is, below, went) =
     let whole = length-append s t in
     (n, is, omega arith, subst (Appends a c) (sym (take-append-le n s t (omega arith))) went)
 
-pub sends_behind : (a b c : Option (List ℕ)) (out mid : ℕ) (s t : List ℕ) (result : Result ℕ WriteFault) → WentOut a b out s mid → Sends b c mid t result →
+pub sends_behind : (a b c : Option (List ℕ)) (out mid : ℕ) (s t : List ℕ) (result : Result ℕ WriteFault) → WentOut a b out s mid →
+    Sends b c mid t result →
     Sends a c out (s ++ t) result
 sends_behind a b c out mid s t (Ok all) first second = both_out a b c out mid all s t first second
 sends_behind a b c out mid s t (Err fault) first second = stopped_later a b c out mid fault.written s t first second
@@ -66,7 +79,8 @@ stopped_whole a c text written short (n, is, below, went) =
     let same : n ≡ written = omega arith in
     subst (λ (k : ℕ). (k < length text) × Appends a c (take k text)) same (below, went)
 
-pub stopped_exactly : (a c : Option (List ℕ)) (text : List ℕ) (written : ℕ) → written < 2 ^ 64 → written < length text → Appends a c (take written text)
+pub stopped_exactly : (a c : Option (List ℕ)) (text : List ℕ) (written : ℕ) → written < 2 ^ 64 → written < length text →
+    Appends a c (take written text)
     → StoppedIn a c 0 text written
 stopped_exactly a c text written fits below went = (written, omega arith, below, went)
 
@@ -96,7 +110,8 @@ module _ (f : ℕ → List ℕ) (j end n : ℕ) (a b c : Option (List ℕ)) (out
 
   pub chunk_out : (all : ℕ) → WentOut b c mid (f j) all → WentOut a c out (flat_map f (take (j + 1) (range_with_len 0 n))) all
   unfolding xs
-  chunk_out all next = subst (λ (s : List ℕ). WentOut a c out s all) (sym more) (both_out a b c out mid all (flat_map f (take j xs)) (f j) before next)
+  chunk_out all next =
+      subst (λ (s : List ℕ). WentOut a c out s all) (sym more) (both_out a b c out mid all (flat_map f (take j xs)) (f j) before next)
 
   pub chunk_stopped : (written : ℕ) → StoppedIn b c mid (f j) written → StoppedIn a c out (flat_map f (range_with_len 0 n)) written
   unfolding xs
@@ -105,7 +120,8 @@ module _ (f : ℕ → List ℕ) (j end n : ℕ) (a b c : Option (List ℕ)) (out
       ap (flat_map f) (sym (take-append-drop (j + 1) xs)) ∙ flat_map-append f (take (j + 1) xs) (drop (j + 1) xs) in
       subst (λ (s : List ℕ). StoppedIn a c out s written) (sym all)
       (stopped_longer a c out written (flat_map f (take (j + 1) xs)) (flat_map f (drop (j + 1) xs))
-      (subst (λ (s : List ℕ). StoppedIn a c out s written) (sym more) (stopped_later a b c out mid written (flat_map f (take j xs)) (f j) before stop)))
+      (subst (λ (s : List ℕ). StoppedIn a c out s written) (sym more)
+      (stopped_later a b c out mid written (flat_map f (take j xs)) (f j) before stop)))
 
 pub chunks_out : (f : ℕ → List ℕ) (j end n : ℕ) (a b : Option (List ℕ)) (out all : ℕ) → end ≤ j → end ≡ n →
     WentOut a b out (flat_map f (take j (range_with_len 0 n))) all → WentOut a b out (flat_map f (range_with_len 0 n)) all

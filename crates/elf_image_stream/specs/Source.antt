@@ -1,6 +1,7 @@
 -- What a source of bytes says of them: a list that no call changes, where it reports it, and its failures: how many calls failed, and what
 -- the last of them was asked for.
-use Rattle.std.specs.Prelude.{◌≡◌, ◌<◌, ◌≤◌, ◌+◌, ◌%◌, ◌^◌, ℕ, List, length, take, drop, Option, None, Some, Result, Ok, Err, IfOk, IfSome, ◌⊎◌}
+use Rattle.std.specs.Prelude.{◌≡◌, ◌<◌, ◌≤◌, ◌+◌, ◌%◌, ◌^◌, ℕ, List, length, take, drop, Option, None, Some, Result, Ok, Err, IfOk, IfSome}
+use Rattle.std.specs.Prelude.{◌⊎◌}
 use Rattle.elf_field.specs.Bytes.{IsBytes}
 use Rattle.elf_image_stream.specs.declared.source.Failures.{Failures}
 use Rattle.elf_image_stream.specs.declared.source.ReadFault.{ReadFault}

@@ -1,4 +1,6 @@
 //! Chunks one after the other.
+//!
+//! They are sent here, below all layers that send: objects and executables are both sent in pieces.
 ghost use Rattle.std.specs.Prelude.{◌≡◌, ◌<◌, replicate};
 ghost use Rattle.std.specs.List.{flat_map, range_with_len};
 ghost use Rattle.elf_image_stream.specs.Output.{Sends};

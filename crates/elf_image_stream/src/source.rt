@@ -1,7 +1,8 @@
 //! Bytes that are read at any place, as those of a file on a disk.
 ghost use Rattle.std.specs.Prelude.{◌≡◌, ◌≤◌, length, IfOk, None, ◌-◌, ◌++◌, Ok, drop, min, take, ◌<◌, ◌+◌, ◌^◌};
 ghost use Rattle.elf_field.specs.Bytes.{IsBytes};
-ghost use Rattle.elf_image_stream.specs.Source.{GivesFrom, RemembersCall, RemembersRead, ReportsBytes, SaysLength, Fails, no_failures, Reads};
+ghost use Rattle.elf_image_stream.specs.Source.{GivesFrom, RemembersCall, RemembersRead, ReportsBytes, SaysLength, Fails, no_failures};
+ghost use Rattle.elf_image_stream.specs.Source.{Reads};
 
 use crate::fault::Fault;
 use std::io::{Read, Seek, SeekFrom};
@@ -219,7 +220,8 @@ fn read_more<S: Source>(
 ) -> Result<usize, Failed>
     requires { filled < length buf.old }
     ensures kept { S.content source.new ≡ S.content source.old }
-    ensures failures { RemembersRead (S.content source.old) at (length buf.old - filled) (S.failures source.old) (S.failures source.new) result }
+    ensures failures { RemembersRead (S.content source.old) at
+        (length buf.old - filled) (S.failures source.old) (S.failures source.new) result }
     ensures bound { IfOk result (λ k. filled + k ≤ length buf.new) }
     ensures same { length buf.new ≡ length buf.old }
     ensures front { take filled buf.new ≡ take filled buf.old }

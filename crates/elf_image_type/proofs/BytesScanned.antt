@@ -7,7 +7,8 @@ use Rattle.elf_image_stream.specs.declared.fault.Fault.{Fault}
 use Rattle.elf_image_stream.specs.declared.fault.Fault.TheVariants.{Io, OutOfMemory, Rule}
 use Rattle.elf_image_type.specs.Parsing.{IsParseFault}
 
-pub stops_parse : (T : Type 0) (b : List ℕ) (fault : Fault) → KeepsRecordRules b → Remembers (scan_failure {T = T} (Err fault)) no_failures no_failures →
+pub stops_parse : (T : Type 0) (b : List ℕ) (fault : Fault) → KeepsRecordRules b →
+    Remembers (scan_failure {T = T} (Err fault)) no_failures no_failures →
     Stops b fault → IsParseFault b fault
 stops_parse T b OutOfMemory kept remembers stops = kept
 stops_parse T b (Io at) kept remembers stops = absurd (let same : 0 ≡ 1 = remembers.0 in omega arith)

@@ -1,7 +1,8 @@
 -- A file that is written from its parts, by records that keep rules 1 to 32, breaks no rule and denotes its records and contents. Each
 -- owner's bytes are one part, and parts ascend without overlap. So each owner's bytes are at its extent, no two extents share a byte (rule
 -- 33), and the records are read back.
-use Rattle.std.proofs.Common.{◌≡◌, ◌<◌, ◌≤◌, ◌+◌, ◌-◌, ℕ, zero, suc, List, [], ◌∷◌, ◌++◌, length, take, drop, map, get_or, replicate, refl, sym, ap, ◌∙◌, inl, inr, append_assoc, arith, length-append, ◌≢◌, None, Some, ap₂, subst}
+use Rattle.std.proofs.Common.{◌≡◌, ◌<◌, ◌≤◌, ◌+◌, ◌-◌, ℕ, zero, suc, List, [], ◌∷◌, ◌++◌, length, take, drop, map, get_or, replicate, refl}
+use Rattle.std.proofs.Common.{sym, ap, ◌∙◌, inl, inr, append_assoc, arith, length-append, ◌≢◌, None, Some, ap₂, subst}
 use Rattle.std.specs.List.{AllByRecursion, range_with_len}
 use Rattle.std.proofs.lemmas.Bool.{cases_lt, cases_eq}
 use Rattle.std.proofs.lemmas.List.{drop_at, length-replicate, take_at, nil_from_length}
@@ -16,18 +17,23 @@ use Rattle.elf_field.specs.Bytes.{IsBytes, IsBytes-append, IsBytes-cons, IsBytes
 use Rattle.elf_field.specs.Headers.{ehdr_laws, shdr_laws, phdr_laws}
 use Rattle.elf_field.specs.declared.ehdr.Ehdr.{Ehdr}
 use Rattle.elf_field.specs.declared.shdr.Shdr.{Shdr}
-use Rattle.elf_image_outline.proofs.Standing.{length-content, same_len, same_start, IsCounted, clean_of, extents_are, get_or_at, mapped_at, table_there, within_list, contents_read, element_made, first_of_none, header_read, sections_read, segments_read}
+use Rattle.elf_image_outline.proofs.Standing.{length-content, same_len, same_start, IsCounted, clean_of, extents_are, get_or_at, mapped_at}
+use Rattle.elf_image_outline.proofs.Standing.{table_there, within_list, contents_read, element_made, first_of_none, header_read}
+use Rattle.elf_image_outline.proofs.Standing.{sections_read, segments_read}
 use Rattle.elf_image_outline.proofs.Theorem.{Reads, clean_bytes, has_tables_of}
-use Rattle.elf_image_outline.specs.Image.{AreRecordsIn, ImageValue, Stands, owner_index, program_header_of, section_header_of, value_extents, value_names, value_rules}
+use Rattle.elf_image_outline.specs.Image.{AreRecordsIn, ImageValue, Stands, owner_index, program_header_of, section_header_of}
+use Rattle.elf_image_outline.specs.Image.{value_extents, value_names, value_rules}
 use Rattle.elf_image_outline.specs.declared.outline.Owner.TheVariants.{Header, ProgramTable, SectionTable, Content, Gap}
 use Rattle.elf_image_outline.specs.declared.outline.Owner.{Owner}
 use Rattle.elf_image_rules.proofs.Public.{rules_unbroken, sections_none}
 use Rattle.elf_image_rules.specs.KeepsRules.{KeepsRules}
 use Rattle.elf_image_rules.specs.Rows.{FirstIn}
 use Rattle.elf_image_rules.specs.Rules.{IsFault}
-use Rattle.elf_image_rules.specs.Tables.{bytes_in, content_extent, header, order_of, program_header_count, section_header_count, sections, segments}
+use Rattle.elf_image_rules.specs.Tables.{bytes_in, content_extent, header, order_of, program_header_count, section_header_count, sections}
+use Rattle.elf_image_rules.specs.Tables.{segments}
 use Rattle.elf_image_type.proofs.ImageLemmas.{owner_from}
-use Rattle.elf_image_type.specs.WrittenFile.{spread, unaligned, AreFileParts, FileContents, HasContents, IsWritable, WrittenPart, owner_bytes, owner_start, written}
+use Rattle.elf_image_type.specs.WrittenFile.{spread, unaligned, AreFileParts, FileContents, HasContents, IsWritable, WrittenPart}
+use Rattle.elf_image_type.specs.WrittenFile.{owner_bytes, owner_start, written}
 
 -- Parts at places that fit, with zeros between, as one list. By induction on the parts, each is at its place and the list ends with the
 -- last one. Places ascend, so two parts that hold one offset are the same.
@@ -75,7 +81,8 @@ in_spread pre from (x ∷ q) (p ∷ ps) (suc k) long (multiple, le, rest) lt =
     let front : List ℕ = (pre ++ zeros) ++ p in
     let joined : pre ++ (zeros ++ (p ++ behind)) ≡ front ++ behind =
     sym (append_assoc pre zeros (p ++ behind)) ∙ sym (append_assoc (pre ++ zeros) p behind) in
-    let end : length front ≡ x + length p = (let a = length-append (pre ++ zeros) p in let b = front_long pre from x long le in omega arith) in
+    let end : length front ≡ x + length p =
+    (let a = length-append (pre ++ zeros) p in let b = front_long pre from x long le in omega arith) in
     ap (λ (s : List ℕ). take (length (get_or ps k [])) (drop (get_or q k 0) s)) joined ∙
     in_spread front (x + length p) q ps k end rest (omega arith)
 
@@ -174,7 +181,8 @@ bytes_each : (parts : List WrittenPart) → AllByRecursion (λ p. IsBytes p.byte
 bytes_each [] are = tt
 bytes_each (p ∷ parts) are = (are.0, bytes_each parts are.1)
 
-pub IsBytes-written : (places : List ℕ) (parts : List WrittenPart) → AllByRecursion (λ p. IsBytes p.bytes) parts → IsBytes (written places parts)
+pub IsBytes-written : (places : List ℕ) (parts : List WrittenPart) → AllByRecursion (λ p. IsBytes p.bytes) parts →
+    IsBytes (written places parts)
 unfolding written
 IsBytes-written places parts are = IsBytes-spread 0 places (bytes_of_parts parts) (bytes_each parts are)
 
@@ -225,7 +233,8 @@ pub record IsOwnersPart (f : FileContents) (places : List ℕ) (parts : List Wri
   pub bytes : get_or (bytes_of_parts parts) k [] ≡ owner_bytes f o
   pub owner : (p : WrittenPart) → slice_get parts k ≡ Some p → p.owner ≡ o
 
-owners_part : (f : FileContents) (places : List ℕ) (parts : List WrittenPart) → AreFileParts f places parts → (o : Owner) → 0 < length (owner_bytes f o) →
+owners_part : (f : FileContents) (places : List ℕ) (parts : List WrittenPart) → AreFileParts f places parts → (o : Owner) →
+    0 < length (owner_bytes f o) →
     (k : ℕ) × IsOwnersPart f places parts o k
 owners_part f places parts are o some =
     let found = are.each_owner o some in
@@ -241,7 +250,8 @@ owners_part f places parts are o some =
         within = omega arith;
         place = owned.0 ∙ ap (owner_start f) is;
         bytes = bytes_at parts k p at ∙ owned.1 ∙ ap (owner_bytes f) is;
-        owner = λ q here. (let both : Some p ≡ Some q = sym at ∙ here in let same : p ≡ q = cc in ap (λ (r : WrittenPart). r.owner) (sym same) ∙ is);
+        owner = λ q here.
+            (let both : Some p ≡ Some q = sym at ∙ here in let same : p ≡ q = cc in ap (λ (r : WrittenPart). r.owner) (sym same) ∙ is);
       },
     )
 
@@ -266,7 +276,8 @@ owner_stands f places parts are o = elim (cases_lt 0 (length (owner_bytes f o)))
 
 -- ---- no two owners share a byte
 
-disjoint_parts : (f : FileContents) (places : List ℕ) (parts : List WrittenPart) → map length f.contents ≡ map (λ s. (content_extent s).len) f.sections →
+disjoint_parts : (f : FileContents) (places : List ℕ) (parts : List WrittenPart) →
+    map length f.contents ≡ map (λ s. (content_extent s).len) f.sections →
     AreFileParts f places parts → AreDisjoint (extents_in f)
 disjoint_parts f places parts lengths are i j x (d, at_i, one) (e, at_j, other) =
     let of_i = owners_extent f lengths i d at_i in
@@ -282,14 +293,18 @@ disjoint_parts f places parts lengths are i j x (d, at_i, one) (e, at_j, other) 
     let long_a = ap length a.1.bytes in
     let long_b = ap length b.1.bytes in
     let order = subst (λ (sizes : List (ℕ × ℕ)). Fits sizes 0 places) (sym (unaligned_parts parts)) are.order in
-    let same : a.0 ≡ b.0 = same_part 0 places (bytes_of_parts parts) a.0 b.0 x order a.1.within b.1.within (omega arith) (omega arith) (omega arith) (omega arith) in
+    let same : a.0 ≡ b.0 =
+    same_part 0 places (bytes_of_parts parts) a.0 b.0 x order a.1.within b.1.within (omega arith) (omega arith) (omega arith)
+    (omega arith) in
     let owner = owner_at a.0 b.0 same a.1 b.1 in
     let index : Some i ≡ Some j = sym (owner_index-owner_from i) ∙ ap owner_index owner ∙ owner_index-owner_from j in
     cc
   where
-    owner_at : (k l : ℕ) → k ≡ l → IsOwnersPart f places parts (owner_from (Some i)) k → IsOwnersPart f places parts (owner_from (Some j)) l → owner_from (Some i) ≡ owner_from (Some j)
+    owner_at : (k l : ℕ) → k ≡ l → IsOwnersPart f places parts (owner_from (Some i)) k →
+        IsOwnersPart f places parts (owner_from (Some j)) l → owner_from (Some i) ≡ owner_from (Some j)
     owner_at k l same a b =
-        let moved : IsOwnersPart f places parts (owner_from (Some j)) k = subst (IsOwnersPart f places parts (owner_from (Some j))) (sym same) b in
+        let moved : IsOwnersPart f places parts (owner_from (Some j)) k =
+        subst (IsOwnersPart f places parts (owner_from (Some j))) (sym same) b in
         let long = length-bytes_of_parts parts in
         let lt = a.within in
         let p = get_or parts k (record { owner = Gap; bytes = [] }) in
@@ -311,11 +326,13 @@ module _ (f : FileContents) (places : List ℕ) (parts : List WrittenPart) (file
   unfolding b
   clean =
       let same = extents_are f.header f.sections f.segments _ _ file.section_count file.segment_count in
-      let kept : KeepsRules (length b) f.header (section_header_of f.sections) (program_header_of f.segments) (value_names f.header f.sections f.contents) = record {
+      let kept : KeepsRules (length b) f.header (section_header_of f.sections) (program_header_of f.segments)
+      (value_names f.header f.sections f.contents) = record {
         records = file.kept;
         disjoint = subst AreDisjoint (sym same) (disjoint_parts f places parts file.lengths file.placed);
       } in
-      rules_unbroken (length b) f.header (section_header_of f.sections) (program_header_of f.segments) (value_names f.header f.sections f.contents) kept
+      rules_unbroken (length b) f.header (section_header_of f.sections) (program_header_of f.segments)
+      (value_names f.header f.sections f.contents) kept
 
   counted : IsCounted (value_of f (length b))
   counted = record { section_count = file.section_count; segment_count = file.segment_count; clean = clean }
@@ -340,7 +357,8 @@ module _ (f : FileContents) (places : List ℕ) (parts : List WrittenPart) (file
 
   contents_are : f.contents ≡ map (λ s. bytes_in b (content_extent s)) f.sections
   contents_are = contents_read b f.contents f.sections file.lengths here where
-    here : (i : ℕ) (e : Extent) → slice_get (map content_extent f.sections) i ≡ Some e → take e.len (drop e.start b) ≡ get_or f.contents i []
+    here : (i : ℕ) (e : Extent) → slice_get (map content_extent f.sections) i ≡ Some e →
+        take e.len (drop e.start b) ≡ get_or f.contents i []
     here i e at =
         let is = owners_extent f file.lengths (suc (suc (suc i))) e at in
         ap₂ (λ (n x : ℕ). take n (drop x b)) is.len is.start ∙ stands (Content i)
@@ -359,8 +377,10 @@ module _ (f : FileContents) (places : List ℕ) (parts : List WrittenPart) (file
 
   records : AreRecordsIn b f.header f.sections f.segments
   records =
-      let section_count_is : length f.sections ≡ section_header_count f.header (sections b f.header 0) = file.section_count ∙ sym (ap (section_header_count f.header) first_is) in
-      let segment_count_is : length f.segments ≡ program_header_count f.header (sections b f.header 0) = file.segment_count ∙ sym (ap (program_header_count f.header) first_is) in
+      let section_count_is : length f.sections ≡ section_header_count f.header (sections b f.header 0) =
+      file.section_count ∙ sym (ap (section_header_count f.header) first_is) in
+      let segment_count_is : length f.segments ≡ program_header_count f.header (sections b f.header 0) =
+      file.segment_count ∙ sym (ap (program_header_count f.header) first_is) in
       record {
         header = header_is;
         section_headers = sym sections_are ∙ ap (λ (n : ℕ). map (sections b f.header) (range_with_len 0 n)) section_count_is;
@@ -382,20 +402,26 @@ module _ (f : FileContents) (places : List ℕ) (parts : List WrittenPart) (file
   read v standing =
       let same : v.header ≡ f.header = standing.records.header ∙ sym header_is in
       let all : v.sections ≡ f.sections =
-      standing.records.section_headers ∙ ap (λ (h : Ehdr). map (sections b h) (range_with_len 0 (section_header_count h (sections b h 0)))) same ∙ sym records.section_headers in
+      standing.records.section_headers ∙
+      ap (λ (h : Ehdr). map (sections b h) (range_with_len 0 (section_header_count h (sections b h 0)))) same ∙
+      sym records.section_headers in
       record {
         header = same;
         sections = all;
-        segments = standing.records.program_headers ∙ ap (λ (h : Ehdr). map (segments b h) (range_with_len 0 (program_header_count h (sections b h 0)))) same ∙ sym records.program_headers;
+        segments = standing.records.program_headers ∙
+            ap (λ (h : Ehdr). map (segments b h) (range_with_len 0 (program_header_count h (sections b h 0)))) same ∙
+            sym records.program_headers;
         contents = standing.contents ∙ ap (λ (ss : List Shdr). map (λ s. bytes_in b (content_extent s)) ss) all ∙ sym contents_are;
       }
 
 -- ---- the laws
 
-pub written_is_bytes : (f : FileContents) (places : List ℕ) (parts : List WrittenPart) → IsWritable f places parts → IsBytes (written places parts)
+pub written_is_bytes : (f : FileContents) (places : List ℕ) (parts : List WrittenPart) → IsWritable f places parts →
+    IsBytes (written places parts)
 written_is_bytes f places parts file = IsBytes-written places parts file.bytes
 
-pub written_accepted : (f : FileContents) (places : List ℕ) (parts : List WrittenPart) → IsWritable f places parts → IsFault (written places parts) None
+pub written_accepted : (f : FileContents) (places : List ℕ) (parts : List WrittenPart) → IsWritable f places parts →
+    IsFault (written places parts) None
 unfolding b
 written_accepted f places parts file = accepted f places parts file
 

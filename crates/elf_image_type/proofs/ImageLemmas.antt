@@ -1,5 +1,7 @@
 -- There is one image of a byte list, and its accessors return what the file has.
-use Rattle.std.proofs.Common.{◌≡◌, ◌<◌, ℕ, List, length, take, sym, ap, subst, ◌∙◌, arith, zero, suc, Option, None, Some, [], ◌∷◌, map, refl, ◌≤◌, ◌+◌, ◌-◌, ◌*◌, ◌/◌, ◌%◌, ◌++◌, drop, get_or, inl, inr, length-append, length-drop, Bool, true, false, min}
+use Rattle.std.proofs.Common.{◌≡◌, ◌<◌, ℕ, List, length, take, sym, ap, subst, ◌∙◌, arith, zero, suc, Option, None, Some, [], ◌∷◌, map}
+use Rattle.std.proofs.Common.{refl, ◌≤◌, ◌+◌, ◌-◌, ◌*◌, ◌/◌, ◌%◌, ◌++◌, drop, get_or, inl, inr, length-append, length-drop, Bool, true}
+use Rattle.std.proofs.Common.{false, min}
 use Rattle.std.specs.List.{AllByRecursion, range_with_len, flat_map, before_first}
 use Rattle.std.proofs.Math.Nat.{mul-div-le, mul-le-mul_left}
 use Rattle.std.proofs.lemmas.Bool.{cases_lt}
@@ -23,14 +25,17 @@ use Rattle.elf_field.specs.declared.shdr.Shdr.{Shdr}
 use Rattle.elf_image_outline.proofs.PartsOut.{IsPartAt, bytes_in_parts, joined_parts, part_in}
 use Rattle.elf_image_outline.proofs.Standing.{clean_of, table_there, element_made, disjoint_of, length-joined}
 use Rattle.elf_image_outline.proofs.Theorem.{counted_by_bytes, has_tables_by_bytes, made, made_is_image, tables_disjoint, tables_within}
-use Rattle.elf_image_outline.specs.Image.{ImageValue, IsImage, no_program_header, no_section_header, program_header_of, section_header_of, PlacedPart, gap_in, owner_index, piece_of, value_extents, AreRecordsIn, part_piece, IsSoundImage, joined, part_bytes, value_names}
+use Rattle.elf_image_outline.specs.Image.{ImageValue, IsImage, no_program_header, no_section_header, program_header_of, section_header_of}
+use Rattle.elf_image_outline.specs.Image.{PlacedPart, gap_in, owner_index, piece_of, value_extents, AreRecordsIn, part_piece, IsSoundImage}
+use Rattle.elf_image_outline.specs.Image.{joined, part_bytes, value_names}
 use Rattle.elf_image_outline.specs.Outline.{OutlineValue, image_of}
 use Rattle.elf_image_outline.specs.declared.outline.Owner.TheVariants.{Header, ProgramTable, SectionTable, Content, Gap}
 use Rattle.elf_image_outline.specs.declared.outline.Owner.{Owner}
 use Rattle.elf_image_outline.specs.declared.outline.Part.{Part}
 use Rattle.elf_image_rules.proofs.Public.{sections_read_at, rules_kept}
 use Rattle.elf_image_rules.specs.Rules.{IsFault}
-use Rattle.elf_image_rules.specs.Tables.{header, order_of, phdr_offset, sections, segments, shdr_offset, bytes_in, content_extent, program_header_count, section_header_count}
+use Rattle.elf_image_rules.specs.Tables.{header, order_of, phdr_offset, sections, segments, shdr_offset, bytes_in, content_extent}
+use Rattle.elf_image_rules.specs.Tables.{program_header_count, section_header_count}
 use Rattle.elf_image_type.specs.ImageView.{HasAddress, IsFirstWithAddress}
 
 -- Each field of an image's records is at its offset in the bytes that represent the image: the records are read from there, and a record's
@@ -57,7 +62,8 @@ section_fields v b k image below =
     let shared = (has_tables_by_bytes v b image).count in
     let there = table_there v counted (omega arith) in
     let table = (clean_of v counted).section_table there in
-    let read = ap (λ (f : ℕ → Shdr). f k) (sym (sections_read_at b v.header there)) ∙ element_made (sections b v.header) v.sections no_section_header _ (sym stands.records.section_headers) k (omega arith) in
+    let read = ap (λ (f : ℕ → Shdr). f k) (sym (sections_read_at b v.header there)) ∙
+    element_made (sections b v.header) v.sections no_section_header _ (sym stands.records.section_headers) k (omega arith) in
     subst (IsShdrAt (order_of v.header.e_ident) b (shdr_offset v.header k)) read
     (shdr_fields_at (order_of v.header.e_ident) b (shdr_offset v.header k) (omega arith) stands.bytes)
 
@@ -135,16 +141,25 @@ one_image v w b one two =
     let lens : v.len ≡ w.len = first.len ∙ sym second.len in
     let headers : v.header ≡ w.header = first.records.header ∙ sym second.records.header in
     let section_headers : v.sections ≡ w.sections = first.records.section_headers
-    ∙ ap (λ (h : Ehdr). map (sections b h) (range_with_len 0 (section_header_count h (sections b h 0)))) headers ∙ sym second.records.section_headers in
+    ∙ ap (λ (h : Ehdr). map (sections b h) (range_with_len 0 (section_header_count h (sections b h 0)))) headers ∙
+    sym second.records.section_headers in
     let program_headers : v.segments ≡ w.segments = first.records.program_headers
-    ∙ ap (λ (h : Ehdr). map (segments b h) (range_with_len 0 (program_header_count h (sections b h 0)))) headers ∙ sym second.records.program_headers in
+    ∙ ap (λ (h : Ehdr). map (segments b h) (range_with_len 0 (program_header_count h (sections b h 0)))) headers ∙
+    sym second.records.program_headers in
     let contents : v.contents ≡ w.contents = first.contents
     ∙ ap (map (λ s. bytes_in b (content_extent s))) section_headers ∙ sym second.contents in
-    let of_len = subst (λ (n : ℕ). Accounts (value_extents w.header w.sections w.segments) n 0 (map piece_of w.parts)) (sym lens) second.accounts in
-    let of_header = subst (λ (h : Ehdr). Accounts (value_extents h w.sections w.segments) v.len 0 (map piece_of w.parts)) (sym headers) of_len in
-    let of_sections = subst (λ (ss : List Shdr). Accounts (value_extents v.header ss w.segments) v.len 0 (map piece_of w.parts)) (sym section_headers) of_header in
-    let accounts = subst (λ (gs : List Phdr). Accounts (value_extents v.header v.sections gs) v.len 0 (map piece_of w.parts)) (sym program_headers) of_sections in
-    let pieces = one_account _ v.len (map piece_of v.parts) (map piece_of w.parts) (disjoint_of v (counted_by_bytes v b one)) first.accounts accounts in
+    let of_len =
+    subst (λ (n : ℕ). Accounts (value_extents w.header w.sections w.segments) n 0 (map piece_of w.parts)) (sym lens) second.accounts in
+    let of_header =
+    subst (λ (h : Ehdr). Accounts (value_extents h w.sections w.segments) v.len 0 (map piece_of w.parts)) (sym headers) of_len in
+    let of_sections =
+    subst (λ (ss : List Shdr). Accounts (value_extents v.header ss w.segments) v.len 0 (map piece_of w.parts))
+    (sym section_headers) of_header in
+    let accounts =
+    subst (λ (gs : List Phdr). Accounts (value_extents v.header v.sections gs) v.len 0 (map piece_of w.parts))
+    (sym program_headers) of_sections in
+    let pieces =
+    one_account _ v.len (map piece_of v.parts) (map piece_of w.parts) (disjoint_of v (counted_by_bytes v b one)) first.accounts accounts in
     let parts = same_parts b v.parts w.parts pieces first.gaps second.gaps in
     same_value _ _ _ _ _ _ _ _ _ _ _ _ lens headers section_headers program_headers contents parts
 
@@ -181,7 +196,8 @@ some_image b are clean =
     let gs = map (segments b h) (range_with_len 0 (program_header_count h (sections b h 0))) in
     let cs = map (λ s. bytes_in b (content_extent s)) ss in
     let records : AreRecordsIn b h ss gs = record { header = refl; section_headers = refl; program_headers = refl } in
-    let account = some_account (value_extents h ss gs) (length b) (tables_disjoint b h ss gs records clean) (tables_within b h ss gs records clean) in
+    let account =
+    some_account (value_extents h ss gs) (length b) (tables_disjoint b h ss gs records clean) (tables_within b h ss gs records clean) in
     let ps = map part_from account.0 in
     let accounts : Accounts (value_extents h ss gs) (length b) 0 (map part_piece ps) =
     subst (Accounts (value_extents h ss gs) (length b) 0) (sym (pieces_stay account.0)) account.1 in
@@ -200,12 +216,14 @@ abbrev pub part_of : List Part → ℕ → Part
 part_of ps k = get_or ps k no_part
 
 -- a part begins where those before it end, and has as many bytes as its length says
-pub part_at : (o : OutlineValue) (cs : List (List ℕ)) (file : List ℕ) (ps : List Part) (k : ℕ) → IsSoundImage (image_of o cs file) → ps ≡ o.parts → k < length ps →
+pub part_at : (o : OutlineValue) (cs : List (List ℕ)) (file : List ℕ) (ps : List Part) (k : ℕ) → IsSoundImage (image_of o cs file) →
+    ps ≡ o.parts → k < length ps →
     IsPartAt (part_bytes (image_of o cs file)) o.zeroed file ps 0 k (part_of ps k)
 part_at o cs file ps k = part_in o cs file ps k no_part
 
 -- the parts up to one end where it ends
-pub parts_end : (o : OutlineValue) (cs : List (List ℕ)) (file : List ℕ) (ps : List Part) (k : ℕ) → IsSoundImage (image_of o cs file) → ps ≡ o.parts → k < length ps →
+pub parts_end : (o : OutlineValue) (cs : List (List ℕ)) (file : List ℕ) (ps : List Part) (k : ℕ) → IsSoundImage (image_of o cs file) →
+    ps ≡ o.parts → k < length ps →
     length (flat_map (bytes_in_parts o cs file) (take (k + 1) ps)) ≡ (part_of ps k).start + (part_of ps k).len
 parts_end o cs file ps k sound same within =
     let f = bytes_in_parts o cs file in
@@ -219,7 +237,8 @@ parts_end o cs file ps k sound same within =
     omega arith
 
 -- no offset of the file lies after all parts
-pub in_some_part : (o : OutlineValue) (cs : List (List ℕ)) (file : List ℕ) (ps : List Part) (offset : ℕ) → IsSoundImage (image_of o cs file) → ps ≡ o.parts →
+pub in_some_part : (o : OutlineValue) (cs : List (List ℕ)) (file : List ℕ) (ps : List Part) (offset : ℕ) →
+    IsSoundImage (image_of o cs file) → ps ≡ o.parts →
     length (flat_map (bytes_in_parts o cs file) ps) ≤ offset → o.len ≤ offset
 in_some_part o cs file ps offset sound same behind =
     let whole = ap length (joined_parts o cs file ps same) in
@@ -227,7 +246,8 @@ in_some_part o cs file ps offset sound same behind =
     omega arith
 
 -- the byte at an offset is that of the part
-pub in_part : (o : OutlineValue) (cs : List (List ℕ)) (file : List ℕ) (ps : List Part) (k offset : ℕ) → IsSoundImage (image_of o cs file) → ps ≡ o.parts → k < length ps →
+pub in_part : (o : OutlineValue) (cs : List (List ℕ)) (file : List ℕ) (ps : List Part) (k offset : ℕ) → IsSoundImage (image_of o cs file) →
+    ps ≡ o.parts → k < length ps →
     (part_of ps k).start ≤ offset → offset - (part_of ps k).start < (part_of ps k).len →
     get_or (bytes_in_parts o cs file (part_of ps k)) (offset - (part_of ps k).start) 0 ≡ get_or (joined (image_of o cs file)) offset 0
 in_part o cs file ps k offset sound same within from below =
@@ -277,18 +297,21 @@ segment_within : (v : ImageValue) (j x : ℕ) → IsSoundImage v → j < length 
     x - (program_header_of v.segments j).p_vaddr < (program_header_of v.segments j).p_filesz →
     (program_header_of v.segments j).p_offset + (x - (program_header_of v.segments j).p_vaddr) < v.len
 segment_within v j x sound lt has below =
-    let kept = rules_kept v.len v.header (section_header_of v.sections) (program_header_of v.segments) (value_names v.header v.sections v.contents) sound.clean in
+    let kept = rules_kept v.len v.header (section_header_of v.sections) (program_header_of v.segments)
+    (value_names v.header v.sections v.contents) sound.clean in
     let count = sound.segment_count in
     let load = has.0 in
     let within = kept.records.segments.bytes j (omega arith) (λ null. omega arith) (omega arith) in
     omega arith
 
 -- so does that of the first one
-pub segment_at_within : (v : ImageValue) (segments : List Phdr) (j x : ℕ) (segment : Phdr) → IsSoundImage v → segments ≡ v.segments → IsFirstWithAddress segments x j →
+pub segment_at_within : (v : ImageValue) (segments : List Phdr) (j x : ℕ) (segment : Phdr) → IsSoundImage v → segments ≡ v.segments →
+    IsFirstWithAddress segments x j →
     segment ≡ program_header_of v.segments j → x - segment.p_vaddr < segment.p_filesz → segment.p_offset + (x - segment.p_vaddr) < v.len
 segment_at_within v segments j x segment sound same first is =
     let first_of : IsFirstWithAddress v.segments x j = subst (λ (gs : List Phdr). IsFirstWithAddress gs x j) same first in
-    subst (λ (g : Phdr). x - g.p_vaddr < g.p_filesz → g.p_offset + (x - g.p_vaddr) < v.len) (sym is) (segment_within v j x sound first_of.0 first_of.1)
+    subst (λ (g : Phdr). x - g.p_vaddr < g.p_filesz → g.p_offset + (x - g.p_vaddr) < v.len) (sym is)
+    (segment_within v j x sound first_of.0 first_of.1)
 
 -- The bytes up to the first zero of a list, or the whole list without a zero, are `before_first` of it (`before_zero`, `no_zero`). Both
 -- follow from `position_or_len_is`. `rest_from` cuts a list at an offset, or at its end if the offset is past it.
@@ -298,16 +321,22 @@ not_true true never = absurd (never refl)
 not_true false never = refl
 
 -- the first zero ends a string
-pub before_zero : (xs : List ℕ) (k : ℕ) → k < length xs → ((j : ℕ) → 0 ≤ j → j < k → ((slice_index xs j == 0) ≡ true → ⊥)) → (slice_index xs k == 0) ≡ true →
+pub before_zero : (xs : List ℕ) (k : ℕ) → k < length xs → ((j : ℕ) → 0 ≤ j → j < k → ((slice_index xs j == 0) ≡ true → ⊥)) →
+    (slice_index xs k == 0) ≡ true →
     take k xs ≡ before_first (λ byte. byte == 0) xs
 before_zero xs k within before here =
-    ap (λ (n : ℕ). take n xs) (sym (position_or_len_is (λ byte. byte == 0) xs k 0 (omega arith) (λ j below. not_true (slice_index xs j == 0) (before j (omega arith) below)) (λ _. here)))
+    ap (λ (n : ℕ). take n xs)
+    (sym (position_or_len_is (λ byte. byte == 0) xs k 0 (omega arith)
+    (λ j below. not_true (slice_index xs j == 0) (before j (omega arith) below)) (λ _. here)))
 
 -- and the end does, where there is none
-pub no_zero : (xs : List ℕ) → ((j : ℕ) → 0 ≤ j → j < length xs → ((slice_index xs j == 0) ≡ true → ⊥)) → xs ≡ before_first (λ byte. byte == 0) xs
+pub no_zero : (xs : List ℕ) → ((j : ℕ) → 0 ≤ j → j < length xs → ((slice_index xs j == 0) ≡ true → ⊥)) →
+    xs ≡ before_first (λ byte. byte == 0) xs
 no_zero xs before =
     sym (take_all (length xs) xs (omega arith)) ∙
-    ap (λ (n : ℕ). take n xs) (sym (position_or_len_is (λ byte. byte == 0) xs (length xs) 0 (omega arith) (λ j below. not_true (slice_index xs j == 0) (before j (omega arith) below)) (λ lt. absurd (omega arith))))
+    ap (λ (n : ℕ). take n xs)
+    (sym (position_or_len_is (λ byte. byte == 0) xs (length xs) 0 (omega arith)
+    (λ j below. not_true (slice_index xs j == 0) (before j (omega arith) below)) (λ lt. absurd (omega arith))))
 
 -- what is left from an offset, or nothing past the end
 pub rest_from : (xs : List ℕ) (x : ℕ) → take (length xs - min x (length xs)) (drop (min x (length xs)) xs) ≡ drop x xs

@@ -1,7 +1,8 @@
 -- A relocatable file that is written breaks no rule, is read as its header, section headers and contents, and ends with its section header
 -- table. Its parts are the header, the contents and that table, so `FileParts` applies. Counts and indexes below SHN_LORESERVE are in the
 -- header, and others in section header 0.
-use Rattle.std.proofs.Common.{◌≡◌, ◌≢◌, ◌<◌, ◌≤◌, ◌+◌, ◌*◌, ◌^◌, ◌⊎◌, ℕ, zero, suc, None, Some, List, [], ◌∷◌, ◌++◌, length, map, get_or, refl, sym, ap, subst, ◌∙◌, inl, inr, arith, length-append}
+use Rattle.std.proofs.Common.{◌≡◌, ◌≢◌, ◌<◌, ◌≤◌, ◌+◌, ◌*◌, ◌^◌, ◌⊎◌, ℕ, zero, suc, None, Some, List, [], ◌∷◌, ◌++◌, length, map, get_or}
+use Rattle.std.proofs.Common.{refl, sym, ap, subst, ◌∙◌, inl, inr, arith, length-append}
 use Rattle.std.specs.Prelude.{slice_get}
 use Rattle.std.specs.List.{AllByRecursion}
 use Rattle.std.proofs.lemmas.Bool.{cases_eq, cases_lt, lt-ltb, le-ltb, ne_eqb}
@@ -16,12 +17,17 @@ use Rattle.elf_field.proofs.RecordTableLaws.{IsBytes-table, length-table}
 use Rattle.elf_extent.specs.Place.{Fits}
 use Rattle.elf_extent.proofs.Public.{above_from}
 use Rattle.elf_image_rules.specs.Rules.{IsFault}
-use Rattle.elf_image_rules.specs.KeepsRules.{KeepsEachRecordRule, KeepsHeaderRules, KeepsIdentRules, KeepsNameRules, KeepsProgramTableRules, KeepsSectionRules, KeepsSectionTableRules, KeepsSegmentRules}
-use Rattle.elf_image_rules.specs.Tables.{content_extent, name_table, no_section_header, order_of, program_header_count, program_header_of, section_header_count, section_header_of}
+use Rattle.elf_image_rules.specs.KeepsRules.{KeepsEachRecordRule, KeepsHeaderRules, KeepsIdentRules, KeepsNameRules, KeepsProgramTableRules}
+use Rattle.elf_image_rules.specs.KeepsRules.{KeepsSectionRules, KeepsSectionTableRules, KeepsSegmentRules}
+use Rattle.elf_image_rules.specs.Tables.{content_extent, name_table, no_section_header, order_of, program_header_count, program_header_of}
+use Rattle.elf_image_rules.specs.Tables.{section_header_count, section_header_of}
 use Rattle.elf_image_outline.specs.declared.outline.Owner.{Owner}
 use Rattle.elf_image_outline.specs.declared.outline.Owner.TheVariants.{Header, ProgramTable, SectionTable, Content, Gap}
 use Rattle.elf_image_outline.specs.Image.{ImageValue, Stands, value_names}
-use Rattle.elf_image_type.specs.WrittenFile.{encoding, identification, AreFileParts, HasContents, IsPartOf, IsWritable, WrittenPart, owner_bytes, owner_start, spread, unaligned, written, IsRelocatableFile, all_headers, behind_header, content_parts, short_count, first_header, long_number, short_index, offsets, relocatable_bytes, relocatable_file, relocatable_parts, section_table}
+use Rattle.elf_image_type.specs.WrittenFile.{encoding, identification, AreFileParts, HasContents, IsPartOf, IsWritable, WrittenPart}
+use Rattle.elf_image_type.specs.WrittenFile.{owner_bytes, owner_start, spread, unaligned, written, IsRelocatableFile, all_headers}
+use Rattle.elf_image_type.specs.WrittenFile.{behind_header, content_parts, short_count, first_header, long_number, short_index, offsets}
+use Rattle.elf_image_type.specs.WrittenFile.{relocatable_bytes, relocatable_file, relocatable_parts, section_table}
 use Rattle.elf_image_type.proofs.FileParts.{written_accepted, written_is_bytes, written_read, length-spread, length-unaligned, parts_ascend}
 
 -- ---- the identification
@@ -58,9 +64,12 @@ IsBytes-all (b ∷ bytes) all = IsBytes-cons b bytes all.0 (IsBytes-all bytes al
 pub IsBytes-identification : (order : Order) (osabi abi : ℕ) → osabi < 2 ^ 8 → abi < 2 ^ 8 → IsBytes (identification order osabi abi)
 IsBytes-identification order osabi abi osabi_fits abi_fits = bytes order
   where
+    padding : AllByRecursion (λ (b : ℕ). b < 256) (0 ∷ 0 ∷ 0 ∷ 0 ∷ 0 ∷ 0 ∷ 0 ∷ [])
+    padding = (omega arith, (omega arith, (omega arith, (omega arith, (omega arith, (omega arith, (omega arith, tt)))))))
+
     tail : (b : ℕ) → b < 256 → IsBytes (127 ∷ 69 ∷ 76 ∷ 70 ∷ 2 ∷ b ∷ 1 ∷ osabi ∷ abi ∷ 0 ∷ 0 ∷ 0 ∷ 0 ∷ 0 ∷ 0 ∷ 0 ∷ [])
     tail b lt = IsBytes-all (127 ∷ 69 ∷ 76 ∷ 70 ∷ 2 ∷ b ∷ 1 ∷ osabi ∷ abi ∷ 0 ∷ 0 ∷ 0 ∷ 0 ∷ 0 ∷ 0 ∷ 0 ∷ [])
-        (omega arith, (omega arith, (omega arith, (omega arith, (omega arith, (lt, (omega arith, (osabi_fits, (abi_fits, (omega arith, (omega arith, (omega arith, (omega arith, (omega arith, (omega arith, (omega arith, tt))))))))))))))))
+        (omega arith, (omega arith, (omega arith, (omega arith, (omega arith, (lt, (omega arith, (osabi_fits, (abi_fits, padding)))))))))
 
     bytes : (order : Order) → IsBytes (127 ∷ 69 ∷ 76 ∷ 70 ∷ 2 ∷ encoding order ∷ 1 ∷ osabi ∷ abi ∷ 0 ∷ 0 ∷ 0 ∷ 0 ∷ 0 ∷ 0 ∷ 0 ∷ [])
     bytes Little = tail 1 (omega arith)
@@ -78,13 +87,16 @@ part_at t i (c ∷ cs) zero p at =
     let place : i ≡ i + 0 = omega arith in
     inl (omega arith, ap (λ (q : WrittenPart). q.owner) (sym same) ∙ ap Content place, ap (λ (q : WrittenPart). q.bytes) (sym same))
 part_at t i (c ∷ cs) (suc j) p at = elim (part_at t (suc i) cs j p at) [
-  | inl found ↦ (let place : suc i + j ≡ i + suc j = omega arith in inl (let lt = found.0 in omega arith, found.1 ∙ ap Content place, found.2))
+  | inl found ↦
+      (let place : suc i + j ≡ i + suc j = omega arith in inl (let lt = found.0 in omega arith, found.1 ∙ ap Content place, found.2))
   | inr found ↦ inr (ap suc found.0, found.1)
 ]
 
-content_part : (t : WrittenPart) (i : ℕ) (cs : List (List ℕ)) (j : ℕ) → j < length cs → IsPartOf (content_parts i cs ++ (t ∷ [])) j (Content (i + j))
+content_part : (t : WrittenPart) (i : ℕ) (cs : List (List ℕ)) (j : ℕ) → j < length cs →
+    IsPartOf (content_parts i cs ++ (t ∷ [])) j (Content (i + j))
 content_part t i [] j lt = absurd (omega arith)
-content_part t i (c ∷ cs) zero lt = (record { owner = Content i; bytes = c }, refl, (let place : i ≡ i + 0 = omega arith in ap Content place))
+content_part t i (c ∷ cs) zero lt =
+    (record { owner = Content i; bytes = c }, refl, (let place : i ≡ i + 0 = omega arith in ap Content place))
 content_part t i (c ∷ cs) (suc j) lt =
     let place : suc i + j ≡ i + suc j = omega arith in
     let later = content_part t (suc i) cs j (omega arith) in
@@ -98,7 +110,8 @@ parts_bytes : (t : WrittenPart) (i : ℕ) (cs : List (List ℕ)) → map (λ p. 
 parts_bytes t i [] = refl
 parts_bytes t i (c ∷ cs) = ap (λ (ps : List (List ℕ)). c ∷ ps) (parts_bytes t (suc i) cs)
 
-parts_sizes : (t : WrittenPart) (i : ℕ) (cs : List (List ℕ)) → map (λ p. unaligned p.bytes) (content_parts i cs ++ (t ∷ [])) ≡ map unaligned (cs ++ (t.bytes ∷ []))
+parts_sizes : (t : WrittenPart) (i : ℕ) (cs : List (List ℕ)) →
+    map (λ p. unaligned p.bytes) (content_parts i cs ++ (t ∷ [])) ≡ map unaligned (cs ++ (t.bytes ∷ []))
 parts_sizes t i [] = refl
 parts_sizes t i (c ∷ cs) = ap (λ (ps : List (ℕ × ℕ)). unaligned c ∷ ps) (parts_sizes t (suc i) cs)
 
@@ -109,7 +122,8 @@ parts_are_bytes t i (c ∷ cs) all last = (all.0, parts_are_bytes t (suc i) cs a
 
 -- ---- lists with a last element
 
-offset_at : (ss : List Shdr) (x j : ℕ) → j < length ss → get_or (map (λ s. s.sh_offset) ss ++ (x ∷ [])) j 0 ≡ (section_header_of ss j).sh_offset
+offset_at : (ss : List Shdr) (x j : ℕ) → j < length ss →
+    get_or (map (λ s. s.sh_offset) ss ++ (x ∷ [])) j 0 ≡ (section_header_of ss j).sh_offset
 offset_at [] x j lt = absurd (omega arith)
 offset_at (s ∷ ss) x zero lt = refl
 offset_at (s ∷ ss) x (suc j) lt = offset_at ss x j (omega arith)
@@ -141,7 +155,8 @@ content_long [] [] j e lt = absurd (omega arith)
 content_long [] (s ∷ ss) j e lt = absurd cc
 content_long (c ∷ cs) [] j e lt = absurd cc
 content_long (c ∷ cs) (s ∷ ss) zero e lt = cc
-content_long (c ∷ cs) (s ∷ ss) (suc j) e lt = let tail : map length cs ≡ map (λ s. (content_extent s).len) ss = cc in content_long cs ss j tail (omega arith)
+content_long (c ∷ cs) (s ∷ ss) (suc j) e lt = let tail : map length cs ≡ map (λ s. (content_extent s).len) ss = cc in
+    content_long cs ss j tail (omega arith)
 
 within_if_some : (cs : List (List ℕ)) (j : ℕ) → 0 < length (get_or cs j []) → j < length cs
 within_if_some [] j some = absurd (omega arith)
@@ -155,10 +170,12 @@ content_some_len s null bits = rw (ne_eqb s.sh_type 0 null, ne_eqb s.sh_type 8 b
 -- ---- counts and indexes on both sides of the border
 
 low : (number : ℕ) → number < SHN_LORESERVE → (short_count number ≡ number) × (short_index number ≡ number) × (long_number number ≡ 0)
-low number lt = (rw (lt-ltb number SHN_LORESERVE lt) refl, rw (lt-ltb number SHN_LORESERVE lt) refl, rw (lt-ltb number SHN_LORESERVE lt) refl)
+low number lt =
+    (rw (lt-ltb number SHN_LORESERVE lt) refl, rw (lt-ltb number SHN_LORESERVE lt) refl, rw (lt-ltb number SHN_LORESERVE lt) refl)
 
 high : (number : ℕ) → SHN_LORESERVE ≤ number → (short_count number ≡ 0) × (short_index number ≡ SHN_XINDEX) × (long_number number ≡ number)
-high number le = (rw (le-ltb number SHN_LORESERVE le) refl, rw (le-ltb number SHN_LORESERVE le) refl, rw (le-ltb number SHN_LORESERVE le) refl)
+high number le =
+    (rw (le-ltb number SHN_LORESERVE le) refl, rw (le-ltb number SHN_LORESERVE le) refl, rw (le-ltb number SHN_LORESERVE le) refl)
 
 -- the count of section headers, read of the header or of section header 0
 counted : (h : Ehdr) (n k : ℕ) → h.e_shoff ≢ 0 → 0 < n → h.e_shnum ≡ short_count n → section_header_count h (first_header n k) ≡ n
@@ -185,7 +202,8 @@ unfolding relocatable_bytes
 length-relocatable_bytes h ss cs names counts order =
     let ps = ehdr_bytes (order_of h.e_ident) h ∷ behind_header h ss cs names in
     let all = length-append cs (section_table h ss names ∷ []) in
-    let long : EHDR_SIZE ≡ 0 + length (ehdr_bytes (order_of h.e_ident) h) = (let e = ehdr_laws.length_is (order_of h.e_ident) h in omega arith) in
+    let long : EHDR_SIZE ≡ 0 + length (ehdr_bytes (order_of h.e_ident) h) =
+    (let e = ehdr_laws.length_is (order_of h.e_ident) h in omega arith) in
     let whole : Fits (map unaligned ps) 0 (0 ∷ offsets h ss) =
     (omega arith, omega arith, subst (λ (x : ℕ). Fits (map unaligned (behind_header h ss cs names)) x (offsets h ss)) long order) in
     let end = length-spread 0 (0 ∷ offsets h ss) ps (suc (length cs)) whole (omega arith) in
@@ -235,7 +253,8 @@ module _ (h : Ehdr) (ss : List Shdr) (cs : List (List ℕ)) (names : ℕ) (file 
       let short = file.short in
       let below = file.names_within in
       elim (cases_lt n SHN_LORESERVE) [
-        | inl few ↦ (let counted = low n few in let named = low names (omega arith) in first_fits_at (long_number n) (long_number names) (omega arith) (omega arith))
+        | inl few ↦ (let counted = low n few in let named = low names (omega arith) in
+            first_fits_at (long_number n) (long_number names) (omega arith) (omega arith))
         | inr many ↦ (let counted = high n many in elim (cases_lt names SHN_LORESERVE) [
           | inl under ↦ (let named = low names under in first_fits_at (long_number n) (long_number names) (omega arith) (omega arith))
           | inr over ↦ (let named = high names over in first_fits_at (long_number n) (long_number names) (omega arith) (omega arith))
@@ -275,21 +294,29 @@ module _ (h : Ehdr) (ss : List Shdr) (cs : List (List ℕ)) (names : ℕ) (file 
 
   parts_stand : AreFileParts (relocatable_file h ss cs names) places (relocatable_parts h ss cs names)
   parts_stand = record {
-    order = (omega arith, omega arith, subst (λ (sizes : List (ℕ × ℕ)). Fits sizes (0 + length (ehdr_bytes (order_of h.e_ident) h)) (offsets h ss)) (sym (parts_sizes table_part 1 cs)) from_header);
+    order = (
+      omega arith,
+      omega arith,
+      subst (λ (sizes : List (ℕ × ℕ)). Fits sizes (0 + length (ehdr_bytes (order_of h.e_ident) h)) (offsets h ss))
+          (sym (parts_sizes table_part 1 cs)) from_header,
+    );
     owned = owned;
     each_owner = each_owner;
   }
     where
       from_header : Fits (map unaligned (behind_header h ss cs names)) (0 + length (ehdr_bytes (order_of h.e_ident) h)) (offsets h ss)
       from_header =
-          let long : EHDR_SIZE ≡ 0 + length (ehdr_bytes (order_of h.e_ident) h) = (let e = ehdr_laws.length_is (order_of h.e_ident) h in omega arith) in
+          let long : EHDR_SIZE ≡ 0 + length (ehdr_bytes (order_of h.e_ident) h) =
+          (let e = ehdr_laws.length_is (order_of h.e_ident) h in omega arith) in
           subst (λ (x : ℕ). Fits (map unaligned (behind_header h ss cs names)) x (offsets h ss)) long file.order
 
       owned : (k : ℕ) (p : WrittenPart) → slice_get (relocatable_parts h ss cs names) k ≡ Some p → p.owner ≢ Gap →
-          (get_or places k 0 ≡ owner_start (relocatable_file h ss cs names) p.owner) × (p.bytes ≡ owner_bytes (relocatable_file h ss cs names) p.owner)
+          (get_or places k 0 ≡ owner_start (relocatable_file h ss cs names) p.owner) ×
+          (p.bytes ≡ owner_bytes (relocatable_file h ss cs names) p.owner)
       owned zero p at some =
           let same : record { owner = Header; bytes = ehdr_bytes (order_of h.e_ident) h } ≡ p = cc in
-          subst (λ (q : WrittenPart). (get_or places 0 0 ≡ owner_start (relocatable_file h ss cs names) q.owner) × (q.bytes ≡ owner_bytes (relocatable_file h ss cs names) q.owner)) same (refl, refl)
+          subst (λ (q : WrittenPart). (get_or places 0 0 ≡ owner_start (relocatable_file h ss cs names) q.owner) ×
+          (q.bytes ≡ owner_bytes (relocatable_file h ss cs names) q.owner)) same (refl, refl)
       owned (suc j) p at some = elim (part_at table_part 1 cs j p at) [
         | inl found ↦
             (let next : 1 + j ≡ suc j = omega arith in
@@ -308,7 +335,8 @@ module _ (h : Ehdr) (ss : List Shdr) (cs : List (List ℕ)) (names : ℕ) (file 
             ))
       ]
 
-      each_owner : (o : Owner) → 0 < length (owner_bytes (relocatable_file h ss cs names) o) → (k : ℕ) × IsPartOf (relocatable_parts h ss cs names) k o
+      each_owner : (o : Owner) → 0 < length (owner_bytes (relocatable_file h ss cs names) o) →
+          (k : ℕ) × IsPartOf (relocatable_parts h ss cs names) k o
       each_owner Header some = (0, (record { owner = Header; bytes = ehdr_bytes (order_of h.e_ident) h }, refl, refl))
       each_owner SectionTable some = (suc (length cs), (table_part, last_part table_part 1 cs, refl))
       each_owner ProgramTable some = absurd (omega arith)
@@ -336,7 +364,8 @@ module _ (h : Ehdr) (ss : List Shdr) (cs : List (List ℕ)) (names : ℕ) (file 
       let there = table_above in
       let counts_n = count_is in
       record {
-        null = λ some. record { sh_name = refl; sh_type = refl; sh_flags = refl; sh_addr = refl; sh_offset = refl; sh_addralign = refl; sh_entsize = refl };
+        null = λ some. record
+            { sh_name = refl; sh_type = refl; sh_flags = refl; sh_addr = refl; sh_offset = refl; sh_addralign = refl; sh_entsize = refl };
         extended_section_count = λ some. (plain_count, extended_count);
         section_table = λ some. omega arith;
         name_table_index = plain_index;
@@ -355,13 +384,17 @@ module _ (h : Ehdr) (ss : List Shdr) (cs : List (List ℕ)) (names : ℕ) (file 
         | inr many ↦ (let is = (high n many).2 in omega arith)
       ]
 
-      plain_index : h.e_shoff ≢ 0 → h.e_shstrndx ≢ SHN_XINDEX → (h.e_shstrndx < SHN_LORESERVE) × (h.e_shstrndx < section_header_count h (first_header n names))
+      plain_index : h.e_shoff ≢ 0 → h.e_shstrndx ≢ SHN_XINDEX →
+          (h.e_shstrndx < SHN_LORESERVE) × (h.e_shstrndx < section_header_count h (first_header n names))
       plain_index there plain = elim (cases_lt names SHN_LORESERVE) [
-        | inl under ↦ (let is = (low names under).1 in let index = file.name_table in let below = file.names_within in let count = count_is in (omega arith, omega arith))
+        | inl under ↦
+            (let is = (low names under).1 in let index = file.name_table in let below = file.names_within in let count = count_is in
+            (omega arith, omega arith))
         | inr over ↦ absurd (plain (file.name_table ∙ (high names over).1))
       ]
 
-      extended_index : h.e_shstrndx ≡ SHN_XINDEX → (SHN_LORESERVE ≤ long_number names) × (long_number names < section_header_count h (first_header n names))
+      extended_index : h.e_shstrndx ≡ SHN_XINDEX →
+          (SHN_LORESERVE ≤ long_number names) × (long_number names < section_header_count h (first_header n names))
       extended_index escape = elim (cases_lt names SHN_LORESERVE) [
         | inl under ↦ (let is = (low names under).1 in let index = file.name_table in absurd (omega arith))
         | inr over ↦ (let is = (high names over).2 in let below = file.names_within in let count = count_is in (omega arith, omega arith))
@@ -401,7 +434,8 @@ module _ (h : Ehdr) (ss : List Shdr) (cs : List (List ℕ)) (names : ℕ) (file 
 
   sections_kept : (len : ℕ) → len ≡ h.e_shoff + SHDR_SIZE * n → KeepsSectionRules len n (section_header_of headers)
   sections_kept len long = record { alignment = file.alignment; address = file.address; content = content } where
-    content : (i : ℕ) → 1 ≤ i → i < n → (section_header_of headers i).sh_type ≢ 0 → (section_header_of headers i).sh_type ≢ 8 → 0 < (section_header_of headers i).sh_size →
+    content : (i : ℕ) → 1 ≤ i → i < n → (section_header_of headers i).sh_type ≢ 0 → (section_header_of headers i).sh_type ≢ 8 →
+        0 < (section_header_of headers i).sh_size →
         (section_header_of headers i).sh_offset + (section_header_of headers i).sh_size ≤ len
     content zero from lt null bits some = absurd (omega arith)
     content (suc j) from lt null bits some =
@@ -432,7 +466,9 @@ module _ (h : Ehdr) (ss : List Shdr) (cs : List (List ℕ)) (names : ℕ) (file 
         program_table = program_table_kept len;
         sections = subst (λ (count : ℕ). KeepsSectionRules len count (section_header_of headers)) (sym count_is) (sections_kept len long);
         segments = subst (λ (count : ℕ). KeepsSegmentRules len count (program_header_of [])) (sym no_segment_counted) (segments_kept len);
-        section_names = subst (λ (count : ℕ). KeepsNameRules count (name_table h (first_header n names)) (section_header_of headers) (value_names h headers ([] ∷ cs))) (sym count_is)
+        section_names =
+            subst (λ (count : ℕ). KeepsNameRules count (name_table h (first_header n names)) (section_header_of headers)
+            (value_names h headers ([] ∷ cs))) (sym count_is)
             (subst (λ (index : ℕ). KeepsNameRules n index (section_header_of headers) (value_names h headers ([] ∷ cs))) (sym names_are_at)
             (subst (KeepsNameRules n names (section_header_of headers)) (sym names_are) file.section_names));
       }
@@ -459,19 +495,22 @@ pub length-relocatable_file : (h : Ehdr) (ss : List Shdr) (cs : List (List ℕ))
     length (relocatable_bytes h ss cs names) ≡ h.e_shoff + SHDR_SIZE * (length ss + 1)
 length-relocatable_file h ss cs names file = length_is h ss cs names file
 
-pub relocatable_is_bytes : (h : Ehdr) (ss : List Shdr) (cs : List (List ℕ)) (names : ℕ) → IsRelocatableFile h ss cs names → IsBytes (relocatable_bytes h ss cs names)
+pub relocatable_is_bytes : (h : Ehdr) (ss : List Shdr) (cs : List (List ℕ)) (names : ℕ) → IsRelocatableFile h ss cs names →
+    IsBytes (relocatable_bytes h ss cs names)
 relocatable_is_bytes h ss cs names file =
     subst IsBytes (bytes_are h ss cs names file) (written_is_bytes (relocatable_file h ss cs names) _ _ (writable h ss cs names file))
 
 pub relocatable_accepted : (h : Ehdr) (ss : List Shdr) (cs : List (List ℕ)) (names : ℕ) → IsRelocatableFile h ss cs names →
     IsFault (relocatable_bytes h ss cs names) None
 relocatable_accepted h ss cs names file =
-    subst (λ (b : List ℕ). IsFault b None) (bytes_are h ss cs names file) (written_accepted (relocatable_file h ss cs names) _ _ (writable h ss cs names file))
+    subst (λ (b : List ℕ). IsFault b None) (bytes_are h ss cs names file)
+    (written_accepted (relocatable_file h ss cs names) _ _ (writable h ss cs names file))
 
 pub relocatable_read : (h : Ehdr) (ss : List Shdr) (cs : List (List ℕ)) (names : ℕ) → IsRelocatableFile h ss cs names → (v : ImageValue) →
     Stands v (relocatable_bytes h ss cs names) → HasContents v (relocatable_file h ss cs names)
 relocatable_read h ss cs names file v stands =
-    written_read (relocatable_file h ss cs names) _ _ (writable h ss cs names file) v (subst (Stands v) (sym (bytes_are h ss cs names file)) stands)
+    written_read (relocatable_file h ss cs names) _ _ (writable h ss cs names file) v
+    (subst (Stands v) (sym (bytes_are h ss cs names file)) stands)
 
 -- what the name table holds, read of the file
 pub relocatable_names : (h : Ehdr) (ss : List Shdr) (cs : List (List ℕ)) (names : ℕ) → IsRelocatableFile h ss cs names →

@@ -1,7 +1,8 @@
 -- An image: what contracts see of it, its strings, and the bytes that it has at addresses.
-use Rattle.std.specs.Prelude.{map, ◌≡◌, ◌<◌, ◌≤◌, ℕ, ◌+◌, ◌-◌, nat_lt, if◌then◌else◌, List, length, Option, MatchOption, slice_index, ◌==◌, [], drop}
-use Rattle.std.specs.List.{before_first}
+use Rattle.std.specs.Prelude.{map, ◌≡◌, ◌<◌, ◌≤◌, ℕ, ◌+◌, ◌-◌, nat_lt, if◌then◌else◌, List, length, Option, MatchOption, slice_index, ◌==◌}
+use Rattle.std.specs.Prelude.{[]}
 use Rattle.elf_field.specs.Abi.{SHT_NULL}
+use Rattle.elf_field.specs.Strings.{string}
 use Rattle.elf_field.specs.declared.phdr.Phdr.{Phdr}
 use Rattle.elf_image_outline.specs.Image.{ImageValue, section_header_of, value_names}
 use Rattle.elf_image_outline.specs.Outline.{image_of}
@@ -46,11 +47,7 @@ LoadsFirst b segments x found =
     MatchOption found (HaveNoAddress segments (length segments) x)
     (λ v. (j : ℕ) × IsFirstWithAddress segments x j × (v ≡ loaded b (program_header_of segments j) x))
 
--- Strings in a table of strings. (gABI chapter 4, String Table.)
-
--- the bytes of a table from offset x to the first zero, or to its end where there is none
-abbrev pub string : List ℕ → ℕ → List ℕ
-string table x = before_first (λ byte. byte == 0) (drop x table)
+-- The names of sections. (gABI chapter 4, String Table.)
 
 -- the name of section i: a string of the section name string table, and empty for an entry of type NULL
 abbrev pub section_name : ImageValue → ℕ → List ℕ

@@ -1,10 +1,12 @@
 -- A file as it is written: parts one after the other, each at its offset, and its identification. And a relocatable one: the header, the
 -- content of each section in the order of the section headers, and the section header table, without segments.
 -- (gABI chapter 4: ELF Header, ELF Identification, Sections with Special Section Indexes.)
-use Rattle.std.specs.Prelude.{◌≡◌, ◌≢◌, ◌<◌, ℕ, ◌+◌, ◌-◌, List, [], ◌∷◌, ◌++◌, length, map, get_or, replicate, slice_get, slice_index, Some, ◌≤◌, suc, ◌*◌, ◌%◌, nat_lt, if◌then◌else◌}
+use Rattle.std.specs.Prelude.{◌≡◌, ◌≢◌, ◌<◌, ℕ, ◌+◌, ◌-◌, List, [], ◌∷◌, ◌++◌, length, map, get_or, replicate, slice_get, slice_index, Some}
+use Rattle.std.specs.Prelude.{◌≤◌, suc, ◌*◌, ◌%◌, nat_lt, if◌then◌else◌}
 use Rattle.std.specs.List.{AllByRecursion, flat_map}
 use Rattle.elf_extent.specs.Place.{Fits}
-use Rattle.elf_field.specs.Abi.{EHDR_SIZE, EI_NIDENT, EI_PAD, ELFCLASS64, ELFDATA2LSB, ELFDATA2MSB, EV_CURRENT, MAGIC, SHDR_SIZE, SHN_LORESERVE, SHN_XINDEX}
+use Rattle.elf_field.specs.Abi.{EHDR_SIZE, EI_NIDENT, EI_PAD, ELFCLASS64, ELFDATA2LSB, ELFDATA2MSB, EV_CURRENT, MAGIC, SHDR_SIZE}
+use Rattle.elf_field.specs.Abi.{SHN_LORESERVE, SHN_XINDEX}
 use Rattle.elf_field.specs.Bytes.{IsBytes}
 use Rattle.elf_field.specs.Headers.{IsEhdr, ehdr_bytes, IsShdr, shdr_bytes, IsPhdr, phdr_bytes}
 use Rattle.elf_field.specs.declared.ehdr.Ehdr.{Ehdr}
@@ -17,7 +19,8 @@ use Rattle.elf_image_outline.specs.declared.outline.Owner.TheVariants.{Header, P
 use Rattle.elf_image_outline.specs.declared.outline.Owner.{Owner}
 use Rattle.elf_image_rules.specs.KeepsRules.{KeepsEachRecordRule, EachSectionHeader, IsAlignment, KeepsIdentRules, KeepsNameRules}
 use Rattle.elf_image_rules.specs.Rules.{MAX_LEN}
-use Rattle.elf_image_rules.specs.Tables.{content_extent, order_of, program_header_count, program_header_of, section_header_count, section_header_of, no_section_header}
+use Rattle.elf_image_rules.specs.Tables.{content_extent, order_of, program_header_count, program_header_of, section_header_count}
+use Rattle.elf_image_rules.specs.Tables.{section_header_of, no_section_header}
 
 -- ---- the bytes: parts with zeros between them ("only the ELF header has a fixed position in the file")
 
@@ -192,6 +195,7 @@ pub record IsRelocatableFile (h : Ehdr) (ss : List Shdr) (cs : List (List ℕ)) 
   pub short : h.e_shoff + SHDR_SIZE * (length ss + 1) ≤ MAX_LEN
   -- alignments and names
   pub alignment : EachSectionHeader (length ss + 1) (section_header_of (all_headers ss names)) (λ entry. IsAlignment entry.sh_addralign)
-  pub address : EachSectionHeader (length ss + 1) (section_header_of (all_headers ss names)) (λ entry. 1 < entry.sh_addralign → entry.sh_addr % entry.sh_addralign ≡ 0)
+  pub address : EachSectionHeader (length ss + 1) (section_header_of (all_headers ss names))
+      (λ entry. 1 < entry.sh_addralign → entry.sh_addr % entry.sh_addralign ≡ 0)
   pub names_within : names < length ss + 1
   pub section_names : KeepsNameRules (length ss + 1) names (section_header_of (all_headers ss names)) (get_or ([] ∷ cs) names [])

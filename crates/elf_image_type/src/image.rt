@@ -2,7 +2,9 @@
 ghost use Rattle.std.specs.Prelude.{◌≡◌, ◌<◌, ◌≤◌, ◌+◌, ℕ, [], List, get_or, length, map, MatchResult, OnErr, OnOk};
 ghost use Rattle.elf_image_rules.specs.Rules.{MAX_LEN};
 ghost use Rattle.elf_image_rules.specs.Tables.{content_extent, name_table, order_of, shdr_offset};
-ghost use Rattle.elf_image_outline.specs.Image.{IsImage, IsSoundImage, program_header_of, section_header_of, value_names, AreParts, IsReplaceFault, IsReplaceable, IsSectionIndex, with_content, with_entry, with_flags, with_zero_gaps};
+ghost use Rattle.elf_image_outline.specs.Image.{IsImage, IsSoundImage, program_header_of, section_header_of, value_names, AreParts};
+ghost use Rattle.elf_image_outline.specs.Image.{IsReplaceFault, IsReplaceable, IsSectionIndex, with_content, with_entry, with_flags};
+ghost use Rattle.elf_image_outline.specs.Image.{with_zero_gaps};
 ghost use Rattle.elf_image_outline.specs.Outline.{image_of};
 ghost use Rattle.elf_image_type.specs.ImageView.{LoadsFirst, section_name};
 

@@ -7,7 +7,8 @@ ghost use Rattle.elf_field.specs.declared.shdr.Shdr.{Shdr};
 ghost use Rattle.elf_field.specs.Headers.{IsEhdrAt, IsPhdrAt, IsShdrAt};
 ghost use Rattle.elf_image_rules.specs.Rules.{IsFault};
 ghost use Rattle.elf_image_rules.specs.Tables.{order_of, phdr_offset, shdr_offset};
-ghost use Rattle.elf_image_type.specs.WrittenFile.{FileContents, HasContents, IsWritable, WrittenPart, written, IsRelocatableFile, relocatable_bytes, relocatable_file};
+ghost use Rattle.elf_image_type.specs.WrittenFile.{FileContents, HasContents, IsWritable, WrittenPart, written, IsRelocatableFile};
+ghost use Rattle.elf_image_type.specs.WrittenFile.{relocatable_bytes, relocatable_file};
 ghost use Rattle.elf_image_outline.specs.Image.{ImageValue, IsImage, IsSoundImage, Stands, program_header_of, section_header_of};
 
 /// An image is represented by one list of bytes, and by no other, be it with a fault or without.

@@ -1,6 +1,8 @@
 //! Strings in a table of strings (gABI chapter 4, String Table).
+//!
+//! `memchr` finds the zero that ends a string, of a section's name and of an entry in any table of strings.
 ghost use Rattle.std.specs.Prelude.{◌≡◌};
-ghost use Rattle.elf_image_type.specs.ImageView.{string};
+ghost use Rattle.elf_field.specs.Strings.{string};
 
 use memchr::memchr;
 

@@ -1,6 +1,8 @@
 -- The bytes of a list with a number in a field, one by one.
-use Rattle.std.proofs.Common.{arith, ◌≡◌, ◌∙◌, ap, ℕ, ◌+◌, ◌-◌, ◌≤◌, ◌<◌, ◌⊎◌, inl, inr, List, ◌++◌, drop, get_or, length, take, append-nil, refl, ℤ}
-use Rattle.std.proofs.lemmas.List.{get_or_append_left, get_or-append_right, get_or-drop, get_or-take, length-append, length-drop, length-take-le, drop-drop, drop_all, take_rest}
+use Rattle.std.proofs.Common.{arith, ◌≡◌, ◌∙◌, ap, ℕ, ◌+◌, ◌-◌, ◌≤◌, ◌<◌, ◌⊎◌, inl, inr, List, ◌++◌, drop, get_or, length, take, append-nil}
+use Rattle.std.proofs.Common.{refl, ℤ}
+use Rattle.std.proofs.lemmas.List.{get_or_append_left, get_or-append_right, get_or-drop, get_or-take, length-append, length-drop}
+use Rattle.std.proofs.lemmas.List.{length-take-le, drop-drop, drop_all, take_rest}
 use borrow.Rule.Slice.PartMut.{put_mid}
 use Rattle.elf_field.specs.Bytes.{bytes_of, length-bytes_of}
 use Rattle.elf_field.specs.declared.number.Order.{Order}
@@ -14,7 +16,16 @@ module _ {X : Type 0} (d : X) (b new : List X) (x n : ℕ) (within : x + n ≤ l
   front = length-take-le x b (omega arith)
 
   pub between_long : length (take x b ++ (new ++ drop (x + n) b)) ≡ length b
-  between_long = omega (arith, length-append (take x b) (new ++ drop (x + n) b), length-append new (drop (x + n) b), front, long, length-drop (x + n) b, within)
+  between_long =
+      omega (
+        arith,
+        length-append (take x b) (new ++ drop (x + n) b),
+        length-append new (drop (x + n) b),
+        front,
+        long,
+        length-drop (x + n) b,
+        within,
+      )
 
   pub between_inside : (k : ℕ) → k < n → get_or (take x b ++ (new ++ drop (x + n) b)) (x + k) d ≡ get_or new k d
   between_inside k below =

@@ -1,5 +1,6 @@
 -- The field that a relocation changes: its rule, its number and its bytes. (gABI chapter 4, Relocation.)
-use Rattle.std.specs.Prelude.{◌≡◌, ℕ, ◌<◌, Some, List, slice_get, ◌*◌, ◌-◌, ◌^◌, ◌%◌, ℤ, pos, negsuc, neg_ℤ, ◌+ℤ◌, ◌-ℤ◌, ◌<ℤ◌, ◌≤ℤ◌, ◌+◌, ◌≤◌, ◌⊎◌, ◌++◌, drop, length, slice_index, take}
+use Rattle.std.specs.Prelude.{◌≡◌, ℕ, ◌<◌, Some, List, slice_get, ◌*◌, ◌-◌, ◌^◌, ◌%◌, ℤ, pos, negsuc, neg_ℤ, ◌+ℤ◌, ◌-ℤ◌, ◌<ℤ◌, ◌≤ℤ◌, ◌+◌}
+use Rattle.std.specs.Prelude.{◌≤◌, ◌⊎◌, ◌++◌, drop, length, slice_index, take}
 use Rattle.byteorder.specs.Endian.{twos_complement}
 use Rattle.elf_field.specs.Bytes.{from, num, bytes_of}
 use Rattle.elf_field.specs.declared.number.Order.{Order}

@@ -1,4 +1,7 @@
 //! The bytes of a field: read and patched.
+//!
+//! A number is written in the byte order of its own file, and an addend is read in it. Rule 2 of the link makes the orders of its files
+//! equal.
 ghost use Rattle.std.specs.Prelude.{◌+◌, ◌≤◌, length, ◌≡◌};
 ghost use Rattle.elf_link_field.specs.Field.{size_of, patched, patched_by};
 

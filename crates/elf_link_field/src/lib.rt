@@ -1,6 +1,8 @@
 //! Relocations as relocation rules describe them (gABI chapter 4, Relocation; the rules are this project's profile): the exact
 //! number of an entry, the numbers that its field admits, and the bytes in which the field holds it.
 //!
+//! Relocations know nothing of a link: they see symbols and addresses as numbers.
+//!
 //! ```
 //! // A field of four bytes that counts from itself: the address of a call's target, less four bytes, less the field's address.
 //! let rule = RelocRule { kind: 2, form: Form::Pc, width: Width::W4, range: Range::Signed };

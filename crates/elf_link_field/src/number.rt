@@ -79,7 +79,8 @@ impl<'b> BytesField<'b> {
 
     /// The number in it, as two's complement.
     fn signed<O: ByteOrder>(&self) -> i128
-        ensures value { result ≡ twos_complement (size_of self.now.width) (from O.number_of self.now.bytes.now self.now.offset (size_of self.now.width)) }
+        ensures value { result ≡
+            twos_complement (size_of self.now.width) (from O.number_of self.now.bytes.now self.now.offset (size_of self.now.width)) }
         ensures low { neg_ℤ (pos (2 ^ 63)) ≤ℤ result }
         ensures high { result <ℤ pos (2 ^ 64) }
     {

@@ -6,7 +6,8 @@ use Rattle.elf_field.specs.Abi.{STB_LOCAL, STB_GLOBAL, STB_WEAK}
 use Rattle.elf_image_rules.specs.Rows.{Row}
 use Rattle.elf_link_files.proofs.SiteLists.{earlier_more, earlier_next}
 use Rattle.elf_link_files.specs.Files.{symbol_in, IsEntry, object_at, IsCommon, IsNotWeak, IsStrong, IsWeak}
-use Rattle.elf_link_files.specs.KnownBefore.{IsBest, IsBlock, IsCommonBest, IsFirstBefore, IsKnownBefore, IsLargerOf, NoneBefore, SomeBefore, first_or, id_in, marked_known}
+use Rattle.elf_link_files.specs.KnownBefore.{IsBest, IsBlock, IsCommonBest, IsFirstBefore, IsKnownBefore, IsLargerOf, NoneBefore}
+use Rattle.elf_link_files.specs.KnownBefore.{SomeBefore, first_or, id_in, marked_known}
 use Rattle.elf_link_files.specs.Rows.{site, UpTo, AtSymbol, commons, entries, IsLargest}
 use Rattle.elf_link_files.specs.declared.inputs.SymbolId.{SymbolId}
 use Rattle.elf_link_files.specs.declared.known.Block.{Block}
@@ -19,7 +20,8 @@ use Rattle.elf_object_type.specs.Object.{ObjectValue, binding}
 at_here : (fs : List ObjectValue) (P : ℕ → ℕ → Type 0) (p : Site) (f i : ℕ) → AtSymbol fs P p → p.file ≡ f → p.index ≡ i → P f i
 at_here fs P p f i (file, index, here, entry) same at = subst (λ n. P f n) at (subst (λ n. P n p.index) same here)
 
-pub none_past : (fs : List ObjectValue) (P : ℕ → ℕ → Type 0) (f i : ℕ) → (P f i → ⊥) → NoneBefore (AtSymbol fs P) f i → NoneBefore (AtSymbol fs P) f (i + 1)
+pub none_past : (fs : List ObjectValue) (P : ℕ → ℕ → Type 0) (f i : ℕ) → (P f i → ⊥) → NoneBefore (AtSymbol fs P) f i →
+    NoneBefore (AtSymbol fs P) f (i + 1)
 none_past fs P f i other none p row earlier = elim (earlier_next p.file p.index f i earlier) [
   | inl before ↦ none p row before
   | inr same ↦ other (at_here fs P p f i row same.0 same.1)
@@ -42,33 +44,41 @@ first_here fs P f i file index here none = (
 first_past : (row : Row Site) (f i : ℕ) (s : SymbolId) → IsFirstBefore row f i s → IsFirstBefore row f (i + 1) s
 first_past row f i s (first, earlier) = (first, earlier_more s.file s.index f i earlier)
 
-pub best_past : (fs : List ObjectValue) (P : ℕ → ℕ → Type 0) (f i : ℕ) (best : Option SymbolId) → (P f i → ⊥) → IsBest (AtSymbol fs P) f i best →
+pub best_past : (fs : List ObjectValue) (P : ℕ → ℕ → Type 0) (f i : ℕ) (best : Option SymbolId) → (P f i → ⊥) →
+    IsBest (AtSymbol fs P) f i best →
     IsBest (AtSymbol fs P) f (i + 1) best
 best_past fs P f i None other none = none_past fs P f i other none
 best_past fs P f i (Some s) other is = first_past (AtSymbol fs P) f i s is
 
 pub best_next : (fs : List ObjectValue) (P : ℕ → ℕ → Type 0) (f i : ℕ) (best now : Option SymbolId) (passes : Bool) → f < length fs →
-    i < length (object_at fs f).symbols → (passes ≡ true) ↔ P f i → now ≡ first_or best passes (id_in f i) → IsBest (AtSymbol fs P) f i best →
+    i < length (object_at fs f).symbols → (passes ≡ true) ↔ P f i → now ≡ first_or best passes (id_in f i) →
+    IsBest (AtSymbol fs P) f i best →
     IsBest (AtSymbol fs P) f (i + 1) now
-best_next fs P f i (Some s) now passes file index tells is best = subst (IsBest (AtSymbol fs P) f (i + 1)) (sym is) (first_past (AtSymbol fs P) f i s best)
+best_next fs P f i (Some s) now passes file index tells is best =
+    subst (IsBest (AtSymbol fs P) f (i + 1)) (sym is) (first_past (AtSymbol fs P) f i s best)
 best_next fs P f i None now true file index tells is none =
     subst (IsBest (AtSymbol fs P) f (i + 1)) (sym is) (first_here fs P f i file index (tells.0 refl) none)
 best_next fs P f i None now false file index tells is none =
-    subst (IsBest (AtSymbol fs P) f (i + 1)) (sym is) (none_past fs P f i (λ here. (let never : false ≡ true = tells.1 here in absurd (cc))) none)
+    subst (IsBest (AtSymbol fs P) f (i + 1)) (sym is)
+    (none_past fs P f i (λ here. (let never : false ≡ true = tells.1 here in absurd (cc))) none)
 
 some_past : (row : Row Site) (f i : ℕ) → SomeBefore row f i → SomeBefore row f (i + 1)
 some_past row f i (p, there, earlier) = (p, there, earlier_more p.file p.index f i earlier)
 
-some_back : (fs : List ObjectValue) (P : ℕ → ℕ → Type 0) (f i : ℕ) → SomeBefore (AtSymbol fs P) f (i + 1) → SomeBefore (AtSymbol fs P) f i ⊎ P f i
+some_back : (fs : List ObjectValue) (P : ℕ → ℕ → Type 0) (f i : ℕ) → SomeBefore (AtSymbol fs P) f (i + 1) →
+    SomeBefore (AtSymbol fs P) f i ⊎ P f i
 some_back fs P f i (p, there, earlier) = elim (earlier_next p.file p.index f i earlier) [
   | inl before ↦ inl (p, there, before)
   | inr same ↦ inr (at_here fs P p f i there same.0 same.1)
 ]
 
-pub found_past : (fs : List ObjectValue) (P : ℕ → ℕ → Type 0) (f i : ℕ) (found : Bool) → (P f i → ⊥) → (found ≡ true) ↔ SomeBefore (AtSymbol fs P) f i →
+pub found_past : (fs : List ObjectValue) (P : ℕ → ℕ → Type 0) (f i : ℕ) (found : Bool) → (P f i → ⊥) →
+    (found ≡ true) ↔ SomeBefore (AtSymbol fs P) f i →
     (found ≡ true) ↔ SomeBefore (AtSymbol fs P) f (i + 1)
-found_past fs P f i found other tells =
-    ((λ yes. some_past (AtSymbol fs P) f i (tells.0 yes)), (λ some. elim (some_back fs P f i some) [ inl before ↦ tells.1 before | inr here ↦ absurd (other here) ]))
+found_past fs P f i found other tells = (
+  (λ yes. some_past (AtSymbol fs P) f i (tells.0 yes)),
+  (λ some. elim (some_back fs P f i some) [ inl before ↦ tells.1 before | inr here ↦ absurd (other here) ]),
+)
 
 pub found_here : (fs : List ObjectValue) (P : ℕ → ℕ → Type 0) (f i : ℕ) → f < length fs → i < length (object_at fs f).symbols → P f i →
     (true ≡ true) ↔ SomeBefore (AtSymbol fs P) f (i + 1)
@@ -103,7 +113,8 @@ largest_next fs P f i measure most n file index here (left, right, either) is = 
   ];
 }
 
-largest_one : (fs : List ObjectValue) (P : ℕ → ℕ → Type 0) (f i : ℕ) (measure : ℕ → ℕ → ℕ) (n : ℕ) → f < length fs → i < length (object_at fs f).symbols →
+largest_one : (fs : List ObjectValue) (P : ℕ → ℕ → Type 0) (f i : ℕ) (measure : ℕ → ℕ → ℕ) (n : ℕ) → f < length fs →
+    i < length (object_at fs f).symbols →
     P f i → n ≡ measure f i → NoneBefore (AtSymbol fs P) f i → IsLargest (UpTo (AtSymbol fs P) f (i + 1)) measure n
 largest_one fs P f i measure n file index here is none = record {
   above = λ p (row, earlier). elim (earlier_next p.file p.index f i earlier) [
@@ -113,7 +124,8 @@ largest_one fs P f i measure n file index here is none = record {
   attained = (site f i, ((file, index, here, refl), inr (refl, omega arith)), sym is);
 }
 
-pub block_past : (fs : List ObjectValue) (name : List ℕ) (f i : ℕ) (best : Option Block) → (IsCommon fs name f i → ⊥) → IsCommonBest fs name f i best →
+pub block_past : (fs : List ObjectValue) (name : List ℕ) (f i : ℕ) (best : Option Block) → (IsCommon fs name f i → ⊥) →
+    IsCommonBest fs name f i best →
     IsCommonBest fs name f (i + 1) best
 block_past fs name f i None other none = none_past fs (IsCommon fs name) f i other none
 block_past fs name f i (Some b) other is = record {
@@ -123,7 +135,8 @@ block_past fs name f i (Some b) other is = record {
 }
 
 pub block_more : (fs : List ObjectValue) (name : List ℕ) (f i : ℕ) (b now : Block) → f < length fs → i < length (object_at fs f).symbols →
-    IsCommon fs name f i → now.first ≡ b.first → IsLargerOf b.size (symbol_in fs f i).size now.size → IsLargerOf b.align (symbol_in fs f i).value now.align →
+    IsCommon fs name f i → now.first ≡ b.first → IsLargerOf b.size (symbol_in fs f i).size now.size →
+    IsLargerOf b.align (symbol_in fs f i).value now.align →
     IsBlock fs name f i b → IsBlock fs name f (i + 1) now
 block_more fs name f i b now file index here first size align is = record {
   first = subst (IsFirstBefore (commons fs name) f (i + 1)) (sym first) (first_past (commons fs name) f i b.first is.first);
@@ -181,5 +194,8 @@ known_none fs name f i none = record {
   strong = λ p (file, index, here, entry) earlier. none p (file, index, strong_entry fs name p.file p.index here, entry) earlier;
   weak = λ p (file, index, here, entry) earlier. none p (file, index, weak_entry fs name p.file p.index here, entry) earlier;
   common = λ p (file, index, here, entry) earlier. none p (file, index, here.0, entry) earlier;
-  not_weak = ((λ (yes : false ≡ true). absurd (cc)), (λ (p, (file, index, here, entry), earlier). absurd (none p (file, index, here.0, entry) earlier)));
+  not_weak = (
+    (λ (yes : false ≡ true). absurd (cc)),
+    (λ (p, (file, index, here, entry), earlier). absurd (none p (file, index, here.0, entry) earlier)),
+  );
 }

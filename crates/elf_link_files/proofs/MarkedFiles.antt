@@ -1,5 +1,6 @@
 -- The files of a link, and what the rules of objects say of them.
-use Rattle.std.proofs.Common.{◌≡◌, ℕ, ◌+◌, ◌<◌, ◌⊎◌, Bool, true, false, List, length, get_or, set, inl, inr, refl, sym, ◌∙◌, subst, arith, get_or-set_other, get_or-set_same}
+use Rattle.std.proofs.Common.{◌≡◌, ℕ, ◌+◌, ◌<◌, ◌⊎◌, Bool, true, false, List, length, get_or, set, inl, inr, refl, sym, ◌∙◌, subst, arith}
+use Rattle.std.proofs.Common.{get_or-set_other, get_or-set_same}
 use Rattle.std.proofs.lemmas.Bool.{cases_eq, cases_lt}
 use Rattle.std.proofs.lemmas.List.{length-set, get_or_default}
 use Rattle.std.specs.Prelude.{IfSome, Option, None, Some, MatchOption}
@@ -89,7 +90,8 @@ same_name a b = elim (same_bool (bytes_eq a b) true) [
   | inr other ↦ inr (λ equal. other ((bytes_eq-Decides a b).1 equal))
 ]
 
-pub match_map : {A : Type 0} (o : Option A) (N M : Type 0) (P Q : A → Type 0) → (N → M) → ((a : A) → P a → Q a) → MatchOption o N P → MatchOption o M Q
+pub match_map : {A : Type 0} (o : Option A) (N M : Type 0) (P Q : A → Type 0) → (N → M) → ((a : A) → P a → Q a) → MatchOption o N P →
+    MatchOption o M Q
 match_map None N M P Q none some is = none is
 match_map (Some a) N M P Q none some is = some a is
 

@@ -1,6 +1,8 @@
--- Two ends in files of a link have the same number only if they are the same end of the same file (`same_end`). So of all names that have one
+-- Two ends in files of a link have the same number only if they are the same end of the same file (`same_end`). So of all names that have
+-- one
 -- number the longer one ends with the other, if that is so of those of each file (`tails_of_both`).
-use Rattle.std.proofs.Common.{◌≡◌, ◌<◌, ◌≤◌, ◌+◌, ◌*◌, ◌-◌, ◌++◌, ◌∙◌, ◌&&◌, ℕ, List, [], Bool, true, false, arith, ap, get_or, inl, inr, length, map, nat_lt, sym, subst, refl, if◌then◌else◌}
+use Rattle.std.proofs.Common.{◌≡◌, ◌<◌, ◌≤◌, ◌+◌, ◌*◌, ◌-◌, ◌++◌, ◌∙◌, ◌&&◌, ℕ, List, [], Bool, true, false, arith, ap, get_or, inl, inr}
+use Rattle.std.proofs.Common.{length, map, nat_lt, sym, subst, refl, if◌then◌else◌}
 use Rattle.std.proofs.Math.Nat.{mul-le-mul_right}
 use Rattle.std.proofs.lemmas.Bool.{cases_lt, ltb-true}
 use Rattle.std.proofs.lemmas.List.{get_or_append_left, get_or-append_right}
@@ -38,7 +40,8 @@ numbered file count end some =
     by false b c n a_is b_is some is = absurd (omega arith)
 
 -- an end that is past the last one has no number
-number_at : (file count : ℕ) (ends : List ℕ) (i : ℕ) → get_or (map (numbered_end file count) ends) i 0 ≡ numbered_end file count (get_or ends i 0)
+number_at : (file count : ℕ) (ends : List ℕ) (i : ℕ) →
+    get_or (map (numbered_end file count) ends) i 0 ≡ numbered_end file count (get_or ends i 0)
 number_at file count ends i = get_or-map (numbered_end file count) ends i 0
 
 -- what is at an index of two lists, one after the other
@@ -72,7 +75,8 @@ tails_of_both names others numbers ends files count all tails other_tails earlie
         | inr ge_j ↦ (let at_i = right i ge_i in let at_j = right j ge_j in
             let some_i = numbered files count (get_or ends (i - length names) 0) (subst (λ n. 0 < n) at_i some) in
             let some_j = numbered files count (get_or ends (j - length names) 0) (subst (λ n. 0 < n) (same ∙ at_j) some) in
-            let (is, _) = same_end count (get_or ends (i - length names) 0) files (get_or ends (j - length names) 0) files some_i.within some_i.within
+            let (is, _) =
+            same_end count (get_or ends (i - length names) 0) files (get_or ends (j - length names) 0) files some_i.within some_i.within
             (sym some_i.is ∙ sym at_i ∙ same ∙ at_j ∙ some_j.is) in
             tail_moved (names ++ others) i j others (i - length names) (j - length names)
             (right_at names others i [] ge_i) (right_at names others j [] ge_j)
@@ -86,7 +90,8 @@ tails_of_both names others numbers ends files count all tails other_tails earlie
     right : (k : ℕ) → length names ≤ k →
         get_or (numbers ++ map (numbered_end files count) ends) k 0 ≡ numbered_end files count (get_or ends (k - length names) 0)
     right k ge =
-        get_or-append_right numbers (map (numbered_end files count) ends) (length names) k 0 all ge ∙ number_at files count ends (k - length names)
+        get_or-append_right numbers (map (numbered_end files count) ends) (length names) k 0 all ge ∙
+        number_at files count ends (k - length names)
 
     apart : (k l : ℕ) → k < length names → length names ≤ l → 0 < get_or (numbers ++ map (numbered_end files count) ends) k 0 →
         get_or (numbers ++ map (numbered_end files count) ends) k 0 ≡ get_or (numbers ++ map (numbered_end files count) ends) l 0 → ⊥

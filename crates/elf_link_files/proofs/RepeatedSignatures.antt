@@ -1,11 +1,13 @@
 -- A COMDAT group has the signature of an earlier one exactly if the first group of its signature is earlier in the list of all groups
 -- (`repeated`). So marking the members of each such group marks the sections that are discarded (`marks_next`, `discarded_marks`).
-use Rattle.std.proofs.Common.{◌≡◌, ◌<◌, ◌≤◌, ◌+◌, ◌∙◌, ◌⊎◌, ◌++◌, ◌∷◌, ◌↔◌, ℕ, List, [], Bool, true, false, arith, ap, get_or, inl, inr, length, length-append, set, sym, subst, refl, get_or-set_other, get_or-set_same}
+use Rattle.std.proofs.Common.{◌≡◌, ◌<◌, ◌≤◌, ◌+◌, ◌∙◌, ◌⊎◌, ◌++◌, ◌∷◌, ◌↔◌, ℕ, List, [], Bool, true, false, arith, ap, get_or, inl, inr}
+use Rattle.std.proofs.Common.{length, length-append, set, sym, subst, refl, get_or-set_other, get_or-set_same}
 use Rattle.std.proofs.lemmas.Bool.{cases_eq, cases_lt, true≢false}
 use Rattle.std.proofs.lemmas.List.{get_or-map, get_or_push, length-map, length-set}
 use Rattle.std.proofs.Math.ListN.{get_or-append}
 use Rattle.elf_link_files.specs.Discarded.{AreMarksOf, AreUnmarked, IsDiscardedBy, IsGroupMarked, comdat_groups, signatures_of}
-use Rattle.elf_link_files.specs.Files.{AreDiscardMarks, AreMembersMarked, IsComdat, IsEarlier, IsGroupMember, IsSeen, mark, object_at, section_in, signature}
+use Rattle.elf_link_files.specs.Files.{AreDiscardMarks, AreMembersMarked, IsComdat, IsEarlier, IsGroupMember, IsSeen, mark, object_at}
+use Rattle.elf_link_files.specs.Files.{section_in, signature}
 use Rattle.elf_link_files.specs.Rows.{Before, Lists, site, site_at}
 use Rattle.elf_link_files.specs.declared.site.Site.{Site}
 use Rattle.elf_link_files.proofs.SiteLists.{earlier_before, position_before, site_is}
@@ -59,14 +61,16 @@ not_repeated fs groups firsts k is equal lt least (e, h, earlier, comdat, same) 
     (earlier_before (site e h) (site_at groups k).file (site_at groups k).index earlier)) in
     let j_below = position_before (comdat_groups fs) groups j k is lt_j lt before in
     let equals : get_or (signatures_of fs groups) k [] ≡ get_or (signatures_of fs groups) j [] =
-    signature_at fs groups k lt ∙ sym same ∙ ap (λ (p : Site). signature fs p.file p.index) (sym at) ∙ sym (signature_at fs groups j lt_j) in
+    signature_at fs groups k lt ∙ sym same ∙ ap (λ (p : Site). signature fs p.file p.index) (sym at) ∙
+    sym (signature_at fs groups j lt_j) in
     let lower = equal.least k j (omega arith) (omega arith) equals in
     omega arith
 
 -- ---- the marks
 
 -- none is discarded by none of the groups
-pub marks_none : (fs : List ObjectValue) (groups : List Site) (marks : List (List Bool)) → AreUnmarked fs (length fs) marks → AreMarksOf fs groups 0 marks
+pub marks_none : (fs : List ObjectValue) (groups : List Site) (marks : List (List Bool)) → AreUnmarked fs (length fs) marks →
+    AreMarksOf fs groups 0 marks
 marks_none fs groups marks are = record {
   files = are.count;
   long = are.long;
@@ -74,18 +78,21 @@ marks_none fs groups marks are = record {
       ((λ is. absurd (true≢false (sym is ∙ are.clear f s file section))), (λ by. let below = by.below in absurd (omega arith)));
 }
 
-discarded_more : (fs : List ObjectValue) (groups : List Site) (k f s : ℕ) → IsDiscardedBy fs groups k f s → IsDiscardedBy fs groups (k + 1) f s
+discarded_more : (fs : List ObjectValue) (groups : List Site) (k f s : ℕ) → IsDiscardedBy fs groups k f s →
+    IsDiscardedBy fs groups (k + 1) f s
 discarded_more fs groups k f s by =
     let below = by.below in record { group = by.group; below = omega arith; file = by.file; member = by.member; seen = by.seen }
 
 -- what is discarded by one group more is so by one of those before, or by that group
 discarded_next : (fs : List ObjectValue) (groups : List Site) (k f s : ℕ) → IsDiscardedBy fs groups (k + 1) f s →
     IsDiscardedBy fs groups k f s ⊎
-    (((site_at groups k).file ≡ f) × IsGroupMember fs f (site_at groups k).index s × IsSeen fs f (site_at groups k).index (signature fs f (site_at groups k).index))
+    (((site_at groups k).file ≡ f) × IsGroupMember fs f (site_at groups k).index s ×
+    IsSeen fs f (site_at groups k).index (signature fs f (site_at groups k).index))
 discarded_next fs groups k f s by = elim (cases_lt by.group k) [
   | inl below ↦ inl (record { group = by.group; below = below; file = by.file; member = by.member; seen = by.seen })
   | inr above ↦ (let within = by.below in let same : by.group ≡ k = omega arith in
-      inr (subst (λ (j : ℕ). ((site_at groups j).file ≡ f) × IsGroupMember fs f (site_at groups j).index s × IsSeen fs f (site_at groups j).index (signature fs f (site_at groups j).index))
+      inr (subst (λ (j : ℕ). ((site_at groups j).file ≡ f) × IsGroupMember fs f (site_at groups j).index s ×
+      IsSeen fs f (site_at groups j).index (signature fs f (site_at groups j).index))
       same (by.file, by.member, by.seen)))
 ]
 
@@ -99,7 +106,8 @@ marks_past fs groups k marks never are = record {
     (λ is. discarded_more fs groups k f s ((are.right f s file section).0 is)),
     (λ by. elim (discarded_next fs groups k f s by) [
       | inl before ↦ (are.right f s file section).1 before
-      | inr (at, member, seen) ↦ absurd (never (subst (λ n. IsSeen fs n (site_at groups k).index (signature fs n (site_at groups k).index)) (sym at) seen))
+      | inr (at, member, seen) ↦
+          absurd (never (subst (λ n. IsSeen fs n (site_at groups k).index (signature fs n (site_at groups k).index)) (sym at) seen))
     ]),
   );
 }
@@ -107,7 +115,8 @@ marks_past fs groups k marks never are = record {
 -- a group whose signature is repeated discards its members, which are marked now
 marks_by_row : (fs : List ObjectValue) (groups : List Site) (k : ℕ) (marks : List (List Bool)) (row : List Bool) → IsRepeated fs groups k →
     (site_at groups k).file < length fs →
-    AreMembersMarked (get_or marks (site_at groups k).file []) (members_of (section_in fs (site_at groups k).file (site_at groups k).index).body)
+    AreMembersMarked (get_or marks (site_at groups k).file [])
+    (members_of (section_in fs (site_at groups k).file (site_at groups k).index).body)
     (length (members_of (section_in fs (site_at groups k).file (site_at groups k).index).body)) row →
     AreMarksOf fs groups k marks → AreMarksOf fs groups (k + 1) (set marks (site_at groups k).file row)
 marks_by_row fs groups k marks row again there marked are = record {
@@ -145,8 +154,10 @@ marks_by_row fs groups k marks row again there marked are = record {
       (mark (set marks own row) f s ≡ true) ↔ IsDiscardedBy fs groups (k + 1) f s
   of_group f s same file section =
       let is : mark (set marks own row) f s ≡ get_or row s false = ap (λ r. get_or r s false) (row_at f same) in
-      let long : length (get_or marks own []) ≡ length (object_at fs f).sections = are.long own there ∙ ap (λ n. length (object_at fs n).sections) (sym same) in
-      let old : (mark marks own s ≡ true) ↔ IsDiscardedBy fs groups k own s = are.right own s there (subst (λ n. s < length (object_at fs n).sections) same section) in
+      let long : length (get_or marks own []) ≡ length (object_at fs f).sections =
+      are.long own there ∙ ap (λ n. length (object_at fs n).sections) (sym same) in
+      let old : (mark marks own s ≡ true) ↔ IsDiscardedBy fs groups k own s =
+      are.right own s there (subst (λ n. s < length (object_at fs n).sections) same section) in
       let by_row = marked.right s (omega arith) in (
         (λ now. elim (by_row.0 (sym is ∙ now)) [
           | inl had ↦ subst (λ n. IsDiscardedBy fs groups (k + 1) n s) (sym same) (discarded_more fs groups k own s (old.0 had))
@@ -165,7 +176,8 @@ marks_by_row fs groups k marks row again there marked are = record {
       )
 
 pub marks_next : (fs : List ObjectValue) (groups : List Site) (k : ℕ) (marks new : List (List Bool)) → IsRepeated fs groups k →
-    (site_at groups k).file < length fs → IsGroupMarked fs (site_at groups k) marks new → AreMarksOf fs groups k marks → AreMarksOf fs groups (k + 1) new
+    (site_at groups k).file < length fs → IsGroupMarked fs (site_at groups k) marks new → AreMarksOf fs groups k marks →
+    AreMarksOf fs groups (k + 1) new
 marks_next fs groups k marks new again there (row, is, marked) are =
     subst (AreMarksOf fs groups (k + 1)) (sym is) (marks_by_row fs groups k marks row again there marked are)
 
@@ -193,16 +205,22 @@ discarded_marks fs groups marks is are = record {
 }
 
 -- one row of no marks more
-pub unmarked_more : (fs : List ObjectValue) (n : ℕ) (marks : List (List Bool)) (row : List Bool) → length row ≡ length (object_at fs n).sections →
+pub unmarked_more : (fs : List ObjectValue) (n : ℕ) (marks : List (List Bool)) (row : List Bool) →
+    length row ≡ length (object_at fs n).sections →
     ((s : ℕ) → get_or row s false ≡ false) → AreUnmarked fs n marks → AreUnmarked fs (n + 1) (marks ++ row ∷ [])
 unmarked_more fs n marks row long clear are = record {
   count = (let count = are.count in simp length-append (omega arith));
   long = λ f lt. elim (cases_lt f n) [
     | inl below ↦ (let count = are.count in ap length (get_or-append marks (row ∷ []) [] f (omega arith)) ∙ are.long f below)
-    | inr above ↦ (let same : f ≡ n = omega arith in ap length (get_or_push marks row [] f (are.count ∙ sym same)) ∙ long ∙ ap (λ m. length (object_at fs m).sections) (sym same))
+    | inr above ↦
+        (let same : f ≡ n = omega arith in
+        ap length (get_or_push marks row [] f (are.count ∙ sym same)) ∙ long ∙ ap (λ m. length (object_at fs m).sections) (sym same))
   ];
   clear = λ f s lt section. elim (cases_lt f n) [
-    | inl below ↦ (let count = are.count in ap (λ r. get_or r s false) (get_or-append marks (row ∷ []) [] f (omega arith)) ∙ are.clear f s below section)
-    | inr above ↦ (let same : f ≡ n = omega arith in ap (λ r. get_or r s false) (get_or_push marks row [] f (are.count ∙ sym same)) ∙ clear s)
+    | inl below ↦
+        (let count = are.count in
+        ap (λ r. get_or r s false) (get_or-append marks (row ∷ []) [] f (omega arith)) ∙ are.clear f s below section)
+    | inr above ↦
+        (let same : f ≡ n = omega arith in ap (λ r. get_or r s false) (get_or_push marks row [] f (are.count ∙ sym same)) ∙ clear s)
   ];
 }

@@ -1,5 +1,6 @@
 -- Names that are picked from those of an object, with their ends, are tails of one another where those of the object are (`tails_from`).
-use Rattle.std.proofs.Common.{◌≡◌, ◌<◌, ◌≤◌, ◌+◌, ◌-◌, ◌++◌, ◌∷◌, ◌∙◌, ℕ, List, [], suc, zero, arith, ap, get_or, inl, inr, length, length-append, sym, subst, refl}
+use Rattle.std.proofs.Common.{◌≡◌, ◌<◌, ◌≤◌, ◌+◌, ◌-◌, ◌++◌, ◌∷◌, ◌∙◌, ℕ, List, [], suc, zero, arith, ap, get_or, inl, inr, length}
+use Rattle.std.proofs.Common.{length-append, sym, subst, refl}
 use Rattle.std.proofs.lemmas.Bool.{cases_lt}
 use Rattle.std.proofs.lemmas.List.{get_or_append_left, get_or-append_right, get_or-map}
 use Rattle.elf_link_files.specs.Files.{object_at}

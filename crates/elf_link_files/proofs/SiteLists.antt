@@ -1,5 +1,6 @@
 -- Sites of a link in order: lists of them, the first one, and that there is at most one.
-use Rattle.std.proofs.Common.{◌≡◌, ℕ, ◌+◌, ◌⊎◌, inl, inr, arith, sym, ◌<◌, List, [], ◌∷◌, ◌++◌, get_or, length, map, ◌∙◌, ap, subst, length-append, refl, Option, zero, suc}
+use Rattle.std.proofs.Common.{◌≡◌, ℕ, ◌+◌, ◌⊎◌, inl, inr, arith, sym, ◌<◌, List, [], ◌∷◌, ◌++◌, get_or, length, map, ◌∙◌, ap, subst}
+use Rattle.std.proofs.Common.{length-append, refl, Option, zero, suc}
 use Rattle.std.proofs.lemmas.Bool.{cases_lt}
 use Rattle.std.specs.Global.{Vec}
 use Rattle.std.proofs.lemmas.List.{get_or-map, get_or_default, get_or_push, ext_get_or, length-map}
@@ -77,7 +78,8 @@ first_same row p q first other = elim (cases_lt p.file q.file) [
 -- Lists that are described item by item. One more item extends the description; two lists with one description are equal, if it leaves one
 -- choice for each item. An item of a table in rows is read by its row and the position in it.
 
-pub each_more : {A : Type 0} (none : A) (P : ℕ → A → Type 0) (n : ℕ) (xs : List A) (x : A) → P n x → AreEach none P n xs → AreEach none P (n + 1) (xs ++ x ∷ [])
+pub each_more : {A : Type 0} (none : A) (P : ℕ → A → Type 0) (n : ℕ) (xs : List A) (x : A) → P n x → AreEach none P n xs →
+    AreEach none P (n + 1) (xs ++ x ∷ [])
 each_more none P n xs x here are = record {
   count = (let count = are.count in simp length-append (omega arith));
   each = λ k lt. elim (cases_lt k n) [
@@ -106,7 +108,8 @@ item_read {A} none rows row f i x f_in i_in row_is x_is =
     ap (λ (xs : List A). get_or xs i none) here ∙ get_or_default row.items i none x (rw (← here) i_in) ∙ sym x_is
 
 -- so what is said of each by its row and its position there holds of it
-pub table_read : {A : Type 0} (none : A) (P : ℕ → ℕ → A → Type 0) (wide : ℕ → ℕ) (n : ℕ) (rows : List (Vec A)) (row : Vec A) (f i : ℕ) (x : A) → f < n →
+pub table_read : {A : Type 0} (none : A) (P : ℕ → ℕ → A → Type 0) (wide : ℕ → ℕ) (n : ℕ) (rows : List (Vec A)) (row : Vec A) (f i : ℕ)
+    (x : A) → f < n →
     i < wide f → row ≡ get_or rows f row → x ≡ get_or row.items i x →
     AreEach [] (λ g. AreEach none (P g) (wide g)) n (map (λ (r : Vec A). r.items) rows) → P f i x
 table_read {A} none P wide n rows row f i x f_in i_in row_is x_is are =
@@ -120,7 +123,8 @@ table_read {A} none P wide n rows row f i x f_in i_in row_is x_is are =
 
 pub site_is : (p : Site) (f i : ℕ) → p.file ≡ f → p.index ≡ i → p.entry ≡ 0 → p ≡ site f i
 site_is p f i file index entry =
-    ap (λ (n : ℕ). record { file = n; index = p.index; entry = p.entry }) file ∙ ap (λ (n : ℕ). record { file = f; index = n; entry = p.entry }) index
+    ap (λ (n : ℕ). record { file = n; index = p.index; entry = p.entry }) file ∙
+    ap (λ (n : ℕ). record { file = f; index = n; entry = p.entry }) index
     ∙ ap (λ (n : ℕ). record { file = f; index = i; entry = n }) entry
 
 kept : (ps : List Site) (q : Site) (k : ℕ) → k < length ps → site_at (ps ++ q ∷ []) k ≡ site_at ps k
@@ -133,7 +137,8 @@ longer : (ps : List Site) (q : Site) → length (ps ++ q ∷ []) ≡ length ps +
 longer ps q = simp length-append
 
 -- one more site, after all others
-pub lists_more : (row next : Row Site) (ps : List Site) (q : Site) → ((p : Site) → row p → next p) → next q → ((p : Site) → next p → row p ⊎ (p ≡ q)) →
+pub lists_more : (row next : Row Site) (ps : List Site) (q : Site) → ((p : Site) → row p → next p) → next q →
+    ((p : Site) → next p → row p ⊎ (p ≡ q)) →
     ((p : Site) → row p → Before p q) → Lists row ps → Lists next (ps ++ q ∷ [])
 lists_more row next ps q into here split before is = record {
   each = λ k lt. (
@@ -163,7 +168,8 @@ lists_more row next ps q into here split before is = record {
       ]);
 }
 
-pub lists_same : (row next : Row Site) (ps : List Site) → ((p : Site) → row p → next p) → ((p : Site) → next p → row p) → Lists row ps → Lists next ps
+pub lists_same : (row next : Row Site) (ps : List Site) → ((p : Site) → row p → next p) → ((p : Site) → next p → row p) → Lists row ps →
+    Lists next ps
 lists_same row next ps into back is = record {
   each = λ k lt. into (site_at ps k) (is.each k lt);
   all = λ p holds. is.all p (back p holds);
@@ -176,7 +182,8 @@ earlier_before p f i (inr (file, index)) = inr (file, inl index)
 
 -- a section or symbol that is listed
 pub listed_more : (count : ObjectValue → ℕ) (fs : List ObjectValue) (P : ℕ → ℕ → Type 0) (f i : ℕ) (ps : List Site) → f < length fs →
-    i < count (object_at fs f) → P f i → Lists (UpTo (AtEach count fs P) f i) ps → Lists (UpTo (AtEach count fs P) f (i + 1)) (ps ++ site f i ∷ [])
+    i < count (object_at fs f) → P f i → Lists (UpTo (AtEach count fs P) f i) ps →
+    Lists (UpTo (AtEach count fs P) f (i + 1)) (ps ++ site f i ∷ [])
 listed_more count fs P f i ps file index here is =
     lists_more (UpTo (AtEach count fs P) f i) (UpTo (AtEach count fs P) f (i + 1)) ps (site f i)
     (λ p (row, before). (row, earlier_more p.file p.index f i before)) ((file, index, here, refl), inr (refl, omega arith))
@@ -223,7 +230,8 @@ one_before p q (inl file) (inr other) = (let same = other.0 in omega arith)
 one_before p q (inr same) (inl other) = (let eq = same.0 in omega arith)
 one_before p q (inr same) (inr other) = elim same.1 [
   | inl index ↦ elim other.1 [ inl lower ↦ omega arith | inr entry ↦ (let eq = entry.0 in omega arith) ]
-  | inr entry ↦ elim other.1 [ inl lower ↦ (let eq = entry.0 in omega arith) | inr again ↦ (let a = entry.1 in let b = again.1 in omega arith) ]
+  | inr entry ↦
+      elim other.1 [ inl lower ↦ (let eq = entry.0 in omega arith) | inr again ↦ (let a = entry.1 in let b = again.1 in omega arith) ]
 ]
 
 -- the earlier one of two sites of a list is before the other
@@ -252,7 +260,8 @@ once_of row ps is j k lt within same =
 
 same_site : (p q : Site) → p.file ≡ q.file → p.index ≡ q.index → p.entry ≡ q.entry → p ≡ q
 same_site p q file index entry =
-    ap (λ (n : ℕ). record { file = n; index = p.index; entry = p.entry }) file ∙ ap (λ (n : ℕ). record { file = q.file; index = n; entry = p.entry }) index
+    ap (λ (n : ℕ). record { file = n; index = p.index; entry = p.entry }) file ∙
+    ap (λ (n : ℕ). record { file = q.file; index = n; entry = p.entry }) index
     ∙ ap (λ (n : ℕ). record { file = q.file; index = q.index; entry = n }) entry
 
 pub one_first : (row : Row Site) (p q : Site) → IsFirstAt row p → IsFirstAt row q → p ≡ q
@@ -308,7 +317,8 @@ one_site_list row (x ∷ xs) [] is are = (let (k, lt, at) = are.all x (is.each 0
 one_site_list row (x ∷ xs) (y ∷ ys) is are =
     let same = one_head row x y xs ys is are in
     let rest = subst (λ (p : Site). Lists (λ q. row q × Before p q) ys) (sym same) (behind row y ys are) in
-    ap (λ (p : Site). p ∷ xs) same ∙ ap (λ (ps : List Site). y ∷ ps) (one_site_list (λ q. row q × Before x q) xs ys (behind row x xs is) rest)
+    ap (λ (p : Site). p ∷ xs) same ∙
+    ap (λ (ps : List Site). y ∷ ps) (one_site_list (λ q. row q × Before x q) xs ys (behind row x xs is) rest)
 
 -- ---- rules
 
@@ -344,7 +354,8 @@ some_in fs P told f = elim (least_below (P f) (told f) (length (object_at fs f).
   | inr none ↦ inr (λ (i, lt, here, first). none i lt here)
 ]
 
-least_in : (fs : List ObjectValue) (P : ℕ → ℕ → Type 0) → ((f i : ℕ) → P f i ⊎ (P f i → ⊥)) → (f i : ℕ) → i < length (object_at fs f).symbols → P f i → SomeIn fs P f
+least_in : (fs : List ObjectValue) (P : ℕ → ℕ → Type 0) → ((f i : ℕ) → P f i ⊎ (P f i → ⊥)) → (f i : ℕ) →
+    i < length (object_at fs f).symbols → P f i → SomeIn fs P f
 least_in fs P told f i lt here = elim (least_below (P f) (told f) (length (object_at fs f).symbols)) [
   | inl found ↦ found
   | inr none ↦ absurd (none i lt here)
@@ -383,7 +394,8 @@ abbrev AtIndex : Row Site → ℕ → ℕ → Type 0
 AtIndex row f i = (e : ℕ) × row (at f i e)
 
 -- the least entry of the least index of the least file is the first site
-first_site : (row : Row Site) (f i e : ℕ) → IsLeast (InFile row) f → IsLeast (AtIndex row f) i → IsLeast (λ x. row (at f i x)) e → IsFirstAt row (at f i e)
+first_site : (row : Row Site) (f i e : ℕ) → IsLeast (InFile row) f → IsLeast (AtIndex row f) i → IsLeast (λ x. row (at f i x)) e →
+    IsFirstAt row (at f i e)
 first_site row f i e file index entry = record { stands = entry.holds; first = before } where
   before : (q : Site) → row q → Before q (at f i e) → ⊥
   before q stands (inl less) = (let least = file.lowest q.file (q.index, q.entry, stands) in omega arith)

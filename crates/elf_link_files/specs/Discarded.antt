@@ -1,6 +1,7 @@
 -- Which sections are discarded, by the COMDAT groups in the order of the files. (gABI chapter 4, Section Groups: GRP_COMDAT.)
 use Rattle.std.specs.Prelude.{ℕ, ◌≡◌, ◌<◌, List, Bool, true, false, [], get_or, length, map, set, ◌↔◌}
-use Rattle.elf_link_files.specs.Files.{AreMembersMarked, IsComdat, IsGroupMember, IsSeen, mark, object_at, section_in, signature, signature_position}
+use Rattle.elf_link_files.specs.Files.{AreMembersMarked, IsComdat, IsGroupMember, IsSeen, mark, object_at, section_in, signature}
+use Rattle.elf_link_files.specs.Files.{signature_position}
 use Rattle.elf_image_rules.specs.Rows.{Row}
 use Rattle.elf_link_files.specs.Rows.{AtSection, site, site_at}
 use Rattle.elf_link_files.specs.declared.site.Site.{Site}

@@ -5,7 +5,8 @@ use Rattle.elf_field.specs.declared.number.Order.TheVariants.{Little}
 use Rattle.elf_link_files.specs.declared.inputs.Inputs.TheInside.{Inside}
 use Rattle.elf_link_files.specs.declared.inputs.SectionId.{SectionId}
 use Rattle.elf_link_files.specs.declared.inputs.SymbolId.{SymbolId}
-use Rattle.elf_object_type.specs.Object.{ObjectValue, SectionValue, SymbolValue, section_at, symbol_at, BodyValue, bits, no_bits, relocs, group, members_of, HasFlag, binding}
+use Rattle.elf_object_type.specs.Object.{ObjectValue, SectionValue, SymbolValue, section_at, symbol_at, BodyValue, bits, no_bits, relocs}
+use Rattle.elf_object_type.specs.Object.{group, members_of, HasFlag, binding}
 use Rattle.elf_object_type.specs.ObjectRules.{NamesMember}
 use Rattle.elf_object_type.specs.declared.parts.Place.TheVariants.{Undef, Abs, Common, In}
 use Rattle.elf_object_type.specs.declared.parts.Place.{Place}

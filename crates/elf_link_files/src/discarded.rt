@@ -2,7 +2,8 @@
 ghost use Rattle.std.specs.Prelude.{◌≡◌, ◌<◌, ◌+◌, [], IfOk, OnOk, get_or, length, map};
 ghost use Rattle.std.specs.List.{All};
 ghost use Rattle.elf_link_files.specs.Files.{AreDiscardMarks, AreMembersMarked, IsSectionIn, object_at};
-ghost use Rattle.elf_link_files.specs.Discarded.{AreMarksOf, AreUnmarked, IsGroupMarked, comdat_groups, signature_site as signature_site_of, signatures_of};
+ghost use Rattle.elf_link_files.specs.Discarded.{AreMarksOf, AreUnmarked, IsGroupMarked, comdat_groups};
+ghost use Rattle.elf_link_files.specs.Discarded.{signature_site as signature_site_of, signatures_of};
 ghost use Rattle.elf_link_files.specs.Rows.{Lists, UpTo};
 ghost use Rattle.elf_link_files.specs.SameNames.{IsNamedIn};
 ghost use Rattle.elf_link_files.specs.declared.same_names.Named.TheVariants.{Symbol};
@@ -110,7 +111,8 @@ fn first_of_signatures(
 fn mark_members(object: &Object<'_>, index: usize, marks: &mut Vec<bool>)
     requires section { index < length object.now.sections }
     requires marks { length marks.old.items ≡ length object.now.sections }
-    ensures { AreMembersMarked marks.old.items (members_of (section object.now index).body) (length (members_of (section object.now index).body)) marks.new.items }
+    ensures { AreMembersMarked marks.old.items (members_of (section object.now index).body)
+        (length (members_of (section object.now index).body)) marks.new.items }
 {
     object.prove_rules();
     let Body::Group { members, .. } = &section_at(object, index).body else {
@@ -136,7 +138,8 @@ fn no_marks(alloc: Global, objects: &[Object<'_>]) -> Result<Vec<Vec<bool>>, All
 fn mark_group(objects: &[Object<'_>], group: Site, marks: &mut Vec<Vec<bool>>)
     requires group { comdat_groups objects.now group }
     requires files { length marks.old.items ≡ length objects.now }
-    requires sections { length (get_or (map (λ row. row.items) marks.old.items) group.file []) ≡ length (object_at objects.now group.file).sections }
+    requires sections { length (get_or (map (λ row. row.items) marks.old.items) group.file []) ≡
+        length (object_at objects.now group.file).sections }
     ensures { IsGroupMarked objects.now group (map (λ row. row.items) marks.old.items) (map (λ row. row.items) marks.new.items) }
 {
     mark_members(&objects[group.file], group.index, &mut marks[group.file]);

@@ -52,9 +52,12 @@ fn larger(most: u64, other: u64) -> u64
 
 /// The commons of a name, where this symbol is one more.
 fn joined(symbol: &InputSymbol<'_, '_, '_>, block: Option<Block>) -> Block
-    requires common { IsCommon symbol.now.inputs.now (symbol_with symbol.now.inputs.now symbol.now.id).name symbol.now.id.file symbol.now.id.index }
-    requires before { IsCommonBest symbol.now.inputs.now (symbol_with symbol.now.inputs.now symbol.now.id).name symbol.now.id.file symbol.now.id.index block }
-    ensures { IsBlock symbol.now.inputs.now (symbol_with symbol.now.inputs.now symbol.now.id).name symbol.now.id.file (symbol.now.id.index + 1) result }
+    requires common { IsCommon symbol.now.inputs.now
+        (symbol_with symbol.now.inputs.now symbol.now.id).name symbol.now.id.file symbol.now.id.index }
+    requires before { IsCommonBest symbol.now.inputs.now
+        (symbol_with symbol.now.inputs.now symbol.now.id).name symbol.now.id.file symbol.now.id.index block }
+    ensures { IsBlock symbol.now.inputs.now (symbol_with symbol.now.inputs.now symbol.now.id).name symbol.now.id.file
+        (symbol.now.id.index + 1) result }
 {
     let own = symbol.symbol();
     match block {
@@ -73,8 +76,10 @@ fn joined(symbol: &InputSymbol<'_, '_, '_>, block: Option<Block>) -> Block
 
 /// Adds a symbol to the commons of its name, where it is one.
 fn note_common(symbol: &InputSymbol<'_, '_, '_>, block: &mut Option<Block>)
-    requires { IsCommonBest symbol.now.inputs.now (symbol_with symbol.now.inputs.now symbol.now.id).name symbol.now.id.file symbol.now.id.index block.old }
-    ensures { IsCommonBest symbol.now.inputs.now (symbol_with symbol.now.inputs.now symbol.now.id).name symbol.now.id.file (symbol.now.id.index + 1) block.new }
+    requires { IsCommonBest symbol.now.inputs.now
+        (symbol_with symbol.now.inputs.now symbol.now.id).name symbol.now.id.file symbol.now.id.index block.old }
+    ensures { IsCommonBest symbol.now.inputs.now (symbol_with symbol.now.inputs.now symbol.now.id).name symbol.now.id.file
+        (symbol.now.id.index + 1) block.new }
 {
     if symbol.is_common() {
         *block = Some(joined(symbol, *block));
@@ -83,8 +88,12 @@ fn note_common(symbol: &InputSymbol<'_, '_, '_>, block: &mut Option<Block>)
 
 /// Notes that a symbol's name has an entry that is not weak, where the symbol is one.
 fn note_not_weak(symbol: &InputSymbol<'_, '_, '_>, found: &mut bool)
-    requires { IsTrue found.old ↔ SomeBefore (not_weak_row symbol.now.inputs.now (symbol_with symbol.now.inputs.now symbol.now.id).name) symbol.now.id.file symbol.now.id.index }
-    ensures { IsTrue found.new ↔ SomeBefore (not_weak_row symbol.now.inputs.now (symbol_with symbol.now.inputs.now symbol.now.id).name) symbol.now.id.file (symbol.now.id.index + 1) }
+    requires { IsTrue found.old ↔
+        SomeBefore (not_weak_row symbol.now.inputs.now (symbol_with symbol.now.inputs.now symbol.now.id).name) symbol.now.id.file
+        symbol.now.id.index }
+    ensures { IsTrue found.new ↔
+        SomeBefore (not_weak_row symbol.now.inputs.now (symbol_with symbol.now.inputs.now symbol.now.id).name) symbol.now.id.file
+        (symbol.now.id.index + 1) }
 {
     if symbol.is_not_weak() {
         *found = true;
@@ -107,8 +116,10 @@ impl Known {
 
     /// Adds a symbol of the name, of which this is known from the symbols before it.
     pub fn note(&mut self, symbol: &InputSymbol<'_, '_, '_>)
-        requires { IsKnownBefore symbol.now.inputs.now (symbol_with symbol.now.inputs.now symbol.now.id).name symbol.now.id.file symbol.now.id.index self.old }
-        ensures known { IsKnownBefore symbol.now.inputs.now (symbol_with symbol.now.inputs.now symbol.now.id).name symbol.now.id.file (symbol.now.id.index + 1) self.new }
+        requires { IsKnownBefore symbol.now.inputs.now
+            (symbol_with symbol.now.inputs.now symbol.now.id).name symbol.now.id.file symbol.now.id.index self.old }
+        ensures known { IsKnownBefore symbol.now.inputs.now (symbol_with symbol.now.inputs.now symbol.now.id).name symbol.now.id.file
+            (symbol.now.id.index + 1) self.new }
         ensures first { self.new.first ≡ self.old.first }
     {
         let strong = symbol.is_definition(STB_GLOBAL);

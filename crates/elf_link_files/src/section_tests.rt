@@ -1,6 +1,7 @@
 //! What a section is to the link.
 ghost use Rattle.std.specs.Prelude.{◌≡◌, ◌↔◌, IsTrue, MatchOption};
-ghost use Rattle.elf_link_files.specs.Files.{IsComdat, is_comdat as is_comdat_of, signature, signature_position as signature_position_of, IsSectionIn, section_with, Live, is_loadable as is_loadable_of};
+ghost use Rattle.elf_link_files.specs.Files.{IsComdat, is_comdat as is_comdat_of, signature, signature_position as signature_position_of};
+ghost use Rattle.elf_link_files.specs.Files.{IsSectionIn, section_with, Live, is_loadable as is_loadable_of};
 ghost use Rattle.elf_link_files.specs.FileRules.{HasEmptySignature, IsLiveWith};
 ghost use Rattle.elf_object_type.specs.ObjectView.{body_value, section_value};
 
@@ -39,7 +40,8 @@ pub(crate) fn signature_position(body: &Body<'_>) -> usize
 /// The signature of a section that is a COMDAT group; None for another.
 pub(crate) fn comdat_signature<'a>(objects: &[Object<'a>], id: SectionId) -> Option<&'a [u8]>
     requires { IsSectionIn objects.now id }
-    ensures { MatchOption result (¬ IsComdat objects.now id.file id.index) (λ name. IsComdat objects.now id.file id.index × (signature objects.now id.file id.index ≡ name.now)) }
+    ensures { MatchOption result (¬ IsComdat objects.now id.file id.index)
+        (λ name. IsComdat objects.now id.file id.index × (signature objects.now id.file id.index ≡ name.now)) }
 {
     let section = section_of(objects, id.file, id.index);
     if !is_comdat(&section.body) {

@@ -1,7 +1,8 @@
 //! What a symbol is to the link (gABI chapter 4, Symbol Table).
 ghost use Rattle.std.specs.Prelude.{◌≡◌, ◌↔◌, IsTrue};
 ghost use Rattle.elf_link_files.specs.FileRules.{IsBadCommon, IsBadSymbol, IsNoPower};
-ghost use Rattle.elf_link_files.specs.Files.{object_at, symbol_with, IsCommon, IsDefinedAt, IsDefinition, IsEntry, IsNotWeak, IsPlaceIn, IsUndefinedAt, is_common as is_common_of};
+ghost use Rattle.elf_link_files.specs.Files.{object_at, symbol_with, IsCommon, IsDefinedAt, IsDefinition, IsEntry, IsNotWeak, IsPlaceIn};
+ghost use Rattle.elf_link_files.specs.Files.{IsUndefinedAt, is_common as is_common_of};
 ghost use Rattle.elf_object_type.specs.ObjectView.{symbol_value};
 
 use crate::files::symbol_of;
@@ -53,21 +54,24 @@ impl<'i, 'l, 'a> InputSymbol<'i, 'l, 'a> {
 
     /// Whether it is an entry of its name: not local.
     pub(crate) fn is_entry(&self) -> bool
-        ensures { IsTrue result ↔ IsEntry self.now.inputs.now (symbol_with self.now.inputs.now self.now.id).name self.now.id.file self.now.id.index }
+        ensures { IsTrue result ↔
+            IsEntry self.now.inputs.now (symbol_with self.now.inputs.now self.now.id).name self.now.id.file self.now.id.index }
     {
         self.symbol().binding() != STB_LOCAL
     }
 
     /// Whether it is a common of its name.
     pub fn is_common(&self) -> bool
-        ensures { IsTrue result ↔ IsCommon self.now.inputs.now (symbol_with self.now.inputs.now self.now.id).name self.now.id.file self.now.id.index }
+        ensures { IsTrue result ↔
+            IsCommon self.now.inputs.now (symbol_with self.now.inputs.now self.now.id).name self.now.id.file self.now.id.index }
     {
         self.is_entry() && is_common(self.symbol().place)
     }
 
     /// Whether it is an entry of its name that is not weak.
     pub fn is_not_weak(&self) -> bool
-        ensures { IsTrue result ↔ IsNotWeak self.now.inputs.now (symbol_with self.now.inputs.now self.now.id).name self.now.id.file self.now.id.index }
+        ensures { IsTrue result ↔
+            IsNotWeak self.now.inputs.now (symbol_with self.now.inputs.now self.now.id).name self.now.id.file self.now.id.index }
     {
         self.is_entry() && self.symbol().binding() != STB_WEAK
     }
@@ -109,7 +113,8 @@ impl<'i, 'l, 'a> InputSymbol<'i, 'l, 'a> {
 
     /// Whether it is a definition of its name, of this binding.
     pub fn is_definition(&self, bound: u8) -> bool
-        ensures { IsTrue result ↔ IsDefinition bound self.now.inputs.now (symbol_with self.now.inputs.now self.now.id).name self.now.id.file self.now.id.index }
+        ensures { IsTrue result ↔
+            IsDefinition bound self.now.inputs.now (symbol_with self.now.inputs.now self.now.id).name self.now.id.file self.now.id.index }
     {
         self.symbol().binding() == bound && self.is_defined_at(self.place())
     }

@@ -1,7 +1,8 @@
 -- If no rule is broken and the files are objects, the page is a power of two. Each output and the first common begin at a multiple of it.
 -- The first part of each has the largest alignment of its parts and the page. That is a power of two no smaller than the page, so a
 -- multiple of it.
-use Rattle.std.proofs.Common.{◌≡◌, ◌≢◌, ℕ, ◌+◌, ◌-◌, ◌%◌, ◌^◌, ◌<◌, ◌≤◌, ◌⊎◌, List, [], ◌∷◌, get_or, length, map, take, zero, suc, inl, inr, refl, sym, ◌∙◌, ap, subst, arith}
+use Rattle.std.proofs.Common.{◌≡◌, ◌≢◌, ℕ, ◌+◌, ◌-◌, ◌%◌, ◌^◌, ◌<◌, ◌≤◌, ◌⊎◌, List, [], ◌∷◌, get_or, length, map, take, zero, suc, inl, inr}
+use Rattle.std.proofs.Common.{refl, sym, ◌∙◌, ap, subst, arith}
 use Rattle.std.specs.Prelude.{None, fold, max, slice_index}
 use Rattle.std.specs.Int.{IsPowerOfTwo}
 use Rattle.std.specs.List.{flat_map}
@@ -64,10 +65,12 @@ largest page parts = fold (λ a q. max a q.1) page parts
 abbrev HavePowers : List (ℕ × ℕ) → Type 0
 HavePowers parts = (i : ℕ) → i < length parts → IsZeroOrPower (get_or parts i (0, 0)).1
 
-largest_power : (parts : List (ℕ × ℕ)) (page : ℕ) → IsPowerOfTwo page → HavePowers parts → IsPowerOfTwo (largest page parts) × (page ≤ largest page parts)
+largest_power : (parts : List (ℕ × ℕ)) (page : ℕ) → IsPowerOfTwo page → HavePowers parts →
+    IsPowerOfTwo (largest page parts) × (page ≤ largest page parts)
 largest_power [] page power powers = (power, omega arith)
 largest_power (p ∷ parts) page power powers =
-    let (whole, le) = largest_power parts (max page p.1) (max_power page p.1 power (powers 0 (omega arith))) (λ i lt. powers (suc i) (omega arith)) in
+    let (whole, le) =
+    largest_power parts (max page p.1) (max_power page p.1 power (powers 0 (omega arith))) (λ i lt. powers (suc i) (omega arith)) in
     let more = le-max_left page p.1 in
     (whole, omega arith)
 
@@ -141,7 +144,8 @@ module _ (opt : Options) (fs : List ObjectValue) (l : LinkPlan) (m : LinkMapValu
       let many = length-map (members_at outputs k) (part_of fs) in
       let multiple = part_multiple (start_of outputs k) (omega arith) in
       subst (λ (x : ℕ). x % opt.page ≡ 0) (sym (of.outputs.each k lt).address)
-      (raised_multiple opt.page (map (part_of fs) (members_at outputs k)) (slice_index l.places (start_of outputs k)) (omega arith) page_power (output_powers k lt)
+      (raised_multiple opt.page (map (part_of fs) (members_at outputs k)) (slice_index l.places (start_of outputs k))
+      (omega arith) page_power (output_powers k lt)
       (subst (λ (q : ℕ × ℕ). IsMultiple q.1 (slice_index l.places (start_of outputs k))) (first_part k lt some) multiple))
 
   -- ---- commons
@@ -166,10 +170,12 @@ module _ (opt : Options) (fs : List ObjectValue) (l : LinkPlan) (m : LinkMapValu
       let many : 0 < length cs = (let count = of.commons.count in omega arith) in
       let here : first + 0 ≡ length own + 0 = (let long = length-outputs fs opt.page outputs in omega arith) in
       let listed = length-map cs common_part in
-      let part = ap (λ (n : ℕ). get_or (link_parts fs opt l) n (0, 0)) here ∙ get_or-append-add own (raised opt.page (map common_part cs)) 0 (0, 0) in
+      let part = ap (λ (n : ℕ). get_or (link_parts fs opt l) n (0, 0)) here ∙
+      get_or-append-add own (raised opt.page (map common_part cs)) 0 (0, 0) in
       subst (λ (x : ℕ). x % opt.page ≡ 0) (sym (common_begins opt fs l m 0 of some))
       (raised_multiple opt.page (map common_part cs) (slice_index l.places (first + 0)) (omega arith) page_power common_powers
-      (subst (λ (q : ℕ × ℕ). IsMultiple q.1 (slice_index l.places (first + 0))) part (part_multiple (first + 0) (common_in_parts opt fs l m 0 of some))))
+      (subst (λ (q : ℕ × ℕ). IsMultiple q.1 (slice_index l.places (first + 0))) part
+      (part_multiple (first + 0) (common_in_parts opt fs l m 0 of some))))
 
   pub paged : ArePaged m
   paged = record {
@@ -178,5 +184,6 @@ module _ (opt : Options) (fs : List ObjectValue) (l : LinkPlan) (m : LinkMapValu
     commons = λ some. subst (λ (n : ℕ). (common_at m.commons 0).address % n ≡ 0) (sym of.page) (commons_paged some);
   }
 
-pub are_paged : (opt : Options) (fs : List ObjectValue) (m : LinkMapValue) → IsLinkMap opt fs m → FirstOfLink opt fs None → AreObjects fs → ArePaged m
+pub are_paged : (opt : Options) (fs : List ObjectValue) (m : LinkMapValue) → IsLinkMap opt fs m → FirstOfLink opt fs None → AreObjects fs →
+    ArePaged m
 are_paged opt fs m (l, is, of) clean objects = paged opt fs l m is of clean.0 objects

@@ -1,5 +1,6 @@
 -- A plan of the files or a fault of theirs exists, and there is at most one.
-use Rattle.std.proofs.Common.{◌≡◌, ℕ, ◌+◌, List, length, inl, inr, sym, ◌∙◌, ap, subst, arith, refl, ◌<◌, ◌≤◌, ◌⊎◌, zero, suc, false, true, [], ◌∷◌, ◌++◌, add-one}
+use Rattle.std.proofs.Common.{◌≡◌, ℕ, ◌+◌, List, length, inl, inr, sym, ◌∙◌, ap, subst, arith, refl, ◌<◌, ◌≤◌, ◌⊎◌, zero, suc, false, true}
+use Rattle.std.proofs.Common.{[], ◌∷◌, ◌++◌, add-one}
 use Rattle.std.specs.Prelude.{Option, None, Some, IfErr, Result, Ok, Err}
 use Rattle.std.specs.Borrow.{Bor}
 use Rattle.std.proofs.lemmas.Bool.{cases_lt}
@@ -10,14 +11,16 @@ use Rattle.elf_image_rules.specs.Rows.{Row, rule}
 use Rattle.elf_link_files.proofs.Public.{site_is, one_found, each_more, file_before, listed_more, listed_past, lists_same, some_site}
 use Rattle.elf_link_files.specs.FileRules.{option_rules}
 use Rattle.elf_link_files.specs.Files.{symbol_in, IsEarlier, object_at, IsCommon}
-use Rattle.elf_link_files.specs.Rows.{site_at, FirstAmong, no_common, AreEach, Lists, UpTo, name_at, site, AtEach, IsFirstAt, section_count, symbol_count, IsLargest, align_at, commons, entries, not_weak, size_at, strong, weak}
+use Rattle.elf_link_files.specs.Rows.{site_at, FirstAmong, no_common, AreEach, Lists, UpTo, name_at, site, AtEach, IsFirstAt, section_count}
+use Rattle.elf_link_files.specs.Rows.{symbol_count, IsLargest, align_at, commons, entries, not_weak, size_at, strong, weak}
 use Rattle.elf_link_files.specs.declared.fault.LinkFault.TheVariants.{Rule, OutOfMemory}
 use Rattle.elf_link_files.specs.declared.fault.LinkFault.{LinkFault}
 use Rattle.elf_link_files.specs.declared.fault.Options.{Options}
 use Rattle.elf_link_files.specs.declared.site.Chosen.{Chosen}
 use Rattle.elf_link_files.specs.declared.site.Site.{Site}
 use Rattle.elf_link_map.specs.Entry.{HasSite, IsChoiceTarget, IsEntrySymbolTarget, IsNameTarget, IsPlaceTarget, IsSectionTarget}
-use Rattle.elf_link_map.specs.LinkMap.{IsLinkPlan, LinkPlan, link_parts, IsPlan, FirstOfAddresses, FirstOfLink, IsLinkFault, IsOnlyFault, IsPlacedAt, IsAddressingFault}
+use Rattle.elf_link_map.specs.LinkMap.{IsLinkPlan, LinkPlan, link_parts, IsPlan, FirstOfAddresses, FirstOfLink, IsLinkFault, IsOnlyFault}
+use Rattle.elf_link_map.specs.LinkMap.{IsPlacedAt, IsAddressingFault}
 use Rattle.elf_link_names.proofs.ChosenCommons.{have_chosen}
 use Rattle.elf_link_names.proofs.Public.{bound_excludes, one_choice, one_chosen, one_common}
 use Rattle.elf_link_names.specs.Binds.{input_rules, Binds, IsUnbound, IsChosen}
@@ -26,7 +29,8 @@ use Rattle.elf_link_names.specs.declared.name_rules.Choice.TheVariants.{Strong, 
 use Rattle.elf_link_names.specs.declared.name_rules.Choice.{Choice}
 use Rattle.elf_link_outputs.proofs.Public.{members_live, placed_once, all_flat, one_outputs}
 use Rattle.elf_link_outputs.specs.Addresses.{address_rules, IsAddressedFrom, IsAddressFault, HasValue}
-use Rattle.elf_link_outputs.specs.Outputs.{live, openers, AreOutputs, Plan, flat, members, parts_of, placed, AddressedValue, PlanValue, plan_parts}
+use Rattle.elf_link_outputs.specs.Outputs.{live, openers, AreOutputs, Plan, flat, members, parts_of, placed, AddressedValue, PlanValue}
+use Rattle.elf_link_outputs.specs.Outputs.{plan_parts}
 use Rattle.elf_link_outputs.specs.declared.addresses.Target.TheVariants.{Part, Lost, Fixed}
 use Rattle.elf_link_outputs.specs.declared.addresses.Target.{Target}
 use Rattle.elf_object_type.specs.Object.{ObjectValue}
@@ -38,13 +42,15 @@ use Rattle.elf_object_type.specs.declared.parts.Place.{Place}
 
 one_plan : (fs : List ObjectValue) (p q : Plan) → IsPlan fs p → IsPlan fs q → p ≡ q
 one_plan fs p q one other =
-    ap (λ (oss : List (List Site)). record { outputs = oss; commons = p.commons }) (one_outputs fs p.outputs q.outputs one.outputs other.outputs) ∙
+    ap (λ (oss : List (List Site)). record { outputs = oss; commons = p.commons })
+    (one_outputs fs p.outputs q.outputs one.outputs other.outputs) ∙
     ap (λ (cs : List Chosen). record { outputs = q.outputs; commons = cs }) (one_chosen fs p.commons q.commons one.commons other.commons)
 
 -- ---- positions
 
 -- a section is placed once
-pub one_position : (fs : List ObjectValue) (oss : List (List Site)) (f s j k : ℕ) → AreOutputs fs oss → HasSite (flat oss) f s j → HasSite (flat oss) f s k → j ≡ k
+pub one_position : (fs : List ObjectValue) (oss : List (List Site)) (f s j k : ℕ) → AreOutputs fs oss → HasSite (flat oss) f s j →
+    HasSite (flat oss) f s k → j ≡ k
 one_position fs oss f s j k (ps, openers, mem) (j_in, j_file, j_index) (k_in, k_file, k_index) =
     let once = placed_once fs ps oss openers mem in
     let live_at = all_flat (live fs) oss (λ i lt. members_live fs ps oss i mem lt) in
@@ -75,7 +81,8 @@ one_place_target fs oss f value Abs t u are is other = is ∙ sym other
 one_place_target fs oss f value CommonPlace t u are is other = is ∙ sym other
 one_place_target fs oss f value (In s) t u are is other = one_section_target fs oss f s value t u are is other
 
-one_choice_target : (fs : List ObjectValue) (oss : List (List Site)) (cs : List Chosen) (name : List ℕ) (choice : Choice) (t u : Target) → AreOutputs fs oss →
+one_choice_target : (fs : List ObjectValue) (oss : List (List Site)) (cs : List Chosen) (name : List ℕ) (choice : Choice) (t u : Target) →
+    AreOutputs fs oss →
     AreChosen fs cs → IsChoiceTarget fs (flat oss) cs name choice t → IsChoiceTarget fs (flat oss) cs name choice u → t ≡ u
 one_choice_target fs oss cs name (Strong f s) t u are chosen is other =
     one_place_target fs oss f (symbol_in fs f s).value (symbol_in fs f s).place t u are is other
@@ -85,16 +92,20 @@ one_choice_target fs oss cs name (Weak f s) t u are chosen is other =
     one_place_target fs oss f (symbol_in fs f s).value (symbol_in fs f s).place t u are is other
 one_choice_target fs oss cs name Zero t u are chosen is other = is ∙ sym other
 
-one_name_target : (fs : List ObjectValue) (oss : List (List Site)) (cs : List Chosen) (name : List ℕ) (t u : Target) → AreOutputs fs oss → AreChosen fs cs →
+one_name_target : (fs : List ObjectValue) (oss : List (List Site)) (cs : List Chosen) (name : List ℕ) (t u : Target) → AreOutputs fs oss →
+    AreChosen fs cs →
     IsNameTarget fs (flat oss) cs name t → IsNameTarget fs (flat oss) cs name u → t ≡ u
 one_name_target fs oss cs name t u are chosen (inl (unbound, is)) (inl (again, other)) = is ∙ sym other
-one_name_target fs oss cs name t u are chosen (inl (unbound, is)) (inr (choice, binds, other)) = absurd (bound_excludes fs name choice binds unbound)
-one_name_target fs oss cs name t u are chosen (inr (choice, binds, is)) (inl (unbound, other)) = absurd (bound_excludes fs name choice binds unbound)
+one_name_target fs oss cs name t u are chosen (inl (unbound, is)) (inr (choice, binds, other)) =
+    absurd (bound_excludes fs name choice binds unbound)
+one_name_target fs oss cs name t u are chosen (inr (choice, binds, is)) (inl (unbound, other)) =
+    absurd (bound_excludes fs name choice binds unbound)
 one_name_target fs oss cs name t u are chosen (inr (choice, binds, is)) (inr (another, besides, other)) =
     one_choice_target fs oss cs name choice t u are chosen is
     (subst (λ (c : Choice). IsChoiceTarget fs (flat oss) cs name c u) (one_choice fs name another choice besides binds) other)
 
-one_entry_target : (fs : List ObjectValue) (oss : List (List Site)) (cs : List Chosen) (entry : Option (Bor (List ℕ))) (t u : Target) → AreOutputs fs oss →
+one_entry_target : (fs : List ObjectValue) (oss : List (List Site)) (cs : List Chosen) (entry : Option (Bor (List ℕ))) (t u : Target) →
+    AreOutputs fs oss →
     AreChosen fs cs → IsEntrySymbolTarget fs (flat oss) cs entry t → IsEntrySymbolTarget fs (flat oss) cs entry u → t ≡ u
 one_entry_target fs oss cs None t u are chosen is other = is ∙ sym other
 one_entry_target fs oss cs (Some name) t u are chosen is other = one_name_target fs oss cs name.now t u are chosen is other
@@ -103,7 +114,8 @@ one_entry_target fs oss cs (Some name) t u are chosen is other = one_name_target
 
 -- two of one plan have one target and one list of places
 one_rest : (opt : Options) (fs : List ObjectValue) (plan : Plan) (places others : List ℕ) (t u : Target) →
-    IsLinkPlan opt fs (record { plan = plan; places = places; target = t }) → IsLinkPlan opt fs (record { plan = plan; places = others; target = u }) →
+    IsLinkPlan opt fs (record { plan = plan; places = places; target = t }) →
+    IsLinkPlan opt fs (record { plan = plan; places = others; target = u }) →
     (places ≡ others) × (t ≡ u)
 one_rest opt fs plan places others t u one other = (
   same_least (link_parts fs opt (record { plan = plan; places = places; target = t })) opt.base places others one.least other.least,
@@ -122,7 +134,8 @@ one_link_plan opt fs l k one other =
 -- A link has at most one answer: the first rule that is broken, or that none is. By cases on both: the input rules have one answer
 -- (`one_found`), and so have the address rules, asked of the one plan (`one_link_plan`).
 
-one_of_addresses : (opt : Options) (fs : List ObjectValue) (a b : Option (ℕ × Site)) → FirstOfAddresses opt fs a → FirstOfAddresses opt fs b → a ≡ b
+one_of_addresses : (opt : Options) (fs : List ObjectValue) (a b : Option (ℕ × Site)) → FirstOfAddresses opt fs a →
+    FirstOfAddresses opt fs b → a ≡ b
 one_of_addresses opt fs a b (l, is, found) (k, are, other) =
     one_found (address_rules (link_parts fs opt l) opt.base l.target) a b found
     (subst (λ (n : LinkPlan). FirstAmong (address_rules (link_parts fs opt n) opt.base n.target) b) (one_link_plan opt fs k l are is) other)
@@ -137,8 +150,10 @@ one_link_fault opt fs None (Some b) p (inr later) = one_of_addresses opt fs None
 one_link_fault opt fs (Some a) None (inl here) q = one_found (input_rules opt fs) (Some a) None here q.0
 one_link_fault opt fs (Some a) None (inr later) q = one_of_addresses opt fs (Some a) None later.1 q.1
 one_link_fault opt fs (Some a) (Some b) (inl here) (inl there) = one_found (input_rules opt fs) (Some a) (Some b) here there
-one_link_fault opt fs (Some a) (Some b) (inl here) (inr later) = absurd (none_some a (one_found (input_rules opt fs) None (Some a) later.0 here))
-one_link_fault opt fs (Some a) (Some b) (inr later) (inl here) = absurd (none_some b (one_found (input_rules opt fs) None (Some b) later.0 here))
+one_link_fault opt fs (Some a) (Some b) (inl here) (inr later) =
+    absurd (none_some a (one_found (input_rules opt fs) None (Some a) later.0 here))
+one_link_fault opt fs (Some a) (Some b) (inr later) (inl here) =
+    absurd (none_some b (one_found (input_rules opt fs) None (Some b) later.0 here))
 one_link_fault opt fs (Some a) (Some b) (inr one) (inr other) = one_of_addresses opt fs (Some a) (Some b) one.1 other.1
 
 -- It is absurd that objects and options have no plan, or that no answer is the first rule of their link. A row has a list of its sites, by
@@ -186,14 +201,17 @@ before_file count fs P (suc f) le none =
     (λ p (row, before). (row, file_before p.file p.index f (count (object_at fs f)) before))
     (λ p (row, before). (row, within_file count fs P f p row before)) is)))
 
-pub some_list : (count : ObjectValue → ℕ) (fs : List ObjectValue) (P : ℕ → ℕ → Type 0) → ¬ ((ps : List Site) → ¬ Lists (AtEach count fs P) ps)
+pub some_list : (count : ObjectValue → ℕ) (fs : List ObjectValue) (P : ℕ → ℕ → Type 0) →
+    ¬ ((ps : List Site) → ¬ Lists (AtEach count fs P) ps)
 some_list count fs P none =
     before_file count fs P (length fs) (omega arith)
-    (λ ps is. none ps (lists_same (UpTo (AtEach count fs P) (length fs) 0) (AtEach count fs P) ps (λ p up. up.0) (λ p row. (row, inl row.0)) is))
+    (λ ps is. none ps
+    (lists_same (UpTo (AtEach count fs P) (length fs) 0) (AtEach count fs P) ps (λ p up. up.0) (λ p row. (row, inl row.0)) is))
 
 -- so there is one of each row of sites that are there
 pub some_row : (count : ObjectValue → ℕ) (fs : List ObjectValue) (row : Row Site) →
-    ((p : Site) → row p → (p.file < length fs) × (p.index < count (object_at fs p.file)) × (p.entry ≡ 0)) → ¬ ((ps : List Site) → ¬ Lists row ps)
+    ((p : Site) → row p → (p.file < length fs) × (p.index < count (object_at fs p.file)) × (p.entry ≡ 0)) →
+    ¬ ((ps : List Site) → ¬ Lists row ps)
 some_row count fs row there none =
     some_list count fs (λ f i. row (site f i))
     (λ ps is. none ps (lists_same (AtEach count fs (λ f i. row (site f i))) row ps
@@ -230,7 +248,8 @@ record IsTop (m : Site → ℕ) (ps : List Site) (n : ℕ) : Type 0 where
   attained : (k : ℕ) × (k < length ps) × (m (site_at ps k) ≡ n)
 
 top : (m : Site → ℕ) (p : Site) (qs : List Site) → (n : ℕ) × IsTop m (p ∷ qs) n
-top m p [] = (m p, record { above = bound_cons m p [] (m p) (omega arith) (λ k lt. absurd (omega arith)); attained = (0, omega arith, refl) })
+top m p [] =
+    (m p, record { above = bound_cons m p [] (m p) (omega arith) (λ k lt. absurd (omega arith)); attained = (0, omega arith, refl) })
 top m p (q ∷ qs) =
     let (n, is) = top m q qs in
     let (k, lt, at) = is.attained in
@@ -290,7 +309,8 @@ some_choice fs name bound none = first_or_never (strong fs name) by_strong where
   by_weak a b (inr never) = first_or_never (not_weak fs name) (by_not_weak a b never)
 
   by_common : Never (strong fs name) → ¬ (((p : Site) × IsFirstAt (commons fs name) p) ⊎ Never (commons fs name))
-  by_common a (inl (p, first)) = some_block fs name p first.stands (λ size align largest aligned. none (Common size align) (a, largest, aligned))
+  by_common a (inl (p, first)) =
+      some_block fs name p first.stands (λ size align largest aligned. none (Common size align) (a, largest, aligned))
   by_common a (inr never) = first_or_never (weak fs name) (by_weak a never)
 
   by_strong : ¬ (((p : Site) × IsFirstAt (strong fs name) p) ⊎ Never (strong fs name))
@@ -305,7 +325,8 @@ some_place_target ps f value Abs none = none (Fixed value) refl
 some_place_target ps f value CommonPlace none = none Lost refl
 some_place_target ps f value (In s) none = none Lost (inr ((λ k is. none (Part k value) (inl (k, is, refl))), refl))
 
-some_choice_target : (fs : List ObjectValue) (ps : List Site) (cs : List Chosen) (name : List ℕ) (c : Choice) → HaveChosen fs cs → Binds fs name c →
+some_choice_target : (fs : List ObjectValue) (ps : List Site) (cs : List Chosen) (name : List ℕ) (c : Choice) → HaveChosen fs cs →
+    Binds fs name c →
     ¬ ((t : Target) → ¬ IsChoiceTarget fs ps cs name c t)
 some_choice_target fs ps cs name (Strong file symbol) have binds none =
     some_place_target ps file (symbol_in fs file symbol).value (symbol_in fs file symbol).place none
@@ -362,15 +383,18 @@ some_link_fault opt fs none = some_site (input_rules opt fs) of_inputs where
   of_addresses clean l is (Some broken) found = none (Some broken) (inr (clean, (l, is, found)))
 
   of_inputs : (x : Option (ℕ × Site)) → ¬ FirstAmong (input_rules opt fs) x
-  of_inputs None clean = some_plan opt fs (λ l is. some_site (address_rules (link_parts fs opt l) opt.base l.target) (of_addresses clean l is))
+  of_inputs None clean =
+      some_plan opt fs (λ l is. some_site (address_rules (link_parts fs opt l) opt.base l.target) (of_addresses clean l is))
   of_inputs (Some broken) found = none (Some broken) (inl found)
 
 -- A plan at its addresses is the link's, since its parts are those of the link's files and page. If no input rule is broken, a fault of
 -- rules 10 and 11 at the plan is the link's. The witness is the plan with its least places.
 
-pub placed_at : (opt : Options) (fs : List ObjectValue) (p : PlanValue) (a : AddressedValue) (target : Target) → a.plan.objects ≡ fs → a.plan.page ≡ opt.page →
+pub placed_at : (opt : Options) (fs : List ObjectValue) (p : PlanValue) (a : AddressedValue) (target : Target) → a.plan.objects ≡ fs →
+    a.plan.page ≡ opt.page →
     AreOutputs fs a.plan.plan.outputs → AreChosen fs a.plan.plan.commons →
-    IsEntrySymbolTarget fs (placed a.plan.plan) a.plan.plan.commons opt.entry target → IsAddressedFrom p opt.base target a → IsPlacedAt opt fs a target
+    IsEntrySymbolTarget fs (placed a.plan.plan) a.plan.plan.commons opt.entry target → IsAddressedFrom p opt.base target a →
+    IsPlacedAt opt fs a target
 placed_at opt fs p a target objects page outputs chosen entry from =
     let parts : plan_parts a.plan ≡ parts_of fs opt.page a.plan.plan =
     ap (λ (os : List ObjectValue). parts_of os a.plan.page a.plan.plan) objects ∙ ap (λ (n : ℕ). parts_of fs n a.plan.plan) page in
@@ -387,7 +411,8 @@ placed_at opt fs p a target objects page outputs chosen entry from =
       entry = subst (λ (ps : List (ℕ × ℕ)). HasValue ps opt.base target a.entry) parts from.entry;
     }
 
-pub placing_fault : (opt : Options) (fs : List ObjectValue) (plan : Plan) (target : Target) (fault : LinkFault) → AreOutputs fs plan.outputs →
+pub placing_fault : (opt : Options) (fs : List ObjectValue) (plan : Plan) (target : Target) (fault : LinkFault) →
+    AreOutputs fs plan.outputs →
     AreChosen fs plan.commons → IsEntrySymbolTarget fs (placed plan) plan.commons opt.entry target →
     IsAddressFault (parts_of fs opt.page plan) opt.base target fault → IsAddressingFault opt fs fault
 placing_fault opt fs plan target (Rule number file index entry) outputs chosen is first =
@@ -398,17 +423,20 @@ placing_fault opt fs plan target (Rule number file index entry) outputs chosen i
     )
 placing_fault opt fs plan target OutOfMemory outputs chosen is first = tt
 
-pub link_fault : (opt : Options) (fs : List ObjectValue) (fault : LinkFault) → FirstAmong (input_rules opt fs) None → FirstAmong (option_rules opt fs) None →
+pub link_fault : (opt : Options) (fs : List ObjectValue) (fault : LinkFault) → FirstAmong (input_rules opt fs) None →
+    FirstAmong (option_rules opt fs) None →
     IsAddressingFault opt fs fault → IsLinkFault opt fs fault
 link_fault opt fs (Rule number file index entry) clean options is = inr (clean, is)
 link_fault opt fs OutOfMemory clean options is = options
 
-pub if_err_map : {A : Type 0} (P Q : LinkFault → Type 0) (r : Result A LinkFault) → ((fault : LinkFault) → P fault → Q fault) → IfErr r P → IfErr r Q
+pub if_err_map : {A : Type 0} (P Q : LinkFault → Type 0) (r : Result A LinkFault) → ((fault : LinkFault) → P fault → Q fault) → IfErr r P →
+    IfErr r Q
 if_err_map P Q (Ok a) into is = tt
 if_err_map P Q (Err fault) into is = into fault is
 
 -- the first rule that is broken is the only answer
-pub only_fault : (opt : Options) (fs : List ObjectValue) (fault : LinkFault) → IsLinkFault opt fs fault → IsOnlyFault (FirstOfLink opt fs) fault
+pub only_fault : (opt : Options) (fs : List ObjectValue) (fault : LinkFault) → IsLinkFault opt fs fault →
+    IsOnlyFault (FirstOfLink opt fs) fault
 only_fault opt fs (Rule number file index entry) is = λ x there.
     one_link_fault opt fs x (Some (number, record { file = file; index = index; entry = entry })) there is
 only_fault opt fs OutOfMemory is = tt

@@ -1,6 +1,7 @@
 -- If no rule of a link is broken, it is absurd that no value is its link map. There is a plan, its parts end below 2^64, and each field of
 -- the map is filled from it. Whether a section is discarded need not be decided, so the claim is a double negation.
-use Rattle.std.proofs.Common.{◌≡◌, ℕ, ◌+◌, ◌-◌, ◌^◌, ◌<◌, ◌≤◌, zero, suc, Bool, false, true, List, [], ◌∷◌, length, get_or, map, inl, inr, refl, sym, ◌∙◌, ap, subst, arith, add-one}
+use Rattle.std.proofs.Common.{◌≡◌, ℕ, ◌+◌, ◌-◌, ◌^◌, ◌<◌, ◌≤◌, zero, suc, Bool, false, true, List, [], ◌∷◌, length, get_or, map, inl, inr}
+use Rattle.std.proofs.Common.{refl, sym, ◌∙◌, ap, subst, arith, add-one}
 use Rattle.std.specs.Prelude.{◌↔◌, cond, MatchOption, Option, None, Some, replicate, slice_index}
 use Rattle.std.specs.Str.{bytes_eq}
 use Rattle.std.proofs.lemmas.Bool.{cases_lt}
@@ -22,11 +23,14 @@ use Rattle.elf_link_names.proofs.Public.{all_bound, entry_listed, entry_there}
 use Rattle.elf_link_outputs.specs.declared.addresses.Target.{Target}
 use Rattle.elf_link_outputs.specs.Addresses.{HasNoValue, HasValue, address_rules, target_value}
 use Rattle.elf_link_outputs.specs.Outputs.{is_no_bits, live, output_flags, section_at_site, placed}
-use Rattle.elf_link_outputs.specs.Placed.{AreAddresses, ArePlacedCommons, ArePlacedOutputs, CommonValue, IsOutput, OutputValue, common_at, member_of, members_at, no_output, no_placed, placed_common, start_of, AreFilled, AreLive, with_cell}
+use Rattle.elf_link_outputs.specs.Placed.{AreAddresses, ArePlacedCommons, ArePlacedOutputs, CommonValue, IsOutput, OutputValue, common_at}
+use Rattle.elf_link_outputs.specs.Placed.{member_of, members_at, no_output, no_placed, placed_common, start_of, AreFilled, AreLive}
+use Rattle.elf_link_outputs.specs.Placed.{with_cell}
 use Rattle.elf_link_outputs.proofs.Placings.{addresses_are, filled_more, filled_none, parts_long, place_order, within_all}
 use Rattle.elf_link_outputs.proofs.OutputLists.{outputs_live, outputs_some}
 use Rattle.elf_link_map.specs.declared.bindings.Binding.{Binding}
-use Rattle.elf_link_map.specs.LinkMap.{FirstOfLink, AreBindings, AreNames, IsBinding, IsLinkMap, IsLinkPlan, LinkMapValue, LinkPlan, bound_in, link_parts, no_name}
+use Rattle.elf_link_map.specs.LinkMap.{FirstOfLink, AreBindings, AreNames, IsBinding, IsLinkMap, IsLinkPlan, LinkMapValue, LinkPlan}
+use Rattle.elf_link_map.specs.LinkMap.{bound_in, link_parts, no_name}
 use Rattle.elf_link_map.specs.Naming.{AreNamedAt, IsNamedAt}
 use Rattle.elf_link_map.proofs.OneMap.{bound_here, names_are, common_names}
 use Rattle.elf_link_map.proofs.Plans.{some_choice, some_each, some_list, some_row}
@@ -40,7 +44,8 @@ false_true e = cc
 
 -- ---- the entry's value, and the ends of the parts
 
-some_value : (parts : List (ℕ × ℕ)) (base : ℕ) (target : Target) (places : List ℕ) → Least parts base places → ¬ HasNoValue parts base target →
+some_value : (parts : List (ℕ × ℕ)) (base : ℕ) (target : Target) (places : List ℕ) → Least parts base places →
+    ¬ HasNoValue parts base target →
     (x : ℕ) × HasValue parts base target x
 some_value parts base target places least lacks = told (target_value places target) refl where
   told : (o : Option ℕ) → target_value places target ≡ o → (x : ℕ) × HasValue parts base target x
@@ -52,19 +57,23 @@ some_value parts base target places least lacks = told (target_value places targ
 
 -- ---- addresses
 
-filled : (fs : List ObjectValue) (ps : List Site) (places : List ℕ) (rows : List (List (Option ℕ))) (k : ℕ) → AreLive fs ps → AreFilled fs ps places 0 rows →
+filled : (fs : List ObjectValue) (ps : List Site) (places : List ℕ) (rows : List (List (Option ℕ))) (k : ℕ) → AreLive fs ps →
+    AreFilled fs ps places 0 rows →
     k ≤ length ps → (now : List (List (Option ℕ))) × AreFilled fs ps places k now
 filled fs ps places rows zero are start le = (rows, start)
 filled fs ps places rows (suc k) are start le =
     let (now, is) = filled fs ps places rows k are start (omega arith) in (
       with_cell now (site_at ps k).file (site_at ps k).index (slice_index places k),
-      subst (λ (n : ℕ). AreFilled fs ps places n (with_cell now (site_at ps k).file (site_at ps k).index (slice_index places k))) (add-one k)
+      subst (λ (n : ℕ). AreFilled fs ps places n (with_cell now (site_at ps k).file (site_at ps k).index (slice_index places k)))
+          (add-one k)
           (filled_more fs ps places k now are (omega arith) is),
     )
 
-some_addresses : (fs : List ObjectValue) (ps : List Site) (places : List ℕ) → AreLive fs ps → ¬ ((rows : List (List (Option ℕ))) → ¬ AreAddresses fs ps places rows)
+some_addresses : (fs : List ObjectValue) (ps : List Site) (places : List ℕ) → AreLive fs ps →
+    ¬ ((rows : List (List (Option ℕ))) → ¬ AreAddresses fs ps places rows)
 some_addresses fs ps places are none =
-    some_each [] (λ f row. row ≡ replicate (length (object_at fs f).sections) None) (length fs) (λ f lt lacks. lacks (replicate (length (object_at fs f).sections) None) refl)
+    some_each [] (λ f row. row ≡ replicate (length (object_at fs f).sections) None) (length fs)
+    (λ f lt lacks. lacks (replicate (length (object_at fs f).sections) None) refl)
     (λ rows empty. (
     let (now, is) = filled fs ps places rows (length ps) are (filled_none fs ps places rows empty) (omega arith) in
     none now (addresses_are fs ps places now are is)))
@@ -108,7 +117,8 @@ found_in : (bs : List (List ℕ × Binding)) (name : List ℕ) (b : Binding) →
 found_in [] name b is = absurd (none_some b is)
 found_in (e ∷ bs) name b is = found_first e bs name b (bytes_eq name e.0) refl is (found_in bs name b)
 
-bindings_of : (fs : List ObjectValue) (cs : List CommonValue) (ps : List Site) (bs : List (List ℕ × Binding)) → Lists (first_entries fs) ps →
+bindings_of : (fs : List ObjectValue) (cs : List CommonValue) (ps : List Site) (bs : List (List ℕ × Binding)) →
+    Lists (first_entries fs) ps →
     AreNamedAt fs cs ps (length ps) bs → AreBindings fs cs bs
 bindings_of fs cs ps bs are named name = told (bound_in bs name) refl where
   told : (o : Option Binding) → bound_in bs name ≡ o → MatchOption (bound_in bs name) (Never (entries fs name)) (IsBinding fs cs name)
@@ -122,11 +132,14 @@ bindings_of fs cs ps bs are named name = told (bound_in bs name) refl where
       let count = named.count in
       let each = named.each k (omega arith) in
       subst (λ (o : Option Binding). MatchOption o (Never (entries fs name)) (IsBinding fs cs name)) (sym is)
-      (subst (λ (c : Binding). IsBinding fs cs name c) here (subst (λ (n : List ℕ). IsBinding fs cs n (get_or bs k no_name).1) (sym each.0 ∙ at) each.1))
+      (subst (λ (c : Binding). IsBinding fs cs name c) here
+      (subst (λ (n : List ℕ). IsBinding fs cs n (get_or bs k no_name).1) (sym each.0 ∙ at) each.1))
 
 -- the binding of a choice
-some_binding : (fs : List ObjectValue) (chosen : List Chosen) (cs : List CommonValue) (places : List ℕ) (first : ℕ) (name : List ℕ) (c : Choice) →
-    HaveChosen fs chosen → ArePlacedCommons fs chosen places first (length chosen) cs → Binds fs name c → (b : Binding) × IsBinding fs cs name b
+some_binding : (fs : List ObjectValue) (chosen : List Chosen) (cs : List CommonValue) (places : List ℕ) (first : ℕ) (name : List ℕ)
+    (c : Choice) →
+    HaveChosen fs chosen → ArePlacedCommons fs chosen places first (length chosen) cs → Binds fs name c →
+    (b : Binding) × IsBinding fs cs name b
 some_binding fs chosen cs places first name (Strong file symbol) have are binds = (bound.Strong file symbol, binds)
 some_binding fs chosen cs places first name (Common size align) have are binds =
     let (k, (lt, named)) = have name size align binds in
@@ -136,7 +149,8 @@ some_binding fs chosen cs places first name (Common size align) have are binds =
 some_binding fs chosen cs places first name (Weak file symbol) have are binds = (bound.Weak file symbol, binds)
 some_binding fs chosen cs places first name Zero have are binds = (bound.Zero, binds)
 
-some_named : (fs : List ObjectValue) (chosen : List Chosen) (cs : List CommonValue) (places : List ℕ) (first : ℕ) → AllBound fs → HaveChosen fs chosen →
+some_named : (fs : List ObjectValue) (chosen : List Chosen) (cs : List CommonValue) (places : List ℕ) (first : ℕ) → AllBound fs →
+    HaveChosen fs chosen →
     ArePlacedCommons fs chosen places first (length chosen) cs →
     ¬ ((bs : List (List ℕ × Binding)) → AreBindings fs cs bs → ¬ AreNames fs bs)
 some_named fs chosen cs places first all have are none =
@@ -152,7 +166,8 @@ some_named fs chosen cs places first all have are none =
 
 -- ---- outputs and commons
 
-some_output : (opt : Options) (fs : List ObjectValue) (l : LinkPlan) (k : ℕ) → IsLinkPlan opt fs l → EndsFit (link_parts fs opt l) l.places (length (link_parts fs opt l)) →
+some_output : (opt : Options) (fs : List ObjectValue) (l : LinkPlan) (k : ℕ) → IsLinkPlan opt fs l →
+    EndsFit (link_parts fs opt l) l.places (length (link_parts fs opt l)) →
     k < length l.plan.outputs →
     (o : OutputValue) × IsOutput fs (members_at l.plan.outputs k) (link_parts fs opt l) l.places (start_of l.plan.outputs k) o
 some_output opt fs l k is fits lt =
@@ -176,10 +191,12 @@ some_output opt fs l k is fits lt =
       record { name = refl; flags = refl; no_bits = refl; members = refl; address = refl; end = omega arith },
     )
 
-some_placed : (opt : Options) (fs : List ObjectValue) (l : LinkPlan) → IsLinkPlan opt fs l → EndsFit (link_parts fs opt l) l.places (length (link_parts fs opt l)) →
+some_placed : (opt : Options) (fs : List ObjectValue) (l : LinkPlan) → IsLinkPlan opt fs l →
+    EndsFit (link_parts fs opt l) l.places (length (link_parts fs opt l)) →
     ¬ ((os : List OutputValue) → ¬ ArePlacedOutputs fs l.plan.outputs (link_parts fs opt l) l.places (length l.plan.outputs) os)
 some_placed opt fs l is fits =
-    some_each no_output (λ k. IsOutput fs (members_at l.plan.outputs k) (link_parts fs opt l) l.places (start_of l.plan.outputs k)) (length l.plan.outputs)
+    some_each no_output (λ k. IsOutput fs (members_at l.plan.outputs k) (link_parts fs opt l) l.places (start_of l.plan.outputs k))
+    (length l.plan.outputs)
     (λ k lt lacks. (let (o, here) = some_output opt fs l k is fits lt in lacks o here))
 
 some_placed_commons : (fs : List ObjectValue) (cs : List Chosen) (places : List ℕ) (first : ℕ) →

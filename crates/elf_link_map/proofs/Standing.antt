@@ -1,6 +1,7 @@
 -- Outputs are apart, with their members inside, and each section that has an address is a member of just one, once. The members of output k
 -- are the parts of the plan from its start on. Places ascend, so a member or output ends before the next begins.
-use Rattle.std.proofs.Common.{◌≡◌, ℕ, ◌+◌, ◌<◌, ◌≤◌, List, [], ◌∷◌, ◌++◌, length, map, inl, inr, refl, sym, ◌∙◌, ap, subst, arith, ◌-◌, get_or, take, zero, suc, length-append}
+use Rattle.std.proofs.Common.{◌≡◌, ℕ, ◌+◌, ◌<◌, ◌≤◌, List, [], ◌∷◌, ◌++◌, length, map, inl, inr, refl, sym, ◌∙◌, ap, subst, arith, ◌-◌}
+use Rattle.std.proofs.Common.{get_or, take, zero, suc, length-append}
 use Rattle.std.specs.Prelude.{Option, None, Some, slice_index}
 use Rattle.std.specs.List.{flat_map}
 use Rattle.std.proofs.lemmas.Bool.{cases_lt}
@@ -17,9 +18,11 @@ use Rattle.elf_link_files.specs.declared.fault.Options.{Options}
 use Rattle.elf_link_files.specs.declared.site.Chosen.{Chosen}
 use Rattle.elf_link_files.specs.declared.site.Site.{Site}
 use Rattle.elf_link_map.specs.LinkMap.{IsLinkMap, IsLinkPlan, IsMapOf, LinkMapValue, LinkPlan, link_parts}
-use Rattle.elf_link_map.specs.Standing.{BeginsAt, StandApart, size_in, IsMemberAt, MembersStand, OutputsStand, member_address, member_at, member_part, no_member, or_zero, output_at, output_end}
+use Rattle.elf_link_map.specs.Standing.{BeginsAt, StandApart, size_in, IsMemberAt, MembersStand, OutputsStand, member_address, member_at}
+use Rattle.elf_link_map.specs.Standing.{member_part, no_member, or_zero, output_at, output_end}
 use Rattle.elf_link_outputs.proofs.Public.{members_live, parts_long, all_flat, outputs_some, placed_once, start_next, within_all}
-use Rattle.elf_link_outputs.specs.Outputs.{live, part_of, raised, AreOutputs, common_part, flat, output_parts, parts_of, placed, is_no_bits, section_at_site}
+use Rattle.elf_link_outputs.specs.Outputs.{live, part_of, raised, AreOutputs, common_part, flat, output_parts, parts_of, placed, is_no_bits}
+use Rattle.elf_link_outputs.specs.Outputs.{section_at_site}
 use Rattle.elf_link_outputs.specs.Placed.{CommonValue, cell, common_at, IsOutput, OutputValue, member_of, members_at, start_of}
 use Rattle.elf_link_outputs.specs.declared.placing.Member.{Member}
 use Rattle.elf_object_type.specs.Object.{ObjectValue}
@@ -39,11 +42,13 @@ raised_sizes : (page : ℕ) (parts : List (ℕ × ℕ)) → sizes (raised page p
 raised_sizes page [] = refl
 raised_sizes page (p ∷ parts) = refl
 
-output_sizes : (fs : List ObjectValue) (page : ℕ) (oss : List (List Site)) → sizes (flat_map (output_parts fs page) oss) ≡ map (size_at fs) (flat oss)
+output_sizes : (fs : List ObjectValue) (page : ℕ) (oss : List (List Site)) →
+    sizes (flat_map (output_parts fs page) oss) ≡ map (size_at fs) (flat oss)
 output_sizes fs page [] = refl
 output_sizes fs page (o ∷ oss) =
     map-append (λ (p : ℕ × ℕ). p.0) (output_parts fs page o) (flat_map (output_parts fs page) oss) ∙
-    ap (λ (xs : List ℕ). xs ++ sizes (flat_map (output_parts fs page) oss)) (raised_sizes page (map (part_of fs) o) ∙ map-map (λ (p : ℕ × ℕ). p.0) (part_of fs) o) ∙
+    ap (λ (xs : List ℕ). xs ++ sizes (flat_map (output_parts fs page) oss))
+    (raised_sizes page (map (part_of fs) o) ∙ map-map (λ (p : ℕ × ℕ). p.0) (part_of fs) o) ∙
     ap (λ (xs : List ℕ). map (size_at fs) o ++ xs) (output_sizes fs page oss) ∙
     sym (map-append (size_at fs) o (flat oss))
 
@@ -67,7 +72,8 @@ common_size fs page oss cs k lt =
     let same = output_sizes fs page oss in
     let long = length-map (flat oss) (size_at fs) in
     let here : length (flat oss) + k ≡ length (map (size_at fs) (flat oss)) + k = omega arith in
-    ap (λ (xs : List ℕ). slice_index xs (length (flat oss) + k)) (map-append (λ (p : ℕ × ℕ). p.0) own behind ∙ ap (λ (xs : List ℕ). xs ++ sizes behind) same) ∙
+    ap (λ (xs : List ℕ). slice_index xs (length (flat oss) + k))
+    (map-append (λ (p : ℕ × ℕ). p.0) own behind ∙ ap (λ (xs : List ℕ). xs ++ sizes behind) same) ∙
     ap (λ (i : ℕ). slice_index (map (size_at fs) (flat oss) ++ sizes behind) i) here ∙
     get_or-append-add (map (size_at fs) (flat oss)) (sizes behind) k 0 ∙
     ap (λ (xs : List ℕ). slice_index xs k) (raised_sizes page (map common_part cs) ∙ map-map (λ (p : ℕ × ℕ). p.0) common_part cs) ∙
@@ -84,10 +90,12 @@ pub record IsPartAt (l : LinkPlan) (f s a k : ℕ) : Type 0 where
   pub here : site_at (placed l.plan) k ≡ site f s
   pub begins : slice_index l.places k ≡ a
 
-placed_live : (fs : List ObjectValue) (oss : List (List Site)) → AreOutputs fs oss → (k : ℕ) → k < length (flat oss) → live fs (site_at (flat oss) k)
+placed_live : (fs : List ObjectValue) (oss : List (List Site)) → AreOutputs fs oss → (k : ℕ) → k < length (flat oss) →
+    live fs (site_at (flat oss) k)
 placed_live fs oss (ps, openers, mem) = all_flat (live fs) oss (λ i lt. members_live fs ps oss i mem lt)
 
-pub stands : (opt : Options) (fs : List ObjectValue) (l : LinkPlan) (m : LinkMapValue) (f s a : ℕ) → IsLinkPlan opt fs l → IsMapOf opt fs l m →
+pub stands : (opt : Options) (fs : List ObjectValue) (l : LinkPlan) (m : LinkMapValue) (f s a : ℕ) → IsLinkPlan opt fs l →
+    IsMapOf opt fs l m →
     BeginsAt m f s a → (k : ℕ) × IsPartAt l f s a k
 stands opt fs l m f s a is of at =
     let (k, lt, file, index) = of.addresses.only f s a at in
@@ -98,7 +106,8 @@ stands opt fs l m f s a is of at =
         within = lt;
         here = here;
         begins = same_some (slice_index l.places k) a
-            (sym (subst (λ (p : Site). cell m.addresses p.file p.index ≡ Some (slice_index l.places k)) here (of.addresses.placed k lt)) ∙ at);
+            (sym (subst (λ (p : Site). cell m.addresses p.file p.index ≡ Some (slice_index l.places k)) here (of.addresses.placed k lt)) ∙
+            at);
       },
     )
 
@@ -117,7 +126,8 @@ in_parts opt fs l f s a k at =
     omega arith
 
 -- of two sections the one that is placed first ends where the other begins, or before
-ends_before : (opt : Options) (fs : List ObjectValue) (l : LinkPlan) (f s a j g t b k : ℕ) → IsLinkPlan opt fs l → IsPartAt l f s a j → IsPartAt l g t b k →
+ends_before : (opt : Options) (fs : List ObjectValue) (l : LinkPlan) (f s a j g t b k : ℕ) → IsLinkPlan opt fs l → IsPartAt l f s a j →
+    IsPartAt l g t b k →
     j < k → a + size_in fs f s ≤ b
 ends_before opt fs l f s a j g t b k is first second lt =
     let above = above_earlier (link_parts fs opt l) opt.base l.places j k is.least.fits lt (in_parts opt fs l g t b k second) in
@@ -132,11 +142,13 @@ chosen_in : (opt : Options) (fs : List ObjectValue) (l : LinkPlan) (m : LinkMapV
 chosen_in opt fs l m k of lt = let count = of.commons.count in omega arith
 
 -- the common at position k is the part after all sections and k commons
-pub common_begins : (opt : Options) (fs : List ObjectValue) (l : LinkPlan) (m : LinkMapValue) (k : ℕ) → IsMapOf opt fs l m → k < length m.commons →
+pub common_begins : (opt : Options) (fs : List ObjectValue) (l : LinkPlan) (m : LinkMapValue) (k : ℕ) → IsMapOf opt fs l m →
+    k < length m.commons →
     (common_at m.commons k).address ≡ slice_index l.places (length (placed l.plan) + k)
 common_begins opt fs l m k of lt = ap (λ (c : CommonValue). c.address) (of.commons.each k (chosen_in opt fs l m k of lt))
 
-common_ends : (opt : Options) (fs : List ObjectValue) (l : LinkPlan) (m : LinkMapValue) (k : ℕ) → IsMapOf opt fs l m → k < length m.commons →
+common_ends : (opt : Options) (fs : List ObjectValue) (l : LinkPlan) (m : LinkMapValue) (k : ℕ) → IsMapOf opt fs l m →
+    k < length m.commons →
     end_of (link_parts fs opt l) l.places (length (placed l.plan) + k) ≡ (common_at m.commons k).address + (common_at m.commons k).size
 common_ends opt fs l m k of lt =
     let chosen = chosen_in opt fs l m k of lt in
@@ -145,7 +157,8 @@ common_ends opt fs l m k of lt =
     let same = ap (λ (c : CommonValue). c.size) (of.commons.each k chosen) in
     omega arith
 
-pub common_in_parts : (opt : Options) (fs : List ObjectValue) (l : LinkPlan) (m : LinkMapValue) (k : ℕ) → IsMapOf opt fs l m → k < length m.commons →
+pub common_in_parts : (opt : Options) (fs : List ObjectValue) (l : LinkPlan) (m : LinkMapValue) (k : ℕ) → IsMapOf opt fs l m →
+    k < length m.commons →
     length (placed l.plan) + k < length (link_parts fs opt l)
 common_in_parts opt fs l m k of lt =
     let chosen = chosen_in opt fs l m k of lt in
@@ -191,14 +204,16 @@ parts_apart opt fs m (l, is, of) = record {
   commons_behind = λ f s a k at lt. (
       let (j, here) = stands opt fs l m f s a is of at in
       let before : j < length (placed l.plan) + k = (let within = here.within in omega arith) in
-      let above = above_earlier (link_parts fs opt l) opt.base l.places j (length (placed l.plan) + k) is.least.fits before (common_in_parts opt fs l m k of lt) in
+      let above = above_earlier (link_parts fs opt l) opt.base l.places j (length (placed l.plan) + k) is.least.fits before
+      (common_in_parts opt fs l m k of lt) in
       let end = ends opt fs l f s a j here in
       let begins = common_begins opt fs l m k of lt in
       omega arith);
   commons_apart = λ j k before lt. (
       let first = length (placed l.plan) in
       let earlier : first + j < first + k = omega arith in
-      let above = above_earlier (link_parts fs opt l) opt.base l.places (first + j) (first + k) is.least.fits earlier (common_in_parts opt fs l m k of lt) in
+      let above = above_earlier (link_parts fs opt l) opt.base l.places (first + j) (first + k) is.least.fits earlier
+      (common_in_parts opt fs l m k of lt) in
       let end = common_ends opt fs l m j of (omega arith) in
       let begins = common_begins opt fs l m k of lt in
       omega arith);
@@ -258,7 +273,8 @@ record IsPartOf (opt : Options) (fs : List ObjectValue) (l : LinkPlan) (m : Link
   ends : end_of (link_parts fs opt l) l.places (start_of l.plan.outputs k + i) ≡
       slice_index l.places (start_of l.plan.outputs k + i) + size_in fs p.file p.section
 
-module _ (opt : Options) (fs : List ObjectValue) (l : LinkPlan) (m : LinkMapValue) (is : IsLinkPlan opt fs l) (of : IsMapOf opt fs l m) where
+module _ (opt : Options) (fs : List ObjectValue) (l : LinkPlan) (m : LinkMapValue) (is : IsLinkPlan opt fs l)
+    (of : IsMapOf opt fs l m) where
   abbrev outputs : List (List Site)
   outputs = l.plan.outputs
 
@@ -285,7 +301,8 @@ module _ (opt : Options) (fs : List ObjectValue) (l : LinkPlan) (m : LinkMapValu
 
   member_is : (k i : ℕ) → k < length m.outputs → i < count k → member_at (output_at m k) i ≡ member_of (site_at (members_at outputs k) i)
   member_is k i lt i_in =
-      ap (λ (ms : List Member). get_or ms i no_member) (output_is k lt).members ∙ get_or-map member_of (members_at outputs k) i (site 0 0) no_member i_in
+      ap (λ (ms : List Member). get_or ms i no_member) (output_is k lt).members ∙
+      get_or-map member_of (members_at outputs k) i (site 0 0) no_member i_in
 
   part_in : (k i : ℕ) → k < length m.outputs → i < count k → start k + i < length (flat outputs)
   part_in k i lt i_in = (let whole = within_all outputs k (output_in k lt) in omega arith)
@@ -305,8 +322,10 @@ module _ (opt : Options) (fs : List ObjectValue) (l : LinkPlan) (m : LinkMapValu
         here = here;
         part = part;
         alive = subst (live fs) here alive;
-        begins = subst (λ (q : Site). cell m.addresses q.file q.index ≡ Some (slice_index l.places (start k + i))) at (of.addresses.placed (start k + i) part);
-        ends = ap (λ (n : ℕ). slice_index l.places (start k + i) + n) (part_size fs opt.page outputs l.plan.commons (start k + i) part ∙ ap (size_at fs) at);
+        begins = subst (λ (q : Site). cell m.addresses q.file q.index ≡ Some (slice_index l.places (start k + i))) at
+            (of.addresses.placed (start k + i) part);
+        ends = ap (λ (n : ℕ). slice_index l.places (start k + i) + n)
+            (part_size fs opt.page outputs l.plan.commons (start k + i) part ∙ ap (size_at fs) at);
       }
 
   -- the same, of the member as the map has it
@@ -321,7 +340,8 @@ module _ (opt : Options) (fs : List ObjectValue) (l : LinkPlan) (m : LinkMapValu
   address_is k i lt i_in = ap or_zero (stands_in k i lt i_in).begins
 
   -- all members are of one kind, that of the section that opens the output
-  kind_of : (k i : ℕ) → k < length m.outputs → i < count k → is_no_bits (section_at_site fs (site_at (members_at outputs k) i)).body ≡ (output_at m k).no_bits
+  kind_of : (k i : ℕ) → k < length m.outputs → i < count k →
+      is_no_bits (section_at_site fs (site_at (members_at outputs k) i)).body ≡ (output_at m k).no_bits
   kind_of k i lt i_in =
       let (ps, openers, mem) = is.plan.outputs in
       let many = mem.count in
@@ -353,11 +373,13 @@ module _ (opt : Options) (fs : List ObjectValue) (l : LinkPlan) (m : LinkMapValu
       let next = address_is k (suc i) lt below in
       let at = stands_in k (suc i) lt below in
       let ends = (stands_in k i lt (omega arith)).ends in
-      let above = above_earlier (link_parts fs opt l) opt.base l.places (start k + i) (start k + suc i) is.least.fits (omega arith) (all_parts (start k + suc i) at.part) in
+      let above = above_earlier (link_parts fs opt l) opt.base l.places (start k + i) (start k + suc i) is.least.fits (omega arith)
+      (all_parts (start k + suc i) at.part) in
       omega arith))
 
   members_last : (k : ℕ) → k < length m.outputs → output_end m k ≡
-      end_of (map (member_part fs) (output_at m k).members) (map (member_address m) (output_at m k).members) (length (output_at m k).members - 1)
+      end_of (map (member_part fs) (output_at m k).members) (map (member_address m) (output_at m k).members)
+      (length (output_at m k).members - 1)
   members_last k lt =
       let o = output_at m k in
       let many = many_members k lt in
@@ -368,7 +390,8 @@ module _ (opt : Options) (fs : List ObjectValue) (l : LinkPlan) (m : LinkMapValu
       let place = address_is k n lt within in
       let listed = get_or-map (member_address m) o.members n no_member 0 within in
       let sizes = map-map (λ (q : ℕ × ℕ). q.0) (member_part fs) o.members in
-      let size = ap (λ (xs : List ℕ). slice_index xs n) sizes ∙ get_or-map (λ (p : Member). size_in fs p.file p.section) o.members n no_member 0 within in
+      let size = ap (λ (xs : List ℕ). slice_index xs n) sizes ∙
+      get_or-map (λ (p : Member). size_in fs p.file p.section) o.members n no_member 0 within in
       let same : last_of k ≡ start k + n = omega arith in
       let at = ap (λ (i : ℕ). end_of (link_parts fs opt l) l.places i) same in
       let ends = here.ends in
@@ -405,7 +428,8 @@ module _ (opt : Options) (fs : List ObjectValue) (l : LinkPlan) (m : LinkMapValu
       (k, i, (lt, (let many = many_members k lt in omega arith), member_is k i lt i_in ∙ ap member_of found))
 
   -- no two places of the plan have one section, and each place is one of one output
-  one_place : (n p : ℕ) → n < length (flat outputs) → p < length (flat outputs) → site_at (flat outputs) n ≡ site_at (flat outputs) p → n ≡ p
+  one_place : (n p : ℕ) → n < length (flat outputs) → p < length (flat outputs) → site_at (flat outputs) n ≡ site_at (flat outputs) p →
+      n ≡ p
   one_place n p n_in p_in same =
       let (ps, openers, mem) = is.plan.outputs in
       let apart = placed_once fs ps outputs openers mem in
@@ -414,7 +438,8 @@ module _ (opt : Options) (fs : List ObjectValue) (l : LinkPlan) (m : LinkMapValu
         | inr above ↦ elim (cases_lt p n) [ inl below ↦ absurd (apart p n below n_in (sym same)) | inr equal ↦ omega arith ]
       ]
 
-  one_output : (k i l j : ℕ) → k < length m.outputs → i < count k → l < length m.outputs → j < count l → start k + i ≡ start l + j → (k ≡ l) × (i ≡ j)
+  one_output : (k i l j : ℕ) → k < length m.outputs → i < count k → l < length m.outputs → j < count l → start k + i ≡ start l + j →
+      (k ≡ l) × (i ≡ j)
   one_output k i l j k_in i_in l_in j_in same = elim (cases_lt k l) [
     | inl below ↦ (let ascend = starts_ascend outputs k l below (output_in l l_in) in absurd (omega arith))
     | inr above ↦ elim (cases_lt l k) [
@@ -454,7 +479,8 @@ module _ (opt : Options) (fs : List ObjectValue) (l : LinkPlan) (m : LinkMapValu
         let some = some_members j (omega arith) in
         let ascend = starts_ascend outputs j k before (output_in k lt) in
         let later : last_of j < start k = omega arith in
-        let there = all_parts (start k) (let more = some_members k lt in let whole = within_all outputs k (output_in k lt) in omega arith) in
+        let there = all_parts (start k)
+        (let more = some_members k lt in let whole = within_all outputs k (output_in k lt) in omega arith) in
         let above = behind j (start k) (omega arith) later there in
         let begins = (output_is k lt).address in
         omega arith);
@@ -486,7 +512,8 @@ module _ (fs : List ObjectValue) (m : LinkMapValue) (o : OutputValue) (stand : M
   member_ends i lt =
       let begins = member_begins i lt in
       let sizes = map-map (λ (q : ℕ × ℕ). q.0) (member_part fs) o.members in
-      let size = ap (λ (xs : List ℕ). slice_index xs i) sizes ∙ get_or-map (λ (p : Member). size_in fs p.file p.section) o.members i no_member 0 lt in
+      let size = ap (λ (xs : List ℕ). slice_index xs i) sizes ∙
+      get_or-map (λ (p : Member). size_in fs p.file p.section) o.members i no_member 0 lt in
       omega arith
 
   pub member_within : (i : ℕ) → i < length o.members → (o.address ≤ member_address m (member_at o i)) ×

@@ -19,10 +19,12 @@ use Rattle.elf_link_map.specs.declared.bindings.Named.{Named}
 use Rattle.elf_link_map.specs.declared.link_map.LinkMap.TheInside.{Inside}
 use Rattle.elf_link_names.specs.Binds.{Binds, first_entries, input_rules}
 use Rattle.elf_link_names.specs.Resolution.{AreChosen}
-use Rattle.elf_link_names.specs.declared.name_rules.Choice.TheVariants.{Strong as StrongChoice, Common as CommonChoice, Weak as WeakChoice, Zero as ZeroChoice}
+use Rattle.elf_link_names.specs.declared.name_rules.Choice.TheVariants.{Strong as StrongChoice, Common as CommonChoice, Weak as WeakChoice}
+use Rattle.elf_link_names.specs.declared.name_rules.Choice.TheVariants.{Zero as ZeroChoice}
 use Rattle.elf_link_outputs.specs.Addresses.{HasValue, address_rules}
 use Rattle.elf_link_outputs.specs.Outputs.{Plan, parts_of, placed, AreOutputs, AddressedValue}
-use Rattle.elf_link_outputs.specs.Placed.{OutputValue, CommonValue, common_at, AreAddresses, ArePlacedOutputs, ArePlacedCommons, output_value, common_value}
+use Rattle.elf_link_outputs.specs.Placed.{OutputValue, CommonValue, common_at, AreAddresses, ArePlacedOutputs, ArePlacedCommons}
+use Rattle.elf_link_outputs.specs.Placed.{output_value, common_value}
 use Rattle.elf_link_outputs.specs.declared.addresses.Target.{Target}
 use Rattle.elf_object_type.specs.Object.{ObjectValue}
 

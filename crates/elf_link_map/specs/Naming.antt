@@ -16,7 +16,8 @@ IsBindingAt bindings name k = (k < length bindings) × (bound_in bindings name �
 
 -- that of each name is at its position
 abbrev pub AreBindingPositions : List (List ℕ × Binding) → (List ℕ → Option ℕ) → Type 0
-AreBindingPositions bindings position = (name : List ℕ) → MatchOption (position name) (bound_in bindings name ≡ None) (IsBindingAt bindings name)
+AreBindingPositions bindings position = (name : List ℕ) →
+    MatchOption (position name) (bound_in bindings name ≡ None) (IsBindingAt bindings name)
 
 -- the name of the symbol at a site, and what it is bound to
 abbrev pub IsNamedAt : List ObjectValue → List CommonValue → Site → List ℕ × Binding → Type 0

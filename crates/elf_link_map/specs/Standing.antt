@@ -80,7 +80,8 @@ pub record MembersStand (fs : List ObjectValue) (m : LinkMapValue) (o : OutputVa
 
 -- section s of file f is member i of output k
 abbrev pub IsMemberAt : LinkMapValue → ℕ → ℕ → ℕ → ℕ → Type 0
-IsMemberAt m f s k i = (k < length m.outputs) × (i < length (output_at m k).members) × (member_at (output_at m k) i ≡ record { file = f; section = s })
+IsMemberAt m f s k i =
+    (k < length m.outputs) × (i < length (output_at m k).members) × (member_at (output_at m k) i ≡ record { file = f; section = s })
 
 -- the members of each output are in it, and each section that has an address is a member of just one, once; each output ends below 2^64,
 -- and where each later one and each common begins, or before: so outputs ascend, and no address lies in two of them, or in one and a common

@@ -3,7 +3,8 @@ ghost use Rattle.std.specs.Prelude.{◌<◌, IfOk, length, map, ◌≡◌, Match
 ghost use Rattle.elf_link_files.specs.Files.{AreDiscardMarks, object_at, IsSymbolIn};
 ghost use Rattle.elf_link_names.specs.Resolution.{name_in};
 ghost use Rattle.elf_link_outputs.specs.Placed.{common_value};
-ghost use Rattle.elf_link_map.specs.Naming.{AreIndexesIn, AreCommonNames, AreNamedAt, AreBindingPositions, IsBindingAt, AreBindingIndexes, IsBindingIndex, IsBindingRow};
+ghost use Rattle.elf_link_map.specs.Naming.{AreIndexesIn, AreCommonNames, AreNamedAt, AreBindingPositions, IsBindingAt, AreBindingIndexes};
+ghost use Rattle.elf_link_map.specs.Naming.{IsBindingIndex, IsBindingRow};
 ghost use Rattle.elf_link_map.specs.LinkMap.{AreBindings, AreNames, IsBinding, named_value, bound_in, IsSomeLinkMap};
 ghost use Rattle.elf_link_names.specs.Tables.{name_position};
 
@@ -66,7 +67,9 @@ fn names_of<'a>(
     commons: &[Common<'_>],
 ) -> Result<Vec<Named<'a>>, AllocError>
     requires { AreCommonNames resolution.now.objects resolution.now.commons (map common_value commons.now) }
-    ensures { IfOk result (λ names. AreNamedAt resolution.now.objects (map common_value commons.now) resolution.now.firsts (length resolution.now.firsts) (map named_value names.items)) }
+    ensures { IfOk result
+        (λ names. AreNamedAt resolution.now.objects (map common_value commons.now) resolution.now.firsts (length resolution.now.firsts)
+        (map named_value names.items)) }
 {
     let count = resolution.name_count();
     let mut names = Vec::with_capacity(alloc, count)?;
@@ -90,7 +93,8 @@ pub(crate) fn all_bindings<'a>(
     ensures marks { IfOk result (λ bound. AreDiscardMarks resolution.entry.objects (map (λ row. row.items) bound.marks.items)) }
     ensures bindings { IfOk result (λ bound. AreBindings resolution.entry.objects (map common_value commons.now) bound.names) }
     ensures names { IfOk result (λ bound. AreNames resolution.entry.objects bound.names) }
-    ensures indexes { IfOk result (λ bound. AreIndexesIn resolution.entry.objects bound.names (map (λ row. row.items) bound.indexes.items)) }
+    ensures indexes { IfOk result
+        (λ bound. AreIndexesIn resolution.entry.objects bound.names (map (λ row. row.items) bound.indexes.items)) }
 {
     let list = names_of(alloc, &resolution, commons)?;
     let parts = resolution.into_parts();

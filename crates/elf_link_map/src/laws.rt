@@ -25,7 +25,8 @@ pub fn outputs_stand()
 
 /// Where none of rules 1 to 11 is broken, the page is a power of two, and each output and the first common begin at a multiple of it.
 pub fn are_paged()
-    ensures { (opt : Options) (fs : List ObjectValue) (m : LinkMapValue) → IsLinkMap opt fs m → FirstOfLink opt fs None → AreObjects fs → ArePaged m }
+    ensures { (opt : Options) (fs : List ObjectValue) (m : LinkMapValue) → IsLinkMap opt fs m → FirstOfLink opt fs None → AreObjects fs →
+        ArePaged m }
 {}
 
 /// Proves that each of these objects breaks none of the object rules and fits the fields of a file: a contract does not see the invariant

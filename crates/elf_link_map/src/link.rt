@@ -6,7 +6,8 @@ ghost use Rattle.elf_link_outputs.specs.Addresses.{IsTargetBelow};
 ghost use Rattle.elf_link_outputs.specs.Outputs.{placed as placed_sites, plan_parts};
 ghost use Rattle.elf_link_outputs.specs.Placed.{AreAddresses, ArePlacedCommons, ArePlacedOutputs, common_value, output_value};
 ghost use Rattle.elf_link_map.specs.Entry.{HasSite, IsBoundTarget, IsEntrySymbolTarget, IsNameTarget, IsSectionTarget, IsSymbolTarget};
-ghost use Rattle.elf_link_map.specs.LinkMap.{FirstOfLink, IsAddressedFor, IsAddressingFault, IsLinkFault, IsLinkMap, IsOnlyFault, IsOnlyFirst, IsOnlyLinkMap};
+ghost use Rattle.elf_link_map.specs.LinkMap.{FirstOfLink, IsAddressedFor, IsAddressingFault, IsLinkFault, IsLinkMap, IsOnlyFault};
+ghost use Rattle.elf_link_map.specs.LinkMap.{IsOnlyFirst, IsOnlyLinkMap};
 ghost use Rattle.elf_link_map.specs.Naming.{AreBindingIndexes};
 ghost use Rattle.elf_link_map.specs.Standing.{StandApart, ArePaged, OutputsStand};
 
@@ -144,9 +145,15 @@ fn placed_parts<'a>(
     alloc: Global,
     placed: &Addressed<'_, 'a>,
 ) -> Result<PlacedParts<'a>, AllocError>
-    ensures addresses { IfOk result (λ parts. AreAddresses placed.now.plan.objects (placed_sites placed.now.plan.plan) placed.now.places (map_list (λ row. row.items) parts.addresses.items)) }
-    ensures outputs { IfOk result (λ parts. ArePlacedOutputs placed.now.plan.objects placed.now.plan.plan.outputs (plan_parts placed.now.plan) placed.now.places (length placed.now.plan.plan.outputs) (map_list output_value parts.outputs.items)) }
-    ensures commons { IfOk result (λ parts. ArePlacedCommons placed.now.plan.objects placed.now.plan.plan.commons placed.now.places (length (placed_sites placed.now.plan.plan)) (length placed.now.plan.plan.commons) (map_list common_value parts.commons.items)) }
+    ensures addresses { IfOk result
+        (λ parts. AreAddresses placed.now.plan.objects (placed_sites placed.now.plan.plan) placed.now.places
+        (map_list (λ row. row.items) parts.addresses.items)) }
+    ensures outputs { IfOk result
+        (λ parts. ArePlacedOutputs placed.now.plan.objects placed.now.plan.plan.outputs (plan_parts placed.now.plan) placed.now.places
+        (length placed.now.plan.plan.outputs) (map_list output_value parts.outputs.items)) }
+    ensures commons { IfOk result
+        (λ parts. ArePlacedCommons placed.now.plan.objects placed.now.plan.plan.commons placed.now.places
+        (length (placed_sites placed.now.plan.plan)) (length placed.now.plan.plan.commons) (map_list common_value parts.commons.items)) }
     ensures entry { IfOk result (λ parts. parts.entry ≡ placed.now.entry) }
 {
     let addresses = placed.section_addresses(alloc)?;
@@ -171,7 +178,8 @@ pub fn map_indexed<'a, S: BuildHasher + Drop>(
 ) -> Result<IndexedMap<'a>, LinkFault>
     ensures sound { OnOk result (FirstOfLink options.now objects.now None) }
     ensures map { IfOk result (λ indexed. IsLinkMap options.now objects.now indexed.map) }
-    ensures indexes { IfOk result (λ indexed. AreBindingIndexes objects.now indexed.map (map_list (λ row. row.items) indexed.indexes.items)) }
+    ensures indexes { IfOk result
+        (λ indexed. AreBindingIndexes objects.now indexed.map (map_list (λ row. row.items) indexed.indexes.items)) }
     ensures err { IfErr result (IsLinkFault options.now objects.now) }
 {
     let resolution = validate(alloc, objects, options)?;

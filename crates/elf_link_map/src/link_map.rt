@@ -50,8 +50,8 @@ impl<'a> LinkMap<'a> {
         }
     }
 
-    /// What a name is bound to; None if no symbol that is not local has it. It takes a look at a few slots. Only if names were chosen to share
-    /// their hashes, it may go through all of them.
+    /// What a name is bound to; None if no symbol that is not local has it. It takes a look at a few slots. Only if names were chosen to
+    /// share their hashes, it may go through all of them.
     pub fn binding(&self, name: &[u8]) -> Option<Binding>
         ensures { result ≡ bound_in self.now.bindings name.now }
     {

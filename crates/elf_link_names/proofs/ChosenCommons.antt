@@ -1,15 +1,18 @@
 -- The chosen commons, gathered symbol by symbol: a name without a GLOBAL definition chooses its first common, with the largest size and
 -- alignment of all. So each name that is bound to a common has one in the list.
-use Rattle.std.proofs.Common.{◌≡◌, ℕ, ◌+◌, ◌<◌, ◌⊎◌, true, List, [], ◌∷◌, ◌++◌, length, inl, inr, refl, sym, ◌∙◌, ap, subst, arith, length-append, map, set}
+use Rattle.std.proofs.Common.{◌≡◌, ℕ, ◌+◌, ◌<◌, ◌⊎◌, true, List, [], ◌∷◌, ◌++◌, length, inl, inr, refl, sym, ◌∙◌, ap, subst, arith}
+use Rattle.std.proofs.Common.{length-append, map, set}
 use Rattle.std.proofs.lemmas.List.{get_or_push, get_or-set_other, get_or-set_same, length-map, length-set}
 use Rattle.std.proofs.Math.ListN.{get_or-append}
 use Rattle.std.proofs.lemmas.Bool.{cases_eq, cases_lt}
 use Rattle.std.specs.Prelude.{Option, None, Some, MatchOption}
 use Rattle.elf_extent.specs.Extent.{Never}
 use Rattle.elf_field.specs.Abi.{STB_LOCAL}
-use Rattle.elf_link_files.proofs.Public.{listed_file, each_more, first_in_row, first_same, listed_more, listed_past, lists_same, site_is, same_bool, same_name, one_site_list}
+use Rattle.elf_link_files.proofs.Public.{listed_file, each_more, first_in_row, first_same, listed_more, listed_past, lists_same, site_is}
+use Rattle.elf_link_files.proofs.Public.{same_bool, same_name, one_site_list}
 use Rattle.elf_link_files.specs.Files.{object_at, symbol_in, IsCommon, is_common}
-use Rattle.elf_link_files.specs.Rows.{UpTo, site, site_at, name_at, AreSymbols, no_common, IsFirstAt, symbol_count, chosen_at, Lists, IsLargest, align_at, commons, size_at, strong, entries}
+use Rattle.elf_link_files.specs.Rows.{UpTo, site, site_at, name_at, AreSymbols, no_common, IsFirstAt, symbol_count, chosen_at, Lists}
+use Rattle.elf_link_files.specs.Rows.{IsLargest, align_at, commons, size_at, strong, entries}
 use Rattle.elf_link_files.specs.declared.inputs.SymbolId.{SymbolId}
 use Rattle.elf_link_files.specs.declared.site.Chosen.{Chosen}
 use Rattle.elf_link_files.specs.declared.site.Site.{Site}
@@ -17,13 +20,15 @@ use Rattle.elf_link_names.proofs.KnownNames.{names_once, found_none, placed_at, 
 use Rattle.elf_link_files.specs.KnownBefore.{id_site}
 use Rattle.elf_link_names.specs.Binds.{IsChosen, chosen_commons, first_entries}
 use Rattle.elf_link_names.specs.KnownNames.{IsWholeBlock, AreAllKnown, first_site}
-use Rattle.elf_link_names.specs.Resolution.{AreChosen, AreChosenAt, AreChosenIn, HaveChosen, IsBlockOf, IsChosenFor, IsOfLargest, IsCommonOf, AreRanks, IsNameCount, IsIndex, IsIndexOf, indexed}
+use Rattle.elf_link_names.specs.Resolution.{AreChosen, AreChosenAt, AreChosenIn, HaveChosen, IsBlockOf, IsChosenFor, IsOfLargest}
+use Rattle.elf_link_names.specs.Resolution.{IsCommonOf, AreRanks, IsNameCount, IsIndex, IsIndexOf, indexed}
 use Rattle.elf_link_files.specs.declared.known.Block.{Block}
 use Rattle.elf_link_files.specs.declared.known.Known.{Known}
 use Rattle.elf_object_type.specs.Object.{ObjectValue, binding}
 
 same_id : (a b : SymbolId) → a.file ≡ b.file → a.index ≡ b.index → a ≡ b
-same_id a b file index = ap (λ (n : ℕ). record { file = n; index = a.index }) file ∙ ap (λ (n : ℕ). record { file = b.file; index = n }) index
+same_id a b file index =
+    ap (λ (n : ℕ). record { file = n; index = a.index }) file ∙ ap (λ (n : ℕ). record { file = b.file; index = n }) index
 
 -- ---- the list grows
 
@@ -38,12 +43,15 @@ chosen_none fs = (
   record { count = refl; each = λ k lt. absurd (omega arith) },
 )
 
-pub chosen_past : (fs : List ObjectValue) (f i : ℕ) (cs : List Chosen) → (IsChosen fs f i → ⊥) → AreChosenIn (UpTo (chosen_commons fs) f i) fs cs →
+pub chosen_past : (fs : List ObjectValue) (f i : ℕ) (cs : List Chosen) → (IsChosen fs f i → ⊥) →
+    AreChosenIn (UpTo (chosen_commons fs) f i) fs cs →
     AreChosenIn (UpTo (chosen_commons fs) f (i + 1)) fs cs
 chosen_past fs f i cs other (ps, lists, are) = (ps, listed_past symbol_count fs (IsChosen fs) f i ps other lists, are)
 
-pub chosen_more : (fs : List ObjectValue) (f i : ℕ) (cs : List Chosen) (c : Chosen) → f < length fs → i < length (object_at fs f).symbols → IsChosen fs f i →
-    c.site ≡ site f i → IsOfLargest fs c → AreChosenIn (UpTo (chosen_commons fs) f i) fs cs → AreChosenIn (UpTo (chosen_commons fs) f (i + 1)) fs (cs ++ c ∷ [])
+pub chosen_more : (fs : List ObjectValue) (f i : ℕ) (cs : List Chosen) (c : Chosen) → f < length fs → i < length (object_at fs f).symbols →
+    IsChosen fs f i →
+    c.site ≡ site f i → IsOfLargest fs c → AreChosenIn (UpTo (chosen_commons fs) f i) fs cs →
+    AreChosenIn (UpTo (chosen_commons fs) f (i + 1)) fs (cs ++ c ∷ [])
 chosen_more fs f i cs c file index here at largest (ps, lists, are) =
     let qs = ps ++ site f i ∷ [] in
     let long : length ps + 1 ≡ length qs = simp length-append in
@@ -58,21 +66,29 @@ chosen_more fs f i cs c file index here at largest (ps, lists, are) =
           (each_more no_common (λ k x. (x.site ≡ site_at qs k) × IsOfLargest fs x) (length ps) cs c (at ∙ sym last, largest) kept),
     )
 
-pub chosen_file : (fs : List ObjectValue) (f : ℕ) (cs : List Chosen) → AreChosenIn (UpTo (chosen_commons fs) f (length (object_at fs f).symbols)) fs cs →
+pub chosen_file : (fs : List ObjectValue) (f : ℕ) (cs : List Chosen) →
+    AreChosenIn (UpTo (chosen_commons fs) f (length (object_at fs f).symbols)) fs cs →
     AreChosenIn (UpTo (chosen_commons fs) (f + 1) 0) fs cs
 chosen_file fs f cs (ps, lists, are) = (ps, listed_file symbol_count fs (IsChosen fs) f ps lists, are)
 
 pub chosen_all : (fs : List ObjectValue) (cs : List Chosen) → AreChosenIn (UpTo (chosen_commons fs) (length fs) 0) fs cs → AreChosen fs cs
-chosen_all fs cs (ps, lists, are) =
-    (ps, lists_same (UpTo (chosen_commons fs) (length fs) 0) (chosen_commons fs) ps (λ p (row, earlier). row) (λ p row. (row, inl row.0)) lists, are)
+chosen_all fs cs (ps, lists, are) = (
+  ps,
+  lists_same (UpTo (chosen_commons fs) (length fs) 0) (chosen_commons fs) ps (λ p (row, earlier). row)
+      (λ p row. (row, inl row.0)) lists,
+  are,
+)
 
 -- the block of a name without a GLOBAL definition
-pub chosen_known : (fs : List ObjectValue) (name : List ℕ) (block : Block) (id : SymbolId) (chosen : Option Chosen) → Never (strong fs name) →
+pub chosen_known : (fs : List ObjectValue) (name : List ℕ) (block : Block) (id : SymbolId) (chosen : Option Chosen) →
+    Never (strong fs name) →
     IsWholeBlock fs name block → IsBlockOf block id chosen →
     MatchOption chosen (IsChosenFor fs name id → ⊥)
-    (λ c. IsChosenFor fs name id × (c.site ≡ id_site id) × IsLargest (commons fs name) (size_at fs) c.size × IsLargest (commons fs name) (align_at fs) c.align)
+    (λ c. IsChosenFor fs name id × (c.site ≡ id_site id) × IsLargest (commons fs name) (size_at fs) c.size ×
+    IsLargest (commons fs name) (align_at fs) c.align)
 chosen_known fs name block id None none whole other = λ (first, never).
-    (let same = first_same (commons fs name) (id_site block.first) (id_site id) whole.first first in other (same_id block.first id same.0 same.1))
+    (let same = first_same (commons fs name) (id_site block.first) (id_site id) whole.first first in
+    other (same_id block.first id same.0 same.1))
 chosen_known fs name block id (Some c) none whole (same, at, size, align) = (
   (subst (λ (s : SymbolId). IsFirstAt (commons fs name) (id_site s)) same whole.first, none),
   at,
@@ -103,7 +119,8 @@ common_told fs name f i = elim (cases_eq (binding (symbol_in fs f i)) STB_LOCAL)
 ]
 
 -- the first common of a name without a GLOBAL definition is chosen
-first_chosen : (fs : List ObjectValue) (name : List ℕ) (q : Site) → IsFirstAt (commons fs name) q → Never (strong fs name) → IsChosen fs q.file q.index
+first_chosen : (fs : List ObjectValue) (name : List ℕ) (q : Site) → IsFirstAt (commons fs name) q → Never (strong fs name) →
+    IsChosen fs q.file q.index
 first_chosen fs name q first none =
     let (file, index, is, entry) = first.stands in
     let at = site_is q q.file q.index refl refl entry in
@@ -123,17 +140,21 @@ have_chosen fs cs (ps, lists, are) name size align (none, largest, aligned) =
 -- of one name leaves those of the others, as no two first entries have one name.
 
 -- what is known is in the order of the first entries
-pub firsts_are : (fs : List ObjectValue) (position : List ℕ → Option ℕ) (ks : List Known) (firsts : List Site) → AreAllKnown fs position ks →
+pub firsts_are : (fs : List ObjectValue) (position : List ℕ → Option ℕ) (ks : List Known) (firsts : List Site) →
+    AreAllKnown fs position ks →
     Lists (first_entries fs) firsts → map first_site ks ≡ firsts
-firsts_are fs position ks firsts known lists = one_site_list (first_entries fs) (map first_site ks) firsts (whole_firsts fs position ks known) lists
+firsts_are fs position ks firsts known lists =
+    one_site_list (first_entries fs) (map first_site ks) firsts (whole_firsts fs position ks known) lists
 
-pub count_is : (fs : List ObjectValue) (position : List ℕ → Option ℕ) (ks : List Known) (n : ℕ) → AreAllKnown fs position ks → n ≡ length ks → IsNameCount fs n
+pub count_is : (fs : List ObjectValue) (position : List ℕ → Option ℕ) (ks : List Known) (n : ℕ) → AreAllKnown fs position ks →
+    n ≡ length ks → IsNameCount fs n
 count_is fs position ks n known is firsts lists =
     let many = length-map ks first_site in
     let same = firsts_are fs position ks firsts known lists in
     is ∙ sym many ∙ ap (λ (ps : List Site). length ps) same
 
-pub index_is : (fs : List ObjectValue) (position : List ℕ → Option ℕ) (ks : List Known) (name : List ℕ) (k : ℕ) → AreAllKnown fs position ks →
+pub index_is : (fs : List ObjectValue) (position : List ℕ → Option ℕ) (ks : List Known) (name : List ℕ) (k : ℕ) →
+    AreAllKnown fs position ks →
     position name ≡ Some k → IsIndexOf fs name k
 index_is fs position ks name k known at =
     let (lt, named) = placed_at fs (length fs) 0 position ks name k at known in
@@ -141,12 +162,15 @@ index_is fs position ks name k known at =
     (map first_site ks, whole_firsts fs position ks known, (omega arith, named))
 
 -- whichever list of the first entries is asked of
-pub index_by : (fs : List ObjectValue) (name : List ℕ) (k : ℕ) (firsts : List Site) → Lists (first_entries fs) firsts → IsIndexOf fs name k → IsIndex fs firsts name k
+pub index_by : (fs : List ObjectValue) (name : List ℕ) (k : ℕ) (firsts : List Site) → Lists (first_entries fs) firsts →
+    IsIndexOf fs name k → IsIndex fs firsts name k
 index_by fs name k firsts lists (others, they, is) =
     subst (λ (ps : List Site). IsIndex fs ps name k) (one_site_list (first_entries fs) others firsts they lists) is
 
-pub ranks_more : (fs : List ObjectValue) (firsts : List Site) (cs : List Chosen) (n index : ℕ) (ranks : List ℕ) → Lists (first_entries fs) firsts → n < length cs →
-    IsIndex fs firsts (name_at fs (chosen_at cs n).site) index → AreRanks fs firsts cs n ranks → AreRanks fs firsts cs (n + 1) (set ranks index n)
+pub ranks_more : (fs : List ObjectValue) (firsts : List Site) (cs : List Chosen) (n index : ℕ) (ranks : List ℕ) →
+    Lists (first_entries fs) firsts → n < length cs →
+    IsIndex fs firsts (name_at fs (chosen_at cs n).site) index → AreRanks fs firsts cs n ranks →
+    AreRanks fs firsts cs (n + 1) (set ranks index n)
 ranks_more fs firsts cs n index ranks lists n_in (lt, named) are =
     let long = are.long in
     record {
@@ -157,7 +181,8 @@ ranks_more fs firsts cs n index ranks lists n_in (lt, named) are =
           | inl below ↦ below
           | inr above ↦ (
               let last : j ≡ n = omega arith in
-              let here : indexed fs firsts index ≡ indexed fs firsts k = named ∙ (subst (IsCommonOf fs cs (indexed fs firsts k)) last is).1 in
+              let here : indexed fs firsts index ≡ indexed fs firsts k =
+              named ∙ (subst (IsCommonOf fs cs (indexed fs firsts k)) last is).1 in
               absurd (elim (cases_lt k index) [
                 | inl below ↦ names_once fs firsts lists k index below lt (indexed fs firsts k) refl here
                 | inr never ↦ names_once fs firsts lists index k (omega arith) k_in (indexed fs firsts k) here refl

@@ -6,7 +6,8 @@ use Rattle.elf_field.specs.Abi.{STB_GLOBAL}
 use Rattle.elf_image_rules.specs.Rows.{Row, Ruled, rule}
 use Rattle.elf_link_files.specs.FileRules.{link_section_rules, link_symbol_rules, option_rules}
 use Rattle.elf_link_files.specs.Files.{symbol_in, IsCommon, IsEntry, IsStrong, IsEarlier, object_at, IsUndefinedAt, Live}
-use Rattle.elf_link_files.specs.Rows.{AtSymbol, IsFirstAt, FirstAmong, AtSection, site, strong, weak, commons, entries, not_weak, size_at, align_at, IsLargest}
+use Rattle.elf_link_files.specs.Rows.{AtSymbol, IsFirstAt, FirstAmong, AtSection, site, strong, weak, commons, entries, not_weak, size_at}
+use Rattle.elf_link_files.specs.Rows.{align_at, IsLargest}
 use Rattle.elf_link_files.specs.declared.fault.LinkFault.TheVariants.{Rule, OutOfMemory}
 use Rattle.elf_link_files.specs.declared.fault.LinkFault.{LinkFault}
 use Rattle.elf_link_files.specs.declared.fault.Options.{Options}

@@ -5,7 +5,8 @@ use Rattle.elf_extent.specs.Extent.{Never}
 use Rattle.elf_field.specs.Abi.{STB_LOCAL}
 use Rattle.elf_image_rules.specs.Rows.{Row}
 use Rattle.elf_link_files.specs.Files.{object_at, symbol_in, IsSymbolIn, symbol_with}
-use Rattle.elf_link_files.specs.Rows.{site_at, name_at, AreEach, Lists, UpTo, IsFirstAt, IsLargest, align_at, commons, entries, not_weak, size_at, strong, weak}
+use Rattle.elf_link_files.specs.Rows.{site_at, name_at, AreEach, Lists, UpTo, IsFirstAt, IsLargest, align_at, commons, entries, not_weak}
+use Rattle.elf_link_files.specs.Rows.{size_at, strong, weak}
 use Rattle.elf_link_files.specs.declared.inputs.SymbolId.{SymbolId}
 use Rattle.elf_link_files.specs.declared.site.Site.{Site}
 use Rattle.elf_link_files.specs.KnownBefore.{id_in, id_site, IsKnownBefore}

@@ -2,7 +2,8 @@
 use Rattle.std.specs.Prelude.{◌≡◌, ℕ, ◌<◌, Option, MatchOption, List, length, get_or, map}
 use Rattle.elf_extent.specs.Extent.{Never}
 use Rattle.elf_image_rules.specs.Rows.{Row}
-use Rattle.elf_link_files.specs.Rows.{IsFirstAt, Lists, site_at, name_at, AreEach, no_common, chosen_at, AreSymbols, IsLargest, align_at, commons, size_at, strong}
+use Rattle.elf_link_files.specs.Rows.{IsFirstAt, Lists, site_at, name_at, AreEach, no_common, chosen_at, AreSymbols, IsLargest, align_at}
+use Rattle.elf_link_files.specs.Rows.{commons, size_at, strong}
 use Rattle.elf_link_files.specs.declared.inputs.SymbolId.{SymbolId}
 use Rattle.elf_link_files.specs.declared.site.Chosen.{Chosen}
 use Rattle.elf_link_files.specs.declared.site.Site.{Site}
@@ -41,7 +42,8 @@ IsPlacedFor fs id c = IsChosen fs id.file id.index × (c.site ≡ id_site id) ×
 -- the common of a block, where this symbol is the first of it
 abbrev pub IsBlockOf : Block → SymbolId → Option Chosen → Type 0
 IsBlockOf block id chosen =
-    MatchOption chosen (block.first ≡ id → ⊥) (λ c. (block.first ≡ id) × (c.site ≡ id_site id) × (c.size ≡ block.size) × (c.align ≡ block.align))
+    MatchOption chosen (block.first ≡ id → ⊥)
+    (λ c. (block.first ≡ id) × (c.site ≡ id_site id) × (c.size ≡ block.size) × (c.align ≡ block.align))
 
 -- the same for an entry of a name, by what is known of the name
 abbrev pub IsChosenFor : List ObjectValue → List ℕ → SymbolId → Type 0
@@ -50,7 +52,8 @@ IsChosenFor fs name id = IsFirstAt (commons fs name) (id_site id) × Never (stro
 abbrev pub IsChosenOf : Known → SymbolId → Option Chosen → Type 0
 IsChosenOf known id chosen = (fs : List ObjectValue) (name : List ℕ) → IsKnownWhole fs name known →
     MatchOption chosen (IsChosenFor fs name id → ⊥)
-    (λ c. IsChosenFor fs name id × (c.site ≡ id_site id) × IsLargest (commons fs name) (size_at fs) c.size × IsLargest (commons fs name) (align_at fs) c.align)
+    (λ c. IsChosenFor fs name id × (c.site ≡ id_site id) × IsLargest (commons fs name) (size_at fs) c.size ×
+    IsLargest (commons fs name) (align_at fs) c.align)
 
 -- the chosen common at position k is of this name
 abbrev pub IsCommonOf : List ObjectValue → List Chosen → List ℕ → ℕ → Type 0
@@ -80,7 +83,8 @@ IsNameCount fs n = (firsts : List Site) → Lists (first_entries fs) firsts → 
 -- of each name with a common among the first n the position of one of them
 pub record AreRanks (fs : List ObjectValue) (firsts : List Site) (cs : List Chosen) (n : ℕ) (ranks : List ℕ) : Type 0 where
   pub long : length ranks ≡ length firsts
-  pub right : (k j : ℕ) → k < length firsts → j < n → IsCommonOf fs cs (indexed fs firsts k) j → IsCommonOf fs cs (indexed fs firsts k) (get_or ranks k 0)
+  pub right : (k j : ℕ) → k < length firsts → j < n → IsCommonOf fs cs (indexed fs firsts k) j →
+      IsCommonOf fs cs (indexed fs firsts k) (get_or ranks k 0)
 
 abbrev pub AreAllRanks : List ObjectValue → List Chosen → List ℕ → Type 0
 AreAllRanks fs cs ranks = (firsts : List Site) → Lists (first_entries fs) firsts → AreRanks fs firsts cs (length cs) ranks

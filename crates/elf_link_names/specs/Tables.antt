@@ -1,5 +1,6 @@
 -- Tables of names: slots by hashes, what is looked up in them, and what is known of each name.
-use Rattle.std.specs.Prelude.{◌≡◌, ℕ, cond, Option, Some, List, is_some, ◌≢◌, ◌⊎◌, ◌<◌, ◌≤◌, ◌+◌, ◌-◌, ◌*◌, ◌/◌, ◌%◌, ◌^◌, if◌then◌else◌, None, [], ◌∷◌, IfSome, get_or, length, Bool, false, ◌==◌, slice_get, take, drop, nat_le}
+use Rattle.std.specs.Prelude.{◌≡◌, ℕ, cond, Option, Some, List, is_some, ◌≢◌, ◌⊎◌, ◌<◌, ◌≤◌, ◌+◌, ◌-◌, ◌*◌, ◌/◌, ◌%◌, ◌^◌, if◌then◌else◌}
+use Rattle.std.specs.Prelude.{None, [], ◌∷◌, IfSome, get_or, length, Bool, false, ◌==◌, slice_get, take, drop, nat_le}
 use Rattle.std.specs.Borrow.{Bor}
 use Rattle.std.specs.BTreeMap.{BTreeMap}
 use Rattle.std.specs.Cmp.Lexicographic.{slice_cmp}
@@ -108,7 +109,8 @@ abbrev pub Sees : List Slot → List Entry → ℕ → ℕ → List ℕ → Seen
 Sees slots entries place upper name (Free at) = (s : ℕ) × (s < MOST_STEPS) × (at ≡ place + s) × ((slot_from slots place s).ordinal ≡ 0)
     × AreSlotsTaken slots place s × IsInNone slots entries place upper name s
 Sees slots entries place upper name (Here position) =
-    (k : ℕ) × (k < length entries) × ((get_or entries k no_name_entry).name.now ≡ name) × (position ≡ (get_or entries k no_name_entry).position)
+    (k : ℕ) × (k < length entries) × ((get_or entries k no_name_entry).name.now ≡ name) ×
+    (position ≡ (get_or entries k no_name_entry).position)
 Sees slots entries place upper name Taken = AreSlotsTaken slots place MOST_STEPS × IsInNone slots entries place upper name MOST_STEPS
 
 -- the first slot of a name: the last slots are no name's first one
@@ -122,7 +124,8 @@ IsEnd slots place n = (n ≡ MOST_STEPS) ⊎ ((slot_from slots place n).ordinal 
 -- what its slots say about a name: that it may take a free one; or its position; or that it is in none, and as long as there are ordinals
 -- all of them are taken
 abbrev pub SlotsTell : List Slot → List Entry → List ℕ → Seen → Type 0
-SlotsTell slots entries name (Free at) = (length entries < MOST_NAMES) × Sees slots entries (home slots name) (upper_of (name_hash name)) name (Free at)
+SlotsTell slots entries name (Free at) =
+    (length entries < MOST_NAMES) × Sees slots entries (home slots name) (upper_of (name_hash name)) name (Free at)
 SlotsTell slots entries name (Here position) = Sees slots entries (home slots name) (upper_of (name_hash name)) name (Here position)
 SlotsTell slots entries name Taken = (length entries < MOST_NAMES → AreSlotsTaken slots (home slots name) MOST_STEPS)
     × ((n : ℕ) × IsEnd slots (home slots name) n × IsInNone slots entries (home slots name) (upper_of (name_hash name)) name n)

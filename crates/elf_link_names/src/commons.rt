@@ -47,7 +47,8 @@ fn chosen_of(known: Known, id: SymbolId) -> Option<Chosen>
 impl<'t, 'l, 'a> NamedSymbol<'t, 'l, 'a> {
     /// The common that is placed for it; None if there is none.
     fn chosen(&self) -> Option<Chosen>
-        ensures { MatchOption result (IsChosen self.now.table.now self.now.id.file self.now.id.index → ⊥) (IsPlacedFor self.now.table.now self.now.id) }
+        ensures { MatchOption result (IsChosen self.now.table.now self.now.id.file self.now.id.index → ⊥)
+            (IsPlacedFor self.now.table.now self.now.id) }
     {
         if !self.input().is_common() {
             return None;
@@ -57,8 +58,11 @@ impl<'t, 'l, 'a> NamedSymbol<'t, 'l, 'a> {
 
     /// Adds the common that is placed for it to those for the symbols before it.
     fn push_chosen(&self, commons: &mut Vec<Chosen>) -> Result<(), AllocError>
-        requires { AreChosenIn (UpTo (chosen_row self.now.table.now) self.now.id.file self.now.id.index) self.now.table.now commons.old.items }
-        ensures { OnOk result (AreChosenIn (UpTo (chosen_row self.now.table.now) self.now.id.file (self.now.id.index + 1)) self.now.table.now commons.new.items) }
+        requires { AreChosenIn
+            (UpTo (chosen_row self.now.table.now) self.now.id.file self.now.id.index) self.now.table.now commons.old.items }
+        ensures { OnOk result
+            (AreChosenIn
+            (UpTo (chosen_row self.now.table.now) self.now.id.file (self.now.id.index + 1)) self.now.table.now commons.new.items) }
     {
         let Some(chosen) = self.chosen() else {
             return Ok(());

@@ -4,7 +4,8 @@ ghost use Rattle.std.specs.Prelude.{◌≡◌, ◌↔◌, ◌+◌, ◌<◌, ◌�
 ghost use Rattle.elf_object_type.specs.ObjectView.{symbol_value};
 ghost use Rattle.elf_link_files.specs.Files.{object_at, symbol_with, IsCommon, IsNotWeak, IsStrong};
 ghost use Rattle.elf_link_files.specs.KnownBefore.{IsKnownBefore};
-ghost use Rattle.elf_link_names.specs.KnownNames.{AreAllKnown, AreKnownBefore, IsNotedAt, known_at, AreIndexRows, AreNameIndexes, IsNameIndex, IsIndexRow, KeepsPositions};
+ghost use Rattle.elf_link_names.specs.KnownNames.{AreAllKnown, AreKnownBefore, IsNotedAt, known_at, AreIndexRows, AreNameIndexes};
+ghost use Rattle.elf_link_names.specs.KnownNames.{IsNameIndex, IsIndexRow, KeepsPositions};
 ghost use Rattle.elf_link_names.specs.Tables.{IsSymbolLookup, name_position};
 ghost use Rattle.elf_field.specs.Abi.{STB_LOCAL};
 ghost use Rattle.elf_object_type.specs.Object.{binding as binding_of};
@@ -29,9 +30,12 @@ pub struct KnownNames<'a> {
 
 /// Whether a symbol is an entry that is not weak, and neither a common nor a definition. It changes one mark of what is known of its name.
 fn is_reference(symbol: &InputSymbol<'_, '_, '_>) -> bool
-    ensures common { IsTrue result → IsCommon symbol.now.inputs.now (symbol_with symbol.now.inputs.now symbol.now.id).name symbol.now.id.file symbol.now.id.index → ⊥ }
-    ensures strong { IsTrue result → IsStrong symbol.now.inputs.now (symbol_with symbol.now.inputs.now symbol.now.id).name symbol.now.id.file symbol.now.id.index → ⊥ }
-    ensures not_weak { IsTrue result → IsNotWeak symbol.now.inputs.now (symbol_with symbol.now.inputs.now symbol.now.id).name symbol.now.id.file symbol.now.id.index }
+    ensures common { IsTrue result →
+        IsCommon symbol.now.inputs.now (symbol_with symbol.now.inputs.now symbol.now.id).name symbol.now.id.file symbol.now.id.index → ⊥ }
+    ensures strong { IsTrue result →
+        IsStrong symbol.now.inputs.now (symbol_with symbol.now.inputs.now symbol.now.id).name symbol.now.id.file symbol.now.id.index → ⊥ }
+    ensures not_weak { IsTrue result →
+        IsNotWeak symbol.now.inputs.now (symbol_with symbol.now.inputs.now symbol.now.id).name symbol.now.id.file symbol.now.id.index }
 {
     symbol.is_not_weak() && !symbol.is_common() && !symbol.is_definition(STB_GLOBAL)
 }
@@ -43,8 +47,11 @@ fn note_again(
     k: usize,
 ) -> Result<(), AllocError>
     requires within { k < length names.old }
-    requires before { IsKnownBefore symbol.now.inputs.now (symbol_with symbol.now.inputs.now symbol.now.id).name symbol.now.id.file symbol.now.id.index (known_at names.old k) }
-    ensures { OnOk result (IsNotedAt symbol.now.inputs.now (symbol_with symbol.now.inputs.now symbol.now.id).name symbol.now.id.file (symbol.now.id.index + 1) k names.old names.new) }
+    requires before { IsKnownBefore symbol.now.inputs.now
+        (symbol_with symbol.now.inputs.now symbol.now.id).name symbol.now.id.file symbol.now.id.index (known_at names.old k) }
+    ensures { OnOk result
+        (IsNotedAt symbol.now.inputs.now (symbol_with symbol.now.inputs.now symbol.now.id).name symbol.now.id.file
+        (symbol.now.id.index + 1) k names.old names.new) }
 {
     if is_reference(symbol) {
         names.mark(k);
@@ -68,10 +75,15 @@ fn pass_symbol<'a>(
     lookup: Lookup,
     names: &mut KnownNames<'a>,
 ) -> Result<usize, AllocError>
-    requires before { AreKnownBefore symbol.now.inputs.now symbol.now.id.file symbol.now.id.index (name_position names.old.positions) names.old.known }
-    requires lookup { IsSymbolLookup symbol.now.inputs.now (name_position names.old.positions) symbol.now.id.file symbol.now.id.index lookup }
-    ensures names { OnOk result (AreKnownBefore symbol.now.inputs.now symbol.now.id.file (symbol.now.id.index + 1) (name_position names.new.positions) names.new.known) }
-    ensures index { IfOk result (IsNameIndex symbol.now.inputs.now (name_position names.new.positions) symbol.now.id.file symbol.now.id.index) }
+    requires before { AreKnownBefore symbol.now.inputs.now symbol.now.id.file symbol.now.id.index
+        (name_position names.old.positions) names.old.known }
+    requires lookup { IsSymbolLookup symbol.now.inputs.now
+        (name_position names.old.positions) symbol.now.id.file symbol.now.id.index lookup }
+    ensures names { OnOk result
+        (AreKnownBefore symbol.now.inputs.now symbol.now.id.file (symbol.now.id.index + 1)
+        (name_position names.new.positions) names.new.known) }
+    ensures index { IfOk result
+        (IsNameIndex symbol.now.inputs.now (name_position names.new.positions) symbol.now.id.file symbol.now.id.index) }
     ensures kept { OnOk result (KeepsPositions (name_position names.old.positions) (name_position names.new.positions)) }
 {
     let own = symbol.symbol();
@@ -140,7 +152,8 @@ fn pass_block<'a>(
     requires indexes { IsIndexRow inputs.now (name_position names.old.positions) file (length row.old.items) row.old.items }
     ensures more { OnOk result (length row.old.items < length row.new.items) }
     ensures within { OnOk result (length row.new.items ≤ length (object_at inputs.now file).symbols) }
-    ensures names { OnOk result (AreKnownBefore inputs.now file (length row.new.items) (name_position names.new.positions) names.new.known) }
+    ensures names { OnOk result
+        (AreKnownBefore inputs.now file (length row.new.items) (name_position names.new.positions) names.new.known) }
     ensures indexes { OnOk result (IsIndexRow inputs.now (name_position names.new.positions) file (length row.new.items) row.new.items) }
     ensures kept { OnOk result (KeepsPositions (name_position names.old.positions) (name_position names.new.positions)) }
 {
@@ -170,8 +183,10 @@ fn pass_file<'a>(
     requires rows { AreIndexRows inputs.now (name_position names.old.positions) file (map (λ row. row.items) rows.now) }
     requires file { file < length inputs.now }
     requires before { AreKnownBefore inputs.now file 0 (name_position names.old.positions) names.old.known }
-    ensures names { OnOk result (AreKnownBefore inputs.now file (length (object_at inputs.now file).symbols) (name_position names.new.positions) names.new.known) }
-    ensures indexes { IfOk result (λ row. IsIndexRow inputs.now (name_position names.new.positions) file (length (object_at inputs.now file).symbols) row.items) }
+    ensures names { OnOk result
+        (AreKnownBefore inputs.now file (length (object_at inputs.now file).symbols) (name_position names.new.positions) names.new.known) }
+    ensures indexes { IfOk result
+        (λ row. IsIndexRow inputs.now (name_position names.new.positions) file (length (object_at inputs.now file).symbols) row.items) }
     ensures kept { OnOk result (KeepsPositions (name_position names.old.positions) (name_position names.new.positions)) }
 {
     let count = symbol_count(inputs.object(file));
@@ -199,7 +214,8 @@ pub(crate) fn known_names<'a>(
     inputs: &Inputs<'_, 'a>,
 ) -> Result<(KnownNames<'a>, Vec<Vec<usize>>), AllocError>
     ensures names { IfOk result (λ both. AreAllKnown inputs.now (name_position both.0.positions) both.0.known) }
-    ensures indexes { IfOk result (λ both. AreNameIndexes inputs.now (name_position both.0.positions) (map (λ row. row.items) both.1.items)) }
+    ensures indexes { IfOk result
+        (λ both. AreNameIndexes inputs.now (name_position both.0.positions) (map (λ row. row.items) both.1.items)) }
 {
     let long = LongSymbols::new(alloc, inputs)?;
     let positions = NameIndex::new(alloc, all_symbol_count(inputs))?;

@@ -1,4 +1,7 @@
 //! What is known of each name, in rows of 32 bytes: how long a link of many names takes depends on how much memory it goes through.
+//!
+//! So a link has two forms of a name's binding: before there are addresses (`Choice`), and after (`Binding`). What rows have no place for
+//! is rare, and goes into a list beside them.
 ghost use Rattle.std.specs.Prelude.{◌≡◌, ◌<◌, ◌++◌, ◌∷◌, [], None, Some, IfOk, IfSome, OnOk, if◌then◌else◌, length, set, slice_get};
 ghost use Rattle.elf_link_files.specs.KnownBefore.{marked_known};
 ghost use Rattle.elf_link_names.specs.KnownNames.{known_at};

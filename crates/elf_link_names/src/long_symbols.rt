@@ -1,4 +1,7 @@
 //! Symbols with long names, and for each the first one of the same name (gABI chapter 4, String Table).
+//!
+//! Names of over 1,024 bytes may share bytes. They get numbers first, by where they end in the string tables, and each has the number of
+//! the first one that is equal. So only the first symbol of such a name is compared, and a hash reads its first and its last 512 bytes.
 ghost use Rattle.std.specs.Prelude.{◌≡◌, ◌≢◌, ◌<◌, IfOk, IfSome, OnOk, Some, length, map};
 ghost use Rattle.std.specs.Bool.{OnTrue};
 ghost use Rattle.std.specs.List.{All};

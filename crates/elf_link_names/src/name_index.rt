@@ -1,6 +1,7 @@
 //! Where each name of a link is.
 ghost use Rattle.std.specs.Prelude.{◌≡◌, ℕ, List, IfOk, IfSome, OnErr, None, Some, MatchOption, ◌≤◌, ◌+◌, ◌-◌, ◌<◌, length};
-ghost use Rattle.elf_link_names.specs.Tables.{IsPlaced, position_by, IsLookup, LeadsTo, name_hash, name_position, upper_of as upper_of_hash, AreBlockHashes, AreBlockLookups, IsSymbolHash};
+ghost use Rattle.elf_link_names.specs.Tables.{IsPlaced, position_by, IsLookup, LeadsTo, name_hash, name_position};
+ghost use Rattle.elf_link_names.specs.Tables.{upper_of as upper_of_hash, AreBlockHashes, AreBlockLookups, IsSymbolHash};
 ghost use Rattle.elf_link_files.specs.Files.{object_at};
 
 use crate::known_names::is_local;

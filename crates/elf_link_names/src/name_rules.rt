@@ -141,7 +141,8 @@ impl<'l, 'a> NameTable<'l, 'a> {
 
     /// The first site of a symbol that breaks the rule, by file and position.
     fn first_name(&self, rule: NameRule) -> Option<Site>
-        ensures { MatchOption result (Never (AtSymbol self.now (BreaksName self.now rule))) (IsFirstAt (AtSymbol self.now (BreaksName self.now rule))) }
+        ensures { MatchOption result (Never (AtSymbol self.now (BreaksName self.now rule)))
+            (IsFirstAt (AtSymbol self.now (BreaksName self.now rule))) }
     {
         for file in 0..self.file_count() {
             if let Some(index) = self.first_name_in(rule, file) {

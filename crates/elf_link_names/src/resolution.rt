@@ -207,7 +207,8 @@ impl<'l, 'a> Resolution<'l, 'a> {
     pub fn into_parts(self) -> ResolutionParts<'a>
         ensures marks { AreDiscardMarks self.entry.objects (map (λ row. row.items) result.marks.items) }
         ensures firsts { Lists (first_entries self.entry.objects) self.entry.firsts }
-        ensures positions { ArePositionsOf self.entry.objects self.entry.firsts (length self.entry.firsts) (name_position result.positions) }
+        ensures positions { ArePositionsOf self.entry.objects self.entry.firsts (length self.entry.firsts)
+            (name_position result.positions) }
         ensures indexes { AreNameIndexes self.entry.objects (name_position result.positions) (map (λ row. row.items) result.indexes.items) }
     {
         let names = self.names;

@@ -1,14 +1,22 @@
 //! Slots in which names are by their hashes, and what they say about a name.
+//!
+//! An ordered map alone would find the entries of a name in log n comparisons. Here it has only the names that find no slot. A slot has 8
+//! bytes: the number of a name and half of its hash. A name is in the first free slot of eight; if all are taken, it goes into the map. So
+//! most names cost one comparison. Names that were chosen to share a hash cost log n each, where the library's hash map would be quadratic.
+//! Symbols are looked up in blocks of 64, so that many reads wait for memory together. A slot that was read early is a hint, and its name
+//! is compared.
 ghost use Rattle.std.specs.Prelude.{◌≡◌, ◌<◌, ◌≤◌, ◌+◌, MatchOption, length};
 ghost use Rattle.elf_link_names.specs.declared.long_symbols.TheConstants.{LONG_NAME};
-ghost use Rattle.elf_link_names.specs.Tables.{long_hash, name_hash, short_hash, place_among, upper_of as upper_of_hash, AreEntryOrdinals, IsOfName, LeadsTo, Sees, SlotsTell, ordinal_entry};
+ghost use Rattle.elf_link_names.specs.Tables.{long_hash, name_hash, short_hash, place_among, upper_of as upper_of_hash, AreEntryOrdinals};
+ghost use Rattle.elf_link_names.specs.Tables.{IsOfName, LeadsTo, Sees, SlotsTell, ordinal_entry};
 
 use crate::long_symbols::LONG_NAME;
 use std::hash::{FoldHasher, Hasher};
 
 // The hash of a name, and its place in a table.
 
-/// The hash of a name, by a fixed seed: of a long one that of its first and its last bytes and of its length. It reads eight bytes at a time.
+/// The hash of a name, by a fixed seed: of a long one that of its first and its last bytes and of its length. It reads eight bytes at a
+/// time.
 pub fn hash_of(name: &[u8]) -> u64
     ensures { result ≡ name_hash name.now }
 {
@@ -52,8 +60,8 @@ pub(crate) fn upper_of(hash: u64) -> u32
     (hash / 0x1_0000_0000) as u32
 }
 
-/// The place of a hash among so many: as far into them as its lower half is into the numbers below 2^32. It takes a multiplication, which is
-/// faster than a division.
+/// The place of a hash among so many: as far into them as its lower half is into the numbers below 2^32. It takes a multiplication, which
+/// is faster than a division.
 pub(crate) fn home_of(hash: u64, count: usize) -> usize
     requires { 0 < count }
     ensures place { result ≡ place_among hash count }
@@ -129,7 +137,8 @@ pub(crate) fn position_of(
     name: &[u8],
 ) -> Option<usize>
     ensures { MatchOption result (¬ LeadsTo entries.now slot (upper_of_hash hash) name.now)
-        (λ position. LeadsTo entries.now slot (upper_of_hash hash) name.now × (position ≡ (ordinal_entry entries.now slot.ordinal).position)) }
+        (λ position. LeadsTo entries.now slot (upper_of_hash hash) name.now ×
+        (position ≡ (ordinal_entry entries.now slot.ordinal).position)) }
 {
     if slot.ordinal == 0 || slot.ordinal as usize > entries.len() {
         return None;

@@ -1,6 +1,7 @@
 -- Sections in order are grouped by number, site by site. A section joins the group whose first section has its number, or opens one if none
 -- has. The groups of those with bits, and then the others, are the outputs, in the order of their openers (`outputs_all`).
-use Rattle.std.proofs.Common.{◌≡◌, ℕ, ◌+◌, ◌<◌, List, [], ◌∷◌, ◌++◌, length, inl, inr, refl, sym, ◌∙◌, subst, arith, Bool, true, false, get_or, map, set, zero, suc, ap, length-append, nat_eq, position, Some, None}
+use Rattle.std.proofs.Common.{◌≡◌, ℕ, ◌+◌, ◌<◌, List, [], ◌∷◌, ◌++◌, length, inl, inr, refl, sym, ◌∙◌, subst, arith, Bool, true, false}
+use Rattle.std.proofs.Common.{get_or, map, set, zero, suc, ap, length-append, nat_eq, position, Some, None}
 use Rattle.std.proofs.lemmas.Bool.{cases_lt, cases_eq, eq-eqb, eqb-true, true≢false}
 use Rattle.std.specs.Global.{Vec}
 use Rattle.std.specs.List.{slice_index}
@@ -17,7 +18,9 @@ use Rattle.elf_link_files.proofs.Public.{lists_more, lists_same, not_true, one_b
 use Rattle.elf_link_files.specs.Rows.{Lists, site_at, Before, site, AreEach}
 use Rattle.elf_link_files.specs.declared.site.Site.{Site}
 use Rattle.elf_link_outputs.proofs.OutputLists.{key_join, key_swap}
-use Rattle.elf_link_outputs.specs.Outputs.{Picks, AreGrouped, AreGroups, AreHeaded, AreHeadNumbers, AreInOrder, AreLiveGroups, AreKeyNumbers, AreOfKind, AreOutputs, AreSplit, IsHead, IsJoined, IsMemberAdded, IsOpened, IsOpener, HaveOneKey, is_no_bits, live, members, openers, section_at_site, AreOutputMembers}
+use Rattle.elf_link_outputs.specs.Outputs.{Picks, AreGrouped, AreGroups, AreHeaded, AreHeadNumbers, AreInOrder, AreLiveGroups}
+use Rattle.elf_link_outputs.specs.Outputs.{AreKeyNumbers, AreOfKind, AreOutputs, AreSplit, IsHead, IsJoined, IsMemberAdded, IsOpened}
+use Rattle.elf_link_outputs.specs.Outputs.{IsOpener, HaveOneKey, is_no_bits, live, members, openers, section_at_site, AreOutputMembers}
 use Rattle.elf_object_type.specs.Object.{ObjectValue}
 
 -- What is picked from a list of sites, in order: a site that passes is one more, and any other adds nothing. After the whole list all that
@@ -26,7 +29,8 @@ use Rattle.elf_object_type.specs.Object.{ObjectValue}
 pub picked_more : (row : Row Site) (ps : List Site) (k : ℕ) (P : Site → Type 0) (out : List Site) → Lists row ps → k < length ps →
     P (site_at ps k) → Picks ps k P out → Picks ps (k + 1) P (out ++ site_at ps k ∷ [])
 picked_more row ps k P out is lt here picks =
-    lists_more (λ p. P p × ((j : ℕ) × (j < k) × (site_at ps j ≡ p))) (λ p. P p × ((j : ℕ) × (j < k + 1) × (site_at ps j ≡ p))) out (site_at ps k)
+    lists_more (λ p. P p × ((j : ℕ) × (j < k) × (site_at ps j ≡ p))) (λ p. P p × ((j : ℕ) × (j < k + 1) × (site_at ps j ≡ p))) out
+    (site_at ps k)
     (λ p (holds, earlier). (let (j, below, at) = earlier in (holds, (j, omega arith, at))))
     (here, (k, omega arith, refl))
     (λ p (holds, earlier). (let (j, below, at) = earlier in elim (cases_lt j k) [
@@ -36,7 +40,8 @@ picked_more row ps k P out is lt here picks =
     (λ p (holds, earlier). (let (j, below, at) = earlier in subst (λ q. Before q (site_at ps k)) at (is.order j k below lt)))
     picks
 
-pub picked_past : (ps : List Site) (k : ℕ) (P : Site → Type 0) (out : List Site) → (P (site_at ps k) → ⊥) → Picks ps k P out → Picks ps (k + 1) P out
+pub picked_past : (ps : List Site) (k : ℕ) (P : Site → Type 0) (out : List Site) → (P (site_at ps k) → ⊥) → Picks ps k P out →
+    Picks ps (k + 1) P out
 picked_past ps k P out other picks =
     lists_same (λ p. P p × ((j : ℕ) × (j < k) × (site_at ps j ≡ p))) (λ p. P p × ((j : ℕ) × (j < k + 1) × (site_at ps j ≡ p))) out
     (λ p (holds, earlier). (let (j, below, at) = earlier in (holds, (j, omega arith, at))))
@@ -56,10 +61,12 @@ picked_done row ps P out is picks =
 -- ---- picks in order
 
 -- as `picked_more`, of a list in order
-picks_more : (ps : List Site) (k : ℕ) (P : Site → Type 0) (out : List Site) → AreInOrder ps → k < length ps → P (site_at ps k) → Picks ps k P out →
+picks_more : (ps : List Site) (k : ℕ) (P : Site → Type 0) (out : List Site) → AreInOrder ps → k < length ps → P (site_at ps k) →
+    Picks ps k P out →
     Picks ps (k + 1) P (out ++ site_at ps k ∷ [])
 picks_more ps k P out order lt here picks =
-    lists_more (λ p. P p × ((j : ℕ) × (j < k) × (site_at ps j ≡ p))) (λ p. P p × ((j : ℕ) × (j < k + 1) × (site_at ps j ≡ p))) out (site_at ps k)
+    lists_more (λ p. P p × ((j : ℕ) × (j < k) × (site_at ps j ≡ p))) (λ p. P p × ((j : ℕ) × (j < k + 1) × (site_at ps j ≡ p))) out
+    (site_at ps k)
     (λ p (holds, earlier). (let (j, below, at) = earlier in (holds, (j, omega arith, at))))
     (here, (k, omega arith, refl))
     (λ p (holds, earlier). (let (j, below, at) = earlier in elim (cases_lt j k) [
@@ -78,22 +85,27 @@ picks_none ps k P none = record {
 
 -- ---- a section joins a group
 
-not_head : (fs : List ObjectValue) (ps : List Site) (k : ℕ) (heads : List Site) (r : ℕ) → AreInOrder ps → k < length ps → Picks ps k (IsHead fs ps) heads →
+not_head : (fs : List ObjectValue) (ps : List Site) (k : ℕ) (heads : List Site) (r : ℕ) → AreInOrder ps → k < length ps →
+    Picks ps k (IsHead fs ps) heads →
     r < length heads → HaveOneKey fs (site_at ps k) (site_at heads r) → IsHead fs ps (site_at ps k) → ⊥
 not_head fs ps k heads r order lt picks within key head =
     let (j, below, at) = (picks.each r within).1 in
-    head j (omega arith) (order j k below lt) (subst (λ p. HaveOneKey fs p (site_at ps k)) (sym at) (key_swap fs (site_at ps k) (site_at heads r) key))
+    head j (omega arith) (order j k below lt)
+    (subst (λ p. HaveOneKey fs p (site_at ps k)) (sym at) (key_swap fs (site_at ps k) (site_at heads r) key))
 
 -- two heads have two keys
-heads_apart : (fs : List ObjectValue) (ps : List Site) (k : ℕ) (heads : List Site) (q r : ℕ) → k < length ps + 1 → Picks ps k (IsHead fs ps) heads →
+heads_apart : (fs : List ObjectValue) (ps : List Site) (k : ℕ) (heads : List Site) (q r : ℕ) → k < length ps + 1 →
+    Picks ps k (IsHead fs ps) heads →
     q < r → r < length heads → HaveOneKey fs (site_at heads q) (site_at heads r) → ⊥
 heads_apart fs ps k heads q r le picks lt within key =
     let (j, below, at) = (picks.each q (omega arith)).1 in
     (picks.each r within).0 j (omega arith) (subst (λ p. Before p (site_at heads r)) (sym at) (picks.order q r lt within))
     (subst (λ p. HaveOneKey fs p (site_at heads r)) (sym at) key)
 
-other_head : (fs : List ObjectValue) (ps : List Site) (k : ℕ) (heads : List Site) (q r : ℕ) → k < length ps → Picks ps k (IsHead fs ps) heads →
-    (q ≡ r → ⊥) → q < length heads → r < length heads → HaveOneKey fs (site_at ps k) (site_at heads r) → HaveOneKey fs (site_at ps k) (site_at heads q) → ⊥
+other_head : (fs : List ObjectValue) (ps : List Site) (k : ℕ) (heads : List Site) (q r : ℕ) → k < length ps →
+    Picks ps k (IsHead fs ps) heads →
+    (q ≡ r → ⊥) → q < length heads → r < length heads → HaveOneKey fs (site_at ps k) (site_at heads r) →
+    HaveOneKey fs (site_at ps k) (site_at heads q) → ⊥
 other_head fs ps k heads q r lt picks differ q_in r_in one other = elim (cases_lt q r) [
   | inl below ↦ heads_apart fs ps k heads q r (omega arith) picks below r_in
       (key_join fs (site_at heads q) (site_at ps k) (site_at heads r) (key_swap fs (site_at ps k) (site_at heads q) other) one)
@@ -104,7 +116,8 @@ other_head fs ps k heads q r lt picks differ q_in r_in one other = elim (cases_l
   ]
 ]
 
-joins : (fs : List ObjectValue) (ps : List Site) (k : ℕ) (heads : List Site) (groups : List (List Site)) (r : ℕ) → AreInOrder ps → k < length ps →
+joins : (fs : List ObjectValue) (ps : List Site) (k : ℕ) (heads : List Site) (groups : List (List Site)) (r : ℕ) → AreInOrder ps →
+    k < length ps →
     r < length heads → HaveOneKey fs (site_at ps k) (site_at heads r) → AreHeaded fs ps k heads groups →
     AreHeaded fs ps (k + 1) heads (set groups r (get_or groups r [] ++ site_at ps k ∷ []))
 joins fs ps k heads groups r order lt within key are = record {
@@ -133,7 +146,8 @@ joins fs ps k heads groups r order lt within key are = record {
 -- ---- a section opens a group
 
 is_head : (fs : List ObjectValue) (ps : List Site) (k : ℕ) (heads : List Site) (groups : List (List Site)) → AreInOrder ps → k < length ps →
-    ((r : ℕ) → r < length heads → HaveOneKey fs (site_at ps k) (site_at heads r) → ⊥) → AreHeaded fs ps k heads groups → IsHead fs ps (site_at ps k)
+    ((r : ℕ) → r < length heads → HaveOneKey fs (site_at ps k) (site_at heads r) → ⊥) → AreHeaded fs ps k heads groups →
+    IsHead fs ps (site_at ps k)
 is_head fs ps k heads groups order lt none are j j_in before key = elim (cases_lt j k) [
   | inl below ↦ (
       let (r, r_in, other) = are.covers j below in
@@ -168,7 +182,9 @@ opens fs ps k heads groups order lt none are =
                   (subst (λ p. HaveOneKey fs s p) (sym last) (refl, refl, refl)),
             ))
       ];
-      grouped = subst (λ n. AreEach [] (λ r. Picks ps (k + 1) (λ p. HaveOneKey fs p (site_at (heads ++ s ∷ []) r))) n (groups ++ (s ∷ []) ∷ [])) (sym long)
+      grouped = subst
+          (λ n. AreEach [] (λ r. Picks ps (k + 1) (λ p. HaveOneKey fs p (site_at (heads ++ s ∷ []) r))) n (groups ++ (s ∷ []) ∷ []))
+          (sym long)
           (each_more [] (λ r. Picks ps (k + 1) (λ p. HaveOneKey fs p (site_at (heads ++ s ∷ []) r))) (length heads) groups (s ∷ [])
           (subst (λ q. Picks ps (k + 1) (λ p. HaveOneKey fs p q) (s ∷ [])) (sym last)
           (picks_more ps k (λ p. HaveOneKey fs p s) [] order lt (refl, refl, refl)
@@ -177,7 +193,8 @@ opens fs ps k heads groups order lt none are =
           none r r_in (key_join fs s (site_at ps j) (site_at heads r) (key_swap fs (site_at ps j) s key) other))))))
           (record {
             count = are.grouped.count;
-            each = λ r r_in. subst (λ q. Picks ps (k + 1) (λ p. HaveOneKey fs p q) (get_or groups r [])) (sym (get_or-append heads (s ∷ []) (site 0 0) r r_in))
+            each = λ r r_in. subst (λ q. Picks ps (k + 1) (λ p. HaveOneKey fs p q) (get_or groups r []))
+                (sym (get_or-append heads (s ∷ []) (site 0 0) r r_in))
                 (picked_past ps k (λ p. HaveOneKey fs p (site_at heads r)) (get_or groups r []) (none r r_in) (are.grouped.each r r_in));
           }));
     }
@@ -198,9 +215,11 @@ grouped_none fs ps numbers keys groups no_keys none = rw (no_keys, none) (
 
 -- ---- the next section
 
-module _ (fs : List ObjectValue) (ps : List Site) (numbers : List ℕ) (k number : ℕ) (keys : List ℕ) (groups : List (List Site)) (keys_now : List ℕ) (now : List (List Site))
+module _ (fs : List ObjectValue) (ps : List Site) (numbers : List ℕ) (k number : ℕ) (keys : List ℕ) (groups : List (List Site))
+    (keys_now : List ℕ) (now : List (List Site))
     (order : AreInOrder ps) (lt : k < length ps) (numbered : AreKeyNumbers fs ps numbers) (its : slice_index numbers k ≡ number) where
-  grouped_again : IsJoined keys groups number (site_at ps k) keys_now now → AreGrouped fs ps numbers k keys groups → AreGrouped fs ps numbers (k + 1) keys_now now
+  grouped_again : IsJoined keys groups number (site_at ps k) keys_now now → AreGrouped fs ps numbers k keys groups →
+      AreGrouped fs ps numbers (k + 1) keys_now now
   grouped_again (r, r_in, at, keys_are, groups_are) (heads, named, are) =
       let count = named.count in
       let within : r < length heads = omega arith in
@@ -211,7 +230,8 @@ module _ (fs : List ObjectValue) (ps : List Site) (numbers : List ℕ) (k number
         subst (AreHeaded fs ps (k + 1) heads) (sym groups_are) (joins fs ps k heads groups r order lt within key are),
       )
 
-  grouped_new : IsOpened keys groups number (site_at ps k) keys_now now → AreGrouped fs ps numbers k keys groups → AreGrouped fs ps numbers (k + 1) keys_now now
+  grouped_new : IsOpened keys groups number (site_at ps k) keys_now now → AreGrouped fs ps numbers k keys groups →
+      AreGrouped fs ps numbers (k + 1) keys_now now
   grouped_new (none, keys_are, groups_are) (heads, named, are) =
       let s = site_at ps k in
       let count = named.count in
@@ -223,8 +243,11 @@ module _ (fs : List ObjectValue) (ps : List Site) (numbers : List ℕ) (k number
       none r (omega arith) (sym is ∙ sym ((numbered.same k j lt j_in).1 (subst (λ p. HaveOneKey fs s p) (sym here) one)) ∙ its)) in (
         heads ++ s ∷ [],
         subst (AreHeadNumbers ps numbers (heads ++ s ∷ [])) (sym keys_are)
-            (subst (λ n. AreEach 0 (λ r m. (j : ℕ) × (j < length ps) × (site_at ps j ≡ site_at (heads ++ s ∷ []) r) × (slice_index numbers j ≡ m)) n (keys ++ number ∷ [])) (sym long)
-            (each_more 0 (λ r m. (j : ℕ) × (j < length ps) × (site_at ps j ≡ site_at (heads ++ s ∷ []) r) × (slice_index numbers j ≡ m)) (length heads) keys number
+            (subst (λ n. AreEach 0
+            (λ r m. (j : ℕ) × (j < length ps) × (site_at ps j ≡ site_at (heads ++ s ∷ []) r) × (slice_index numbers j ≡ m)) n
+            (keys ++ number ∷ [])) (sym long)
+            (each_more 0 (λ r m. (j : ℕ) × (j < length ps) × (site_at ps j ≡ site_at (heads ++ s ∷ []) r) × (slice_index numbers j ≡ m))
+            (length heads) keys number
             (k, lt, sym last, its)
             (record {
               count = count;
@@ -236,11 +259,13 @@ module _ (fs : List ObjectValue) (ps : List Site) (numbers : List ℕ) (k number
       )
 
   -- so a section is passed
-  pub grouped_next : IsMemberAdded keys groups number (site_at ps k) keys_now now → AreGrouped fs ps numbers k keys groups → AreGrouped fs ps numbers (k + 1) keys_now now
+  pub grouped_next : IsMemberAdded keys groups number (site_at ps k) keys_now now → AreGrouped fs ps numbers k keys groups →
+      AreGrouped fs ps numbers (k + 1) keys_now now
   grouped_next (inl joined) are = grouped_again joined are
   grouped_next (inr opened) are = grouped_new opened are
 
-pub grouped_all : (fs : List ObjectValue) (ps : List Site) (numbers keys : List ℕ) (groups : List (List Site)) → AreGrouped fs ps numbers (length ps) keys groups →
+pub grouped_all : (fs : List ObjectValue) (ps : List Site) (numbers keys : List ℕ) (groups : List (List Site)) →
+    AreGrouped fs ps numbers (length ps) keys groups →
     AreGroups fs ps groups
 grouped_all fs ps numbers keys groups (heads, named, are) = (heads, are)
 
@@ -256,19 +281,23 @@ value_set [] r v = refl
 value_set (e ∷ es) zero v = refl
 value_set (e ∷ es) (suc r) v = ap (λ vs. e.1 ∷ vs) (value_set es r v)
 
-pub member_added : (groups : List (Vec Site)) (group more : Vec Site) (rank : ℕ) (s : Site) → rank < length groups → group ≡ get_or groups rank group →
+pub member_added : (groups : List (Vec Site)) (group more : Vec Site) (rank : ℕ) (s : Site) → rank < length groups →
+    group ≡ get_or groups rank group →
     more.items ≡ group.items ++ s ∷ [] →
-    map (λ ms. ms.items) (set groups rank more) ≡ set (map (λ ms. ms.items) groups) rank (get_or (map (λ ms. ms.items) groups) rank [] ++ s ∷ [])
+    map (λ ms. ms.items) (set groups rank more) ≡
+    set (map (λ ms. ms.items) groups) rank (get_or (map (λ ms. ms.items) groups) rank [] ++ s ∷ [])
 member_added groups group more rank s lt at added =
     let items : Vec Site → List Site = λ ms. ms.items in
     map-set items groups rank more ∙
-    ap (λ ms. set (map items groups) rank ms) (added ∙ ap (λ ms. ms ++ s ∷ []) (ap items at ∙ sym (get_or-map items groups rank group [] lt)))
+    ap (λ ms. set (map items groups) rank ms)
+    (added ∙ ap (λ ms. ms ++ s ∷ []) (ap items at ∙ sym (get_or-map items groups rank group [] lt)))
 
 lengths : (es : List (ℕ × Vec Site)) → length (values_of es) ≡ length (keys_of es)
 lengths [] = refl
 lengths (e ∷ es) = ap suc (lengths es)
 
-no_key : (es : List (ℕ × Vec Site)) (n : ℕ) → lookup (nat_eq n) es ≡ None → (r : ℕ) → r < length (keys_of es) → get_or (keys_of es) r 0 ≡ n → ⊥
+no_key : (es : List (ℕ × Vec Site)) (n : ℕ) → lookup (nat_eq n) es ≡ None → (r : ℕ) → r < length (keys_of es) →
+    get_or (keys_of es) r 0 ≡ n → ⊥
 no_key [] n none r lt at = absurd (omega arith)
 no_key (e ∷ es) n none zero lt at = none-some e.1 (sym (rw (eq-eqb n e.0 (sym at)) at none))
 no_key (e ∷ es) n none (suc r) lt at = elim (cases_eq n e.0) [
@@ -278,12 +307,14 @@ no_key (e ∷ es) n none (suc r) lt at = elim (cases_eq n e.0) [
 
 pub entry_joined : (es : List (ℕ × Vec Site)) (n r : ℕ) (group more : Vec Site) (s : Site) → position (nat_eq n) (keys_of es) ≡ Some r →
     slice_get (values_of es) r ≡ Some group → more.items ≡ group.items ++ s ∷ [] →
-    IsMemberAdded (keys_of es) (map (λ ms. ms.items) (values_of es)) n s (keys_of (set_value_at es r more)) (map (λ ms. ms.items) (values_of (set_value_at es r more)))
+    IsMemberAdded (keys_of es) (map (λ ms. ms.items) (values_of es)) n s (keys_of (set_value_at es r more))
+    (map (λ ms. ms.items) (values_of (set_value_at es r more)))
 entry_joined es n r group more s found at added =
     let (r_in, passes, first) = position-Some (nat_eq n) (keys_of es) r 0 found in
     let many = lengths es in
     let within : r < length (values_of es) = omega arith in
-    let read : group ≡ get_or (values_of es) r group = ap (λ o. unwrap_or o group) (sym at ∙ slice_get-get_or (values_of es) r group within) in
+    let read : group ≡ get_or (values_of es) r group =
+    ap (λ o. unwrap_or o group) (sym at ∙ slice_get-get_or (values_of es) r group within) in
     inl (
       r,
       r_in,
@@ -296,12 +327,14 @@ keys_more : (es : List (ℕ × Vec Site)) (n : ℕ) (v : Vec Site) → keys_of (
 keys_more [] n v = refl
 keys_more (e ∷ es) n v = ap (λ ks. e.0 ∷ ks) (keys_more es n v)
 
-values_more : (es : List (ℕ × Vec Site)) (n : ℕ) (v : Vec Site) → map (λ ms. ms.items) (values_of (es ++ (n, v) ∷ [])) ≡ map (λ ms. ms.items) (values_of es) ++ v.items ∷ []
+values_more : (es : List (ℕ × Vec Site)) (n : ℕ) (v : Vec Site) →
+    map (λ ms. ms.items) (values_of (es ++ (n, v) ∷ [])) ≡ map (λ ms. ms.items) (values_of es) ++ v.items ∷ []
 values_more [] n v = refl
 values_more (e ∷ es) n v = ap (λ vs. e.1.items ∷ vs) (values_more es n v)
 
 pub entry_opened : (es : List (ℕ × Vec Site)) (n : ℕ) (v : Vec Site) (s : Site) → lookup (nat_eq n) es ≡ None → v.items ≡ s ∷ [] →
-    IsMemberAdded (keys_of es) (map (λ ms. ms.items) (values_of es)) n s (keys_of (es ++ (n, v) ∷ [])) (map (λ ms. ms.items) (values_of (es ++ (n, v) ∷ [])))
+    IsMemberAdded (keys_of es) (map (λ ms. ms.items) (values_of es)) n s (keys_of (es ++ (n, v) ∷ []))
+    (map (λ ms. ms.items) (values_of (es ++ (n, v) ∷ [])))
 entry_opened es n v s none one = inr (
   no_key es n none,
   keys_more es n v,
@@ -309,7 +342,8 @@ entry_opened es n v s none one = inr (
 )
 
 -- the openers of live sections, and their members
-pub groups_live : (fs : List ObjectValue) (ps : List Site) (groups : List (List Site)) → Lists (live fs) ps → AreGroups fs ps groups → AreLiveGroups fs groups
+pub groups_live : (fs : List ObjectValue) (ps : List Site) (groups : List (List Site)) → Lists (live fs) ps → AreGroups fs ps groups →
+    AreLiveGroups fs groups
 groups_live fs ps groups is (heads, are) = (
   heads,
   lists_same (λ p. live fs p × IsHead fs ps p) (λ p. live fs p × IsOpener fs p) heads
@@ -334,16 +368,19 @@ first_or : (P : ℕ → Type 0) (n : ℕ) → P 0 → ((k : ℕ) → suc k < n �
 first_or P n first rest zero lt = first
 first_or P n first rest (suc k) lt = rest k lt
 
-each_append : (fs : List ObjectValue) (xs ys : List Site) (gs hs : List (List Site)) → AreOutputMembers fs xs (length xs) gs → AreOutputMembers fs ys (length ys) hs →
+each_append : (fs : List ObjectValue) (xs ys : List Site) (gs hs : List (List Site)) → AreOutputMembers fs xs (length xs) gs →
+    AreOutputMembers fs ys (length ys) hs →
     AreOutputMembers fs (xs ++ ys) (length (xs ++ ys)) (gs ++ hs)
 each_append fs [] ys [] hs front back = back
 each_append fs [] ys (g ∷ gs) hs front back = absurd (let count = front.count in omega arith)
 each_append fs (x ∷ xs) ys [] hs front back = absurd (let count = front.count in omega arith)
 each_append fs (x ∷ xs) ys (g ∷ gs) hs front back =
-    let rest = each_append fs xs ys gs hs (record { count = (let count = front.count in omega arith); each = λ k lt. front.each (suc k) (omega arith) }) back in
+    let rest = each_append fs xs ys gs hs
+    (record { count = (let count = front.count in omega arith); each = λ k lt. front.each (suc k) (omega arith) }) back in
     record {
       count = ap suc rest.count;
-      each = first_or (λ k. Lists (members fs (site_at (x ∷ xs ++ ys) k)) (get_or (g ∷ gs ++ hs) k [])) (length (x ∷ xs ++ ys)) (front.each 0 (omega arith))
+      each = first_or (λ k. Lists (members fs (site_at (x ∷ xs ++ ys) k)) (get_or (g ∷ gs ++ hs) k [])) (length (x ∷ xs ++ ys))
+          (front.each 0 (omega arith))
           (λ k lt. rest.each k (omega arith));
     }
 
@@ -363,11 +400,17 @@ kind_more fs heads k without ms outputs is lt kind those (ps, picks, are) = (
   ps ++ site_at heads k ∷ [],
   picked_more (λ p. live fs p × IsOpener fs p) heads k (λ p. is_no_bits (section_at_site fs p).body ≡ without) ps is lt kind picks,
   each_append fs ps (site_at heads k ∷ []) outputs (ms ∷ []) are
-      (record { count = refl; each = first_or (λ i. Lists (members fs (site_at (site_at heads k ∷ []) i)) (get_or (ms ∷ []) i [])) 1 those (λ i below. absurd (omega arith)) }),
+      (record {
+        count = refl;
+        each =
+            first_or (λ i. Lists (members fs (site_at (site_at heads k ∷ []) i)) (get_or (ms ∷ []) i [])) 1 those
+            (λ i below. absurd (omega arith));
+      }),
 )
 
 kind_past : (fs : List ObjectValue) (heads : List Site) (k : ℕ) (without : Bool) (outputs : List (List Site)) →
-    (is_no_bits (section_at_site fs (site_at heads k)).body ≡ without → ⊥) → AreOfKind fs heads k without outputs → AreOfKind fs heads (k + 1) without outputs
+    (is_no_bits (section_at_site fs (site_at heads k)).body ≡ without → ⊥) → AreOfKind fs heads k without outputs →
+    AreOfKind fs heads (k + 1) without outputs
 kind_past fs heads k without outputs other (ps, picks, are) =
     (ps, picked_past heads k (λ p. is_no_bits (section_at_site fs p).body ≡ without) ps other picks, are)
 
@@ -378,20 +421,24 @@ split_none fs groups (heads, is, are) =
       0,
       is,
       omega arith,
-      (λ r i r_in at. (let same : r ≡ i = omega arith in subst (λ n. Lists (members fs (site_at heads n)) (get_or groups r [])) same (are.each r (omega arith)))),
+      (λ r i r_in at.
+          (let same : r ≡ i = omega arith in
+          subst (λ n. Lists (members fs (site_at heads n)) (get_or groups r [])) same (are.each r (omega arith)))),
       kind_none fs heads false,
       kind_none fs heads true,
     )
 
 -- the first group of the rest has a member, and its kind is that of its opener
-pub split_first : (fs : List ObjectValue) (ms : List Site) (rest outputs behind : List (List Site)) → AreSplit fs (ms ∷ rest) outputs behind →
+pub split_first : (fs : List ObjectValue) (ms : List Site) (rest outputs behind : List (List Site)) →
+    AreSplit fs (ms ∷ rest) outputs behind →
     (0 < length ms) × live fs (site_at ms 0)
 split_first fs ms rest outputs behind (heads, k, is, count, those, with, without) =
     let here = those 0 k (omega arith) (omega arith) in
     let (j, j_in, at) = here.all (site_at heads k) ((is.each k (omega arith)).0, (refl, refl, refl)) in
     (omega arith, (here.each 0 (omega arith)).0)
 
-pub split_bits : (fs : List ObjectValue) (ms : List Site) (rest outputs behind : List (List Site)) → is_no_bits (section_at_site fs (site_at ms 0)).body ≡ false →
+pub split_bits : (fs : List ObjectValue) (ms : List Site) (rest outputs behind : List (List Site)) →
+    is_no_bits (section_at_site fs (site_at ms 0)).body ≡ false →
     AreSplit fs (ms ∷ rest) outputs behind → AreSplit fs rest (outputs ++ ms ∷ []) behind
 split_bits fs ms rest outputs behind kind split =
     let some = (split_first fs ms rest outputs behind split).0 in
@@ -407,7 +454,8 @@ split_bits fs ms rest outputs behind kind split =
       kind_past fs heads k true behind (λ other. true≢false (sym other ∙ its)) without,
     )
 
-pub split_no_bits : (fs : List ObjectValue) (ms : List Site) (rest outputs behind : List (List Site)) → is_no_bits (section_at_site fs (site_at ms 0)).body ≡ true →
+pub split_no_bits : (fs : List ObjectValue) (ms : List Site) (rest outputs behind : List (List Site)) →
+    is_no_bits (section_at_site fs (site_at ms 0)).body ≡ true →
     AreSplit fs (ms ∷ rest) outputs behind → AreSplit fs rest outputs (behind ++ ms ∷ [])
 split_no_bits fs ms rest outputs behind kind split =
     let some = (split_first fs ms rest outputs behind split).0 in
@@ -430,7 +478,8 @@ kind_all fs heads without ps is picks =
     (λ p (row, kind). (row.0, (row.1, kind))) (λ p (there, (opener, kind)). ((there, opener), kind))
     (picked_done (λ p. live fs p × IsOpener fs p) heads (λ p. is_no_bits (section_at_site fs p).body ≡ without) ps is picks)
 
-pub split_all : (fs : List ObjectValue) (outputs behind : List (List Site)) → AreSplit fs [] outputs behind → AreOutputs fs (outputs ++ behind)
+pub split_all : (fs : List ObjectValue) (outputs behind : List (List Site)) → AreSplit fs [] outputs behind →
+    AreOutputs fs (outputs ++ behind)
 split_all fs outputs behind (heads, k, is, count, those, (ps, picks, are), (qs, picks_2, are_2)) =
     let end : k ≡ length heads = omega arith in (
       ps ++ qs,

@@ -1,6 +1,8 @@
--- A name is known by the first section that has it. Keys in ascending order are numbered, one by one: a key has the number of the one before it if the two are the same, or else the next
+-- A name is known by the first section that has it. Keys in ascending order are numbered, one by one: a key has the number of the one
+-- before it if the two are the same, or else the next
 -- one. In this order all keys that are the same stand side by side (`between`), so two have one number exactly if they are the same.
-use Rattle.std.proofs.Common.{◌≡◌, ℕ, ◌+◌, ◌-◌, ◌<◌, ◌≤◌, ◌&&◌, ◌⊎◌, Bool, true, false, List, [], ◌∷◌, ◌++◌, get_or, length, set, inl, inr, refl, sym, ◌∙◌, ap, subst, arith}
+use Rattle.std.proofs.Common.{◌≡◌, ℕ, ◌+◌, ◌-◌, ◌<◌, ◌≤◌, ◌&&◌, ◌⊎◌, Bool, true, false, List, [], ◌∷◌, ◌++◌, get_or, length, set, inl, inr}
+use Rattle.std.proofs.Common.{refl, sym, ◌∙◌, ap, subst, arith}
 use mathlib.Core.Bool.{beq}
 use Rattle.std.specs.Prelude.{◌==◌, ◌↔◌}
 use Rattle.std.specs.List.{slice_index}
@@ -19,7 +21,8 @@ use Rattle.elf_link_files.specs.SameNames.{site_name, site_names}
 use Rattle.elf_link_files.specs.declared.same_names.Named.TheVariants.{Section}
 use Rattle.elf_link_files.specs.declared.site.Site.{Site}
 use Rattle.elf_link_outputs.proofs.OutputLists.{key_join, key_swap}
-use Rattle.elf_link_outputs.specs.Outputs.{AreKeysAscending, AreCounted, AreKeyed, AreKeyNumbers, HaveOneKey, IsKeyOf, key_cmp, section_at_site}
+use Rattle.elf_link_outputs.specs.Outputs.{AreKeysAscending, AreCounted, AreKeyed, AreKeyNumbers, HaveOneKey, IsKeyOf, key_cmp}
+use Rattle.elf_link_outputs.specs.Outputs.{section_at_site}
 use Rattle.elf_link_outputs.specs.declared.outputs.Keyed.{Keyed}
 use Rattle.elf_link_outputs.specs.declared.outputs.OutputKey.{OutputKey}
 use Rattle.elf_object_strings.specs.StringTable.{AreEqualTo}
@@ -78,19 +81,22 @@ beq_of : (a b : Bool) → a ≡ b → beq a b ≡ true
 beq_of true b is = subst (λ c. beq true c ≡ true) is refl
 beq_of false b is = subst (λ c. beq false c ≡ true) is refl
 
-name_at : (fs : List ObjectValue) (ps : List Site) (k : ℕ) → k < length ps → get_or (site_names fs Section ps) k [] ≡ (section_at_site fs (site_at ps k)).name
+name_at : (fs : List ObjectValue) (ps : List Site) (k : ℕ) → k < length ps →
+    get_or (site_names fs Section ps) k [] ≡ (section_at_site fs (site_at ps k)).name
 name_at fs ps k lt = get_or-map (site_name fs Section) ps k (site 0 0) [] lt
 
 -- two sections have one name exactly if the first one of the name is the same
 pub one_name : (fs : List ObjectValue) (ps : List Site) (firsts : List ℕ) (i j : ℕ) → AreEqualTo (site_names fs Section ps) firsts →
-    i < length ps → j < length ps → get_or firsts i 0 ≡ get_or firsts j 0 → (section_at_site fs (site_at ps i)).name ≡ (section_at_site fs (site_at ps j)).name
+    i < length ps → j < length ps → get_or firsts i 0 ≡ get_or firsts j 0 →
+    (section_at_site fs (site_at ps i)).name ≡ (section_at_site fs (site_at ps j)).name
 one_name fs ps firsts i j equal lt_i lt_j same =
     let many = length-map ps (site_name fs Section) in
     sym (name_at fs ps i lt_i) ∙ sym (equal.each i (omega arith)).1 ∙ ap (λ n. get_or (site_names fs Section ps) n []) same ∙
     (equal.each j (omega arith)).1 ∙ name_at fs ps j lt_j
 
 pub one_first : (fs : List ObjectValue) (ps : List Site) (firsts : List ℕ) (i j : ℕ) → AreEqualTo (site_names fs Section ps) firsts →
-    i < length ps → j < length ps → (section_at_site fs (site_at ps i)).name ≡ (section_at_site fs (site_at ps j)).name → get_or firsts i 0 ≡ get_or firsts j 0
+    i < length ps → j < length ps → (section_at_site fs (site_at ps i)).name ≡ (section_at_site fs (site_at ps j)).name →
+    get_or firsts i 0 ≡ get_or firsts j 0
 one_first fs ps firsts i j equal lt_i lt_j same =
     let many = length-map ps (site_name fs Section) in
     let names = site_names fs Section ps in
@@ -102,7 +108,8 @@ one_first fs ps firsts i j equal lt_i lt_j same =
     omega arith
 
 -- two sections go to one output exactly if their keys are the same
-pub one_key : (fs : List ObjectValue) (ps : List Site) (firsts : List ℕ) (i j : ℕ) (a b : OutputKey) → AreEqualTo (site_names fs Section ps) firsts →
+pub one_key : (fs : List ObjectValue) (ps : List Site) (firsts : List ℕ) (i j : ℕ) (a b : OutputKey) →
+    AreEqualTo (site_names fs Section ps) firsts →
     i < length ps → j < length ps → IsKeyOf fs (site_at ps i) (get_or firsts i 0) a → IsKeyOf fs (site_at ps j) (get_or firsts j 0) b →
     is_same_key a b ≡ true → HaveOneKey fs (site_at ps i) (site_at ps j)
 one_key fs ps firsts i j a b equal lt_i lt_j (first, flags, kind) (first_2, flags_2, kind_2) same =
@@ -114,7 +121,8 @@ one_key fs ps firsts i j a b equal lt_i lt_j (first, flags, kind) (first_2, flag
       sym kind ∙ beq_is a.no_bits b.no_bits (and_right (a.flags == b.flags) kinds rest) ∙ kind_2,
     )
 
-pub key_same : (fs : List ObjectValue) (ps : List Site) (firsts : List ℕ) (i j : ℕ) (a b : OutputKey) → AreEqualTo (site_names fs Section ps) firsts →
+pub key_same : (fs : List ObjectValue) (ps : List Site) (firsts : List ℕ) (i j : ℕ) (a b : OutputKey) →
+    AreEqualTo (site_names fs Section ps) firsts →
     i < length ps → j < length ps → IsKeyOf fs (site_at ps i) (get_or firsts i 0) a → IsKeyOf fs (site_at ps j) (get_or firsts j 0) b →
     HaveOneKey fs (site_at ps i) (site_at ps j) → is_same_key a b ≡ true
 key_same fs ps firsts i j a b equal lt_i lt_j (first, flags, kind) (first_2, flags_2, kind_2) (one, two, three) =
@@ -152,7 +160,8 @@ at_any keyed a x lt is = at_read keyed (λ y. y ≡ x) a x lt (sym is) refl
 pub keyed_moved : (fs : List ObjectValue) (ps : List Site) (firsts : List ℕ) (n : ℕ) (xs ys : List Keyed) → IsPermutation xs ys →
     AreKeyed fs ps firsts n xs → AreKeyed fs ps firsts n ys
 keyed_moved fs ps firsts n xs ys moved are = record {
-  each = All-permutation (λ x. (x.position < n) × IsKeyOf fs (site_at ps x.position) (get_or firsts x.position 0) x.key) xs ys moved are.each;
+  each = All-permutation
+      (λ x. (x.position < n) × IsKeyOf fs (site_at ps x.position) (get_or firsts x.position 0) x.key) xs ys moved are.each;
   all = λ k lt. (let (x, there, at) = are.all k lt in (x, Contains-permutation xs ys x moved there, at));
 }
 
@@ -161,7 +170,8 @@ neither Less first second = absurd (cc)
 neither Equal first second = refl
 neither Greater first second = absurd (cc)
 
-module _ (fs : List ObjectValue) (ps : List Site) (firsts : List ℕ) (equal : AreEqualTo (site_names fs Section ps) firsts) (keyed : List Keyed)
+module _ (fs : List ObjectValue) (ps : List Site) (firsts : List ℕ) (equal : AreEqualTo (site_names fs Section ps) firsts)
+    (keyed : List Keyed)
     (are : AreKeyed fs ps firsts (length ps) keyed) (up : AreKeysAscending keyed) where
   abbrev spot : Keyed → ℕ → ℕ
   spot d a = (get_or keyed a d).position
@@ -180,12 +190,15 @@ module _ (fs : List ObjectValue) (ps : List Site) (firsts : List ℕ) (equal : A
       let ka = (get_or keyed a d).key in
       let km = (get_or keyed m d).key in
       let ki = (get_or keyed (m + 1) d).key in
-      let names : ka.first ≡ ki.first = first ∙ one_first fs ps firsts (spot d a) (spot d (m + 1)) equal a_below end_below one ∙ sym first_2 in
+      let names : ka.first ≡ ki.first =
+      first ∙ one_first fs ps firsts (spot d a) (spot d (m + 1)) equal a_below end_below one ∙ sym first_2 in
       let flagss : ka.flags ≡ ki.flags = flags ∙ two ∙ sym flags_2 in
       let kinds : ka.no_bits ≡ ki.no_bits = kind ∙ three ∙ sym kind_2 in
-      let far : is_lt (key_cmp km ka) ≡ false = sorted_far (λ (x y : Keyed). is_lt (key_cmp x.key y.key)) (ranks_by key_total (λ (x : Keyed). x.key)) keyed up a m d le m_in in
+      let far : is_lt (key_cmp km ka) ≡ false =
+      sorted_far (λ (x y : Keyed). is_lt (key_cmp x.key y.key)) (ranks_by key_total (λ (x : Keyed). x.key)) keyed up a m d le m_in in
       let moved : key_cmp km ka ≡ key_cmp km ki = rw (names, flagss, kinds) refl in
-      let equals = neither (key_cmp km ki) (ap is_lt (sym moved) ∙ far) (ap is_lt (sym (key_total.antisymm ki km)) ∙ up m d (omega arith) lt) in
+      let equals =
+      neither (key_cmp km ki) (ap is_lt (sym moved) ∙ far) (ap is_lt (sym (key_total.antisymm ki km)) ∙ up m d (omega arith) lt) in
       one_key fs ps firsts (spot d m) (spot d (m + 1)) km ki equal m_below end_below mid end (sym (same_keys km ki) ∙ ap is_eq equals)
 
   -- the key of the item that is read
@@ -195,7 +208,8 @@ module _ (fs : List ObjectValue) (ps : List Site) (firsts : List ℕ) (equal : A
       subst (λ z. (z.position < length ps) × IsKeyOf fs (site_at ps z.position) (get_or firsts z.position 0) z.key) (at d) (are.each m d lt)
 
   -- the key that is read is the one before it again, or another one
-  pub decided : (m : ℕ) (x y : Keyed) → m + 1 < length keyed → ((d : Keyed) → get_or keyed (m + 1) d ≡ x) → ((d : Keyed) → get_or keyed m d ≡ y) → (d : Keyed) →
+  pub decided : (m : ℕ) (x y : Keyed) → m + 1 < length keyed → ((d : Keyed) → get_or keyed (m + 1) d ≡ x) →
+      ((d : Keyed) → get_or keyed m d ≡ y) → (d : Keyed) →
       is_same_key x.key y.key ≡ true → One d m (m + 1)
   decided m x y lt at before d same =
       let (x_below, one) = its_key (m + 1) x lt at d in
@@ -205,7 +219,8 @@ module _ (fs : List ObjectValue) (ps : List Site) (firsts : List ℕ) (equal : A
       (key_swap fs (site_at ps x.position) (site_at ps y.position)
       (one_key fs ps firsts x.position y.position x.key y.key equal x_below y_below one other same)))
 
-  pub apart : (m : ℕ) (x y : Keyed) → m + 1 < length keyed → ((d : Keyed) → get_or keyed (m + 1) d ≡ x) → ((d : Keyed) → get_or keyed m d ≡ y) → (d : Keyed) →
+  pub apart : (m : ℕ) (x y : Keyed) → m + 1 < length keyed → ((d : Keyed) → get_or keyed (m + 1) d ≡ x) →
+      ((d : Keyed) → get_or keyed m d ≡ y) → (d : Keyed) →
       is_same_key x.key y.key ≡ false → One d m (m + 1) → ⊥
   apart m x y lt at before d differ key =
       let (x_below, one) = its_key (m + 1) x lt at d in
@@ -266,10 +281,11 @@ module _ (fs : List ObjectValue) (ps : List Site) (firsts : List ℕ) (equal : A
     pub counted_next : AreCounted fs ps keyed (m + 1 + 1) v now
     counted_next = record {
       count = length-set numbers q v ∙ so_far.count;
-      small = (let small = so_far.small in elim (which (get_or keyed 0 (record { key = record { first = 0; flags = 0; no_bits = false }; position = 0 }))) [
-        | inl (key, is) ↦ omega arith
-        | inr (never, is) ↦ omega arith
-      ]);
+      small = (let small = so_far.small in
+          elim (which (get_or keyed 0 (record { key = record { first = 0; flags = 0; no_bits = false }; position = 0 }))) [
+            | inl (key, is) ↦ omega arith
+            | inr (never, is) ↦ omega arith
+          ]);
       last = λ n d next n_in. (let at : m + 1 ≡ n = omega arith in subst (λ i. slice_index now (spot d i) ≡ v) at (set_here d));
       below = λ a d a_lt a_in. elim (cases_lt a (m + 1)) [
         | inl before ↦ (
@@ -279,7 +295,8 @@ module _ (fs : List ObjectValue) (ps : List Site) (firsts : List ℕ) (equal : A
               | inl (key, is) ↦ omega arith
               | inr (never, is) ↦ omega arith
             ])
-        | inr above ↦ (let at : m + 1 ≡ a = omega arith in subst (λ i. slice_index now (spot d i) < v + 1) at (let is = set_here d in omega arith))
+        | inr above ↦
+            (let at : m + 1 ≡ a = omega arith in subst (λ i. slice_index now (spot d i) < v + 1) at (let is = set_here d in omega arith))
       ];
       same = λ a b d a_lt b_lt a_in b_in. elim (cases_lt a (m + 1)) [
         | inl a_before ↦ elim (cases_lt b (m + 1)) [
@@ -298,13 +315,15 @@ module _ (fs : List ObjectValue) (ps : List Site) (firsts : List ℕ) (equal : A
               )
               | inr b_above ↦ (
                   let at_b : m + 1 ≡ b = omega arith in
-                  subst (λ i. (slice_index now (spot d (m + 1)) ≡ slice_index now (spot d i)) ↔ One d (m + 1) i) at_b ((λ equal. (refl, refl, refl)), (λ one. refl)))
+                  subst (λ i. (slice_index now (spot d (m + 1)) ≡ slice_index now (spot d i)) ↔ One d (m + 1) i) at_b
+                  ((λ equal. (refl, refl, refl)), (λ one. refl)))
             ]))
       ];
     }
 
   -- so a key is read
-  pub counted_read : (i number v : ℕ) (numbers : List ℕ) (x y : Keyed) → 0 < i → i < length keyed → x ≡ get_or keyed i x → y ≡ get_or keyed (i - 1) y →
+  pub counted_read : (i number v : ℕ) (numbers : List ℕ) (x y : Keyed) → 0 < i → i < length keyed → x ≡ get_or keyed i x →
+      y ≡ get_or keyed (i - 1) y →
       ((is_same_key x.key y.key ≡ true) × (v ≡ number)) ⊎ ((is_same_key x.key y.key ≡ false) × (v ≡ number + 1)) →
       AreCounted fs ps keyed i number numbers → AreCounted fs ps keyed (i + 1) v (set numbers x.position v)
   counted_read i number v numbers x y some lt x_is y_is which so_far =
@@ -321,7 +340,8 @@ module _ (fs : List ObjectValue) (ps : List Site) (firsts : List ℕ) (equal : A
       ]) (subst (λ n. AreCounted fs ps keyed n number numbers) (sym back) so_far))
 
   -- all are numbered
-  pub counted_all : (i number : ℕ) (numbers : List ℕ) → length keyed ≤ i → AreCounted fs ps keyed i number numbers → AreKeyNumbers fs ps numbers
+  pub counted_all : (i number : ℕ) (numbers : List ℕ) → length keyed ≤ i → AreCounted fs ps keyed i number numbers →
+      AreKeyNumbers fs ps numbers
   counted_all i number numbers le all = record {
     count = all.count;
     same = λ j k j_in k_in. (
@@ -329,5 +349,6 @@ module _ (fs : List ObjectValue) (ps : List Site) (firsts : List ℕ) (equal : A
         let (y, (b, b_in, b_at), y_is) = are.all k k_in in
         let one : (d : Keyed) → get_or keyed a d ≡ x = at_any keyed a x a_in a_at in
         let other : (d : Keyed) → get_or keyed b d ≡ y = at_any keyed b y b_in b_at in
-        rw (ap (λ z. z.position) (one x) ∙ x_is, ap (λ z. z.position) (other x) ∙ y_is) at (all.same a b x (omega arith) (omega arith) a_in b_in));
+        rw (ap (λ z. z.position) (one x) ∙ x_is, ap (λ z. z.position) (other x) ∙ y_is) at
+        (all.same a b x (omega arith) (omega arith) a_in b_in));
   }

@@ -1,12 +1,14 @@
 -- Places of the parts of a plan, by position (`ArePlaced`): there is one for each part, and they ascend. By induction on the outputs,
 -- output k starts after as many parts as the earlier outputs have. There are also small facts on counts of parts and on cells.
-use Rattle.std.proofs.Common.{◌≡◌, ℕ, ◌+◌, ◌<◌, ◌≤◌, ◌^◌, List, [], ◌∷◌, ◌++◌, get_or, length, map, set, take, zero, suc, inl, inr, refl, sym, ◌∙◌, ap, subst, arith, length-append, add-one, drop, append_assoc, drop-cons, ◌≢◌, ◌⊎◌}
+use Rattle.std.proofs.Common.{◌≡◌, ℕ, ◌+◌, ◌<◌, ◌≤◌, ◌^◌, List, [], ◌∷◌, ◌++◌, get_or, length, map, set, take, zero, suc, inl, inr, refl}
+use Rattle.std.proofs.Common.{sym, ◌∙◌, ap, subst, arith, length-append, add-one, drop, append_assoc, drop-cons, ◌≢◌, ◌⊎◌}
 use Rattle.std.specs.Global.{Vec}
 use Rattle.std.specs.Prelude.{Option, Some, slice_index, None, MatchOption, replicate}
 use Rattle.std.specs.List.{flat_map}
 use Rattle.std.specs.Vec.{with_item}
 use Rattle.std.proofs.lemmas.Bool.{cases_lt, cases_eq}
-use Rattle.std.proofs.lemmas.List.{append-nil, get_or-map, length-map, map-set, take_more, get_or-set_other, get_or-set_same, length-set, length-replicate}
+use Rattle.std.proofs.lemmas.List.{append-nil, get_or-map, length-map, map-set, take_more, get_or-set_other, get_or-set_same, length-set}
+use Rattle.std.proofs.lemmas.List.{length-replicate}
 use Rattle.std.proofs.lemmas.Grind.{flat_map-append}
 use Rattle.std.proofs.lemmas.List.Folds.{length-flat_map-take}
 use Rattle.std.proofs.Math.Seq.{get_or-append_seam}
@@ -30,10 +32,12 @@ pub place_order : (parts : List (ℕ × ℕ)) (places : List ℕ) (first last : 
     slice_index places first ≤ slice_index places last
 place_order parts places first last (base, least, fits) order within = elim (cases_lt first last) [
   | inl before ↦ (let above = above_earlier parts base places first last least.fits before within in omega arith)
-  | inr after ↦ (let same : first ≡ last = omega arith in subst (λ (n : ℕ). slice_index places first ≤ slice_index places n) same (omega arith))
+  | inr after ↦
+      (let same : first ≡ last = omega arith in subst (λ (n : ℕ). slice_index places first ≤ slice_index places n) same (omega arith))
 ]
 
-pub end_fits : (parts : List (ℕ × ℕ)) (places : List ℕ) (last : ℕ) → ArePlaced parts places → last < length parts → end_of parts places last < 2 ^ 64
+pub end_fits : (parts : List (ℕ × ℕ)) (places : List ℕ) (last : ℕ) → ArePlaced parts places → last < length parts →
+    end_of parts places last < 2 ^ 64
 end_fits parts places last (base, least, fits) within = fits last within
 
 pub size_is : (parts : List (ℕ × ℕ)) (k : ℕ) → k < length parts → slice_index (map (λ (p : ℕ × ℕ). p.0) parts) k ≡ (get_or parts k (0, 0)).0
@@ -63,7 +67,8 @@ pub length-raised : (page : ℕ) (ps : List (ℕ × ℕ)) → length (raised pag
 length-raised page [] = refl
 length-raised page (p ∷ ps) = refl
 
-pub length-outputs : (fs : List ObjectValue) (page : ℕ) (oss : List (List Site)) → length (flat_map (output_parts fs page) oss) ≡ length (flat oss)
+pub length-outputs : (fs : List ObjectValue) (page : ℕ) (oss : List (List Site)) →
+    length (flat_map (output_parts fs page) oss) ≡ length (flat oss)
 length-outputs fs page [] = refl
 length-outputs fs page (o ∷ oss) =
     omega (
@@ -89,7 +94,8 @@ parts_long fs page oss cs =
 -- ---- one output more
 
 pub flat_more : {A : Type 0} (f : List Site → List A) (groups : List (Vec Site)) (oss : List (List Site)) (i : ℕ) (v : Vec Site) →
-    map (λ ms. ms.items) groups ≡ oss → i < length groups → v ≡ get_or groups i v → flat_map f (take (i + 1) oss) ≡ flat_map f (take i oss) ++ f v.items
+    map (λ ms. ms.items) groups ≡ oss → i < length groups → v ≡ get_or groups i v →
+    flat_map f (take (i + 1) oss) ≡ flat_map f (take i oss) ++ f v.items
 flat_more f groups oss i v same lt at =
     let many = length-map groups (λ ms. ms.items) in
     let all = map (λ ms. ms.items) groups in
@@ -103,7 +109,8 @@ pub plan_long : (p : PlanValue) → length (plan_parts p) ≡ length (placed p.p
 plan_long p = parts_long p.objects p.page p.plan.outputs p.plan.commons
 
 -- they are as many as its sections and commons
-pub plan_places : (p : PlanValue) (places : List ℕ) → ArePlaced (plan_parts p) places → length places ≡ length (placed p.plan) + length p.plan.commons
+pub plan_places : (p : PlanValue) (places : List ℕ) → ArePlaced (plan_parts p) places →
+    length places ≡ length (placed p.plan) + length p.plan.commons
 plan_places p places are = places_long (plan_parts p) places are ∙ plan_long p
 
 -- ---- a cell of rows
@@ -128,13 +135,18 @@ placed_here parts from i cursor x p done rest lt is place least goes =
     (sym (drop-cons parts i p lt ∙ ap (λ (q : ℕ × ℕ). q ∷ drop (suc i) parts) (sym is)))
     (least_cons p (drop (suc i) parts) cursor x rest place (subst (λ (n : ℕ). Least (drop n parts) (x + p.0) rest) (add-one i) least)))
 
-pub cursor_more : (parts : List (ℕ × ℕ)) (from i cursor x : ℕ) (p : ℕ × ℕ) → i < length parts → p ≡ get_or parts i p → IsLeastPlace cursor p.1 x →
+pub cursor_more : (parts : List (ℕ × ℕ)) (from i cursor x : ℕ) (p : ℕ × ℕ) → i < length parts → p ≡ get_or parts i p →
+    IsLeastPlace cursor p.1 x →
     IsCursor parts from i cursor → IsCursor parts from (i + 1) (x + p.0)
-cursor_more parts from i cursor x p lt is place (done, long, goes) =
-    (done ++ x ∷ [], simp length-append (omega arith), λ rest least. rw append_assoc (placed_here parts from i cursor x p done rest lt is place least goes))
+cursor_more parts from i cursor x p lt is place (done, long, goes) = (
+  done ++ x ∷ [],
+  simp length-append (omega arith),
+  λ rest least. rw append_assoc (placed_here parts from i cursor x p done rest lt is place least goes),
+)
 
 -- the part at the cursor starts at its least place
-pub starts_here : (parts : List (ℕ × ℕ)) (from i cursor x : ℕ) (p : ℕ × ℕ) → i < length parts → p ≡ get_or parts i p → IsLeastPlace cursor p.1 x →
+pub starts_here : (parts : List (ℕ × ℕ)) (from i cursor x : ℕ) (p : ℕ × ℕ) → i < length parts → p ≡ get_or parts i p →
+    IsLeastPlace cursor p.1 x →
     IsCursor parts from i cursor → StartsAt parts from i x
 starts_here parts from i cursor x p lt is place (done, long, goes) =
     let (rest, least) = least_places (drop (i + 1) parts) (x + p.0) in (
@@ -143,7 +155,8 @@ starts_here parts from i cursor x p lt is place (done, long, goes) =
       subst (λ (n : ℕ). get_or (done ++ x ∷ rest) n 0 ≡ x) long (get_or-append_seam done x rest 0),
     )
 
-first_past : (p : ℕ × ℕ) (ps : List (ℕ × ℕ)) (cursor : ℕ) (rest : List ℕ) → HasNoPlace cursor p.1 → Fits (p ∷ ps) cursor rest → 2 ^ 64 ≤ slice_index rest 0
+first_past : (p : ℕ × ℕ) (ps : List (ℕ × ℕ)) (cursor : ℕ) (rest : List ℕ) → HasNoPlace cursor p.1 → Fits (p ∷ ps) cursor rest →
+    2 ^ 64 ≤ slice_index rest 0
 first_past p ps cursor [] none fits = absurd fits
 first_past p ps cursor (x ∷ xs) none (multiple, from, others) = none x multiple from
 
@@ -167,7 +180,8 @@ past_behind parts from i t lt within (places, least, past) =
     let behind = above_earlier parts from places i t least.fits lt within in
     (places, least, omega arith)
 
-size_at : (parts : List (ℕ × ℕ)) (i : ℕ) (p : ℕ × ℕ) → i < length parts → p ≡ get_or parts i p → slice_index (map (λ (q : ℕ × ℕ). q.0) parts) i ≡ p.0
+size_at : (parts : List (ℕ × ℕ)) (i : ℕ) (p : ℕ × ℕ) → i < length parts → p ≡ get_or parts i p →
+    slice_index (map (λ (q : ℕ × ℕ). q.0) parts) i ≡ p.0
 size_at [] i p lt is = absurd (omega arith)
 size_at (q ∷ parts) zero p lt is = ap (λ (r : ℕ × ℕ). r.0) (sym is)
 size_at (q ∷ parts) (suc i) p lt is = size_at parts i p (omega arith) is
@@ -179,8 +193,10 @@ past_end parts from i t x p lt within is past (places, least, at) =
     let size = size_at parts i p (omega arith) is in
     (places, least, omega arith)
 
-pub starts_match : (parts : List (ℕ × ℕ)) (from t cursor : ℕ) (p : ℕ × ℕ) → t < length parts → p ≡ get_or parts t p → IsCursor parts from t cursor →
-    (found : Option ℕ) → MatchOption found (HasNoPlace cursor p.1) (IsLeastPlace cursor p.1) → MatchOption found (StartsPast parts from t) (StartsAt parts from t)
+pub starts_match : (parts : List (ℕ × ℕ)) (from t cursor : ℕ) (p : ℕ × ℕ) → t < length parts → p ≡ get_or parts t p →
+    IsCursor parts from t cursor →
+    (found : Option ℕ) → MatchOption found (HasNoPlace cursor p.1) (IsLeastPlace cursor p.1) →
+    MatchOption found (StartsPast parts from t) (StartsAt parts from t)
 starts_match parts from t cursor p lt is at None none = past_here parts from t cursor p lt is none at
 starts_match parts from t cursor p lt is at (Some x) place = starts_here parts from t cursor x p lt is place at
 
@@ -201,24 +217,30 @@ value_fixed parts base value fits = let (places, least) = least_places parts bas
 no_cell : (a : ℕ) → ◌≡◌ {A = Option ℕ} None (Some a) → ⊥
 no_cell a e = cc
 
-cell_here : (rows : List (List (Option ℕ))) (f s a : ℕ) → f < length rows → s < length (get_or rows f []) → cell (with_cell rows f s a) f s ≡ Some a
+cell_here : (rows : List (List (Option ℕ))) (f s a : ℕ) → f < length rows → s < length (get_or rows f []) →
+    cell (with_cell rows f s a) f s ≡ Some a
 cell_here rows f s a f_in s_in =
     ap (λ (row : List (Option ℕ)). get_or row s None) (get_or-set_same rows f (set (get_or rows f []) s (Some a)) [] f_in) ∙
     get_or-set_same (get_or rows f []) s (Some a) None s_in
 
-cell_other : (rows : List (List (Option ℕ))) (f s a g t : ℕ) → f < length rows → (g ≢ f) ⊎ (t ≢ s) → cell (with_cell rows f s a) g t ≡ cell rows g t
+cell_other : (rows : List (List (Option ℕ))) (f s a g t : ℕ) → f < length rows → (g ≢ f) ⊎ (t ≢ s) →
+    cell (with_cell rows f s a) g t ≡ cell rows g t
 cell_other rows f s a g t f_in other = elim (cases_eq g f) [
   | inr away ↦ ap (λ (row : List (Option ℕ)). get_or row t None) (get_or-set_other rows f g (set (get_or rows f []) s (Some a)) [] away)
   | inl same ↦ elim other [
     | inl away ↦ absurd (away same)
-    | inr away ↦ rw same (ap (λ (row : List (Option ℕ)). get_or row t None) (get_or-set_same rows f (set (get_or rows f []) s (Some a)) [] f_in) ∙
+    | inr away ↦
+        rw same (ap (λ (row : List (Option ℕ)). get_or row t None) (get_or-set_same rows f (set (get_or rows f []) s (Some a)) [] f_in) ∙
         get_or-set_other (get_or rows f []) s t (Some a) None away)
   ]
 ]
 
-row_length : (rows : List (List (Option ℕ))) (f s a g : ℕ) → f < length rows → length (get_or (with_cell rows f s a) g []) ≡ length (get_or rows g [])
+row_length : (rows : List (List (Option ℕ))) (f s a g : ℕ) → f < length rows →
+    length (get_or (with_cell rows f s a) g []) ≡ length (get_or rows g [])
 row_length rows f s a g f_in = elim (cases_eq g f) [
-  | inl same ↦ rw same (ap (λ (row : List (Option ℕ)). length row) (get_or-set_same rows f (set (get_or rows f []) s (Some a)) [] f_in) ∙ length-set (get_or rows f []) s (Some a))
+  | inl same ↦
+      rw same (ap (λ (row : List (Option ℕ)). length row) (get_or-set_same rows f (set (get_or rows f []) s (Some a)) [] f_in) ∙
+      length-set (get_or rows f []) s (Some a))
   | inr away ↦ ap (λ (row : List (Option ℕ)). length row) (get_or-set_other rows f g (set (get_or rows f []) s (Some a)) [] away)
 ]
 
@@ -230,11 +252,15 @@ apart : (fs : List ObjectValue) (ps : List Site) (j k : ℕ) → AreLive fs ps �
     ((site_at ps j).file ≢ (site_at ps k).file) ⊎ ((site_at ps j).index ≢ (site_at ps k).index)
 apart fs ps j k are lt within = elim (cases_eq (site_at ps j).file (site_at ps k).file) [
   | inr away ↦ inl away
-  | inl file ↦ inr (λ index. are.once j k lt within (same_site fs (site_at ps j) (site_at ps k) (are.each j (omega arith)) (are.each k within) file index))
+  | inl file ↦
+      inr (λ index. are.once j k lt within
+      (same_site fs (site_at ps j) (site_at ps k) (are.each j (omega arith)) (are.each k within) file index))
 ]
 
-pub filled_more : (fs : List ObjectValue) (ps : List Site) (places : List ℕ) (k : ℕ) (rows : List (List (Option ℕ))) → AreLive fs ps → k < length ps →
-    AreFilled fs ps places k rows → AreFilled fs ps places (k + 1) (with_cell rows (site_at ps k).file (site_at ps k).index (slice_index places k))
+pub filled_more : (fs : List ObjectValue) (ps : List Site) (places : List ℕ) (k : ℕ) (rows : List (List (Option ℕ))) → AreLive fs ps →
+    k < length ps →
+    AreFilled fs ps places k rows →
+    AreFilled fs ps places (k + 1) (with_cell rows (site_at ps k).file (site_at ps k).index (slice_index places k))
 filled_more fs ps places k rows are within filled =
     let f = (site_at ps k).file in
     let s = (site_at ps k).index in
@@ -248,15 +274,21 @@ filled_more fs ps places k rows are within filled =
       files = length-set rows f (set (get_or rows f []) s (Some a)) ∙ filled.files;
       long = λ g lt. row_length rows f s a g f_in ∙ filled.long g lt;
       placed = λ j lt. elim (cases_lt j k) [
-        | inl below ↦ cell_other rows f s a (site_at ps j).file (site_at ps j).index f_in (apart fs ps j k are below within) ∙ filled.placed j below
+        | inl below ↦
+            cell_other rows f s a (site_at ps j).file (site_at ps j).index f_in (apart fs ps j k are below within) ∙ filled.placed j below
         | inr above ↦ (
             let same : k ≡ j = omega arith in
-            subst (λ (n : ℕ). cell (with_cell rows f s a) (site_at ps n).file (site_at ps n).index ≡ Some (slice_index places n)) same (cell_here rows f s a f_in s_in))
+            subst (λ (n : ℕ). cell (with_cell rows f s a) (site_at ps n).file (site_at ps n).index ≡ Some (slice_index places n)) same
+            (cell_here rows f s a f_in s_in))
       ];
       others = λ g t b at. elim (cases_eq g f) [
-        | inr away ↦ (let (j, lt, same_file, same_index) = filled.others g t b (sym (cell_other rows f s a g t f_in (inl away)) ∙ at) in (j, omega arith, same_file, same_index))
+        | inr away ↦
+            (let (j, lt, same_file, same_index) = filled.others g t b (sym (cell_other rows f s a g t f_in (inl away)) ∙ at) in
+            (j, omega arith, same_file, same_index))
         | inl file ↦ elim (cases_eq t s) [
-          | inr away ↦ (let (j, lt, same_file, same_index) = filled.others g t b (sym (cell_other rows f s a g t f_in (inr away)) ∙ at) in (j, omega arith, same_file, same_index))
+          | inr away ↦
+              (let (j, lt, same_file, same_index) = filled.others g t b (sym (cell_other rows f s a g t f_in (inr away)) ∙ at) in
+              (j, omega arith, same_file, same_index))
           | inl index ↦ (k, omega arith, sym file, sym index)
         ]
       ];
@@ -278,7 +310,8 @@ empty_cell rows fs f s are = elim (cases_lt f (length fs)) [
   | inr above ↦ ap (λ (row : List (Option ℕ)). get_or row s None) (past rows f (let count = are.count in omega arith))
 ]
 
-pub filled_none : (fs : List ObjectValue) (ps : List Site) (places : List ℕ) (rows : List (List (Option ℕ))) → AreEmptyRows fs (length fs) rows →
+pub filled_none : (fs : List ObjectValue) (ps : List Site) (places : List ℕ) (rows : List (List (Option ℕ))) →
+    AreEmptyRows fs (length fs) rows →
     AreFilled fs ps places 0 rows
 filled_none fs ps places rows are = record {
   files = are.count;
@@ -304,7 +337,8 @@ addresses_are fs ps places rows are filled = record {
   none = λ f s. (
     (λ none there. (
         let (k, lt, at) = are.all (site f s) there in
-        no_cell (slice_index places k) (sym none ∙ subst (λ (p : Site). cell rows p.file p.index ≡ Some (slice_index places k)) at (filled.placed k lt)))),
+        no_cell (slice_index places k)
+        (sym none ∙ subst (λ (p : Site). cell rows p.file p.index ≡ Some (slice_index places k)) at (filled.placed k lt)))),
     (λ never. absent fs ps places rows f s are filled never (cell rows f s) refl),
   );
 }

@@ -1,6 +1,7 @@
 -- Output sections: live sections of one name, the same flags but GROUP, and bits or none, in order of first appearance.
 -- (gABI chapter 4, Sections: sh_flags; the placement is this project's profile.)
-use Rattle.std.specs.Prelude.{◌≡◌, ◌↔◌, ◌⊎◌, ℕ, Bool, List, ◌+◌, ◌-◌, ◌^◌, ◌<◌, true, false, [], ◌∷◌, All, Contains, bit_and, fold, length, max, ◌++◌, get_or, set, map, slice_index}
+use Rattle.std.specs.Prelude.{◌≡◌, ◌↔◌, ◌⊎◌, ℕ, Bool, List, ◌+◌, ◌-◌, ◌^◌, ◌<◌, true, false, [], ◌∷◌, All, Contains, bit_and, fold, length}
+use Rattle.std.specs.Prelude.{max, ◌++◌, get_or, set, map, slice_index}
 use Rattle.std.specs.declared.cmp.Ordering.{Ordering}
 use Rattle.std.specs.Ordering.{bool_cmp, nat_cmp, ordering_then}
 use Rattle.std.specs.List.{flat_map}
@@ -35,7 +36,8 @@ is_no_bits (group comdat signature members) = false
 -- two sections go to one output section
 abbrev pub HaveOneKey : List ObjectValue → Site → Site → Type 0
 HaveOneKey fs p q =
-    ((section_at_site fs p).name ≡ (section_at_site fs q).name) × (output_flags (section_at_site fs p).flags ≡ output_flags (section_at_site fs q).flags) ×
+    ((section_at_site fs p).name ≡ (section_at_site fs q).name) ×
+    (output_flags (section_at_site fs p).flags ≡ output_flags (section_at_site fs q).flags) ×
     (is_no_bits (section_at_site fs p).body ≡ is_no_bits (section_at_site fs q).body)
 
 -- a live section opens an output section where no live section before it goes to the same one
@@ -93,7 +95,8 @@ AreKeysAscending = IsSortedByKey (λ x. x.key) key_cmp
 -- a number for each site: two have one number exactly if they go to one output section
 pub record AreKeyNumbers (fs : List ObjectValue) (ps : List Site) (numbers : List ℕ) : Type 0 where
   pub count : length numbers ≡ length ps
-  pub same : (i j : ℕ) → i < length ps → j < length ps → (slice_index numbers i ≡ slice_index numbers j) ↔ HaveOneKey fs (site_at ps i) (site_at ps j)
+  pub same : (i j : ℕ) → i < length ps → j < length ps →
+      (slice_index numbers i ≡ slice_index numbers j) ↔ HaveOneKey fs (site_at ps i) (site_at ps j)
 
 abbrev pub AreInOrder : List Site → Type 0
 AreInOrder ps = Pairs Before ps
@@ -120,7 +123,8 @@ pub record AreCounted (fs : List ObjectValue) (ps : List Site) (keyed : List Key
 
 -- each group has the number of its head
 abbrev pub AreHeadNumbers : List Site → List ℕ → List Site → List ℕ → Type 0
-AreHeadNumbers ps numbers heads = AreEach 0 (λ r n. (j : ℕ) × (j < length ps) × (site_at ps j ≡ site_at heads r) × (slice_index numbers j ≡ n)) (length heads)
+AreHeadNumbers ps numbers heads =
+    AreEach 0 (λ r n. (j : ℕ) × (j < length ps) × (site_at ps j ≡ site_at heads r) × (slice_index numbers j ≡ n)) (length heads)
 
 -- the groups of the first k sites, and their numbers
 abbrev pub AreGrouped : List ObjectValue → List Site → List ℕ → ℕ → List ℕ → List (List Site) → Type 0
@@ -148,7 +152,8 @@ AreOutputMembers fs ps = AreEach [] (λ k. Lists (members fs (site_at ps k)))
 
 -- the groups of all live sections, by the sections that open them
 abbrev pub AreLiveGroups : List ObjectValue → List (List Site) → Type 0
-AreLiveGroups fs groups = (heads : List Site) × Lists (λ p. live fs p × IsOpener fs p) heads × AreOutputMembers fs heads (length heads) groups
+AreLiveGroups fs groups =
+    (heads : List Site) × Lists (λ p. live fs p × IsOpener fs p) heads × AreOutputMembers fs heads (length heads) groups
 
 -- Which sections are in each output, in order, and the commons after them; and their parts. (gABI chapter 4, Sections, Symbol Table:
 -- SHN_COMMON; the placement is this project's profile.)
@@ -171,7 +176,8 @@ AreOfKind fs heads k without outputs =
 abbrev pub AreSplit : List ObjectValue → List (List Site) → List (List Site) → List (List Site) → Type 0
 AreSplit fs rest outputs behind =
     (heads : List Site) × (k : ℕ) × Lists (λ p. live fs p × IsOpener fs p) heads × (k + length rest ≡ length heads) ×
-    ((r i : ℕ) → r < length rest → k + r ≡ i → Lists (members fs (site_at heads i)) (get_or rest r [])) × AreOfKind fs heads k false outputs × AreOfKind fs heads k true behind
+    ((r i : ℕ) → r < length rest → k + r ≡ i → Lists (members fs (site_at heads i)) (get_or rest r [])) ×
+    AreOfKind fs heads k false outputs × AreOfKind fs heads k true behind
 
 abbrev pub AreOutputs : List ObjectValue → List (List Site) → Type 0
 AreOutputs fs outputs = (ps : List Site) × AreOpeners fs ps × AreOutputMembers fs ps (length ps) outputs

@@ -1,6 +1,7 @@
 -- Sections, outputs and commons at their places, as values.
 -- (gABI chapter 4, Sections; outputs and placement are this project's profile.)
-use Rattle.std.specs.Prelude.{◌≡◌, ◌↔◌, ℕ, ◌+◌, ◌-◌, ◌<◌, Bool, false, Option, None, Some, List, [], get_or, length, map, slice_index, take, replicate, set}
+use Rattle.std.specs.Prelude.{◌≡◌, ◌↔◌, ℕ, ◌+◌, ◌-◌, ◌<◌, Bool, false, Option, None, Some, List, [], get_or, length, map, slice_index, take}
+use Rattle.std.specs.Prelude.{replicate, set}
 use Rattle.elf_extent.specs.Place.{end_of, EndsFit, Least}
 use Rattle.elf_link_files.specs.Files.{object_at}
 use Rattle.elf_link_files.specs.Rows.{site, site_at, name_at, AreEach, chosen_at, AreIn, IsSiteIn, AreOnce}
@@ -53,7 +54,8 @@ abbrev pub member_of : Site → Member
 member_of p = record { file = p.file; section = p.index }
 
 -- an output of these members, whose parts are those from position `start` on: from its first member to the end of its last
-pub record IsOutput (fs : List ObjectValue) (ms : List Site) (parts : List (ℕ × ℕ)) (places : List ℕ) (start : ℕ) (o : OutputValue) : Type 0 where
+pub record IsOutput (fs : List ObjectValue) (ms : List Site) (parts : List (ℕ × ℕ)) (places : List ℕ) (start : ℕ)
+    (o : OutputValue) : Type 0 where
   pub name : o.name ≡ (section_at_site fs (site_at ms 0)).name
   pub flags : o.flags ≡ output_flags (section_at_site fs (site_at ms 0)).flags
   pub no_bits : o.no_bits ≡ is_no_bits (section_at_site fs (site_at ms 0)).body
@@ -115,7 +117,8 @@ AreSome outputs = (k : ℕ) → k < length outputs → 0 < length (get_or output
 -- What contracts see of an output and of a common that has an address.
 
 abbrev pub output_value : Output → OutputValue
-output_value o = record { name = o.name.now; flags = o.flags; no_bits = o.no_bits; address = o.address; length = o.length; members = o.members.items }
+output_value o =
+    record { name = o.name.now; flags = o.flags; no_bits = o.no_bits; address = o.address; length = o.length; members = o.members.items }
 
 abbrev pub common_value : Common → CommonValue
 common_value c = record { name = c.name.now; address = c.address; size = c.size; align = c.align }

@@ -1,7 +1,8 @@
 -- What contracts see of outputs, of plans and of addressed plans.
 use Rattle.std.specs.Prelude.{map, ◌≡◌}
 use Rattle.elf_link_files.specs.Rows.{AreIn, AreSymbols}
-use Rattle.elf_link_outputs.specs.Outputs.{AreInOrder, AreOutputs, flat, OutputsValue, SectionsValue, parts_of, PlanValue, AddressedValue, plan_parts}
+use Rattle.elf_link_outputs.specs.Outputs.{AreInOrder, AreOutputs, flat, OutputsValue, SectionsValue, parts_of, PlanValue, AddressedValue}
+use Rattle.elf_link_outputs.specs.Outputs.{plan_parts}
 use Rattle.elf_link_outputs.specs.Placed.{AreAllIn, AreLive, AreSome, ArePlaced}
 use Rattle.elf_link_outputs.specs.declared.addresses.Addressed.TheInside.{Inside as AddressedInside}
 use Rattle.elf_link_outputs.specs.declared.outputs.Outputs.TheInside.{Inside as OutputsInside}

@@ -1,9 +1,11 @@
 //! Addresses of the parts of a link, and rules 10 and 11.
 ghost use Rattle.std.specs.Prelude.{◌≡◌, ◌<◌, ◌≤◌, [], IfOk, get_or, length, map, None, Some, IfErr, MatchOption, OnOk, ◌+◌};
-ghost use Rattle.elf_link_outputs.specs.Placed.{AreAddresses, AreEmptyRows, AreFilled, AreLive, with_cell, ArePlacedCommons, ArePlacedOutputs, common_value, output_value};
+ghost use Rattle.elf_link_outputs.specs.Placed.{AreAddresses, AreEmptyRows, AreFilled, AreLive, with_cell, ArePlacedCommons};
+ghost use Rattle.elf_link_outputs.specs.Placed.{ArePlacedOutputs, common_value, output_value};
 ghost use Rattle.elf_extent.specs.Place.{EndsFit, Least};
 ghost use Rattle.elf_link_files.specs.Rows.{FirstAmong};
-ghost use Rattle.elf_link_outputs.specs.Addresses.{HasNoValue, HasValue, IsTarget, StartsAt, StartsPast, address_rules, IsAddressFault, IsTargetBelow, IsAddressedFrom};
+ghost use Rattle.elf_link_outputs.specs.Addresses.{HasNoValue, HasValue, IsTarget, StartsAt, StartsPast, address_rules, IsAddressFault};
+ghost use Rattle.elf_link_outputs.specs.Addresses.{IsTargetBelow, IsAddressedFrom};
 ghost use Rattle.elf_link_outputs.specs.Outputs.{placed, plan_parts};
 
 use crate::placing::{Common, Output, placed_commons, placed_outputs};
@@ -202,7 +204,8 @@ impl<'l, 'a> Addressed<'l, 'a> {
 
     /// The address of each live section, and of no other. Fails only when out of memory.
     pub fn section_addresses(&self, alloc: Global) -> Result<Vec<Vec<Option<u64>>>, AllocError>
-        ensures { IfOk result (λ rows. AreAddresses self.now.plan.objects (placed self.now.plan.plan) self.now.places (map (λ row. row.items) rows.items)) }
+        ensures { IfOk result
+            (λ rows. AreAddresses self.now.plan.objects (placed self.now.plan.plan) self.now.places (map (λ row. row.items) rows.items)) }
     {
         let plan = &self.plan;
         let outputs = &plan.outputs;
@@ -211,7 +214,9 @@ impl<'l, 'a> Addressed<'l, 'a> {
 
     /// All outputs at their places. Fails only when out of memory.
     pub fn outputs(&self, alloc: Global) -> Result<Vec<Output<'a>>, AllocError>
-        ensures { IfOk result (λ placed. ArePlacedOutputs self.now.plan.objects self.now.plan.plan.outputs (plan_parts self.now.plan) self.now.places (length self.now.plan.plan.outputs) (map output_value placed.items)) }
+        ensures { IfOk result
+            (λ placed. ArePlacedOutputs self.now.plan.objects self.now.plan.plan.outputs (plan_parts self.now.plan) self.now.places
+            (length self.now.plan.plan.outputs) (map output_value placed.items)) }
     {
         let plan = &self.plan;
         let outputs = &plan.outputs;
@@ -226,7 +231,9 @@ impl<'l, 'a> Addressed<'l, 'a> {
 
     /// All commons at their places, which are those after all sections. Fails only when out of memory.
     pub fn commons(&self, alloc: Global) -> Result<Vec<Common<'a>>, AllocError>
-        ensures { IfOk result (λ commons. ArePlacedCommons self.now.plan.objects self.now.plan.plan.commons self.now.places (length (placed self.now.plan.plan)) (length self.now.plan.plan.commons) (map common_value commons.items)) }
+        ensures { IfOk result
+            (λ commons. ArePlacedCommons self.now.plan.objects self.now.plan.plan.commons self.now.places
+            (length (placed self.now.plan.plan)) (length self.now.plan.plan.commons) (map common_value commons.items)) }
     {
         let plan = &self.plan;
         let outputs = &plan.outputs;

@@ -2,7 +2,9 @@
 ghost use Rattle.std.specs.Prelude.{◌≡◌, [], IfOk, ◌↔◌, ◌+◌, ◌<◌, IsTrue, OnOk, length, map};
 ghost use Rattle.std.specs.List.{flat_map};
 ghost use Rattle.indexmap.specs.IndexMap.{keys, values};
-ghost use Rattle.elf_link_outputs.specs.Outputs.{AreKeysAscending, AreGrouped, AreGroups, AreKeyed, AreLiveGroups, AreKeyNumbers, IsKeyOf, IsMemberAdded, is_no_bits as is_no_bits_of, live as live_row, output_flags as output_flags_of, AreOutputs, flat, output_parts};
+ghost use Rattle.elf_link_outputs.specs.Outputs.{AreKeysAscending, AreGrouped, AreGroups, AreKeyed, AreLiveGroups, AreKeyNumbers, IsKeyOf};
+ghost use Rattle.elf_link_outputs.specs.Outputs.{IsMemberAdded, is_no_bits as is_no_bits_of, live as live_row};
+ghost use Rattle.elf_link_outputs.specs.Outputs.{output_flags as output_flags_of, AreOutputs, flat, output_parts};
 ghost use Rattle.elf_link_files.specs.Files.{object_at};
 ghost use Rattle.elf_link_files.specs.Rows.{Lists};
 ghost use Rattle.elf_link_files.specs.SameNames.{site_names};
@@ -77,7 +79,9 @@ fn add_member<S: BuildHasher + Drop>(
     number: usize,
     site: Site,
 ) -> Result<(), AllocError>
-    ensures { OnOk result (IsMemberAdded (keys groups.old) (map (λ ms. ms.items) (values groups.old)) number site (keys groups.new) (map (λ ms. ms.items) (values groups.new))) }
+    ensures { OnOk result
+        (IsMemberAdded (keys groups.old) (map (λ ms. ms.items) (values groups.old)) number site (keys groups.new)
+        (map (λ ms. ms.items) (values groups.new))) }
 {
     if let Some(group) = groups.get_index_of(&number) {
         groups[group].push(site)?;

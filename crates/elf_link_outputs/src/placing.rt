@@ -3,7 +3,8 @@ ghost use Rattle.std.specs.Prelude.{◌≡◌, ◌+◌, ◌<◌, ◌≤◌, IfOk
 ghost use Rattle.elf_extent.specs.Place.{end_of};
 ghost use Rattle.elf_link_files.specs.Rows.{AreIn, name_at, AreSymbols};
 ghost use Rattle.elf_link_files.specs.Files.{object_at};
-ghost use Rattle.elf_link_outputs.specs.Placed.{ArePlacedCommons, ArePlacedOutputs, IsOutput, member_of as member_of_site, common_value, output_value, AreAllIn, ArePlaced, AreSome};
+ghost use Rattle.elf_link_outputs.specs.Placed.{ArePlacedCommons, ArePlacedOutputs, IsOutput, member_of as member_of_site, common_value};
+ghost use Rattle.elf_link_outputs.specs.Placed.{output_value, AreAllIn, ArePlaced, AreSome};
 ghost use Rattle.elf_link_outputs.specs.Outputs.{flat};
 
 use crate::outputs::{is_no_bits, output_flags};
@@ -124,7 +125,9 @@ pub(crate) fn placed_outputs<'a>(
     requires within { AreAllIn objects.now (map (λ ms. ms.items) outputs.now) }
     requires placed { ArePlaced parts.now places.now }
     requires parts { length (flat (map (λ ms. ms.items) outputs.now)) ≤ length parts.now }
-    ensures { IfOk result (λ placed. ArePlacedOutputs objects.now (map (λ ms. ms.items) outputs.now) parts.now places.now (length outputs.now) (map output_value placed.items)) }
+    ensures { IfOk result
+        (λ placed. ArePlacedOutputs objects.now (map (λ ms. ms.items) outputs.now) parts.now places.now (length outputs.now)
+        (map output_value placed.items)) }
 {
     let mut placed = Vec::new(alloc);
     let mut start = 0;
@@ -139,7 +142,8 @@ pub(crate) fn placed_outputs<'a>(
 fn placed_common<'a>(objects: &[Object<'a>], common: Chosen, address: u64) -> Common<'a>
     requires file { common.site.file < length objects.now }
     requires index { common.site.index < length (object_at objects.now common.site.file).symbols }
-    ensures { common_value result ≡ record { name = name_at objects.now common.site; address = address; size = common.size; align = common.align } }
+    ensures { common_value result ≡
+        record { name = name_at objects.now common.site; address = address; size = common.size; align = common.align } }
 {
     let id = SymbolId {
         file: common.site.file,
@@ -163,7 +167,8 @@ pub(crate) fn placed_commons<'a>(
 ) -> Result<Vec<Common<'a>>, AllocError>
     requires symbols { AreSymbols objects.now commons.now }
     requires places { first + length commons.now ≤ length places.now }
-    ensures { IfOk result (λ placed. ArePlacedCommons objects.now commons.now places.now first (length commons.now) (map common_value placed.items)) }
+    ensures { IfOk result
+        (λ placed. ArePlacedCommons objects.now commons.now places.now first (length commons.now) (map common_value placed.items)) }
 {
     let mut placed = Vec::new(alloc);
     for k in 0..commons.len() {

@@ -2,7 +2,8 @@
 ghost use Rattle.std.specs.Prelude.{◌≡◌, ◌<◌, ◌++◌, IfOk, OnOk, fold, length, map, max};
 ghost use Rattle.elf_link_files.specs.Files.{object_at};
 ghost use Rattle.elf_link_files.specs.Rows.{AreIn, AreSymbols};
-ghost use Rattle.elf_link_outputs.specs.Outputs.{memory_size as memory_size_of, part_of as part_of_site, raised, output_parts, common_part as common_part_of, placed};
+ghost use Rattle.elf_link_outputs.specs.Outputs.{memory_size as memory_size_of, part_of as part_of_site, raised, output_parts};
+ghost use Rattle.elf_link_outputs.specs.Outputs.{common_part as common_part_of, placed};
 ghost use Rattle.elf_object_type.specs.ObjectView.{body_value};
 
 use crate::outputs::Outputs;
@@ -141,7 +142,14 @@ impl<'l, 'a> Plan<'l, 'a> {
         commons: &'l [Chosen],
     ) -> Result<Plan<'l, 'a>, AllocError>
         requires { AreSymbols outputs.objects commons.now }
-        ensures { IfOk result (λ plan. plan ≡ record { objects = outputs.entry.objects; page = page; plan = record { outputs = outputs.entry.groups; commons = commons.entry.now } }) }
+        ensures { IfOk result
+            (λ plan. plan ≡
+            record {
+              objects = outputs.entry.objects;
+              page = page;
+              plan =
+                  record { outputs = outputs.entry.groups; commons = commons.entry.now };
+            }) }
     {
         let sites = outputs.sites(alloc)?;
         let mut parts = outputs.parts(alloc, page)?;

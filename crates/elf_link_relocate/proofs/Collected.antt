@@ -1,7 +1,8 @@
 -- The list of fields, entry by entry. It has the fields of the applied entries up to a site, in order, and each of these entries has a
 -- relocation rule. An entry with a field adds it, and one without leaves the list. An entry without a rule is the first that breaks rule
 -- 12. After the last file the list has all fields.
-use Rattle.std.proofs.Common.{◌≡◌, ℕ, ◌+◌, ◌<◌, inl, inr, subst, arith, List, sym, ◌∙◌, ap, ◌⊎◌, refl, [], ◌∷◌, ◌++◌, length, length-append, Bool, ◌↔◌, true, false, ◌≤◌}
+use Rattle.std.proofs.Common.{◌≡◌, ℕ, ◌+◌, ◌<◌, inl, inr, subst, arith, List, sym, ◌∙◌, ap, ◌⊎◌, refl, [], ◌∷◌, ◌++◌, length, length-append}
+use Rattle.std.proofs.Common.{Bool, ◌↔◌, true, false, ◌≤◌}
 use Rattle.std.proofs.lemmas.Bool.{cases_lt}
 use Rattle.std.specs.Prelude.{Some, slice_get, Option, None, IfSome}
 use Rattle.std.proofs.lemmas.List.{get_or_push}
@@ -14,8 +15,12 @@ use Rattle.elf_link_files.specs.Files.{section_in}
 use Rattle.elf_link_files.specs.Rows.{Before, IsFirstAt}
 use Rattle.elf_link_files.specs.declared.site.Site.{Site}
 use Rattle.elf_link_map.specs.LinkMap.{LinkMapValue}
-use Rattle.elf_link_relocate.specs.Fields.{IsApplied, entry_at, HasField, no_rule, AreApplied, entries_of, Share, AtField, IsFieldOutOfRange, SharesEarlier, fields_overlap}
-use Rattle.elf_link_relocate.specs.Passes.{entry_site, AreFields, AreFieldsBefore, field_at, no_field, BreaksFieldTest, HasNone, IsFirst, IsFirstOf, AreFoundBefore, IsValidatedField, first_of, AllWithin, HasNoOverlap, IsFirstOverlappingField, SharesBefore, IsSeenOf, IsSeenNext, none_seen, IsLast, StandsBehind, AreAscending, IsFirstSite}
+use Rattle.elf_link_relocate.specs.Fields.{IsApplied, entry_at, HasField, no_rule, AreApplied, entries_of, Share, AtField}
+use Rattle.elf_link_relocate.specs.Fields.{IsFieldOutOfRange, SharesEarlier, fields_overlap}
+use Rattle.elf_link_relocate.specs.Passes.{entry_site, AreFields, AreFieldsBefore, field_at, no_field, BreaksFieldTest, HasNone, IsFirst}
+use Rattle.elf_link_relocate.specs.Passes.{IsFirstOf, AreFoundBefore, IsValidatedField, first_of, AllWithin, HasNoOverlap}
+use Rattle.elf_link_relocate.specs.Passes.{IsFirstOverlappingField, SharesBefore, IsSeenOf, IsSeenNext, none_seen, IsLast, StandsBehind}
+use Rattle.elf_link_relocate.specs.Passes.{AreAscending, IsFirstSite}
 use Rattle.elf_link_relocate.specs.declared.field.Field.{Field}
 use Rattle.elf_link_relocate.specs.declared.field.FieldTest.TheVariants.{FieldOutOfRange, Unplaced, ValueOutOfRange}
 use Rattle.elf_link_relocate.specs.declared.field.Found.{Found}
@@ -40,7 +45,8 @@ none_more P k none other j lt here = elim (cases_lt j k) [
 pub same_item : (a b : RelocRule) → Some a ≡ Some b → a ≡ b
 same_item a b e = cc
 
-pub one_rule : (kind : ℕ) (rules : List RelocRule) (r s : RelocRule) → IsFirstRelocationRule kind rules r → IsFirstRelocationRule kind rules s → r ≡ s
+pub one_rule : (kind : ℕ) (rules : List RelocRule) (r s : RelocRule) → IsFirstRelocationRule kind rules r →
+    IsFirstRelocationRule kind rules s → r ≡ s
 one_rule kind rules r s (j, at, first) (k, there, other) = elim (cases_lt j k) [
   | inl below ↦ absurd (other j r below at)
   | inr above ↦ elim (cases_lt k j) [
@@ -60,7 +66,8 @@ ruled kind rules r (k, at, first) none = none k r at
 
 pub site_is : (p : Site) (f s e : ℕ) → p.file ≡ f → p.index ≡ s → p.entry ≡ e → p ≡ entry_site f s e
 site_is p f s e file index entry =
-    ap (λ (n : ℕ). record { file = n; index = p.index; entry = p.entry }) file ∙ ap (λ (n : ℕ). record { file = f; index = n; entry = p.entry }) index
+    ap (λ (n : ℕ). record { file = n; index = p.index; entry = p.entry }) file ∙
+    ap (λ (n : ℕ). record { file = f; index = n; entry = p.entry }) index
     ∙ ap (λ (n : ℕ). record { file = f; index = s; entry = n }) entry
 
 -- ---- the next entry
@@ -80,7 +87,8 @@ before_more p f s e (inr (file, inr (index, entry))) = inr (file, inr (index, om
 
 -- ---- the next section, after the n entries of this one
 
-pub in_section : (p : Site) (f s n : ℕ) → (p.file ≡ f → p.index ≡ s → p.entry < n) → Before p (entry_site f (s + 1) 0) → Before p (entry_site f s n)
+pub in_section : (p : Site) (f s n : ℕ) → (p.file ≡ f → p.index ≡ s → p.entry < n) → Before p (entry_site f (s + 1) 0) →
+    Before p (entry_site f s n)
 in_section p f s n last (inl file) = inl file
 in_section p f s n last (inr (file, inl index)) = elim (cases_lt p.index s) [
   | inl below ↦ inr (file, inl below)
@@ -194,7 +202,8 @@ fields_none fs rules = record {
 }
 
 -- another site with the same applied entries before it
-pub fields_same : (fs : List ObjectValue) (rules : List RelocRule) (stop next : Site) (ds : List Field) → ((p : Site) → Before p stop → Before p next) →
+pub fields_same : (fs : List ObjectValue) (rules : List RelocRule) (stop next : Site) (ds : List Field) →
+    ((p : Site) → Before p stop → Before p next) →
     ((p : Site) → IsApplied fs p → Before p next → Before p stop) → AreFieldsBefore fs rules stop ds → AreFieldsBefore fs rules next ds
 fields_same fs rules stop next ds into back is = record {
   each = is.each;
@@ -208,7 +217,8 @@ module _ (fs : List ObjectValue) (rules : List RelocRule) (p : Site) (next : Sit
     (into : (q : Site) → Before q p → Before q next) (split : (q : Site) → Before q next → Before q p ⊎ (q ≡ p))
     (first : IsFirstRelocationRule (entry_at fs p).kind rules r) (is : AreFieldsBefore fs rules p ds) where
   rule_at : (q : Site) (s : RelocRule) → q ≡ p → HasField fs rules q s → r ≡ s
-  rule_at q s same has = one_rule (entry_at fs p).kind rules r s first (subst (λ (u : Site). IsFirstRelocationRule (entry_at fs u).kind rules s) same has.rule)
+  rule_at q s same has =
+      one_rule (entry_at fs p).kind rules r s first (subst (λ (u : Site). IsFirstRelocationRule (entry_at fs u).kind rules s) same has.rule)
 
   rules_more : (q : Site) → no_rule fs rules q → Before q next → ⊥
   rules_more q row before = elim (split q before) [
@@ -230,7 +240,8 @@ module _ (fs : List ObjectValue) (rules : List RelocRule) (p : Site) (next : Sit
   }
 
   -- one more field
-  pub fields_more : (new : Field) → new.site ≡ p → HasField fs rules new.site new.rule → Before p next → AreFieldsBefore fs rules next (ds ++ new ∷ [])
+  pub fields_more : (new : Field) → new.site ≡ p → HasField fs rules new.site new.rule → Before p next →
+      AreFieldsBefore fs rules next (ds ++ new ∷ [])
   fields_more new at has here =
       let here_new = subst (λ (u : Site). Before u next) (sym at) here in
       record {
@@ -239,7 +250,8 @@ module _ (fs : List ObjectValue) (rules : List RelocRule) (p : Site) (next : Sit
         all = λ q s its before. (
             let long = longer ds new in
             elim (split q before) [
-              | inl earlier ↦ (let (k, lt, there) = is.all q s its earlier in (k, omega arith, ap (λ (d : Field). d.site) (kept ds new k lt) ∙ there))
+              | inl earlier ↦
+                  (let (k, lt, there) = is.all q s its earlier in (k, omega arith, ap (λ (d : Field). d.site) (kept ds new k lt) ∙ there))
               | inr same ↦ (length ds, omega arith, ap (λ (d : Field). d.site) (last ds new (length ds) refl) ∙ (at ∙ sym same))
             ]);
         order = λ j k lt within. (
@@ -257,7 +269,8 @@ module _ (fs : List ObjectValue) (rules : List RelocRule) (p : Site) (next : Sit
       }
 
 -- rule 12 is broken at an entry after those that have relocation rules
-pub first_unruled : (fs : List ObjectValue) (rules : List RelocRule) (p : Site) (ds : List Field) → IsApplied fs p → HasNoRelocationRule (entry_at fs p).kind rules →
+pub first_unruled : (fs : List ObjectValue) (rules : List RelocRule) (p : Site) (ds : List Field) → IsApplied fs p →
+    HasNoRelocationRule (entry_at fs p).kind rules →
     AreFieldsBefore fs rules p ds → IsFirstAt (no_rule fs rules) p
 first_unruled fs rules p ds applied none is = record {
   stands = (applied, none);
@@ -268,14 +281,16 @@ first_unruled fs rules p ds applied none is = record {
 all_before : (fs : List ObjectValue) (p : Site) → p.file < length fs → Before p (entry_site (length fs) 0 0)
 all_before fs p lt = inl lt
 
-pub fields_all : (fs : List ObjectValue) (rules : List RelocRule) (ds : List Field) → AreFieldsBefore fs rules (entry_site (length fs) 0 0) ds → AreFields fs rules ds
+pub fields_all : (fs : List ObjectValue) (rules : List RelocRule) (ds : List Field) →
+    AreFieldsBefore fs rules (entry_site (length fs) 0 0) ds → AreFields fs rules ds
 fields_all fs rules ds is = record {
   each = is.each;
   all = λ p r has. is.all p r has (all_before fs p has.applied.0.file);
   order = is.order;
 }
 
-pub none_unruled : (fs : List ObjectValue) (rules : List RelocRule) (ds : List Field) → AreFieldsBefore fs rules (entry_site (length fs) 0 0) ds →
+pub none_unruled : (fs : List ObjectValue) (rules : List RelocRule) (ds : List Field) →
+    AreFieldsBefore fs rules (entry_site (length fs) 0 0) ds →
     Never (no_rule fs rules)
 none_unruled fs rules ds is p row = is.ruled p row (all_before fs p row.0.0.file)
 
@@ -288,13 +303,15 @@ no_entries (NoBits size) never = refl
 no_entries (Relocs rela target entries) never = absurd (never rela target entries refl)
 no_entries (Group comdat signature members) never = refl
 
-entry_in : (fs : List ObjectValue) (f s : ℕ) (p : Site) → IsApplied fs p → p.file ≡ f → p.index ≡ s → p.entry < length (entries_of (section_in fs f s).body)
+entry_in : (fs : List ObjectValue) (f s : ℕ) (p : Site) → IsApplied fs p → p.file ≡ f → p.index ≡ s →
+    p.entry < length (entries_of (section_in fs f s).body)
 entry_in fs f s p applied file index =
     subst (λ (n : ℕ). p.entry < length (entries_of (section_in fs f n).body)) index
     (subst (λ (n : ℕ). p.entry < length (entries_of (section_in fs n p.index).body)) file applied.0.entry)
 
 applied_in : (fs : List ObjectValue) (f s : ℕ) (p : Site) → IsApplied fs p → p.file ≡ f → p.index ≡ s → AreApplied fs f s
-applied_in fs f s p applied file index = subst (λ (n : ℕ). AreApplied fs f n) index (subst (λ (n : ℕ). AreApplied fs n p.index) file applied.1)
+applied_in fs f s p applied file index =
+    subst (λ (n : ℕ). AreApplied fs f n) index (subst (λ (n : ℕ). AreApplied fs n p.index) file applied.1)
 
 module _ (fs : List ObjectValue) (rules : List RelocRule) (f s : ℕ) (ds : List Field) where
   skipped : ((p : Site) → IsApplied fs p → p.file ≡ f → p.index ≡ s → ⊥) → AreFieldsBefore fs rules (entry_site f s 0) ds →
@@ -304,7 +321,8 @@ module _ (fs : List ObjectValue) (rules : List RelocRule) (f s : ℕ) (ds : List
       (λ p applied before. in_section p f s 0 (λ file index. absurd (none p applied file index)) before) is
 
   -- a section of another body
-  pub no_relocations : (b : Body) → body_value b ≡ (section_in fs f s).body → ((x : Bool) → (x' : ℕ) → (x'' : List Relocation) → b ≡ Relocs x x' x'' → ⊥) →
+  pub no_relocations : (b : Body) → body_value b ≡ (section_in fs f s).body →
+      ((x : Bool) → (x' : ℕ) → (x'' : List Relocation) → b ≡ Relocs x x' x'' → ⊥) →
       AreFieldsBefore fs rules (entry_site f s 0) ds → AreFieldsBefore fs rules (entry_site f (s + 1) 0) ds
   no_relocations b same never is =
       let none : entries_of (section_in fs f s).body ≡ [] = rw (← same) (no_entries b never) in
@@ -314,7 +332,8 @@ module _ (fs : List ObjectValue) (rules : List RelocRule) (f s : ℕ) (ds : List
       omega arith)) is
 
   -- one whose entries are not applied
-  pub not_applied : (AreApplied fs f s → ⊥) → AreFieldsBefore fs rules (entry_site f s 0) ds → AreFieldsBefore fs rules (entry_site f (s + 1) 0) ds
+  pub not_applied : (AreApplied fs f s → ⊥) → AreFieldsBefore fs rules (entry_site f s 0) ds →
+      AreFieldsBefore fs rules (entry_site f (s + 1) 0) ds
   not_applied never is = skipped (λ p applied file index. never (applied_in fs f s p applied file index)) is
 
   -- after the last entry of one
@@ -322,7 +341,8 @@ module _ (fs : List ObjectValue) (rules : List RelocRule) (f s : ℕ) (ds : List
       AreFieldsBefore fs rules (entry_site f (s + 1) 0) ds
   section_done n count is =
       fields_same fs rules (entry_site f s n) (entry_site f (s + 1) 0) ds (λ p. next_section p f s n)
-      (λ p applied before. in_section p f s n (λ file index. subst (λ (m : ℕ). p.entry < m) count (entry_in fs f s p applied file index)) before) is
+      (λ p applied before. in_section p f s n
+      (λ file index. subst (λ (m : ℕ). p.entry < m) count (entry_in fs f s p applied file index)) before) is
 
 -- The first field that breaks a rule, kept up as fields are added. It changes only if nothing was found before and the new field breaks
 -- the rule, so at the end it is the first of the list.
@@ -360,7 +380,8 @@ first_more P ds new None false none is = λ k lt there.
     ]
 
 first_now : (P : Site → RelocRule → Type 0) (ds : List Field) (new : Field) (before after : Option Site) (broken : Bool) →
-    after ≡ first_of before broken new.site → IsFirstOf P ds before → (broken ≡ true) ↔ P new.site new.rule → IsFirstOf P (ds ++ new ∷ []) after
+    after ≡ first_of before broken new.site → IsFirstOf P ds before → (broken ≡ true) ↔ P new.site new.rule →
+    IsFirstOf P (ds ++ new ∷ []) after
 first_now P ds new before after broken next first is = rw next (first_more P ds new before broken first is)
 
 -- Fields that ascend, and the last of them.
@@ -368,14 +389,16 @@ first_now P ds new before after broken next first is = rw next (first_more P ds 
 last_more : (ds : List Field) (new : Field) (now : Option Field) → now ≡ Some new → IsLast (ds ++ new ∷ []) now
 last_more ds new now is = rw is (length ds, longer ds new, last ds new (length ds) refl)
 
-follows : (ds : List Field) (new : Field) (before : Option Field) (k : ℕ) → IsLast ds before → IfSome before (λ d. StandsBehind d new) → length ds ≡ k + 1 →
+follows : (ds : List Field) (new : Field) (before : Option Field) (k : ℕ) → IsLast ds before → IfSome before (λ d. StandsBehind d new) →
+    length ds ≡ k + 1 →
     StandsBehind (field_at ds k) new
 follows ds new None k none behind long = absurd (omega (arith, none))
 follows ds new (Some d) k (j, count, at) behind long =
     let same : j ≡ k = omega arith in
     subst (λ (i : ℕ). StandsBehind (field_at ds i) new) same (subst (λ (e : Field). StandsBehind e new) (sym at) behind)
 
-ascending_more : (ds : List Field) (new : Field) (before : Option Field) → AreAscending ds → IsLast ds before → IfSome before (λ d. StandsBehind d new) →
+ascending_more : (ds : List Field) (new : Field) (before : Option Field) → AreAscending ds → IsLast ds before →
+    IfSome before (λ d. StandsBehind d new) →
     AreAscending (ds ++ new ∷ [])
 ascending_more ds new before are is_last behind k lt =
     let long = longer ds new in
@@ -385,7 +408,8 @@ ascending_more ds new before are is_last behind k lt =
       | inl below ↦ subst (λ (d : Field). StandsBehind (field_at ds k) d) (sym (kept ds new (k + 1) below)) (are k below)
       | inr above ↦ (
           let end : length ds ≡ k + 1 = omega arith in
-          subst (λ (d : Field). StandsBehind (field_at ds k) d) (sym (last ds new (k + 1) end)) (follows ds new before k is_last behind end))
+          subst (λ (d : Field). StandsBehind (field_at ds k) d) (sym (last ds new (k + 1) end))
+          (follows ds new before k is_last behind end))
     ])
 
 -- and where they ascend, so do all but the last, which is after the one before it
@@ -418,13 +442,17 @@ seen_none fs m = record {
   ascending = ((λ _ k lt. absurd (omega arith)), (λ _. refl));
 }
 
-pub seen_more : (fs : List ObjectValue) (m : LinkMapValue) (rules : List RelocRule) (p : Site) (ds : List Field) (seen : Seen) (j : Validated) (next : Seen) →
+pub seen_more : (fs : List ObjectValue) (m : LinkMapValue) (rules : List RelocRule) (p : Site) (ds : List Field) (seen : Seen)
+    (j : Validated) (next : Seen) →
     IsValidatedField fs m rules p j → IsSeenOf fs m ds seen → IsSeenNext seen j next → IsSeenOf fs m (ds ++ j.field ∷ []) next
 seen_more fs m rules p ds seen j next is old step = record {
-  unplaced = first_now (BreaksFieldTest fs m Unplaced) ds j.field seen.unplaced next.unplaced j.unplaced step.unplaced old.unplaced is.unplaced;
-  out_of_range = first_now (BreaksFieldTest fs m FieldOutOfRange) ds j.field seen.out_of_range next.out_of_range j.out_of_range step.out_of_range
+  unplaced = first_now
+      (BreaksFieldTest fs m Unplaced) ds j.field seen.unplaced next.unplaced j.unplaced step.unplaced old.unplaced is.unplaced;
+  out_of_range =
+      first_now (BreaksFieldTest fs m FieldOutOfRange) ds j.field seen.out_of_range next.out_of_range j.out_of_range step.out_of_range
       old.out_of_range is.out_of_range;
-  refused = first_now (BreaksFieldTest fs m ValueOutOfRange) ds j.field seen.refused next.refused j.refused step.refused old.refused is.refused;
+  refused = first_now
+      (BreaksFieldTest fs m ValueOutOfRange) ds j.field seen.refused next.refused j.refused step.refused old.refused is.refused;
   last = last_more ds j.field next.last step.last;
   ascending = (
     (λ yes. (let (before, behind) = step.ascending.0 yes in ascending_more ds j.field seen.last (old.ascending.0 before) old.last behind)),
@@ -434,12 +462,14 @@ seen_more fs m rules p ds seen j next is old step = record {
 
 -- another site with the same fields before it
 pub found_on : (fs : List ObjectValue) (m : LinkMapValue) (rules : List RelocRule) (listing : Bool) (stop next : Site) (found : Found) →
-    ((ds : List Field) → AreFieldsBefore fs rules stop ds → AreFieldsBefore fs rules next ds) → AreFoundBefore fs m rules listing stop found →
+    ((ds : List Field) → AreFieldsBefore fs rules stop ds → AreFieldsBefore fs rules next ds) →
+    AreFoundBefore fs m rules listing stop found →
     AreFoundBefore fs m rules listing next found
 found_on fs m rules listing stop next found on (ds, before, is) = (ds, on ds before, is)
 
 -- one field more
-pub fields_next : (fs : List ObjectValue) (m : LinkMapValue) (rules : List RelocRule) (p : Site) (ds : List Field) (j : Validated) → IsValidatedField fs m rules p j →
+pub fields_next : (fs : List ObjectValue) (m : LinkMapValue) (rules : List RelocRule) (p : Site) (ds : List Field) (j : Validated) →
+    IsValidatedField fs m rules p j →
     AreFieldsBefore fs rules p ds → AreFieldsBefore fs rules (entry_site p.file p.index (p.entry + 1)) (ds ++ j.field ∷ [])
 fields_next fs m rules p ds j is before =
     let rule = subst (λ (q : Site). IsFirstRelocationRule (entry_at fs q).kind rules j.field.rule) is.site is.has.rule in
@@ -451,7 +481,8 @@ fields_next fs m rules p ds j is before =
 
 module _ (fs : List ObjectValue) (rules : List RelocRule) (ds : List Field) (are : AreFields fs rules ds) where
   -- the position of a field in the list
-  pub position : (p : Site) (r : RelocRule) → HasField fs rules p r → (k : ℕ) × (k < length ds) × ((field_at ds k).site ≡ p) × ((field_at ds k).rule ≡ r)
+  pub position : (p : Site) (r : RelocRule) → HasField fs rules p r →
+      (k : ℕ) × (k < length ds) × ((field_at ds k).site ≡ p) × ((field_at ds k).rule ≡ r)
   position p r has =
       let (k, lt, at) = are.all p r has in
       let mine = subst (λ (q : Site). IsFirstRelocationRule (entry_at fs q).kind rules (field_at ds k).rule) at (are.each k lt).rule in
@@ -498,13 +529,18 @@ module _ (fs : List ObjectValue) (rules : List RelocRule) (ds : List Field) (are
   -- ---- rule 15
 
   pub shares_earlier : (k : ℕ) → k < length ds → SharesBefore fs ds k → SharesEarlier fs rules (field_at ds k).site (field_at ds k).rule
-  shares_earlier k lt (j, below, share) = ((field_at ds j).site, (field_at ds j).rule, are.order j k below lt, are.each j (omega arith), share)
+  shares_earlier k lt (j, below, share) =
+      ((field_at ds j).site, (field_at ds j).rule, are.order j k below lt, are.each j (omega arith), share)
 
   pub shares_before : (k : ℕ) → k < length ds → SharesEarlier fs rules (field_at ds k).site (field_at ds k).rule → SharesBefore fs ds k
   shares_before k lt (q, s, before, has, share) =
       let (j, j_in, at, same) = position q s has in
-      let below = below_of j k j_in lt (subst (λ (u : Site). Before u (field_at ds k).site) (sym at) before) in
-      (j, below, moved (λ u v. Share fs u v (field_at ds k).site (field_at ds k).rule) (field_at ds j).site q (field_at ds j).rule s at same share)
+      let below = below_of j k j_in lt (subst (λ (u : Site). Before u (field_at ds k).site) (sym at) before) in (
+        j,
+        below,
+        moved (λ u v. Share fs u v (field_at ds k).site (field_at ds k).rule) (field_at ds j).site q (field_at ds j).rule s at
+            same share,
+      )
 
   pub none_shared : Never (fields_overlap fs rules) → HasNoOverlap fs ds
   none_shared never k lt shares = none_in_list (SharesEarlier fs rules) never k lt (shares_earlier k lt shares)
@@ -513,7 +549,8 @@ module _ (fs : List ObjectValue) (rules : List RelocRule) (ds : List Field) (are
   no_overlap none k lt shares = none k lt (shares_before k lt shares)
 
   pub first_overlap : (k : ℕ) → IsFirstOverlappingField fs ds k → IsFirst (SharesEarlier fs rules) ds k
-  first_overlap k (lt, shares, first) = (lt, shares_earlier k lt shares, (λ j below there. first j below (shares_before j (omega arith) there)))
+  first_overlap k (lt, shares, first) =
+      (lt, shares_earlier k lt shares, (λ j below there. first j below (shares_before j (omega arith) there)))
 
 -- ---- rule 14
 

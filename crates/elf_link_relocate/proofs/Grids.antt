@@ -26,7 +26,9 @@ module _ {A : Type 0} (none : A) (rows : List (List A)) (f s : ℕ) (new : A) (f
 
   row_length : (g : ℕ) → length (get_or (with rows f s new) g []) ≡ length (get_or rows g [])
   row_length g = elim (cases_eq g f) [
-    | inl same ↦ rw same (ap (λ (row : List A). length row) (get_or-set_same rows f (set (get_or rows f []) s new) [] f_in) ∙ length-set (get_or rows f []) s new)
+    | inl same ↦
+        rw same (ap (λ (row : List A). length row) (get_or-set_same rows f (set (get_or rows f []) s new) [] f_in) ∙
+        length-set (get_or rows f []) s new)
     | inr away ↦ ap (λ (row : List A). length row) (get_or-set_other rows f g (set (get_or rows f []) s new) [] away)
   ]
 
@@ -38,7 +40,8 @@ module _ {A : Type 0} (none : A) (rows : List (List A)) (f s : ℕ) (new : A) (f
 
 -- ---- a table after its view
 
-module _ {V A : Type 0} (g : V → A) (none : A) (rows : List (Vec V)) (row : Vec V) (f : ℕ) (f_in : f < length rows) (at : row ≡ get_or rows f row) where
+module _ {V A : Type 0} (g : V → A) (none : A) (rows : List (Vec V)) (row : Vec V) (f : ℕ) (f_in : f < length rows)
+    (at : row ≡ get_or rows f row) where
   abbrev pub viewed : Vec V → List A
   viewed r = map g r.items
 

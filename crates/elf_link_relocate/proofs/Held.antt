@@ -16,8 +16,10 @@ use Rattle.elf_link_files.specs.declared.site.Site.{Site}
 use Rattle.elf_link_map.specs.LinkMap.{IsOnlyFault, IsOnlyFirst, LinkMapValue}
 use Rattle.elf_link_map.specs.Standing.{address_in, or_zero}
 use Rattle.elf_link_relocate.proofs.Memories.{apart_of, live_in, one_byte, same_place, some_number, within_of}
-use Rattle.elf_link_relocate.specs.Fields.{HasField, IsRelocationFault, IsWithin, addend_of, applied_entry_rules, content_of, field_address, field_start, target_at, value_at}
-use Rattle.elf_link_relocate.specs.Linked.{AreBytesOf, FieldsHoldNumbers, HasLiveBits, HoldsNumber, IsLinked, IsMapButOptions, IsMemory, IsOnlyLinked, LinkedValue, bytes_at, number_byte}
+use Rattle.elf_link_relocate.specs.Fields.{HasField, IsRelocationFault, IsWithin, addend_of, applied_entry_rules, content_of, field_address}
+use Rattle.elf_link_relocate.specs.Fields.{field_start, target_at, value_at}
+use Rattle.elf_link_relocate.specs.Linked.{AreBytesOf, FieldsHoldNumbers, HasLiveBits, HoldsNumber, IsLinked, IsMapButOptions, IsMemory}
+use Rattle.elf_link_relocate.specs.Linked.{IsOnlyLinked, LinkedValue, bytes_at, number_byte}
 use Rattle.elf_object_type.specs.Object.{BodyValue, ObjectValue, bits, group, is_bits, no_bits, relocs}
 
 -- ---- small facts
@@ -43,7 +45,8 @@ same_linked l k map objects rules copies =
 
 -- ---- every field holds its number
 
-module _ (fs : List ObjectValue) (m : LinkMapValue) (rules : List RelocRule) (l : LinkedValue) (is : IsMapButOptions fs m) (linked : IsLinked fs m rules l) where
+module _ (fs : List ObjectValue) (m : LinkMapValue) (rules : List RelocRule) (l : LinkedValue) (is : IsMapButOptions fs m)
+    (linked : IsLinked fs m rules l) where
   fits : (p : Site) (r : RelocRule) → HasField fs rules p r → IsWithin fs p r
   fits = within_of fs m rules (apart_of fs m is) linked.sound.1.1.0 linked.sound.1.1.1.0
 
@@ -71,7 +74,8 @@ module _ (fs : List ObjectValue) (m : LinkMapValue) (rules : List RelocRule) (l 
         within = omega arith;
         is = number;
         holds = λ k k_in.
-            one_byte fs m rules is linked.sound (a + (field_start fs p + k)) (slice_index bytes (field_start fs p + k)) (number_byte fs p r z k)
+            one_byte fs m rules is linked.sound (a + (field_start fs p + k)) (slice_index bytes (field_start fs p + k))
+            (number_byte fs p r z k)
             (memory (field_start fs p + k) (omega arith)) (inl (p, r, k, (has, k_in, omega arith), (z, number, refl)));
       }
 
@@ -82,7 +86,8 @@ module _ (fs : List ObjectValue) (m : LinkMapValue) (rules : List RelocRule) (l 
 
 module _ (fs : List ObjectValue) (m : LinkMapValue) (rules : List RelocRule) (is : IsMapButOptions fs m) where
   one_copy : (f s : ℕ) (x y : Option (List ℕ)) → FirstAmong (applied_entry_rules fs m rules) None →
-      MatchOption x (¬ HasLiveBits fs f s) (AreBytesOf fs m rules f s) → MatchOption y (¬ HasLiveBits fs f s) (AreBytesOf fs m rules f s) → x ≡ y
+      MatchOption x (¬ HasLiveBits fs f s) (AreBytesOf fs m rules f s) → MatchOption y (¬ HasLiveBits fs f s) (AreBytesOf fs m rules f s) →
+      x ≡ y
   one_copy f s None None clean never none = refl
   one_copy f s None (Some v) clean never are = absurd (never are.live)
   one_copy f s (Some u) None clean are never = absurd (never are.live)
@@ -109,9 +114,11 @@ pub only_first : (fs : List ObjectValue) (m : LinkMapValue) (rules : List RelocR
     FirstAmong (applied_entry_rules fs m rules) found → IsOnlyFirst (FirstAmong (applied_entry_rules fs m rules)) found
 only_first fs m rules found is x there = one_found (applied_entry_rules fs m rules) x found there is
 
-pub only_fault : (fs : List ObjectValue) (m : LinkMapValue) (rules : List RelocRule) (fault : LinkFault) → IsRelocationFault fs m rules fault →
+pub only_fault : (fs : List ObjectValue) (m : LinkMapValue) (rules : List RelocRule) (fault : LinkFault) →
+    IsRelocationFault fs m rules fault →
     IsOnlyFault (FirstAmong (applied_entry_rules fs m rules)) fault
-only_fault fs m rules (Rule number file index entry) is = only_first fs m rules (Some (number, record { file = file; index = index; entry = entry })) is
+only_fault fs m rules (Rule number file index entry) is =
+    only_first fs m rules (Some (number, record { file = file; index = index; entry = entry })) is
 only_fault fs m rules OutOfMemory is = tt
 
 -- ---- the same of what a call returns
@@ -120,10 +127,12 @@ pub if_ok_linked : (P Q : LinkedValue → Type 0) (r : Result LinkedValue LinkFa
 if_ok_linked P Q (Ok l) into is = into l is
 if_ok_linked P Q (Err fault) into is = tt
 
-pub on_ok_linked : (P : LinkedValue → Type 0) (Q : Type 0) (r : Result LinkedValue LinkFault) → ((l : LinkedValue) → P l → Q) → IfOk r P → OnOk r Q
+pub on_ok_linked : (P : LinkedValue → Type 0) (Q : Type 0) (r : Result LinkedValue LinkFault) → ((l : LinkedValue) → P l → Q) → IfOk r P →
+    OnOk r Q
 on_ok_linked P Q (Ok l) into is = into l is
 on_ok_linked P Q (Err fault) into is = tt
 
-pub if_err_linked : (P Q : LinkFault → Type 0) (r : Result LinkedValue LinkFault) → ((fault : LinkFault) → P fault → Q fault) → IfErr r P → IfErr r Q
+pub if_err_linked : (P Q : LinkFault → Type 0) (r : Result LinkedValue LinkFault) → ((fault : LinkFault) → P fault → Q fault) → IfErr r P →
+    IfErr r Q
 if_err_linked P Q (Ok l) into is = tt
 if_err_linked P Q (Err fault) into is = into fault is

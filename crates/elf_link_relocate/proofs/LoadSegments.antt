@@ -1,5 +1,6 @@
 -- The loads of an executable: they are in order, and apart in the file and in memory.
-use Rattle.std.proofs.Common.{◌≡◌, ◌<◌, ◌≤◌, ◌+◌, ℕ, zero, suc, Bool, true, cond, List, [], ◌∷◌, length, map, get_or, refl, sym, ◌∙◌, subst, arith, ◌⊎◌, false, ◌++◌, ap, ap₂, inl, inr, ◌-◌, ◌^◌, ◌%◌}
+use Rattle.std.proofs.Common.{◌≡◌, ◌<◌, ◌≤◌, ◌+◌, ℕ, zero, suc, Bool, true, cond, List, [], ◌∷◌, length, map, get_or, refl, sym, ◌∙◌, subst}
+use Rattle.std.proofs.Common.{arith, ◌⊎◌, false, ◌++◌, ap, ap₂, inl, inr, ◌-◌, ◌^◌, ◌%◌}
 use Rattle.std.specs.List.{filter, range_with_len, All}
 use Rattle.std.proofs.lemmas.Bool.{cond_both, lt-ltb, cases_lt, le-ltb}
 use Rattle.std.proofs.lemmas.List.FromFn.{get_or-map-range_with_len, length-map-range_with_len, filter_of_map_range_with_len_more}
@@ -37,9 +38,11 @@ picked_later none x xs ys are j lt = (let (l, l_in, is) = are j lt in (suc l, om
 
 order_here : {A : Type 0} (none x : A) (xs ys : List A) → ArePicked none xs ys → AreInOrder none xs ys → AreInOrder none (x ∷ xs) (x ∷ ys)
 order_here none x xs ys are order i zero before lt = absurd (omega arith)
-order_here none x xs ys are order zero (suc j) before lt = (let (l, l_in, is) = are j (omega arith) in (0, suc l, omega arith, omega arith, refl, is))
+order_here none x xs ys are order zero (suc j) before lt =
+    (let (l, l_in, is) = are j (omega arith) in (0, suc l, omega arith, omega arith, refl, is))
 order_here none x xs ys are order (suc i) (suc j) before lt =
-    (let (k, l, ordered, l_in, first, second) = order i j (omega arith) (omega arith) in (suc k, suc l, omega arith, omega arith, first, second))
+    (let (k, l, ordered, l_in, first, second) = order i j (omega arith) (omega arith) in
+    (suc k, suc l, omega arith, omega arith, first, second))
 
 order_later : {A : Type 0} (none x : A) (xs ys : List A) → AreInOrder none xs ys → AreInOrder none (x ∷ xs) ys
 order_later none x xs ys order i j before lt =
@@ -49,20 +52,23 @@ filter_picks : {A : Type 0} (f : A → Bool) (none : A) (xs : List A) → ArePic
 filter_picks f none [] = λ j lt. absurd (omega arith)
 filter_picks f none (x ∷ xs) =
     cond_both (f x) (x ∷ filter f xs) (filter f xs) (ArePicked none (x ∷ xs))
-    (λ passes. picked_here none x xs (filter f xs) (filter_picks f none xs)) (λ fails. picked_later none x xs (filter f xs) (filter_picks f none xs))
+    (λ passes. picked_here none x xs (filter f xs) (filter_picks f none xs))
+    (λ fails. picked_later none x xs (filter f xs) (filter_picks f none xs))
 
 filter_orders : {A : Type 0} (f : A → Bool) (none : A) (xs : List A) → AreInOrder none xs (filter f xs)
 filter_orders f none [] = λ i j before lt. absurd (omega arith)
 filter_orders f none (x ∷ xs) =
     cond_both (f x) (x ∷ filter f xs) (filter f xs) (AreInOrder none (x ∷ xs))
-    (λ passes. order_here none x xs (filter f xs) (filter_picks f none xs) (filter_orders f none xs)) (λ fails. order_later none x xs (filter f xs) (filter_orders f none xs))
+    (λ passes. order_here none x xs (filter f xs) (filter_picks f none xs) (filter_orders f none xs))
+    (λ fails. order_later none x xs (filter f xs) (filter_orders f none xs))
 
 -- an item that passes is one of those that do
 filter_keeps : {A : Type 0} (f : A → Bool) (none : A) (xs : List A) (l : ℕ) → l < length xs → f (get_or xs l none) ≡ true →
     (j : ℕ) × (j < length (filter f xs)) × (get_or (filter f xs) j none ≡ get_or xs l none)
 filter_keeps f none [] l lt passes = absurd (omega arith)
 filter_keeps {A} f none (x ∷ xs) zero lt passes =
-    let P : Bool → Type 0 = λ b. (j : ℕ) × (j < length (cond b (x ∷ filter f xs) (filter f xs))) × (get_or (cond b (x ∷ filter f xs) (filter f xs)) j none ≡ x) in
+    let P : Bool → Type 0 =
+    λ b. (j : ℕ) × (j < length (cond b (x ∷ filter f xs) (filter f xs))) × (get_or (cond b (x ∷ filter f xs) (filter f xs)) j none ≡ x) in
     subst P (sym passes) (0, omega arith, refl)
 filter_keeps {A} f none (x ∷ xs) (suc l) lt passes =
     let (j, j_in, is) = filter_keeps f none xs l (omega arith) passes in
@@ -71,11 +77,13 @@ filter_keeps {A} f none (x ∷ xs) (suc l) lt passes =
 
 -- ---- the segments
 
-load_at_position : (m : LinkMapValue) (k : ℕ) → k ≤ length m.outputs → get_or (map (load_at m) (range_with_len 0 (length m.outputs + 1))) k no_load ≡ load_at m k
+load_at_position : (m : LinkMapValue) (k : ℕ) → k ≤ length m.outputs →
+    get_or (map (load_at m) (range_with_len 0 (length m.outputs + 1))) k no_load ≡ load_at m k
 load_at_position m k le = get_or-map-range_with_len (load_at m) 0 (length m.outputs + 1) k k no_load (omega arith) (omega arith)
 
 -- what takes memory has one
-pub load_there : (m : LinkMapValue) (k : ℕ) → k ≤ length m.outputs → 0 < (load_at m k).size → (j : ℕ) × (j < length (loads m)) × (load_in m j ≡ load_at m k)
+pub load_there : (m : LinkMapValue) (k : ℕ) → k ≤ length m.outputs → 0 < (load_at m k).size →
+    (j : ℕ) × (j < length (loads m)) × (load_in m j ≡ load_at m k)
 unfolding loads
 load_there m k le some =
     let n = length m.outputs + 1 in
@@ -113,7 +121,8 @@ all_some m =
     (λ k lt. (
       k,
       (let long = length-map-range_with_len (load_at m) 0 n in omega arith),
-      get_or-map-range_with_len (load_at m) 0 n k k no_load (let long = length-map-range_with_len (load_at m) 0 n in omega arith) (omega arith),
+      get_or-map-range_with_len (load_at m) 0 n k k no_load (let long = length-map-range_with_len (load_at m) 0 n in omega arith)
+          (omega arith),
     )))
 
 all_with_memory : (m : LinkMapValue) → All (λ load. has_memory load ≡ true) (loads m)
@@ -137,7 +146,8 @@ pub load_some : (m : LinkMapValue) (j : ℕ) → j < length (loads m) → 0 < (l
 load_some m j lt = elim (cases_lt 0 (load_in m j).size) [
   | inl some ↦ some
   | inr none ↦ (
-      let passes : nat_lt 0 (load_in m j).size ≡ true = All-get_or (λ (load : Load). has_memory load ≡ true) (loads m) j no_load lt (all_with_memory m) in
+      let passes : nat_lt 0 (load_in m j).size ≡ true =
+      All-get_or (λ (load : Load). has_memory load ≡ true) (loads m) j no_load lt (all_with_memory m) in
       let fails : nat_lt 0 (load_in m j).size ≡ false = le-ltb 0 (load_in m j).size none in
       let never : true ≡ false = sym passes ∙ fails in
       absurd (cc))
@@ -145,7 +155,8 @@ load_some m j lt = elim (cases_lt 0 (load_in m j).size) [
 
 -- ---- one position more
 
-pub load_kept : (m : LinkMapValue) (n : ℕ) (all new : List Load) (load : Load) → all ≡ filter has_memory (map (load_at m) (range_with_len 0 n)) → load ≡ load_at m n →
+pub load_kept : (m : LinkMapValue) (n : ℕ) (all new : List Load) (load : Load) →
+    all ≡ filter has_memory (map (load_at m) (range_with_len 0 n)) → load ≡ load_at m n →
     0 < load.size → new ≡ all ++ load ∷ [] → new ≡ filter has_memory (map (load_at m) (range_with_len 0 (n + 1)))
 load_kept m n all new load before is some after =
     let more = filter_of_map_range_with_len_more has_memory (load_at m) 0 n n (omega arith) in
@@ -153,7 +164,8 @@ load_kept m n all new load before is some after =
     after ∙ ap₂ (λ (ls : List Load) (l : Load). ls ++ l ∷ []) before is
     ∙ ap (λ (b : Bool). filter has_memory (map (load_at m) (range_with_len 0 n)) ++ cond b (load_at m n ∷ []) []) (sym passes) ∙ sym more
 
-pub load_passed : (m : LinkMapValue) (n : ℕ) (all : List Load) (load : Load) → all ≡ filter has_memory (map (load_at m) (range_with_len 0 n)) → load ≡ load_at m n →
+pub load_passed : (m : LinkMapValue) (n : ℕ) (all : List Load) (load : Load) →
+    all ≡ filter has_memory (map (load_at m) (range_with_len 0 n)) → load ≡ load_at m n →
     load.size ≤ 0 → all ≡ filter has_memory (map (load_at m) (range_with_len 0 (n + 1)))
 load_passed m n all load before is none =
     let more = filter_of_map_range_with_len_more has_memory (load_at m) 0 n n (omega arith) in
@@ -223,7 +235,8 @@ module _ (fs : List ObjectValue) (m : LinkMapValue) (stand : StandApart fs m) (o
             rw (here, there) (omega arith))
         | inr ge ↦
             (let there = at_commons m l ge in
-            let behind = outputs.commons_behind k 0 (omega arith) (commons_some l m.commons (subst (λ (load : Load). 0 < load.size) there some)) in
+            let behind =
+            outputs.commons_behind k 0 (omega arith) (commons_some l m.commons (subst (λ (load : Load). 0 < load.size) there some)) in
             rw (here, there) (omega arith))
       ]
 
@@ -248,5 +261,6 @@ module _ (fs : List ObjectValue) (m : LinkMapValue) (stand : StandApart fs m) (o
     pub load_stands : (j : ℕ) → j < length (loads m) → LoadStands m (load_in m j)
     load_stands j lt = elim (load_of m j lt) [
       | inl found ↦ (let (k, k_in, is) = found in subst (LoadStands m) (sym is) (output_stands k k_in))
-      | inr is ↦ subst (LoadStands m) (sym is) (commons_stand (length m.outputs) (subst (λ (load : Load). 0 < load.size) is (load_some m j lt)))
+      | inr is ↦ subst (LoadStands m) (sym is)
+          (commons_stand (length m.outputs) (subst (λ (load : Load). 0 < load.size) is (load_some m j lt)))
     ]

@@ -1,6 +1,7 @@
 -- The bytes of relocated copies are those of memory. A byte of a copy is one of a field's number or of the content, and memory at the
 -- section's address plus its offset is defined by the same two cases.
-use Rattle.std.proofs.Common.{◌≡◌, ℕ, ◌+◌, ◌-◌, ◌<◌, ◌≤◌, ◌⊎◌, ℤ, List, [], ◌∷◌, get_or, length, inl, inr, refl, sym, ◌∙◌, ap, subst, arith, zero, suc, ◌≢◌, true}
+use Rattle.std.proofs.Common.{◌≡◌, ℕ, ◌+◌, ◌-◌, ◌<◌, ◌≤◌, ◌⊎◌, ℤ, List, [], ◌∷◌, get_or, length, inl, inr, refl, sym, ◌∙◌, ap, subst, arith}
+use Rattle.std.proofs.Common.{zero, suc, ◌≢◌, true}
 use Rattle.std.specs.Prelude.{MatchOption, Option, None, Some, option_map, slice_index}
 use Rattle.std.proofs.lemmas.Bool.{cases_eq, cases_lt}
 use Rattle.elf_extent.specs.Extent.{Never}
@@ -21,8 +22,11 @@ use Rattle.elf_link_outputs.specs.Outputs.{live, memory_size}
 use Rattle.elf_link_outputs.specs.Placed.{cell, OutputValue}
 use Rattle.elf_link_outputs.specs.declared.addresses.Target.TheVariants.{Fixed}
 use Rattle.elf_link_relocate.proofs.Collected.{position, one_rule, ordered, ruled, same_item}
-use Rattle.elf_link_relocate.specs.Fields.{target_at, HasField, HasOffset, IsWithin, content_of, field_start, addend_of, field_address, applied_entry_rules, value_at, entry_at, content_in, number_at, field_out_of_range, fields_overlap, entries_of, field_end, unplaced}
-use Rattle.elf_link_relocate.specs.Linked.{item, AreBytesOf, HasLiveBits, IsLinked, HasFieldAt, IsFieldByte, IsMemory, IsMapButOptions, IsMapOfSome, IsSoundMap, IsContentByte, number_byte}
+use Rattle.elf_link_relocate.specs.Fields.{target_at, HasField, HasOffset, IsWithin, content_of, field_start, addend_of, field_address}
+use Rattle.elf_link_relocate.specs.Fields.{applied_entry_rules, value_at, entry_at, content_in, number_at, field_out_of_range}
+use Rattle.elf_link_relocate.specs.Fields.{fields_overlap, entries_of, field_end, unplaced}
+use Rattle.elf_link_relocate.specs.Linked.{item, AreBytesOf, HasLiveBits, IsLinked, HasFieldAt, IsFieldByte, IsMemory, IsMapButOptions}
+use Rattle.elf_link_relocate.specs.Linked.{IsMapOfSome, IsSoundMap, IsContentByte, number_byte}
 use Rattle.elf_link_relocate.specs.Passes.{field_at, AreValidated, IsCovered, IsFieldIn, AreRelocated, IsRelocated, entry_site}
 use Rattle.elf_link_relocate.specs.declared.field.Field.{Field}
 use Rattle.elf_object_type.specs.Object.{BodyValue, bits, no_bits, relocs, group, ObjectValue, SectionValue, no_section, HasFlag}
@@ -63,18 +67,21 @@ never_some b e = cc
 same_copy : (a b : List ℕ) → Some a ≡ Some b → a ≡ b
 same_copy a b e = cc
 
-module _ (fs : List ObjectValue) (m : LinkMapValue) (rules : List RelocRule) (ds : List Field) (are : AreValidated fs m rules ds) (stand : StandApart fs m) where
+module _ (fs : List ObjectValue) (m : LinkMapValue) (rules : List RelocRule) (ds : List Field) (are : AreValidated fs m rules ds)
+    (stand : StandApart fs m) where
   -- whether one of the first n fields has a byte
   covered_or : (n f s x : ℕ) → IsCovered fs ds n f s x ⊎ (IsCovered fs ds n f s x → ⊥)
   covered_or zero f s x = inr (λ (j, lt, at, has). absurd (omega arith))
   covered_or (suc n) f s x =
       let p = (field_at ds n).site in
-      let other : (IsCovered fs ds n f s x → ⊥) → (IsFieldIn fs (field_at ds n) f s → HasOffset fs p (field_at ds n).rule x → ⊥) → IsCovered fs ds (suc n) f s x → ⊥ =
+      let other : (IsCovered fs ds n f s x → ⊥) → (IsFieldIn fs (field_at ds n) f s → HasOffset fs p (field_at ds n).rule x → ⊥) →
+      IsCovered fs ds (suc n) f s x → ⊥ =
       λ none away (j, lt, at, has). elim (cases_lt j n) [
         | inl below ↦ none (j, below, at, has)
         | inr above ↦ (
             let same : j ≡ n = omega arith in
-            away (subst (λ (i : ℕ). IsFieldIn fs (field_at ds i) f s) same at) (subst (λ (i : ℕ). HasOffset fs (field_at ds i).site (field_at ds i).rule x) same has))
+            away (subst (λ (i : ℕ). IsFieldIn fs (field_at ds i) f s) same at)
+            (subst (λ (i : ℕ). HasOffset fs (field_at ds i).site (field_at ds i).rule x) same has))
       ] in
       elim (covered_or n f s x) [
         | inl (j, lt, at, has) ↦ inl (j, omega arith, at, has)
@@ -95,7 +102,8 @@ module _ (fs : List ObjectValue) (m : LinkMapValue) (rules : List RelocRule) (ds
 
   -- where the target of a field begins
   target_begins : (p : Site) (r : RelocRule) → HasField fs rules p r → (b : ℕ) × BeginsAt m p.file (target_at fs p) b
-  target_begins p r has = (stand.addressed p.file (target_at fs p)).0 (live_in fs p.file (target_at fs p) has.applied.0.file has.applied.1.1)
+  target_begins p r has =
+      (stand.addressed p.file (target_at fs p)).0 (live_in fs p.file (target_at fs p) has.applied.0.file has.applied.1.1)
 
   -- ---- a byte of a section that begins at a
 
@@ -105,7 +113,9 @@ module _ (fs : List ObjectValue) (m : LinkMapValue) (rules : List RelocRule) (ds
         let p = (field_at ds j).site in
         let r = (field_at ds j).rule in
         let start = field_start fs p in
-        let (z, number) = some_number (λ (value : ℕ). relocation_number r.form value (addend_of fs p r) (field_address fs m p)) (value_at fs m p) (are.kept.placed j lt) in
+        let (z, number) =
+        some_number (λ (value : ℕ). relocation_number r.form value (addend_of fs p r) (field_address fs m p)) (value_at fs m p)
+        (are.kept.placed j lt) in
         let cell_at : cell m.addresses p.file (target_at fs p) ≡ Some a = rw (file, target) begins in
         let address : address_in m p.file (target_at fs p) ≡ a = ap (λ (o : Option ℕ). or_zero o) cell_at in
         let offset : start + (k - start) ≡ k = omega arith in (
@@ -122,7 +132,9 @@ module _ (fs : List ObjectValue) (m : LinkMapValue) (rules : List RelocRule) (ds
         let (b, there) = target_begins p r has in
         let address : address_in m p.file (target_at fs p) ≡ b = ap (λ (o : Option ℕ). or_zero o) there in
         let start = field_start fs p in
-        let within : IsWithin fs p r = subst (λ (q : Site). IsWithin fs q r) site_is (subst (λ (u : RelocRule). IsWithin fs (field_at ds j).site u) rule_is (are.kept.within j lt)) in
+        let within : IsWithin fs p r =
+        subst (λ (q : Site). IsWithin fs q r) site_is
+        (subst (λ (u : RelocRule). IsWithin fs (field_at ds j).site u) rule_is (are.kept.within j lt)) in
         let fits = content_fits (section_in fs p.file (target_at fs p)).body in
         let mine = content_fits (section_in fs f s).body in
         let long = is.long in
@@ -135,7 +147,8 @@ module _ (fs : List ObjectValue) (m : LinkMapValue) (rules : List RelocRule) (ds
                 j,
                 lt,
                 (ap (λ (q : Site). q.file) site_is ∙ sym file, ap (λ (q : Site). target_at fs q) site_is ∙ sym section),
-                subst (λ (q : Site). HasOffset fs q (field_at ds j).rule k) (sym site_is) (subst (λ (u : RelocRule). HasOffset fs p u k) (sym rule_is) (from, below)),
+                subst (λ (q : Site). HasOffset fs q (field_at ds j).rule k) (sym site_is)
+                    (subst (λ (u : RelocRule). HasOffset fs p u k) (sym rule_is) (from, below)),
               ))
           | inr away ↦ elim away [
             | inl before ↦ omega arith
@@ -158,15 +171,18 @@ module _ (fs : List ObjectValue) (m : LinkMapValue) (rules : List RelocRule) (ds
         memory = (a, begins, is_memory f s a after begins is);
       }
 
-  bytes_of_item : (rows : List (List (Option (List ℕ)))) (f s : ℕ) (o : Option (List ℕ)) → item None rows f s ≡ o → AreRelocated fs m ds (length ds) rows →
+  bytes_of_item : (rows : List (List (Option (List ℕ)))) (f s : ℕ) (o : Option (List ℕ)) → item None rows f s ≡ o →
+      AreRelocated fs m ds (length ds) rows →
       MatchOption o (¬ HasLiveBits fs f s) (AreBytesOf fs m rules f s)
   bytes_of_item rows f s None at is = λ there. (let (after, its, relocated) = is.each f s there in never_some after (sym at ∙ its))
   bytes_of_item rows f s (Some after) at is =
       let there = is.others f s after at in
       let (old, its, relocated) = is.each f s there in
-      are_bytes f s after there (subst (λ (b : List ℕ). IsRelocated fs m ds (length ds) f s b) (same_copy old after (sym its ∙ at)) relocated)
+      are_bytes f s after there
+      (subst (λ (b : List ℕ). IsRelocated fs m ds (length ds) f s b) (same_copy old after (sym its ∙ at)) relocated)
 
-  pub linked_of : (rows : List (List (Option (List ℕ)))) → AreRelocated fs m ds (length ds) rows → FirstAmong (applied_entry_rules fs m rules) None →
+  pub linked_of : (rows : List (List (Option (List ℕ)))) → AreRelocated fs m ds (length ds) rows →
+      FirstAmong (applied_entry_rules fs m rules) None →
       IsLinked fs m rules (record { map = m; objects = fs; rules = rules; copies = rows })
   linked_of rows is sound = record {
     sound = sound;
@@ -181,7 +197,8 @@ module _ (fs : List ObjectValue) (m : LinkMapValue) (rules : List RelocRule) (ds
 -- And it is a map for options that name no entry symbol: the same plan and places, with the value 0.
 
 -- what says nothing of base, page and entry goes over from a map that has others
-apart_from : (fs : List ObjectValue) (m : LinkMapValue) (base page entry : ℕ) → StandApart fs (with_options m base page entry) → StandApart fs m
+apart_from : (fs : List ObjectValue) (m : LinkMapValue) (base page entry : ℕ) → StandApart fs (with_options m base page entry) →
+    StandApart fs m
 apart_from fs m base page entry is = record {
   addressed = is.addressed;
   within = is.within;
@@ -191,7 +208,8 @@ apart_from fs m base page entry is = record {
   commons_apart = is.commons_apart;
 }
 
-members_from : (fs : List ObjectValue) (m : LinkMapValue) (base page entry : ℕ) (o : OutputValue) → MembersStand fs (with_options m base page entry) o →
+members_from : (fs : List ObjectValue) (m : LinkMapValue) (base page entry : ℕ) (o : OutputValue) →
+    MembersStand fs (with_options m base page entry) o →
     MembersStand fs m o
 members_from fs m base page entry o is = record {
   some = is.some;
@@ -203,7 +221,8 @@ members_from fs m base page entry o is = record {
   last = is.last;
 }
 
-outputs_from : (fs : List ObjectValue) (m : LinkMapValue) (base page entry : ℕ) → OutputsStand fs (with_options m base page entry) → OutputsStand fs m
+outputs_from : (fs : List ObjectValue) (m : LinkMapValue) (base page entry : ℕ) → OutputsStand fs (with_options m base page entry) →
+    OutputsStand fs m
 outputs_from fs m base page entry is = record {
   members = λ k lt. members_from fs m base page entry _ (is.members k lt);
   holds = is.holds;
@@ -214,10 +233,12 @@ outputs_from fs m base page entry is = record {
 }
 
 pub apart_of : (fs : List ObjectValue) (m : LinkMapValue) → IsMapButOptions fs m → StandApart fs m
-apart_of fs m (base, page, entry, (opt, is, clean)) = apart_from fs m base page entry (parts_apart opt fs (with_options m base page entry) is)
+apart_of fs m (base, page, entry, (opt, is, clean)) =
+    apart_from fs m base page entry (parts_apart opt fs (with_options m base page entry) is)
 
 pub outputs_of : (fs : List ObjectValue) (m : LinkMapValue) → IsMapButOptions fs m → OutputsStand fs m
-outputs_of fs m (base, page, entry, (opt, is, clean)) = outputs_from fs m base page entry (outputs_stand opt fs (with_options m base page entry) is)
+outputs_of fs m (base, page, entry, (opt, is, clean)) =
+    outputs_from fs m base page entry (outputs_stand opt fs (with_options m base page entry) is)
 
 pub sound_of : (fs : List ObjectValue) (m : LinkMapValue) → IsMapButOptions fs m → IsSoundMap fs m
 sound_of fs m (base, page, entry, (opt, (l, placed, is), clean)) = record {
@@ -275,7 +296,8 @@ same_value a b e = cc
 module _ (fs : List ObjectValue) (m : LinkMapValue) (rules : List RelocRule) (stand : StandApart fs m)
     (within : Never (field_out_of_range fs rules)) (apart : Never (fields_overlap fs rules)) where
   -- an address is in one section
-  pub one_section : (f s a k g t b i : ℕ) → BeginsAt m f s a → BeginsAt m g t b → k < size_in fs f s → i < size_in fs g t → a + k ≡ b + i → (f ≡ g) × (s ≡ t)
+  pub one_section : (f s a k g t b i : ℕ) → BeginsAt m f s a → BeginsAt m g t b → k < size_in fs f s → i < size_in fs g t → a + k ≡ b + i →
+      (f ≡ g) × (s ≡ t)
   one_section f s a k g t b i at there k_in i_in same = elim (stand.apart f s a g t b at there) [
     | inl one ↦ one
     | inr away ↦ elim away [
@@ -293,9 +315,11 @@ module _ (fs : List ObjectValue) (m : LinkMapValue) (rules : List RelocRule) (st
   pub begins : (p : Site) (r : RelocRule) → HasField fs rules p r → (a : ℕ) × BeginsAt m p.file (target_at fs p) a
   begins p r has = (stand.addressed p.file (target_at fs p)).0 (live_in fs p.file (target_at fs p) has.applied.0.file has.applied.1.1)
 
-  same_bytes : (p q : Site) (r s : RelocRule) (k i : ℕ) (y z : ℤ) → p ≡ q → r ≡ s → k ≡ i → y ≡ z → number_byte fs p r y k ≡ number_byte fs q s z i
+  same_bytes : (p q : Site) (r s : RelocRule) (k i : ℕ) (y z : ℤ) → p ≡ q → r ≡ s → k ≡ i → y ≡ z →
+      number_byte fs p r y k ≡ number_byte fs q s z i
   same_bytes p q r s k i y z site rule place number =
-      ap (λ (u : Site). number_byte fs u r y k) site ∙ ap (λ (u : RelocRule). number_byte fs q u y k) rule ∙ ap (λ (n : ℕ). number_byte fs q s y n) place
+      ap (λ (u : Site). number_byte fs u r y k) site ∙ ap (λ (u : RelocRule). number_byte fs q u y k) rule ∙
+      ap (λ (n : ℕ). number_byte fs q s y n) place
       ∙ ap (λ (n : ℤ). number_byte fs q s n i) number
 
   one_field : (x v w : ℕ) → IsFieldByte fs m rules x v → IsFieldByte fs m rules x w → v ≡ w
@@ -308,7 +332,9 @@ module _ (fs : List ObjectValue) (m : LinkMapValue) (rules : List RelocRule) (st
       let yours = within_of q s had in
       let fits = content_fits (section_in fs p.file (target_at fs p)).body in
       let room = content_fits (section_in fs q.file (target_at fs q)).body in
-      let (file, target) = one_section p.file (target_at fs p) a (field_start fs p + k) q.file (target_at fs q) b (field_start fs q + i) from to (omega arith) (omega arith) (omega arith) in
+      let (file, target) =
+      one_section p.file (target_at fs p) a (field_start fs p + k) q.file (target_at fs q) b (field_start fs q + i) from to (omega arith)
+      (omega arith) (omega arith) in
       let cells : cell m.addresses p.file (target_at fs p) ≡ cell m.addresses q.file (target_at fs q) =
       ap (λ (n : ℕ). cell m.addresses n (target_at fs p)) file ∙ ap (λ (n : ℕ). cell m.addresses q.file n) target in
       let bases : a ≡ b = same_place a b (sym from ∙ cells ∙ to) in
@@ -317,7 +343,8 @@ module _ (fs : List ObjectValue) (m : LinkMapValue) (rules : List RelocRule) (st
       let second : HasOffset fs q s (field_start fs p + k) = (omega arith, omega arith) in
       elim (ordered p q) [
         | inl one ↦ (
-            let rule = one_rule (entry_at fs q).kind rules r s (subst (λ (u : Site). IsFirstRelocationRule (entry_at fs u).kind rules r) one has.rule) had.rule in
+            let rule = one_rule (entry_at fs q).kind rules r s
+            (subst (λ (u : Site). IsFirstRelocationRule (entry_at fs u).kind rules r) one has.rule) had.rule in
             let starts = ap (λ (u : Site). field_start fs u) one in
             let place : k ≡ i = omega arith in
             let value = subst (λ (u : Site). number_at fs m u r ≡ Some y) one number in
@@ -348,7 +375,8 @@ module _ (fs : List ObjectValue) (m : LinkMapValue) (rules : List RelocRule) (st
   one_of x v w (inr (none, inr (outside, area, zero_is))) (inr (never, inl (f, s, k, at, byte))) = absurd (outside (f, s, k, at))
   one_of x v w (inr (none, inr (outside, area, zero_is))) (inr (never, inr (beyond, around, again))) = zero_is ∙ sym again
 
-pub one_byte : (fs : List ObjectValue) (m : LinkMapValue) (rules : List RelocRule) → IsMapButOptions fs m → FirstAmong (applied_entry_rules fs m rules) None →
+pub one_byte : (fs : List ObjectValue) (m : LinkMapValue) (rules : List RelocRule) → IsMapButOptions fs m →
+    FirstAmong (applied_entry_rules fs m rules) None →
     (x v w : ℕ) → IsMemory fs m rules x v → IsMemory fs m rules x w → v ≡ w
 one_byte fs m rules is clean = one_of fs m rules (apart_of fs m is) clean.1.1.0 clean.1.1.1.0
 
@@ -376,12 +404,14 @@ some_below P (suc n) decide = elim (some_below P n (λ i lt. decide i (omega ari
 
 -- ---- the relocation rule of a kind
 
-none_more : (kind : ℕ) (q : RelocRule) (rules : List RelocRule) → (q.kind ≢ kind) → HasNoRelocationRule kind rules → HasNoRelocationRule kind (q ∷ rules)
+none_more : (kind : ℕ) (q : RelocRule) (rules : List RelocRule) → (q.kind ≢ kind) → HasNoRelocationRule kind rules →
+    HasNoRelocationRule kind (q ∷ rules)
 none_more kind q rules other none zero r (at, is) = other (ap (λ (s : RelocRule). s.kind) (same_item q r at) ∙ is)
 none_more kind q rules other none (suc k) r at = none k r at
 
 first_more : (kind : ℕ) (q : RelocRule) (rules : List RelocRule) (k : ℕ) → (q.kind ≢ kind) →
-    ((j : ℕ) (r : RelocRule) → j < k → IsOfKind kind rules j r → ⊥) → (j : ℕ) (r : RelocRule) → j < suc k → IsOfKind kind (q ∷ rules) j r → ⊥
+    ((j : ℕ) (r : RelocRule) → j < k → IsOfKind kind rules j r → ⊥) → (j : ℕ) (r : RelocRule) → j < suc k → IsOfKind kind (q ∷ rules) j r →
+    ⊥
 first_more kind q rules k other first zero r lt (at, is) = other (ap (λ (s : RelocRule). s.kind) (same_item q r at) ∙ is)
 first_more kind q rules k other first (suc j) r lt at = first j r (omega arith) at
 
@@ -437,9 +467,13 @@ module _ (fs : List ObjectValue) (m : LinkMapValue) (rules : List RelocRule) (ma
             | inr kept ↦ elim (rule_or kind rules) [
               | inr none ↦ inr (λ (r, has, same, offset). ruled kind rules r has.rule none)
               | inl (r, rule) ↦ elim (form_or r.form) [
-                | inl no_form ↦ inr (λ (q, has, same, offset). has.form (ap (λ (u : RelocRule). u.form) (one_rule kind rules q r has.rule rule) ∙ no_form))
+                | inl no_form ↦
+                    inr (λ (q, has, same, offset). has.form
+                    (ap (λ (u : RelocRule). u.form) (one_rule kind rules q r has.rule rule) ∙ no_form))
                 | inr form ↦ elim (offset_or fs p r x) [
-                  | inr out ↦ inr (λ (q, has, same, offset). out (subst (λ (u : RelocRule). HasOffset fs p u x) (one_rule kind rules q r has.rule rule) offset))
+                  | inr out ↦ inr
+                      (λ (q, has, same, offset). out
+                      (subst (λ (u : RelocRule). HasOffset fs p u x) (one_rule kind rules q r has.rule rule) offset))
                   | inl inside ↦ inl (
                     r,
                     record {
@@ -466,9 +500,11 @@ module _ (fs : List ObjectValue) (m : LinkMapValue) (rules : List RelocRule) (ma
     -- each entry of the file with a field that has the byte is one of these
     in_file : (p : Site) (r : RelocRule) → HasField fs rules p r → p.file ≡ f → target_at fs p ≡ t → HasOffset fs p r x → IsInFile
     in_file p r has file target offset =
-        let here : (s : ℕ) × (s < length (object_at fs p.file).sections) × ((e : ℕ) × (e < length (entries_of (section_in fs p.file s).body)) × HasByte (entry_site p.file s e)) =
+        let here : (s : ℕ) × (s < length (object_at fs p.file).sections) ×
+        ((e : ℕ) × (e < length (entries_of (section_in fs p.file s).body)) × HasByte (entry_site p.file s e)) =
         (p.index, has.applied.0.section, (p.entry, has.applied.0.entry, (r, has, target, offset))) in
-        subst (λ (g : ℕ). (s : ℕ) × (s < length (object_at fs g).sections) × ((e : ℕ) × (e < length (entries_of (section_in fs g s).body)) × HasByte (entry_site g s e))) file here
+        subst (λ (g : ℕ). (s : ℕ) × (s < length (object_at fs g).sections) ×
+        ((e : ℕ) × (e < length (entries_of (section_in fs g s).body)) × HasByte (entry_site g s e))) file here
 
 begins_too : (m : LinkMapValue) (f s g t a : ℕ) → f ≡ g → s ≡ t → BeginsAt m g t a → BeginsAt m f s a
 begins_too m f s g t a file section at = ap (λ (n : ℕ). cell m.addresses n s) file ∙ ap (λ (n : ℕ). cell m.addresses g n) section ∙ at
@@ -476,16 +512,20 @@ begins_too m f s g t a file section at = ap (λ (n : ℕ). cell m.addresses n s)
 module _ (fs : List ObjectValue) (m : LinkMapValue) (rules : List RelocRule) (stand : StandApart fs m)
     (within : Never (field_out_of_range fs rules)) (apart : Never (fields_overlap fs rules)) (placed : Never (unplaced fs m rules)) where
   -- the byte of a field
-  field_byte : (f t a x : ℕ) (p : Site) (r : RelocRule) → BeginsAt m f t a → HasField fs rules p r → p.file ≡ f → target_at fs p ≡ t → HasOffset fs p r x →
+  field_byte : (f t a x : ℕ) (p : Site) (r : RelocRule) → BeginsAt m f t a → HasField fs rules p r → p.file ≡ f → target_at fs p ≡ t →
+      HasOffset fs p r x →
       (v : ℕ) × IsMemory fs m rules (a + x) v
   field_byte f t a x p r at has file target (from, below) =
       let start = field_start fs p in
-      let (z, number) = some_number (λ (value : ℕ). relocation_number r.form value (addend_of fs p r) (field_address fs m p)) (value_at fs m p) (λ none. placed p (r, has, none)) in
+      let (z, number) =
+      some_number (λ (value : ℕ). relocation_number r.form value (addend_of fs p r) (field_address fs m p)) (value_at fs m p)
+      (λ none. placed p (r, has, none)) in
       let address : address_in m p.file (target_at fs p) ≡ a = ap or_zero (begins_too m p.file (target_at fs p) f t a file target at) in
       (number_byte fs p r z (x - start), inl (p, r, x - start, (has, omega arith, omega arith), (z, number, refl)))
 
   -- a field at the address is one of this section
-  field_here : (f t a x : ℕ) → BeginsAt m f t a → x < length (content_in fs f t) → (p : Site) (r : RelocRule) (k : ℕ) → HasField fs rules p r → k < size_of r.width →
+  field_here : (f t a x : ℕ) → BeginsAt m f t a → x < length (content_in fs f t) → (p : Site) (r : RelocRule) (k : ℕ) →
+      HasField fs rules p r → k < size_of r.width →
       a + x ≡ field_address fs m p + k → (p.file ≡ f) × (target_at fs p ≡ t) × HasOffset fs p r x
   field_here f t a x at x_in p r k has k_in same =
       let (b, there) = begins fs m rules stand within apart p r has in
@@ -493,11 +533,14 @@ module _ (fs : List ObjectValue) (m : LinkMapValue) (rules : List RelocRule) (st
       let mine = within_of fs m rules stand within apart p r has in
       let fits = content_fits (section_in fs p.file (target_at fs p)).body in
       let room = content_fits (section_in fs f t).body in
-      let (file, target) = one_section fs m rules stand within apart p.file (target_at fs p) b (field_start fs p + k) f t a x there at (omega arith) (omega arith) (omega arith) in
+      let (file, target) =
+      one_section fs m rules stand within apart p.file (target_at fs p) b (field_start fs p + k) f t a x there at
+      (omega arith) (omega arith) (omega arith) in
       let bases : b ≡ a = same_place b a (sym there ∙ begins_too m p.file (target_at fs p) f t a file target at) in
       (file, target, (omega arith, omega arith))
 
-  pub content_byte : (f t a x : ℕ) → AreDiscardMarks fs m.discarded → f < length fs → Live fs f t → BeginsAt m f t a → x < length (content_in fs f t) →
+  pub content_byte : (f t a x : ℕ) → AreDiscardMarks fs m.discarded → f < length fs → Live fs f t → BeginsAt m f t a →
+      x < length (content_in fs f t) →
       (v : ℕ) × IsMemory fs m rules (a + x) v
   content_byte f t a x marks f_in live at x_in = elim (file_or fs m rules marks f t x f_in live) [
     | inl (s, s_in, (e, e_in, (r, has, target, offset))) ↦ field_byte f t a x (entry_site f s e) r at has refl target offset

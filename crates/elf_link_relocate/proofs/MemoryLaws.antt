@@ -1,7 +1,8 @@
 -- In a link that breaks no rule, memory has a byte at each address of an output and of the commons. It is that of a member's content
 -- (`content_byte`), or 0 outside of contents. It has none elsewhere, since fields lie in contents, and contents in outputs. If contents are
 -- bytes, each byte is below 256.
-use Rattle.std.proofs.Common.{◌≡◌, ℕ, ◌+◌, ◌-◌, ◌<◌, ◌≤◌, List, length, inl, inr, refl, sym, ap, subst, arith, zero, suc, [], ◌∷◌, ◌++◌, get_or, add-one, Result, Ok, Err}
+use Rattle.std.proofs.Common.{◌≡◌, ℕ, ◌+◌, ◌-◌, ◌<◌, ◌≤◌, List, length, inl, inr, refl, sym, ap, subst, arith, zero, suc, [], ◌∷◌, ◌++◌}
+use Rattle.std.proofs.Common.{get_or, add-one, Result, Ok, Err}
 use Rattle.std.specs.Prelude.{None, MatchOption, Option, Some, IfOk}
 use Rattle.std.proofs.lemmas.Bool.{cases_lt}
 use Rattle.elf_extent.specs.Extent.{Never}
@@ -13,11 +14,16 @@ use Rattle.elf_link_files.specs.Files.{AreDiscardMarks, object_at, section_in}
 use Rattle.elf_link_files.specs.Rows.{FirstAmong, AreEach}
 use Rattle.elf_link_map.proofs.Public.{member_within, some_each}
 use Rattle.elf_link_map.specs.LinkMap.{LinkMapValue}
-use Rattle.elf_link_map.specs.Standing.{BeginsAt, StandApart, size_in, IsMemberAt, OutputsStand, address_in, member_address, member_at, or_zero, output_at, output_end}
+use Rattle.elf_link_map.specs.Standing.{BeginsAt, StandApart, size_in, IsMemberAt, OutputsStand, address_in, member_address, member_at}
+use Rattle.elf_link_map.specs.Standing.{or_zero, output_at, output_end}
 use Rattle.elf_link_outputs.specs.declared.placing.Member.{Member}
-use Rattle.elf_link_relocate.proofs.Memories.{apart_of, outputs_of, sound_of, content_fits, begins, within_of, IsDecided, content_byte, some_below}
-use Rattle.elf_link_relocate.specs.Fields.{target_at, content_in, field_start, applied_entry_rules, field_out_of_range, fields_overlap, unplaced}
-use Rattle.elf_link_relocate.specs.Linked.{IsLinked, LinkedValue, IsMapButOptions, HasContentAt, HasFieldAt, HaveBytes, IsInCommons, IsInContent, IsInMember, IsInMemory, IsInNoMember, IsInOutput, IsInOutputAt, IsMemory, AreBytesOf, HasLiveBits, IsMapOfSome, IsReadyLink}
+use Rattle.elf_link_relocate.proofs.Memories.{apart_of, outputs_of, sound_of, content_fits, begins, within_of, IsDecided, content_byte}
+use Rattle.elf_link_relocate.proofs.Memories.{some_below}
+use Rattle.elf_link_relocate.specs.Fields.{target_at, content_in, field_start, applied_entry_rules, field_out_of_range, fields_overlap}
+use Rattle.elf_link_relocate.specs.Fields.{unplaced}
+use Rattle.elf_link_relocate.specs.Linked.{IsLinked, LinkedValue, IsMapButOptions, HasContentAt, HasFieldAt, HaveBytes, IsInCommons}
+use Rattle.elf_link_relocate.specs.Linked.{IsInContent, IsInMember, IsInMemory, IsInNoMember, IsInOutput, IsInOutputAt, IsMemory}
+use Rattle.elf_link_relocate.specs.Linked.{AreBytesOf, HasLiveBits, IsMapOfSome, IsReadyLink}
 use Rattle.elf_object_type.specs.Object.{ObjectValue}
 
 -- ---- sections in outputs
@@ -26,7 +32,9 @@ use Rattle.elf_object_type.specs.Object.{ObjectValue}
 section_within : (fs : List ObjectValue) (m : LinkMapValue) (f s a k i : ℕ) → OutputsStand fs m → BeginsAt m f s a → IsMemberAt m f s k i →
     ((output_at m k).address ≤ a) × (a + size_in fs f s ≤ output_end m k)
 section_within fs m f s a k i outputs at (k_in, i_in, same) =
-    let (from, to) = subst (λ (p : Member). ((output_at m k).address ≤ member_address m p) × (member_address m p + size_in fs p.file p.section ≤ output_end m k)) same
+    let (from, to) =
+    subst (λ (p : Member). ((output_at m k).address ≤ member_address m p) ×
+    (member_address m p + size_in fs p.file p.section ≤ output_end m k)) same
     (member_within fs m (output_at m k) (outputs.members k k_in) i i_in) in
     let here : address_in m f s ≡ a = ap or_zero at in
     (omega arith, omega arith)
@@ -89,7 +97,8 @@ module _ (fs : List ObjectValue) (m : LinkMapValue) (rules : List RelocRule) (st
       let same = one_output fs m x n k outputs member.0 k_in also here in
       let (in_k, i_in, is) = subst (λ (l : ℕ). IsMemberAt m f s l i) same member in
       let address : address_in m f s ≡ a = ap or_zero there in
-      none i i_in (subst (λ (p : Member). (member_address m p ≤ x) × (x < member_address m p + length (content_in fs p.file p.section))) (sym is)
+      none i i_in (subst (λ (p : Member). (member_address m p ≤ x) × (x < member_address m p + length (content_in fs p.file p.section)))
+      (sym is)
       (omega arith, omega arith))
 
   zero_at : (x k : ℕ) → k < length m.outputs → IsInOutputAt m k x → IsInNoMember fs m k x → IsMemory fs m rules x 0
@@ -104,21 +113,25 @@ module _ (fs : List ObjectValue) (m : LinkMapValue) (rules : List RelocRule) (st
       (inr (j, k, j_in, k_in, from, to))
 
   module _ (placed : Never (unplaced fs m rules)) (marks : AreDiscardMarks fs m.discarded) where
-    member_byte : (x k i : ℕ) → k < length m.outputs → i < length (output_at m k).members → IsInMember fs m k i x → (v : ℕ) × IsMemory fs m rules x v
+    member_byte : (x k i : ℕ) → k < length m.outputs → i < length (output_at m k).members → IsInMember fs m k i x →
+        (v : ℕ) × IsMemory fs m rules x v
     member_byte x k i k_in i_in (from, to) =
         let p = member_at (output_at m k) i in
         let live = (outputs.members k k_in).live i i_in in
         let a = member_address m p in
-        let (v, memory) = content_byte fs m rules stand within apart placed p.file p.section a (x - a) marks live.0 live.2 ((outputs.members k k_in).begins i i_in) (omega arith) in
+        let (v, memory) =
+        content_byte fs m rules stand within apart placed p.file p.section a (x - a) marks live.0 live.2
+        ((outputs.members k k_in).begins i i_in) (omega arith) in
         let whole : a + (x - a) ≡ x = omega arith in
         (v, subst (λ (y : ℕ). IsMemory fs m rules y v) whole memory)
 
     byte_there : (x : ℕ) → IsInMemory m x → (v : ℕ) × IsMemory fs m rules x v
     byte_there x (inr commons) = (0, zero_in_commons x commons)
-    byte_there x (inl (k, k_in, here)) = elim (some_below (λ i. IsInMember fs m k i x) (length (output_at m k).members) (λ i i_in. member_or fs m k i x)) [
-      | inl (i, i_in, there) ↦ member_byte x k i k_in i_in there
-      | inr none ↦ (0, zero_at x k k_in here (λ i i_in there. none (i, i_in, there)))
-    ]
+    byte_there x (inl (k, k_in, here)) =
+        elim (some_below (λ i. IsInMember fs m k i x) (length (output_at m k).members) (λ i i_in. member_or fs m k i x)) [
+          | inl (i, i_in, there) ↦ member_byte x k i k_in i_in there
+          | inr none ↦ (0, zero_at x k k_in here (λ i i_in there. none (i, i_in, there)))
+        ]
 
 -- ---- the laws
 
@@ -135,15 +148,18 @@ pub some_byte : (fs : List ObjectValue) (m : LinkMapValue) (rules : List RelocRu
 some_byte fs m rules is clean =
     byte_there fs m rules (apart_of fs m is) (outputs_of fs m is) clean.1.1.0 clean.1.1.1.0 clean.1.0 (sound_of fs m is).discarded
 
-pub memory_there : (fs : List ObjectValue) (m : LinkMapValue) (rules : List RelocRule) (l : LinkedValue) → IsMapButOptions fs m → IsLinked fs m rules l →
+pub memory_there : (fs : List ObjectValue) (m : LinkMapValue) (rules : List RelocRule) (l : LinkedValue) → IsMapButOptions fs m →
+    IsLinked fs m rules l →
     (x : ℕ) → IsInMemory m x → (v : ℕ) × IsMemory fs m rules x v
 memory_there fs m rules l is linked = some_byte fs m rules is linked.sound
 
 pub memory_zero : (fs : List ObjectValue) (m : LinkMapValue) (rules : List RelocRule) → IsMapButOptions fs m →
-    FirstAmong (applied_entry_rules fs m rules) None → (x k : ℕ) → k < length m.outputs → IsInOutputAt m k x → IsInNoMember fs m k x → IsMemory fs m rules x 0
+    FirstAmong (applied_entry_rules fs m rules) None → (x k : ℕ) → k < length m.outputs → IsInOutputAt m k x → IsInNoMember fs m k x →
+    IsMemory fs m rules x 0
 memory_zero fs m rules is clean = zero_at fs m rules (apart_of fs m is) (outputs_of fs m is) clean.1.1.0 clean.1.1.1.0
 
-pub memory_bytes : (fs : List ObjectValue) (m : LinkMapValue) (rules : List RelocRule) → HaveBytes fs → (x v : ℕ) → IsMemory fs m rules x v → v < 256
+pub memory_bytes : (fs : List ObjectValue) (m : LinkMapValue) (rules : List RelocRule) → HaveBytes fs → (x v : ℕ) →
+    IsMemory fs m rules x v → v < 256
 memory_bytes fs m rules have x v (inl (p, r, k, at, (z, number, is))) =
     let n = size_of r.width in
     let small = IsBytes-bytes_of (object_at fs p.file).order n (modulo n z) k in
@@ -178,7 +194,8 @@ module _ (fs : List ObjectValue) (m : LinkMapValue) (rules : List RelocRule) (is
       let stand = apart_of fs m is in
       let (a, begins) = (stand.addressed f s).0 (section.0, section.1, live, refl) in
       let (bytes, are) = gathered (λ k v. IsMemory fs m rules (a + k) v) (length (content_in fs f s))
-      (λ k lt. content_byte fs m rules stand clean.1.1.0 clean.1.1.1.0 clean.1.0 f s a k (sound_of fs m is).discarded section.0 live begins lt) in (
+      (λ k lt. content_byte fs m rules stand clean.1.1.0 clean.1.1.1.0 clean.1.0 f s a k
+      (sound_of fs m is).discarded section.0 live begins lt) in (
         bytes,
         record {
           live = (section, live, bits);
@@ -192,7 +209,8 @@ module _ (fs : List ObjectValue) (m : LinkMapValue) (rules : List RelocRule) (is
 
   -- a section that no file has has no bytes
   copy_in : (copies : List (List (Option (List ℕ)))) →
-      AreEach [] (λ f. AreEach None (IsCopy f) (length (object_at fs f).sections)) (length fs) copies → (f s : ℕ) → IsCopy f s (get_or (get_or copies f []) s None)
+      AreEach [] (λ f. AreEach None (IsCopy f) (length (object_at fs f).sections)) (length fs) copies → (f s : ℕ) →
+      IsCopy f s (get_or (get_or copies f []) s None)
   copy_in copies are f s = elim (cases_lt f (length fs)) [
     | inr above ↦
         let row : get_or copies f [] ≡ [] = past [] copies f (let count = are.count in omega arith) in
@@ -200,7 +218,8 @@ module _ (fs : List ObjectValue) (m : LinkMapValue) (rules : List RelocRule) (is
     | inl f_in ↦ elim (cases_lt s (length (object_at fs f).sections)) [
       | inl s_in ↦ (are.each f f_in).each s s_in
       | inr above ↦
-          let cell : get_or (get_or copies f []) s None ≡ None = past None (get_or copies f []) s (let count = (are.each f f_in).count in omega arith) in
+          let cell : get_or (get_or copies f []) s None ≡ None =
+          past None (get_or copies f []) s (let count = (are.each f f_in).count in omega arith) in
           subst (IsCopy f s) (sym cell) (λ there. (let below = there.0.1 in omega arith))
     ]
   ]
@@ -224,16 +243,19 @@ some_linked = some_copies
 
 -- Relocated bytes of some objects, their map and relocation rules are ready to be written, where the map is one that `map` answers.
 
-pub ready_of : (fs : List ObjectValue) (m : LinkMapValue) (rules : List RelocRule) (l : LinkedValue) → IsMapOfSome fs m → IsLinked fs m rules l → IsReadyLink l
+pub ready_of : (fs : List ObjectValue) (m : LinkMapValue) (rules : List RelocRule) (l : LinkedValue) → IsMapOfSome fs m →
+    IsLinked fs m rules l → IsReadyLink l
 ready_of fs m rules l is linked = record {
-  map = subst (λ (n : LinkMapValue). IsMapOfSome l.objects n) (sym linked.same_map) (subst (λ (gs : List ObjectValue). IsMapOfSome gs m) (sym linked.same_objects) is);
+  map = subst (λ (n : LinkMapValue). IsMapOfSome l.objects n) (sym linked.same_map)
+      (subst (λ (gs : List ObjectValue). IsMapOfSome gs m) (sym linked.same_objects) is);
   linked =
       subst (λ (rs : List RelocRule). IsLinked l.objects l.map rs l) (sym linked.same_rules)
       (subst (λ (n : LinkMapValue). IsLinked l.objects n rules l) (sym linked.same_map)
       (subst (λ (gs : List ObjectValue). IsLinked gs m rules l) (sym linked.same_objects) linked));
 }
 
-pub if_ready : {E : Type 0} (fs : List ObjectValue) (m : LinkMapValue) (rules : List RelocRule) (r : Result LinkedValue E) → IfOk r (IsLinked fs m rules) →
+pub if_ready : {E : Type 0} (fs : List ObjectValue) (m : LinkMapValue) (rules : List RelocRule) (r : Result LinkedValue E) →
+    IfOk r (IsLinked fs m rules) →
     IfOk r (λ linked. IsMapOfSome fs m → IsReadyLink linked)
 if_ready fs m rules (Ok l) linked = λ is. ready_of fs m rules l is linked
 if_ready fs m rules (Err fault) linked = linked

@@ -1,6 +1,7 @@
 -- Copies with one more number in its field. Patching changes the bytes of that field alone, and fields share no byte; so after k fields
 -- the copies have the numbers of the first k, and all else as it was.
-use Rattle.std.proofs.Common.{◌≡◌, ℕ, ◌<◌, Bool, true, List, length, arith, ◌≢◌, map, ◌+◌, ◌≤◌, ◌⊎◌, ℤ, [], ◌∷◌, zero, suc, inl, inr, refl, sym, ◌∙◌, ap, subst, ◌++◌, false}
+use Rattle.std.proofs.Common.{◌≡◌, ℕ, ◌<◌, Bool, true, List, length, arith, ◌≢◌, map, ◌+◌, ◌≤◌, ◌⊎◌, ℤ, [], ◌∷◌, zero, suc, inl, inr, refl}
+use Rattle.std.proofs.Common.{sym, ◌∙◌, ap, subst, ◌++◌, false}
 use Rattle.std.specs.Prelude.{IfSome, None, Option, Some, get_or, option_map, slice_index}
 use Rattle.std.specs.Global.{Vec}
 use Rattle.std.proofs.lemmas.Bool.{cases_eq, cases_lt}
@@ -12,12 +13,17 @@ use Rattle.elf_link_files.specs.Files.{object_at, symbol_in}
 use Rattle.elf_link_files.specs.declared.site.Site.{Site}
 use Rattle.elf_link_map.specs.LinkMap.{LinkMapValue}
 use Rattle.elf_link_map.specs.Naming.{AreBindingIndexes, IsBindingIndex, IsBindingAt}
-use Rattle.elf_link_relocate.proofs.Collected.{kept, last, longer, pushed, fields_none, fields_next, seen_none, seen_more, first_site, none_at_field, none_in_list, none_shared, no_overlap, all_within}
+use Rattle.elf_link_relocate.proofs.Collected.{kept, last, longer, pushed, fields_none, fields_next, seen_none, seen_more, first_site}
+use Rattle.elf_link_relocate.proofs.Collected.{none_at_field, none_in_list, none_shared, no_overlap, all_within}
 use Rattle.elf_link_relocate.proofs.Grids.{grid_with, item_here, item_other}
 use Rattle.elf_link_relocate.proofs.Sharing.{ascending_apart}
-use Rattle.elf_link_relocate.specs.Fields.{IsEntrySite, entries_of, entry_at, target_at, target_of, HasField, HasOffset, IsWithin, field_start, addend_of, field_address, number_at, value_at, Share, IsUnplaced, IsFieldOutOfRange, IsValueOutOfRange, SharesEarlier}
+use Rattle.elf_link_relocate.specs.Fields.{IsEntrySite, entries_of, entry_at, target_at, target_of, HasField, HasOffset, IsWithin}
+use Rattle.elf_link_relocate.specs.Fields.{field_start, addend_of, field_address, number_at, value_at, Share, IsUnplaced, IsFieldOutOfRange}
+use Rattle.elf_link_relocate.specs.Fields.{IsValueOutOfRange, SharesEarlier}
 use Rattle.elf_link_relocate.specs.Linked.{IsSectionOf, HasLiveBits, IsGrid, item, with, number_byte}
-use Rattle.elf_link_relocate.specs.Passes.{AreListed, IsListed, field_at, AreKept, IsRead, IsCovered, IsFieldIn, AreAllCopies, AreRelocated, IsCopy, IsRelocated, HaveCopies, IsFieldPatched, IsPatchedOrBroken, AreFoundBefore, AreAllFound, AreFoundInOrder, IsValidatedField, IsSeenNext, copies_view, entry_site, none_seen}
+use Rattle.elf_link_relocate.specs.Passes.{AreListed, IsListed, field_at, AreKept, IsRead, IsCovered, IsFieldIn, AreAllCopies, AreRelocated}
+use Rattle.elf_link_relocate.specs.Passes.{IsCopy, IsRelocated, HaveCopies, IsFieldPatched, IsPatchedOrBroken, AreFoundBefore, AreAllFound}
+use Rattle.elf_link_relocate.specs.Passes.{AreFoundInOrder, IsValidatedField, IsSeenNext, copies_view, entry_site, none_seen}
 use Rattle.elf_link_relocate.specs.Views.{IsFileSymbol}
 use Rattle.elf_link_relocate.specs.declared.field.Field.{Field}
 use Rattle.elf_link_relocate.specs.declared.field.Found.{Found}
@@ -64,12 +70,14 @@ with_file : (fs : List ObjectValue) (f : ℕ) (symbol : Option ℕ) → f < leng
 with_file fs f None file there = tt
 with_file fs f (Some i) file there = (file, there)
 
-pub symbol_in_file : (fs : List ObjectValue) (p : Site) → IsEntrySite fs p → IsObject (object_at fs p.file) → IfSome (entry_at fs p).symbol (IsFileSymbol fs p.file)
+pub symbol_in_file : (fs : List ObjectValue) (p : Site) → IsEntrySite fs p → IsObject (object_at fs p.file) →
+    IfSome (entry_at fs p).symbol (IsFileSymbol fs p.file)
 symbol_in_file fs p there is =
     with_file fs p.file (entry_at fs p).symbol there.file (symbol_there (object_at fs p.file) p.index p.entry is there.section there.entry)
 
 -- the target of an applied entry is a section of its file
-pub target_section : (fs : List ObjectValue) (p : Site) → IsEntrySite fs p → IsObject (object_at fs p.file) → IsSectionOf fs p.file (target_at fs p)
+pub target_section : (fs : List ObjectValue) (p : Site) → IsEntrySite fs p → IsObject (object_at fs p.file) →
+    IsSectionOf fs p.file (target_at fs p)
 target_section fs p there is = (there.file, (target_has_bits (object_at fs p.file) p.index p.entry is there.section there.entry).0)
 
 -- The number of a symbol's name is read.
@@ -83,7 +91,8 @@ index_stands fs m rows row f i k f_in i_in not_local row_is k_is are =
 
 -- ---- at first
 
-copied : (fs : List ObjectValue) (m : LinkMapValue) (ds : List Field) (f s : ℕ) (copy : Option (List ℕ)) → IsCopy fs f s copy → HasLiveBits fs f s →
+copied : (fs : List ObjectValue) (m : LinkMapValue) (ds : List Field) (f s : ℕ) (copy : Option (List ℕ)) → IsCopy fs f s copy →
+    HasLiveBits fs f s →
     (after : List ℕ) × (copy ≡ Some after) × IsRelocated fs m ds 0 f s after
 copied fs m ds f s None never live = absurd (never live)
 copied fs m ds f s (Some bytes) (live, same) there = (
@@ -107,20 +116,24 @@ past_items (x ∷ xs) zero le = absurd (omega arith)
 past_items (x ∷ xs) (suc n) le = past_items xs n (omega arith)
 
 -- a section that is there, or none
-item_or : (fs : List ObjectValue) (rows : List (List (Option (List ℕ)))) (f s : ℕ) → IsGrid fs rows → IsSectionOf fs f s ⊎ (item None rows f s ≡ None)
+item_or : (fs : List ObjectValue) (rows : List (List (Option (List ℕ)))) (f s : ℕ) → IsGrid fs rows →
+    IsSectionOf fs f s ⊎ (item None rows f s ≡ None)
 item_or fs rows f s grid = elim (cases_lt f (length fs)) [
-  | inr above ↦ inr (ap (λ (row : List (Option (List ℕ))). get_or row s None) (past_rows rows f (let files = grid.files in omega arith)) ∙ refl)
+  | inr above ↦
+      inr (ap (λ (row : List (Option (List ℕ))). get_or row s None) (past_rows rows f (let files = grid.files in omega arith)) ∙ refl)
   | inl f_in ↦ elim (cases_lt s (length (object_at fs f).sections)) [
     | inl s_in ↦ inl (f_in, s_in)
     | inr above ↦ inr (past_items (get_or rows f []) s (let sections = grid.sections f f_in in omega arith))
   ]
 ]
 
-live_copy : (fs : List ObjectValue) (f s : ℕ) (copy : Option (List ℕ)) (after : List ℕ) → IsCopy fs f s copy → copy ≡ Some after → HasLiveBits fs f s
+live_copy : (fs : List ObjectValue) (f s : ℕ) (copy : Option (List ℕ)) (after : List ℕ) → IsCopy fs f s copy → copy ≡ Some after →
+    HasLiveBits fs f s
 live_copy fs f s None after never same = absurd (cc)
 live_copy fs f s (Some bytes) after (live, is) same = live
 
-pub relocated_none : (fs : List ObjectValue) (m : LinkMapValue) (ds : List Field) (rows : List (List (Option (List ℕ)))) → AreAllCopies fs (length fs) rows →
+pub relocated_none : (fs : List ObjectValue) (m : LinkMapValue) (ds : List Field) (rows : List (List (Option (List ℕ)))) →
+    AreAllCopies fs (length fs) rows →
     AreRelocated fs m ds 0 rows
 relocated_none fs m ds rows are =
     let grid : IsGrid fs rows = record { files = are.count; sections = λ f lt. (are.each f lt).count } in
@@ -149,11 +162,13 @@ number_in g (Some x) n never is = ap (λ (z : ℤ). Some z) (is (g x) refl)
 pub number_there : (fs : List ObjectValue) (m : LinkMapValue) (d : Field) → (value_at fs m d.site ≡ None → ⊥) → IsWithin fs d.site d.rule →
     IsRead fs m d → number_at fs m d.site d.rule ≡ Some d.number
 number_there fs m d placed within read =
-    number_in (λ (value : ℕ). relocation_number d.rule.form value (addend_of fs d.site d.rule) (field_address fs m d.site)) (value_at fs m d.site) d.number placed
+    number_in (λ (value : ℕ). relocation_number d.rule.form value (addend_of fs d.site d.rule) (field_address fs m d.site))
+    (value_at fs m d.site) d.number placed
     (read.number within)
 
 -- the target of a field is live and has bits
-pub target_live : (fs : List ObjectValue) (rules : List RelocRule) (p : Site) (r : RelocRule) → HasField fs rules p r → IsObject (object_at fs p.file) →
+pub target_live : (fs : List ObjectValue) (rules : List RelocRule) (p : Site) (r : RelocRule) → HasField fs rules p r →
+    IsObject (object_at fs p.file) →
     HasLiveBits fs p.file (target_at fs p)
 target_live fs rules p r has is =
     let there = has.applied.0 in
@@ -177,7 +192,8 @@ module _ (fs : List ObjectValue) (m : LinkMapValue) (ds : List Field) (n : ℕ) 
   size = size_of d.rule.width
 
   -- a field before it in the same section is apart from it
-  apart : (j : ℕ) → j < n → IsFieldIn fs (field_at ds j) f t → (x : ℕ) → HasOffset fs (field_at ds j).site (field_at ds j).rule x → (x < start) ⊎ (start + size ≤ x)
+  apart : (j : ℕ) → j < n → IsFieldIn fs (field_at ds j) f t → (x : ℕ) → HasOffset fs (field_at ds j).site (field_at ds j).rule x →
+      (x < start) ⊎ (start + size ≤ x)
   apart j below at x has = elim (cases_lt x start) [
     | inl before ↦ inl before
     | inr from ↦ elim (cases_lt x (start + size)) [
@@ -205,14 +221,16 @@ module _ (fs : List ObjectValue) (m : LinkMapValue) (ds : List Field) (n : ℕ) 
     long = put.long ∙ is.long;
     inside = λ j lt at other its k below. elim (cases_lt j n) [
       | inl earlier ↦
-          put.outside (field_start fs (field_at ds j).site + k) (apart j earlier at (field_start fs (field_at ds j).site + k) (omega arith, omega arith)) ∙
+          put.outside (field_start fs (field_at ds j).site + k)
+          (apart j earlier at (field_start fs (field_at ds j).site + k) (omega arith, omega arith)) ∙
           is.inside j earlier at other its k below
       | inr later ↦ (
           let same : j ≡ n = omega arith in
           let mine = subst (λ (i : ℕ). number_at fs m (field_at ds i).site (field_at ds i).rule ≡ Some other) same its in
           let value : z ≡ other = same_number z other (sym number ∙ mine) in
           let short = subst (λ (i : ℕ). k < size_of (field_at ds i).rule.width) same below in
-          subst (λ (i : ℕ). slice_index after (field_start fs (field_at ds i).site + k) ≡ number_byte fs (field_at ds i).site (field_at ds i).rule other k) (sym same)
+          subst (λ (i : ℕ). slice_index after (field_start fs (field_at ds i).site + k) ≡
+          number_byte fs (field_at ds i).site (field_at ds i).rule other k) (sym same)
           (put.inside k short ∙ ap (λ (y : ℤ). number_byte fs d.site d.rule y k) value))
     ];
     outside = λ x none. put.outside x (out_of_field x none) ∙ is.outside x (λ covered. none (covered_more f t x covered));
@@ -245,7 +263,8 @@ module _ (fs : List ObjectValue) (m : LinkMapValue) (ds : List Field) (n : ℕ) 
   ]
 
   pub relocated_more : (rows : List (List (Option (List ℕ)))) (copy after : List ℕ) → HasLiveBits fs f t → item None rows f t ≡ Some copy →
-      IsPatched (object_at fs f).order copy start size z after → AreRelocated fs m ds n rows → AreRelocated fs m ds (n + 1) (with rows f t (Some after))
+      IsPatched (object_at fs f).order copy start size z after → AreRelocated fs m ds n rows →
+      AreRelocated fs m ds (n + 1) (with rows f t (Some after))
   relocated_more rows copy after there at put is =
       let f_in : f < length rows = (let files = is.grid.files in let lt = there.0.0 in omega arith) in
       let t_in : t < length (get_or rows f []) = (let sections = is.grid.sections f there.0.0 in let lt = there.0.1 in omega arith) in
@@ -255,7 +274,8 @@ module _ (fs : List ObjectValue) (m : LinkMapValue) (ds : List Field) (n : ℕ) 
       record {
         grid = grid_with None rows f t (Some after) f_in fs is.grid;
         each = λ g s live. elim (cases g s) [
-          | inl (file, section) ↦ rw (file, section) (after, item_here None rows f t (Some after) f_in t_in, relocated_here copy after put here)
+          | inl (file, section) ↦
+              rw (file, section) (after, item_here None rows f t (Some after) f_in t_in, relocated_here copy after put here)
           | inr other ↦ (
               let (its, its_at, its_relocated) = is.each g s live in
               (its, item_other None rows f t (Some after) f_in g s other ∙ its_at, relocated_there g s its other its_relocated))
@@ -270,7 +290,8 @@ module _ (fs : List ObjectValue) (m : LinkMapValue) (ds : List Field) (n : ℕ) 
 -- numbers.
 
 -- at first
-pub copies_none : (fs : List ObjectValue) (m : LinkMapValue) (rows : List (List (Option (List ℕ)))) → AreAllCopies fs (length fs) rows → HaveCopies fs rows
+pub copies_none : (fs : List ObjectValue) (m : LinkMapValue) (rows : List (List (Option (List ℕ)))) → AreAllCopies fs (length fs) rows →
+    HaveCopies fs rows
 copies_none fs m rows are =
     let is = relocated_none fs m [] rows are in
     record {
@@ -279,7 +300,8 @@ copies_none fs m rows are =
     }
 
 -- a patched copy is as long
-copies_patched : (fs : List ObjectValue) (d : Field) (rows new : List (List (Option (List ℕ)))) → HaveCopies fs rows → IsFieldPatched fs d rows new →
+copies_patched : (fs : List ObjectValue) (d : Field) (rows new : List (List (Option (List ℕ)))) → HaveCopies fs rows →
+    IsFieldPatched fs d rows new →
     HaveCopies fs new
 copies_patched fs d rows new have is =
     let f = d.site.file in
@@ -362,12 +384,15 @@ module _ (fs : List ObjectValue) (m : LinkMapValue) (ds : List Field) (new : Fie
       let number = subst (λ (d : Field). number_at fs m d.site d.rule ≡ Some new.number) (sym at)
       (number_there fs m new (subst (λ (d : Field). value_at fs m d.site ≡ None → ⊥) at (are.placed n n_in))
       (subst (λ (d : Field). IsWithin fs d.site d.rule) at (are.within n n_in)) read) in
-      let patched = subst (λ (d : Field). IsPatched (object_at fs d.site.file).order put.copy (field_start fs d.site) (size_of d.rule.width) new.number put.after)
+      let patched =
+      subst (λ (d : Field). IsPatched (object_at fs d.site.file).order put.copy (field_start fs d.site)
+      (size_of d.rule.width) new.number put.after)
       (sym at) put.patched in
       let live = subst (λ (d : Field). HasLiveBits fs d.site.file (target_at fs d.site)) (sym at) put.live in
       let there = subst (λ (d : Field). item None old d.site.file (target_at fs d.site) ≡ Some put.copy) (sym at) put.at in
       let more = relocated_more fs m now n new.number are n_in number old put.copy put.after live there patched (relocated_before old is) in
-      rw (put.new_is, long) (subst (λ (d : Field). AreRelocated fs m now (n + 1) (with old d.site.file (target_at fs d.site) (Some put.after))) at more)
+      rw (put.new_is, long)
+      (subst (λ (d : Field). AreRelocated fs m now (n + 1) (with old d.site.file (target_at fs d.site) (Some put.after))) at more)
 
 -- What is found before the first field, and with one more.
 
@@ -375,12 +400,15 @@ none_listed : (listing : Bool) (list : List Field) → list ≡ [] → AreListed
 none_listed true list none = none
 none_listed false list none = none
 
-listed_more : (listing : Bool) (ds old new : List Field) (d : Field) → AreListed listing ds old → IsListed listing old d new → AreListed listing (ds ++ d ∷ []) new
+listed_more : (listing : Bool) (ds old new : List Field) (d : Field) → AreListed listing ds old → IsListed listing old d new →
+    AreListed listing (ds ++ d ∷ []) new
 listed_more true ds old new d is more = more ∙ ap (λ (l : List Field). l ++ d ∷ []) is
 listed_more false ds old new d is more = more ∙ is
 
-pub found_none : (fs : List ObjectValue) (m : LinkMapValue) (rules : List RelocRule) (listing : Bool) (found : Found) → found.list.items ≡ [] →
-    found.seen ≡ none_seen → AreAllCopies fs (length fs) (copies_view found.copies.items) → AreFoundBefore fs m rules listing (entry_site 0 0 0) found
+pub found_none : (fs : List ObjectValue) (m : LinkMapValue) (rules : List RelocRule) (listing : Bool) (found : Found) →
+    found.list.items ≡ [] →
+    found.seen ≡ none_seen → AreAllCopies fs (length fs) (copies_view found.copies.items) →
+    AreFoundBefore fs m rules listing (entry_site 0 0 0) found
 found_none fs m rules listing found none seen are = (
   [],
   fields_none fs rules,
@@ -393,7 +421,8 @@ found_none fs m rules listing found none seen are = (
   },
 )
 
-pub found_more : (fs : List ObjectValue) (m : LinkMapValue) (rules : List RelocRule) (listing : Bool) (p : Site) (found : Found) (j : Validated) (next : Found) →
+pub found_more : (fs : List ObjectValue) (m : LinkMapValue) (rules : List RelocRule) (listing : Bool) (p : Site) (found : Found)
+    (j : Validated) (next : Found) →
     IsValidatedField fs m rules p j → AreFoundBefore fs m rules listing p found → IsSeenNext found.seen j next.seen →
     IsListed listing found.list.items j.field next.list.items →
     IsPatchedOrBroken fs j (copies_view found.copies.items) (copies_view next.copies.items) →
@@ -438,7 +467,8 @@ found_in_order fs m rules listing found (ds, are, is) listed = record {
   first_unplaced = first_site fs rules ds are (IsUnplaced fs m) found.seen.unplaced is.seen.unplaced;
   first_out_of_range = first_site fs rules ds are (IsFieldOutOfRange fs) found.seen.out_of_range is.seen.out_of_range;
   first_refused = first_site fs rules ds are (IsValueOutOfRange fs m) found.seen.refused is.seen.refused;
-  apart = λ yes. none_at_field fs rules ds are (SharesEarlier fs rules) (no_overlap fs rules ds are (ascending_apart fs m ds is.read (is.seen.ascending.0 yes)));
+  apart = λ yes. none_at_field fs rules ds are (SharesEarlier fs rules)
+      (no_overlap fs rules ds are (ascending_apart fs m ds is.read (is.seen.ascending.0 yes)));
   fields = λ no. rw (subst (λ (b : Bool). AreListed b ds found.list.items) (listed no) is.list) are;
   read = λ no. rw (subst (λ (b : Bool). AreListed b ds found.list.items) (listed no) is.list) is.read;
   copies = λ placed within apart. (

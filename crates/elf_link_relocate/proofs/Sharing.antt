@@ -3,7 +3,8 @@ use Rattle.std.proofs.Common.{◌≡◌, ℕ, ◌+◌, ◌<◌, ◌≤◌, List,
 use Rattle.std.proofs.lemmas.Bool.{cases_lt}
 use Rattle.elf_link_map.specs.LinkMap.{LinkMapValue}
 use Rattle.elf_link_relocate.specs.Fields.{Share}
-use Rattle.elf_link_relocate.specs.Passes.{AreAscending, AreFieldsRead, AreSharing, HasNoOverlap, HasShared, IsFirstOverlappingField, IsFirstSharer, IsInTarget, StandsBehind, field_at}
+use Rattle.elf_link_relocate.specs.Passes.{AreAscending, AreFieldsRead, AreSharing, HasNoOverlap, HasShared, IsFirstOverlappingField}
+use Rattle.elf_link_relocate.specs.Passes.{IsFirstSharer, IsInTarget, StandsBehind, field_at}
 use Rattle.elf_link_relocate.specs.declared.field.Field.{Field}
 use Rattle.elf_object_type.specs.Object.{ObjectValue}
 
@@ -66,7 +67,8 @@ behind_all ds are j (suc k) lt within =
       | inr above ↦ (let same : k ≡ j = omega arith in subst (λ (i : ℕ). StandsBehind (field_at ds i) (field_at ds (k + 1))) same last)
     ])
 
-behind_apart : (fs : List ObjectValue) (d e : Field) → IsInTarget fs d → IsInTarget fs e → StandsBehind d e → Share fs d.site d.rule e.site e.rule → ⊥
+behind_apart : (fs : List ObjectValue) (d e : Field) → IsInTarget fs d → IsInTarget fs e → StandsBehind d e →
+    Share fs d.site d.rule e.site e.rule → ⊥
 behind_apart fs d e at there (inl file) ((same, target), common) = omega arith
 behind_apart fs d e at there (inr (file, inl section)) ((same, target), common) =
     let first = at.target in
@@ -77,7 +79,8 @@ behind_apart fs d e at there (inr (file, inr (section, end))) ((same, target), (
     let second = there.offset in
     omega arith
 
-pub ascending_apart : (fs : List ObjectValue) (m : LinkMapValue) (ds : List Field) → AreFieldsRead fs m ds → AreAscending ds → HasNoOverlap fs ds
+pub ascending_apart : (fs : List ObjectValue) (m : LinkMapValue) (ds : List Field) → AreFieldsRead fs m ds → AreAscending ds →
+    HasNoOverlap fs ds
 ascending_apart fs m ds read are k lt (j, below, share) =
     let j_in : j < length ds = omega arith in
     behind_apart fs (field_at ds j) (field_at ds k) (read j j_in).place (read k lt).place (behind_all ds are j k below lt) share

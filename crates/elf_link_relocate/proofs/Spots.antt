@@ -1,7 +1,8 @@
 -- The search for fields that share a byte. The spots of all fields are sorted, so those of one section stand side by side (`side_by_side`),
 -- and a pass over them searches one section after the other. Two spots have different positions (`once`), also after they were moved. So
 -- two extents that hold a byte are those of two fields.
-use Rattle.std.proofs.Common.{◌≡◌, ℕ, ◌+◌, ◌-◌, ◌<◌, ◌≤◌, ◌⊎◌, Bool, true, false, List, [], ◌∷◌, ◌++◌, get_or, length, map, inl, inr, refl, sym, ◌∙◌, ap, subst, arith, length-append}
+use Rattle.std.proofs.Common.{◌≡◌, ℕ, ◌+◌, ◌-◌, ◌<◌, ◌≤◌, ◌⊎◌, Bool, true, false, List, [], ◌∷◌, ◌++◌, get_or, length, map, inl, inr, refl}
+use Rattle.std.proofs.Common.{sym, ◌∙◌, ap, subst, arith, length-append}
 use Rattle.std.specs.Prelude.{◌↔◌, All, Contains, None, Option, Some, is_some, nat_lt, if◌then◌else◌, cond, option_map, slice_get}
 use Rattle.std.specs.List.{between, swap}
 use Rattle.std.specs.List.Sorted.{IsPermutation}
@@ -14,12 +15,14 @@ use Rattle.std.proofs.lemmas.Cmp.{on_total, then_total}
 use Rattle.std.proofs.lemmas.List.{get_or_append_left, get_or_push, length-map}
 use Rattle.std.proofs.lemmas.List.Edits.{get_or-between, length-between, swapped_from_swap}
 use Rattle.std.proofs.lemmas.List.Elements.{at_read, All-push, All-weaker, Contains-append_left, Contains-push}
-use Rattle.std.proofs.lemmas.List.Sorted.{All-permutation, Contains-permutation, IsPermutation-keeps, IsPermutation-swap, length_permutation, ranks_by, sorted_far}
+use Rattle.std.proofs.lemmas.List.Sorted.{All-permutation, Contains-permutation, IsPermutation-keeps, IsPermutation-swap}
+use Rattle.std.proofs.lemmas.List.Sorted.{length_permutation, ranks_by, sorted_far}
 use Rattle.std.proofs.lemmas.Option.{slice_get-get_or, slice_get-map, slice_get_within}
 use Rattle.elf_extent.specs.Extent.{Doubly, Has, HasAt, IsLowest}
 use Rattle.elf_extent.specs.declared.extent.Extent.{Extent}
 use Rattle.elf_link_field.specs.Field.{size_of}
-use Rattle.elf_link_relocate.specs.Passes.{ArePlacedOnce, AreSharing, AreSorted, AreSpots, AreTogether, HasByte, HasShared, IsFollowed, IsLastOfTarget, IsSpotIn, field_extent, field_at, no_spot, spot_at, spot_cmp}
+use Rattle.elf_link_relocate.specs.Passes.{ArePlacedOnce, AreSharing, AreSorted, AreSpots, AreTogether, HasByte, HasShared, IsFollowed}
+use Rattle.elf_link_relocate.specs.Passes.{IsLastOfTarget, IsSpotIn, field_extent, field_at, no_spot, spot_at, spot_cmp}
 use Rattle.elf_link_relocate.specs.declared.field.Field.{Field}
 use Rattle.elf_link_relocate.specs.declared.overlaps.Spot.{Spot}
 
@@ -32,7 +35,8 @@ spots_none ds = record {
   once = λ a b lt. absurd (omega arith);
 }
 
-module _ (ds : List Field) (n : ℕ) (spots : List Spot) (s : Spot) (is : IsSpotIn ds (n + 1) s) (last : s.position ≡ n) (are : AreSpots ds n spots) where
+module _ (ds : List Field) (n : ℕ) (spots : List Spot) (s : Spot) (is : IsSpotIn ds (n + 1) s) (last : s.position ≡ n)
+    (are : AreSpots ds n spots) where
   abbrev now : List Spot
   now = spots ++ s ∷ []
 
@@ -146,7 +150,8 @@ in_order s t not_less =
 
 module _ (spots : List Spot) (up : AreSorted spots) where
   ordered : (a m : ℕ) → a ≤ m → m < length spots →
-      ((spot_at spots a).file ≤ (spot_at spots m).file) × ((spot_at spots m).file ≡ (spot_at spots a).file → (spot_at spots a).target ≤ (spot_at spots m).target)
+      ((spot_at spots a).file ≤ (spot_at spots m).file) ×
+      ((spot_at spots m).file ≡ (spot_at spots a).file → (spot_at spots a).target ≤ (spot_at spots m).target)
   ordered a m le lt =
       in_order (spot_at spots a) (spot_at spots m)
       (sorted_far (λ (x y : Spot). is_lt (spot_cmp x y)) (ranks_by spot_total (λ (x : Spot). x)) spots up a m no_spot le lt)
@@ -175,7 +180,8 @@ module _ (ds : List Field) (n : ℕ) (spots : List Spot) where
   abbrev Meet : ℕ → ℕ → Type 0
   Meet a b = (x : ℕ) × Has (field_extent ds n (spot_at spots a)) x × Has (field_extent ds n (spot_at spots b)) x
 
-  extent_at : (from end k : ℕ) → from + k < end → end ≤ length spots → slice_get (extents from end) k ≡ Some (field_extent ds n (spot_at spots (from + k)))
+  extent_at : (from end k : ℕ) → from + k < end → end ≤ length spots →
+      slice_get (extents from end) k ≡ Some (field_extent ds n (spot_at spots (from + k)))
   extent_at from end k lt le =
       let run = between from end spots in
       let long = length-between spots from end le in
@@ -186,7 +192,8 @@ module _ (ds : List Field) (n : ℕ) (spots : List Spot) where
   same_extent : (e f : Extent) → Some e ≡ Some f → e ≡ f
   same_extent e f same = cc
 
-  held_at : (from end k x : ℕ) → end ≤ length spots → HasAt (extents from end) k x → (from + k < end) × Has (field_extent ds n (spot_at spots (from + k))) x
+  held_at : (from end k x : ℕ) → end ≤ length spots → HasAt (extents from end) k x →
+      (from + k < end) × Has (field_extent ds n (spot_at spots (from + k))) x
   held_at from end k x le (e, at, has) =
       let many = slice_get_within (extents from end) k e at in
       let long = length-map (between from end spots) (field_extent ds n) in
@@ -210,15 +217,24 @@ module _ (ds : List Field) (n : ℕ) (spots : List Spot) where
           a - from,
           b - from,
           omega arith,
-          (field_extent ds n (spot_at spots a), extent_at from end (a - from) (omega arith) le ∙ ap (λ i. Some (field_extent ds n (spot_at spots i))) at_a, one),
-          (field_extent ds n (spot_at spots b), extent_at from end (b - from) (omega arith) le ∙ ap (λ i. Some (field_extent ds n (spot_at spots i))) at_b, two),
+          (
+            field_extent ds n (spot_at spots a),
+            extent_at from end (a - from) (omega arith) le ∙ ap (λ i. Some (field_extent ds n (spot_at spots i))) at_a,
+            one,
+          ),
+          (
+            field_extent ds n (spot_at spots b),
+            extent_at from end (b - from) (omega arith) le ∙ ap (λ i. Some (field_extent ds n (spot_at spots i))) at_b,
+            two,
+          ),
         ),
       )
 
 -- ---- fields and their spots
 
 -- an extent that holds a byte is that of a field among the first n, which has it
-has_byte : (ds : List Field) (n x : ℕ) (s : Spot) → IsSpotIn ds (length ds) s → Has (field_extent ds n s) x → (s.position < n) × HasByte (field_at ds s.position) x
+has_byte : (ds : List Field) (n x : ℕ) (s : Spot) → IsSpotIn ds (length ds) s → Has (field_extent ds n s) x →
+    (s.position < n) × HasByte (field_at ds s.position) x
 has_byte ds n x s is (from, end) = elim (cases_lt s.position n) [
   | inl lt ↦ (
       let width = subst (λ c. x < s.offset + (if c then size_of (field_at ds s.position).rule.width else 0)) (lt-ltb s.position n lt) end in
@@ -229,11 +245,13 @@ has_byte ds n x s is (from, end) = elim (cases_lt s.position n) [
       absurd (omega arith))
 ]
 
-byte_held : (ds : List Field) (n x : ℕ) (s : Spot) → IsSpotIn ds (length ds) s → s.position < n → HasByte (field_at ds s.position) x → Has (field_extent ds n s) x
+byte_held : (ds : List Field) (n x : ℕ) (s : Spot) → IsSpotIn ds (length ds) s → s.position < n → HasByte (field_at ds s.position) x →
+    Has (field_extent ds n s) x
 byte_held ds n x s is lt (from, end) =
     let start = is.offset in (
       omega arith,
-      subst (λ c. x < s.offset + (if c then size_of (field_at ds s.position).rule.width else 0)) (sym (lt-ltb s.position n lt)) (omega arith),
+      subst (λ c. x < s.offset + (if c then size_of (field_at ds s.position).rule.width else 0)) (sym (lt-ltb s.position n lt))
+          (omega arith),
     )
 
 sharing_swap : (d e : Field) → AreSharing d e → AreSharing e d
@@ -243,7 +261,8 @@ module _ (ds : List Field) (n : ℕ) (spots : List Spot) (are : AreSpots ds (len
   abbrev its : ℕ → ℕ
   its a = (spot_at spots a).position
 
-  pub met_shared : (a b : ℕ) → a < b → b < length spots → AreTogether (spot_at spots a) (spot_at spots b) → Meet ds n spots a b → HasShared ds n
+  pub met_shared : (a b : ℕ) → a < b → b < length spots → AreTogether (spot_at spots a) (spot_at spots b) → Meet ds n spots a b →
+      HasShared ds n
   met_shared a b lt b_in (file, target) (x, one, two) =
       let s = spot_at spots a in
       let t = spot_at spots b in
@@ -269,7 +288,8 @@ module _ (ds : List Field) (n : ℕ) (spots : List Spot) (are : AreSpots ds (len
       (a, a_in, ap (λ z. z.position) there ∙ is)
 
   -- two fields that share a byte have spots that do
-  sharing_met : (a b j k : ℕ) → a < length spots → b < length spots → its a ≡ j → its b ≡ k → j < n → k < n → AreSharing (field_at ds j) (field_at ds k) →
+  sharing_met : (a b j k : ℕ) → a < length spots → b < length spots → its a ≡ j → its b ≡ k → j < n → k < n →
+      AreSharing (field_at ds j) (field_at ds k) →
       AreTogether (spot_at spots a) (spot_at spots b) × Meet ds n spots a b
   sharing_met a b j k a_in b_in at_a at_b j_in k_in sharing =
       let is_s = are.each a no_spot a_in in
@@ -281,7 +301,9 @@ module _ (ds : List Field) (n : ℕ) (spots : List Spot) (are : AreSpots ds (len
       )
 
   -- where no two spots of one section share a byte, no two fields do
-  pub none_met : n ≤ length ds → ((a b : ℕ) → a < b → b < length spots → AreTogether (spot_at spots a) (spot_at spots b) → Meet ds n spots a b → ⊥) → HasShared ds n → ⊥
+  pub none_met : n ≤ length ds →
+      ((a b : ℕ) → a < b → b < length spots → AreTogether (spot_at spots a) (spot_at spots b) → Meet ds n spots a b → ⊥) → HasShared ds n →
+      ⊥
   none_met le apart (j, k, lt, k_in, sharing) =
       let (a, a_in, at_a) = place j (omega arith) in
       let (b, b_in, at_b) = place k (omega arith) in
@@ -292,7 +314,8 @@ module _ (ds : List Field) (n : ℕ) (spots : List Spot) (are : AreSpots ds (len
         | inr above ↦ elim (cases_eq a b) [
           | inl same ↦ (let one : its a ≡ its b = ap its same in omega arith)
           | inr differ ↦ (
-              let (together, meet) = sharing_met b a k j b_in a_in at_b at_a k_in (omega arith) (sharing_swap (field_at ds j) (field_at ds k) sharing) in
+              let (together, meet) =
+              sharing_met b a k j b_in a_in at_b at_a k_in (omega arith) (sharing_swap (field_at ds j) (field_at ds k) sharing) in
               apart b a (omega arith) a_in together meet)
         ]
       ]
@@ -331,7 +354,8 @@ module _ (ds : List Field) (n : ℕ) (spots : List Spot) (i from : ℕ) (lt : i 
     apart = so_far.apart;
   }
 
-  pub searched_past : AreSorted spots → IsLastOfTarget spots i → (((x : ℕ) × Doubly (extents ds n spots from (i + 1)) x) → ⊥) → AreSearched ds n spots (i + 1) (i + 1)
+  pub searched_past : AreSorted spots → IsLastOfTarget spots i → (((x : ℕ) × Doubly (extents ds n spots from (i + 1)) x) → ⊥) →
+      AreSearched ds n spots (i + 1) (i + 1)
   searched_past up last none = record {
     within = omega arith;
     unended = λ below. absurd (omega arith);
@@ -352,7 +376,8 @@ module _ (ds : List Field) (n : ℕ) (spots : List Spot) (i from : ℕ) (lt : i 
       let (g, u) = so_far.run b (omega arith) (omega arith) lt in
       met_shared ds n spots are a b a_b (omega arith) (f ∙ sym g, t ∙ sym u) meet
 
-pub searched_all : (ds : List Field) (n : ℕ) (spots : List Spot) (i from : ℕ) → AreSpots ds (length ds) spots → n ≤ length ds → length spots ≤ i → AreSearched ds n spots i from → HasShared ds n → ⊥
+pub searched_all : (ds : List Field) (n : ℕ) (spots : List Spot) (i from : ℕ) → AreSpots ds (length ds) spots → n ≤ length ds →
+    length spots ≤ i → AreSearched ds n spots i from → HasShared ds n → ⊥
 searched_all ds n spots i from are le past all =
     none_met ds n spots are le (λ a b a_b b_in. (
     let le_i = all.within in

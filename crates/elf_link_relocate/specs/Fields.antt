@@ -1,6 +1,7 @@
 -- The fields of applied entries: the bytes of their targets that they change.
 -- (gABI chapter 4, Relocation: r_offset; relocation rules are this project's profile.)
-use Rattle.std.specs.Prelude.{ℕ, ◌<◌, Bool, false, List, [], get_or, length, ◌≡◌, ◌≢◌, ◌+◌, ◌≤◌, ◌^◌, if◌then◌else◌, nat_eq, Option, None, Some, option_map, IfSome, ℤ, ◌∷◌}
+use Rattle.std.specs.Prelude.{ℕ, ◌<◌, Bool, false, List, [], get_or, length, ◌≡◌, ◌≢◌, ◌+◌, ◌≤◌, ◌^◌, if◌then◌else◌, nat_eq, Option, None}
+use Rattle.std.specs.Prelude.{Some, option_map, IfSome, ℤ, ◌∷◌}
 use Rattle.elf_field.specs.Abi.{STB_LOCAL}
 use Rattle.elf_image_rules.specs.Rows.{Row, Ruled, rule}
 use Rattle.elf_link_field.specs.Field.{IsFirstRelocationRule, size_of, addend_at, relocation_number, Admits, HasNoRelocationRule}

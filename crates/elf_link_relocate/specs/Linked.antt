@@ -1,6 +1,7 @@
 -- The relocated bytes of a link, as a value, and when they are those of some objects, their map and relocation rules.
 -- (gABI chapter 4, Relocation.)
-use Rattle.std.specs.Prelude.{◌≡◌, ℕ, ◌<◌, List, [], get_or, length, set, None, ◌+◌, ◌≤◌, ◌⊎◌, Some, ℤ, slice_index, true, MatchOption, Option}
+use Rattle.std.specs.Prelude.{◌≡◌, ℕ, ◌<◌, List, [], get_or, length, set, None, ◌+◌, ◌≤◌, ◌⊎◌, Some, ℤ, slice_index, true, MatchOption}
+use Rattle.std.specs.Prelude.{Option}
 use Rattle.elf_field.specs.Bytes.{IsBytes, bytes_of}
 use Rattle.elf_link_field.specs.Field.{modulo, size_of}
 use Rattle.elf_link_field.specs.declared.rule.RelocRule.{RelocRule}
@@ -11,7 +12,8 @@ use Rattle.elf_link_files.specs.declared.site.Site.{Site}
 use Rattle.elf_link_map.specs.LinkMap.{FirstOfLink, IsLinkMap, LinkMapValue, with_options}
 use Rattle.elf_link_map.specs.Standing.{StandApart, member_address, member_at, output_at, output_end, BeginsAt}
 use Rattle.elf_link_outputs.specs.Placed.{cell, common_at}
-use Rattle.elf_link_relocate.specs.Fields.{HasField, content_in, field_address, field_end, field_start, number_at, target_at, applied_entry_rules}
+use Rattle.elf_link_relocate.specs.Fields.{HasField, content_in, field_address, field_end, field_start, number_at, target_at}
+use Rattle.elf_link_relocate.specs.Fields.{applied_entry_rules}
 use Rattle.elf_link_relocate.specs.declared.linked.Identity.{Identity}
 use Rattle.elf_object_type.specs.Object.{ObjectValue, is_bits}
 

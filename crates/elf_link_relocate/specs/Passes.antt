@@ -1,5 +1,6 @@
 -- What the passes over the entries and the fields of a link look at, collect and return.
-use Rattle.std.specs.Prelude.{List, ◌≡◌, ℕ, ◌<◌, pos, get_or, length, Some, ℤ, ◌↔◌, Bool, true, false, if◌then◌else◌, nat_lt, MatchOption, Option, None, [], map, ◌+◌, ◌≤◌, ◌⊎◌, slice_index, option_map, IfSome, ◌++◌, ◌∷◌, All, Contains}
+use Rattle.std.specs.Prelude.{List, ◌≡◌, ℕ, ◌<◌, pos, get_or, length, Some, ℤ, ◌↔◌, Bool, true, false, if◌then◌else◌, nat_lt, MatchOption}
+use Rattle.std.specs.Prelude.{Option, None, [], map, ◌+◌, ◌≤◌, ◌⊎◌, slice_index, option_map, IfSome, ◌++◌, ◌∷◌, All, Contains}
 use Rattle.std.specs.Global.{Vec}
 use Rattle.std.specs.List.Sorted.{IsSorted}
 use Rattle.std.specs.Ordering.{nat_cmp, ordering_then}
@@ -19,7 +20,9 @@ use Rattle.elf_link_files.specs.declared.fault.LinkFault.TheVariants.{Rule, OutO
 use Rattle.elf_link_files.specs.declared.fault.LinkFault.{LinkFault}
 use Rattle.elf_link_files.specs.declared.site.Site.{Site}
 use Rattle.elf_link_map.specs.LinkMap.{LinkMapValue}
-use Rattle.elf_link_relocate.specs.Fields.{HasField, no_rule, IsFieldOutOfRange, IsUnplaced, IsValueOutOfRange, target_at, IsWithin, field_start, number_at, HasOffset, Share, content_in, fields_overlap, field_out_of_range, unplaced, value_out_of_range}
+use Rattle.elf_link_relocate.specs.Fields.{HasField, no_rule, IsFieldOutOfRange, IsUnplaced, IsValueOutOfRange, target_at, IsWithin}
+use Rattle.elf_link_relocate.specs.Fields.{field_start, number_at, HasOffset, Share, content_in, fields_overlap, field_out_of_range}
+use Rattle.elf_link_relocate.specs.Fields.{unplaced, value_out_of_range}
 use Rattle.elf_link_relocate.specs.Linked.{IsGrid, IsSectionOf, item, with, HasLiveBits, number_byte}
 use Rattle.elf_link_relocate.specs.declared.field.Field.{Field}
 use Rattle.elf_link_relocate.specs.declared.field.FieldTest.TheVariants.{FieldOutOfRange, Unplaced, ValueOutOfRange}
@@ -311,12 +314,15 @@ copies_view rows = map (λ row. map copy_view row.items) rows
 -- the first n fields hold their numbers in section s of file f, and its other bytes are those of the input
 pub record IsRelocated (fs : List ObjectValue) (m : LinkMapValue) (ds : List Field) (n f s : ℕ) (after : List ℕ) : Type 0 where
   pub long : length after ≡ length (content_in fs f s)
-  pub inside : (j : ℕ) → j < n → IsFieldIn fs (field_at ds j) f s → (z : ℤ) → number_at fs m (field_at ds j).site (field_at ds j).rule ≡ Some z →
-      (k : ℕ) → k < size_of (field_at ds j).rule.width → slice_index after (field_start fs (field_at ds j).site + k) ≡ number_byte fs (field_at ds j).site (field_at ds j).rule z k
+  pub inside : (j : ℕ) → j < n → IsFieldIn fs (field_at ds j) f s → (z : ℤ) →
+      number_at fs m (field_at ds j).site (field_at ds j).rule ≡ Some z →
+      (k : ℕ) → k < size_of (field_at ds j).rule.width →
+      slice_index after (field_start fs (field_at ds j).site + k) ≡ number_byte fs (field_at ds j).site (field_at ds j).rule z k
   pub outside : (x : ℕ) → (IsCovered fs ds n f s x → ⊥) → slice_index after x ≡ slice_index (content_in fs f s) x
 
 -- each live section with bits has a copy, relocated so far, and no other section has one
-pub record AreRelocated (fs : List ObjectValue) (m : LinkMapValue) (ds : List Field) (n : ℕ) (rows : List (List (Option (List ℕ)))) : Type 0 where
+pub record AreRelocated (fs : List ObjectValue) (m : LinkMapValue) (ds : List Field) (n : ℕ)
+    (rows : List (List (Option (List ℕ)))) : Type 0 where
   pub grid : IsGrid fs rows
   pub each : (f s : ℕ) → HasLiveBits fs f s → (after : List ℕ) × (item None rows f s ≡ Some after) × IsRelocated fs m ds n f s after
   pub others : (f s : ℕ) (after : List ℕ) → item None rows f s ≡ Some after → HasLiveBits fs f s
@@ -344,7 +350,8 @@ IsPatchedIn o old f s x n z new =
 -- each live section with bits has a copy that is as long
 pub record HaveCopies (fs : List ObjectValue) (rows : List (List (Option (List ℕ)))) : Type 0 where
   pub grid : IsGrid fs rows
-  pub each : (f s : ℕ) → HasLiveBits fs f s → (copy : List ℕ) × (item None rows f s ≡ Some copy) × (length copy ≡ length (content_in fs f s))
+  pub each : (f s : ℕ) → HasLiveBits fs f s →
+      (copy : List ℕ) × (item None rows f s ≡ Some copy) × (length copy ≡ length (content_in fs f s))
 
 -- the copy of a field's section holds the field's number in it now
 pub record IsFieldPatched (fs : List ObjectValue) (d : Field) (old new : List (List (Option (List ℕ)))) : Type 0 where

@@ -5,7 +5,8 @@ use Rattle.elf_link_map.specs.Naming.{AreBindingIndexes}
 use Rattle.elf_link_map.specs.Standing.{AreObjects, ObjectsFit}
 use Rattle.elf_link_relocate.specs.Fields.{IsApplied, body_at, entry_at, is_rela, target_at, HasField}
 use Rattle.elf_link_relocate.specs.Linked.{LinkedValue, MappedValue, IsMapOfSome, IsSoundMap}
-use Rattle.elf_link_relocate.specs.Passes.{copies_view, LinkingValue, FieldOfValue, IsInTarget, AreFields, FieldListValue, AreFieldsRead, AllWithin}
+use Rattle.elf_link_relocate.specs.Passes.{copies_view, LinkingValue, FieldOfValue, IsInTarget, AreFields, FieldListValue, AreFieldsRead}
+use Rattle.elf_link_relocate.specs.Passes.{AllWithin}
 use Rattle.elf_link_relocate.specs.declared.field.Entry.{Entry}
 use Rattle.elf_link_relocate.specs.declared.field.FieldList.TheInside.{Inside as FieldListInside}
 use Rattle.elf_link_relocate.specs.declared.linked.Linked.TheInside.{Inside}

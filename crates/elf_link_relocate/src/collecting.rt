@@ -1,10 +1,17 @@
 //! A pass over all entries of a link, in order.
+//!
+//! One pass relocates, and keeps no list of fields. It puts each number into its place, and keeps the first entry that breaks each of rules
+//! 13, 14 and 16, and whether the fields ascend, as compilers write them. Fields that ascend share no byte. If they do not, a second pass
+//! lists them too. They are sorted by section, and `first_double` searches the fields of each. If it finds a byte that two have, the entry
+//! of rule 15 is the last one of the shortest beginning of the list in which `first_double` finds one: the list is halved again and again.
+//! So memory follows the fields, and not the bytes of the sections.
 ghost use Rattle.std.specs.Prelude.{◌≡◌, ◌↔◌, IsTrue, ◌+◌, ◌^◌, ◌<◌, IfErr, IfOk, OnOk, length};
 ghost use Rattle.elf_link_files.specs.Files.{Live, Discarded};
 ghost use Rattle.elf_link_relocate.specs.Fields.{content_in, content_of as content_of_body};
 ghost use Rattle.elf_link_relocate.specs.Linked.{IsSectionOf};
 ghost use Rattle.elf_object_type.specs.ObjectView.{body_value};
-ghost use Rattle.elf_link_relocate.specs.Passes.{AreAllFound, AreFoundBefore, entry_site, first_of as first_site, IsListed, IsRuleFault, IsSeenNext, none_seen, NoneUnruled};
+ghost use Rattle.elf_link_relocate.specs.Passes.{AreAllFound, AreFoundBefore, entry_site, first_of as first_site, IsListed, IsRuleFault};
+ghost use Rattle.elf_link_relocate.specs.Passes.{IsSeenNext, none_seen, NoneUnruled};
 ghost use Rattle.elf_link_relocate.specs.Views.{IsAppliedEntry};
 
 use crate::copies::{all_copies, patch_field};
@@ -120,7 +127,9 @@ impl<'f, 'v, 'l, 'a> FieldOf<'f, 'v, 'l, 'a> {
     /// Adds it to what was found before it, and puts its number into its place.
     fn push(&self, listing: bool, found: &mut Found) -> Result<(), LinkFault>
         requires { AreFoundBefore self.now.objects self.now.map self.now.rules listing self.now.field.site found.old }
-        ensures ok { OnOk result (AreFoundBefore self.now.objects self.now.map self.now.rules listing (entry_site self.now.field.site.file self.now.field.site.index (self.now.field.site.entry + 1)) found.new) }
+        ensures ok { OnOk result
+            (AreFoundBefore self.now.objects self.now.map self.now.rules listing
+            (entry_site self.now.field.site.file self.now.field.site.index (self.now.field.site.entry + 1)) found.new) }
         ensures err { IfErr result (IsRuleFault self.now.objects self.now.rules) }
     {
         let validated = self.validated();
@@ -141,7 +150,9 @@ fn push_entry(
     requires entry { IsAppliedEntry values.now.objects entry }
     requires before { AreFoundBefore values.now.objects values.now.map values.now.rules listing entry.site found.old }
     requires fits { entry.site.entry + 1 < 2 ^ 64 }
-    ensures ok { OnOk result (AreFoundBefore values.now.objects values.now.map values.now.rules listing (entry_site entry.site.file entry.site.index (entry.site.entry + 1)) found.new) }
+    ensures ok { OnOk result
+        (AreFoundBefore values.now.objects values.now.map values.now.rules listing
+        (entry_site entry.site.file entry.site.index (entry.site.entry + 1)) found.new) }
     ensures err { IfErr result (IsRuleFault values.now.objects values.now.rules) }
 {
     let linking = values.linking();
@@ -176,7 +187,8 @@ fn push_section(
 ) -> Result<(), LinkFault>
     requires section { IsSectionOf values.now.objects file index }
     requires before { AreFoundBefore values.now.objects values.now.map values.now.rules listing (entry_site file index 0) found.old }
-    ensures ok { OnOk result (AreFoundBefore values.now.objects values.now.map values.now.rules listing (entry_site file (index + 1) 0) found.new) }
+    ensures ok { OnOk result
+        (AreFoundBefore values.now.objects values.now.map values.now.rules listing (entry_site file (index + 1) 0) found.new) }
     ensures err { IfErr result (IsRuleFault values.now.objects values.now.rules) }
 {
     let linking = values.linking();
@@ -213,7 +225,8 @@ fn push_file(
 ) -> Result<(), LinkFault>
     requires file { file < length values.now.objects }
     requires before { AreFoundBefore values.now.objects values.now.map values.now.rules listing (entry_site file 0 0) found.old }
-    ensures ok { OnOk result (AreFoundBefore values.now.objects values.now.map values.now.rules listing (entry_site (file + 1) 0 0) found.new) }
+    ensures ok { OnOk result
+        (AreFoundBefore values.now.objects values.now.map values.now.rules listing (entry_site (file + 1) 0 0) found.new) }
     ensures err { IfErr result (IsRuleFault values.now.objects values.now.rules) }
 {
     let linking = values.linking();

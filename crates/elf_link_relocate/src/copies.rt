@@ -2,7 +2,8 @@
 ghost use Rattle.std.specs.Prelude.{◌≡◌, ◌<◌, IfOk, length, map as map_list, ◌+◌, [], get_or};
 ghost use Rattle.elf_link_files.specs.Files.{object_at};
 ghost use Rattle.elf_link_relocate.specs.Linked.{IsSectionOf};
-ghost use Rattle.elf_link_relocate.specs.Passes.{AreAllCopies, AreCopies, HasRoom, HaveCopies, IsCopy, IsValidatedField, IsPatchedIn, IsPatchedOrBroken, copies_view, copy_view};
+ghost use Rattle.elf_link_relocate.specs.Passes.{AreAllCopies, AreCopies, HasRoom, HaveCopies, IsCopy, IsValidatedField, IsPatchedIn};
+ghost use Rattle.elf_link_relocate.specs.Passes.{IsPatchedOrBroken, copies_view, copy_view};
 ghost use Rattle.elf_link_field.specs.Field.{size_of};
 
 use crate::collecting::is_live;
@@ -43,7 +44,8 @@ fn file_copies(
     file: usize,
 ) -> Result<Vec<Option<Vec<u8>>>, AllocError>
     requires { file < length linking.now.objects }
-    ensures { IfOk result (λ row. AreCopies linking.now.objects file (length (object_at linking.now.objects file).sections) (map_list copy_view row.items)) }
+    ensures { IfOk result
+        (λ row. AreCopies linking.now.objects file (length (object_at linking.now.objects file).sections) (map_list copy_view row.items)) }
 {
     let objects = linking.objects;
     let mut row = Vec::new(alloc);

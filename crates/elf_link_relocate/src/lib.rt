@@ -1,6 +1,9 @@
 //! The relocated bytes of a link of ELF-64 objects (gABI chapter 4, Relocation): the number of each applied relocation in its
 //! field, by relocation rules.
 //!
+//! It asks one thing of a link map: that it is the map of the objects, and that none of rules 1 to 11 is broken (`IsMapButOptions`). What
+//! holds of every [`Linked`] is its invariant.
+//!
 //! [`relocate`] returns the bytes of each live section ([`Linked`]), or the first of rules 12 to 16 ([`rules`]) that is broken.
 //! [`loads`] lists the stretches of memory that a link has.
 //!

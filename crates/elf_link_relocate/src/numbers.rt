@@ -1,6 +1,7 @@
 //! The numbers of fields (gABI chapter 4, Relocation).
 ghost use Rattle.std.specs.Prelude.{◌≡◌, ◌↔◌, ◌^◌, ◌<◌, IsTrue, Some, pos, neg_ℤ, ◌<ℤ◌, ◌≤ℤ◌};
-ghost use Rattle.elf_link_relocate.specs.Fields.{HasField, IsWithin, content_at, addend_of as addend_at, field_address as field_address_of, number_at, IsFieldOutOfRange, IsSmall, value_at};
+ghost use Rattle.elf_link_relocate.specs.Fields.{HasField, IsWithin, content_at, addend_of as addend_at, field_address as field_address_of};
+ghost use Rattle.elf_link_relocate.specs.Fields.{number_at, IsFieldOutOfRange, IsSmall, value_at};
 ghost use Rattle.elf_link_relocate.specs.Passes.{IsValidatedField, IsInTarget};
 
 use crate::collecting::content;

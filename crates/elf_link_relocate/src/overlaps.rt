@@ -1,7 +1,8 @@
 //! Rule 15: the first field that shares a byte with one before it.
 ghost use Rattle.std.specs.Prelude.{◌≡◌, ◌↔◌, ◌+◌, ◌<◌, ◌≤◌, All, IfOk, IsTrue, MatchOption, length, map as map_list, false, ℕ};
 ghost use Rattle.elf_extent.specs.Extent.{Doubly};
-ghost use Rattle.elf_link_relocate.specs.Passes.{AreSorted, AreSpots, HasNoOverlap, HasShared, IsFirstOverlappingField, IsFirstSharer, IsFollowed, IsLastOfTarget, IsSpotIn, StandsBehind, field_extent};
+ghost use Rattle.elf_link_relocate.specs.Passes.{AreSorted, AreSpots, HasNoOverlap, HasShared, IsFirstOverlappingField, IsFirstSharer};
+ghost use Rattle.elf_link_relocate.specs.Passes.{IsFollowed, IsLastOfTarget, IsSpotIn, StandsBehind, field_extent};
 
 use crate::field::{Field, FieldList};
 use elf_extent::{Extent, OutOfMemory, first_double};
@@ -147,7 +148,9 @@ fn first_sharer(alloc: Global, fields: &[Field], spots: &[Spot]) -> Result<usize
 impl<'f, 'v, 'l, 'a> FieldList<'f, 'v, 'l, 'a> {
     /// Rule 15: the first field that shares a byte with one before it. It sorts the fields, so it is asked only where they do not ascend.
     pub(crate) fn first_overlap(&self, alloc: Global) -> Result<Option<usize>, AllocError>
-        ensures { IfOk result (λ found. MatchOption found (HasNoOverlap self.now.objects self.now.fields) (IsFirstOverlappingField self.now.objects self.now.fields)) }
+        ensures { IfOk result
+            (λ found. MatchOption found (HasNoOverlap self.now.objects self.now.fields)
+            (IsFirstOverlappingField self.now.objects self.now.fields)) }
     {
         let fields = self.fields;
         let spots = sorted_spots(alloc, fields)?;

@@ -2,7 +2,8 @@
 ghost use Rattle.std.specs.Prelude.{◌≡◌, IfErr, IfOk, None, OnOk, Some, map as map_list};
 ghost use Rattle.elf_extent.specs.Extent.{Never};
 ghost use Rattle.elf_link_files.specs.Rows.{FirstAmong};
-ghost use Rattle.elf_link_relocate.specs.Passes.{AreFoundInOrder, AreRelocatedCopies, IsOverlapFault, IsRuleFault, NoneUnruled, copies_view, test_number};
+ghost use Rattle.elf_link_relocate.specs.Passes.{AreFoundInOrder, AreRelocatedCopies, IsOverlapFault, IsRuleFault, NoneUnruled};
+ghost use Rattle.elf_link_relocate.specs.Passes.{copies_view, test_number};
 ghost use Rattle.elf_link_relocate.specs.Fields.{IsRelocationFault, applied_entry_rules, field_out_of_range, fields_overlap};
 ghost use Rattle.elf_link_map.specs.Naming.{AreBindingIndexes};
 ghost use Rattle.elf_link_map.specs.LinkMap.{IsOnlyFault, IsOnlyFirst};
@@ -86,7 +87,8 @@ fn found_in_order(alloc: Global, values: &Values<'_, '_, '_>) -> Result<Found, L
 
 /// The copies of the live sections with bits, each field with its number. Returns the first of rules 12 to 16 that is broken.
 fn relocated_copies(alloc: Global, values: Values<'_, '_, '_>) -> Result<Copies, LinkFault>
-    ensures copies { IfOk result (λ copies. AreRelocatedCopies values.entry.objects values.entry.map values.entry.rules (copies_view copies.items)) }
+    ensures copies { IfOk result
+        (λ copies. AreRelocatedCopies values.entry.objects values.entry.map values.entry.rules (copies_view copies.items)) }
     ensures sound { OnOk result (FirstAmong (applied_entry_rules values.entry.objects values.entry.map values.entry.rules) None) }
     ensures err { IfErr result (IsRelocationFault values.entry.objects values.entry.map values.entry.rules) }
 {

@@ -1,11 +1,15 @@
 //! The values of symbols at the addresses of a link map (gABI chapter 4, Symbol Table: `st_value`).
+//!
+//! The value of a name is computed for each relocation that asks. It is two look-ups; a list of values would take 32 bytes a name.
 ghost use Rattle.std.specs.Prelude.{◌≡◌, ◌≢◌, ◌+◌, ◌<◌, IfSome, length, map as map_list};
 ghost use Rattle.elf_field.specs.Abi.{STB_LOCAL};
 ghost use Rattle.elf_link_files.specs.Files.{object_at, symbol_in};
 ghost use Rattle.elf_link_map.specs.Naming.{AreBindingIndexes, IsBindingAt};
 ghost use Rattle.elf_object_type.specs.Object.{binding as binding_of};
 ghost use Rattle.elf_object_type.specs.declared.parts.Place.TheVariants.{In as InSection};
-ghost use Rattle.elf_link_relocate.specs.Fields.{IsSmall, binding_value as binding_value_of, definition_value as definition_value_of, name_value as name_value_of, place_value as place_value_of, reference_value, resolved_value as resolved_value_of};
+ghost use Rattle.elf_link_relocate.specs.Fields.{IsSmall, binding_value as binding_value_of, definition_value as definition_value_of};
+ghost use Rattle.elf_link_relocate.specs.Fields.{name_value as name_value_of, place_value as place_value_of, reference_value};
+ghost use Rattle.elf_link_relocate.specs.Fields.{resolved_value as resolved_value_of};
 ghost use Rattle.elf_link_relocate.specs.Views.{IsFileSymbol};
 
 use elf_field::abi::*;

@@ -1,7 +1,8 @@
 -- A canonical layout of at most 2^30 bytes is the file of its object, if the object keeps the rules and fits its fields. It is accepted,
 -- denotes this object and no other, and is its only layout. These are the facts of `WrittenObjects`, with `one_object` and `one_layout`. So
 -- a result that writes the layout writes this file.
-use Rattle.std.proofs.Common.{◌<◌, ◌+◌, ◌*◌, ◌/◌, ◌%◌, ◌^◌, ℕ, zero, suc, Bool, true, false, Option, None, Some, List, [], ◌∷◌, get_or, map, sym, subst, arith, ◌≡◌, ◌≢◌, ◌≤◌, ◌-◌, length, refl, ap, ◌∙◌, inl, inr}
+use Rattle.std.proofs.Common.{◌<◌, ◌+◌, ◌*◌, ◌/◌, ◌%◌, ◌^◌, ℕ, zero, suc, Bool, true, false, Option, None, Some, List, [], ◌∷◌, get_or, map}
+use Rattle.std.proofs.Common.{sym, subst, arith, ◌≡◌, ◌≢◌, ◌≤◌, ◌-◌, length, refl, ap, ◌∙◌, inl, inr}
 use Rattle.std.specs.Prelude.{◌==◌, if◌then◌else◌, bit_and, drop, codes, nat_lt, slice_index, Result, Ok, Err}
 use Rattle.std.specs.List.{AllByRecursion}
 use Rattle.std.proofs.lemmas.List.{ext_get_or, get_or-map, length-map}
@@ -21,17 +22,20 @@ use Rattle.elf_image_rules.specs.KeepsRules.{IsAlignment, KeepsNameRules}
 use Rattle.elf_image_rules.specs.Rows.{FirstIn}
 use Rattle.elf_image_rules.specs.Rules.{MAX_LEN, IsFault}
 use Rattle.elf_image_rules.specs.Tables.{name_table, no_section_header, content_extent, section_header_of, order_of}
-use Rattle.elf_image_type.proofs.Public.{IsBytes-identification, identification_kept, image_is_sound, relocatable_accepted, relocatable_is_bytes, relocatable_read, some_image}
-use Rattle.elf_image_type.specs.ImageView.{string}
+use Rattle.elf_image_type.proofs.Public.{IsBytes-identification, identification_kept, image_is_sound, relocatable_accepted}
+use Rattle.elf_image_type.proofs.Public.{relocatable_is_bytes, relocatable_read, some_image}
+use Rattle.elf_field.specs.Strings.{string}
 use Rattle.elf_image_type.specs.WrittenFile.{IsRelocatableFile, all_headers, short_count, relocatable_bytes}
 use Rattle.elf_object_file.proofs.WrittenDenotes.{written_denotes}
 use Rattle.elf_object_file.proofs.WrittenFile.{EachKind, PlainFits, each_plain, plain_fits, section_names_are}
 use Rattle.elf_object_file.proofs.WrittenRules.{written_keeps_rules}
 use Rattle.elf_object_file.proofs.WrittenSections.{content_short, names_short, table_short, written_section}
-use Rattle.elf_object_file.specs.ObjectFile.{IsWrittenAt, written_sections, IsWrittenAs, IsWrittenFile, IsObjectWritten, empty_object, empty_object_bytes, one_section, one_section_bytes}
+use Rattle.elf_object_file.specs.ObjectFile.{IsWrittenAt, written_sections, IsWrittenAs, IsWrittenFile, IsObjectWritten, empty_object}
+use Rattle.elf_object_file.specs.ObjectFile.{empty_object_bytes, one_section, one_section_bytes}
 use Rattle.elf_object_reader.proofs.Public.{denoted_with, relocations_denoted, object_kept, one_object}
 use Rattle.elf_object_layout.specs.SectionsLeftOut.{left_out, symbol_table}
-use Rattle.elf_object_reader.specs.Denotes.{Denotes, body_denoted, info_denoted, plain_info, relocation_denoted, section_denoted, section_name_of, symbol_denoted, symbols_denoted, body_kind, kept, position_of}
+use Rattle.elf_object_reader.specs.Denotes.{Denotes, body_denoted, info_denoted, plain_info, relocation_denoted, section_denoted}
+use Rattle.elf_object_reader.specs.Denotes.{section_name_of, symbol_denoted, symbols_denoted, body_kind, kept, position_of}
 use Rattle.elf_object_reader.specs.FileRules.{file_rules}
 use Rattle.elf_object_reader.specs.declared.object_file.BodyKind.TheVariants.{Bits, NoBits, Relocs, Group}
 use Rattle.elf_object_reader.specs.declared.object_file.BodyKind.{BodyKind}
@@ -42,8 +46,10 @@ use Rattle.elf_object_type.proofs.Public.{relocations_fit as table_fits, all_of_
 use Rattle.elf_object_type.specs.Object.{ObjectValue, BodyFits, InfoFits, ObjectFits, RelocationFits, SectionFits, SymbolFits, section_at}
 use Rattle.elf_object_type.specs.ObjectRules.{IsObject}
 use Rattle.elf_object_layout.proofs.Public.{shared_names}
-use Rattle.elf_object_layout.proofs.Public.{canonical_header, canonical_section_headers, contents_of, last_sections, layout_order, length-canonical_section_headers, length-plain, no_plain, plain_at, plain_last, one_layout}
-use Rattle.elf_object_layout.specs.Laid.{section_header, PlainSection, has_index_table, name_table_at, plain_sections, section_names, strings, strings_at, symbol_table_at, Laid, layout_bytes, layout_parts, sections_before_names}
+use Rattle.elf_object_layout.proofs.Public.{canonical_header, canonical_section_headers, contents_of, last_sections, layout_order}
+use Rattle.elf_object_layout.proofs.Public.{length-canonical_section_headers, length-plain, no_plain, plain_at, plain_last, one_layout}
+use Rattle.elf_object_layout.specs.Laid.{section_header, PlainSection, has_index_table, name_table_at, plain_sections, section_names}
+use Rattle.elf_object_layout.specs.Laid.{strings, strings_at, symbol_table_at, Laid, layout_bytes, layout_parts, sections_before_names}
 use Rattle.elf_object_writer.specs.PlacedObject.{IsLayoutWritten}
 use Rattle.elf_object_writer.specs.declared.object_writing.ObjectWriteFault.TheVariants.{TooLong, OutOfMemory, Io}
 use Rattle.elf_object_writer.specs.declared.object_writing.ObjectWriteFault.{ObjectWriteFault}
@@ -66,7 +72,8 @@ all_mapped : {A B : Type 0} (P : B → Type 0) (f : A → B) → ((x : A) → P 
 all_mapped P f each [] = tt
 all_mapped P f each (x ∷ xs) = (each x, all_mapped P f each xs)
 
-all_through : {A B : Type 0} (P : A → Type 0) (Q : B → Type 0) (f : A → B) → ((x : A) → P x → Q (f x)) → (xs : List A) → AllByRecursion P xs → AllByRecursion Q (map f xs)
+all_through : {A B : Type 0} (P : A → Type 0) (Q : B → Type 0) (f : A → B) → ((x : A) → P x → Q (f x)) → (xs : List A) →
+    AllByRecursion P xs → AllByRecursion Q (map f xs)
 all_through P Q f each [] all = tt
 all_through P Q f each (x ∷ xs) all = (each x all.0, all_through P Q f each xs all.1)
 
@@ -102,17 +109,27 @@ record EntryFits (s : table_symbols.SymbolEntryValue) : Type 0 where
   value : s.value < 2 ^ 64
   size : s.size < 2 ^ 64
 
-entry_fits : (o : Order) (table names words : List ℕ) → IsBytes table → IsBytes names → (j : ℕ) → EntryFits (symbol_entry_in o table names words j)
+entry_fits : (o : Order) (table names words : List ℕ) → IsBytes table → IsBytes names → (j : ℕ) →
+    EntryFits (symbol_entry_in o table names words j)
 unfolding symbol_entry_in entry
 entry_fits o table names words bytes names_bytes j =
     let fits = sym_laws.valid o table (24 * j) bytes in
     let e = entry o table j in
     let whole : 16 * (e.st_info / 16) + e.st_info % 16 < 2 ^ 8 = (let info = fits.st_info in omega arith) in
-    record { name = IsBytes-string names e.st_name names_bytes; info = whole; other = fits.st_other; value = fits.st_value; size = fits.st_size }
+    record {
+      name = IsBytes-string names e.st_name names_bytes;
+      info = whole;
+      other = fits.st_other;
+      value = fits.st_value;
+      size =
+          fits.st_size;
+    }
 
-entries_fit : (o : Order) (table names words : List ℕ) → IsBytes table → IsBytes names → AllByRecursion EntryFits (symbols_in o table names words)
+entries_fit : (o : Order) (table names words : List ℕ) → IsBytes table → IsBytes names →
+    AllByRecursion EntryFits (symbols_in o table names words)
 unfolding symbols_in
-entries_fit o table names words bytes names_bytes = all_mapped EntryFits (symbol_entry_in o table names words) (entry_fits o table names words bytes names_bytes) _
+entries_fit o table names words bytes names_bytes =
+    all_mapped EntryFits (symbol_entry_in o table names words) (entry_fits o table names words bytes names_bytes) _
 
 module _ (v : ImageValue) (sound : IsSoundImage v) where
   header_of : (i : ℕ) → IsShdr (section (sections_of v) i)
@@ -133,14 +150,17 @@ module _ (v : ImageValue) (sound : IsSoundImage v) where
   name_fits : (i : ℕ) → IsBytes (section_name_of (sections_of v) i)
   name_fits i = by_type ((section (sections_of v) i).sh_type == SHT_NULL)
     where
-      by_type : (null : Bool) → IsBytes (if null then [] else string (value_names v.header v.sections v.contents) (section (sections_of v) i).sh_name)
+      by_type : (null : Bool) →
+          IsBytes (if null then [] else string (value_names v.header v.sections v.contents) (section (sections_of v) i).sh_name)
       by_type true = IsBytes-nil
       by_type false = IsBytes-string (value_names v.header v.sections v.contents) (section (sections_of v) i).sh_name names_of
 
   plain_info_fits : (left : LeftOut) (i : ℕ) → InfoFits (plain_info left (sections_of v) (section (sections_of v) i))
   plain_info_fits left i = by_flag (bit_and (section (sections_of v) i).sh_flags SHF_INFO_LINK == 0)
     where
-      by_flag : (number : Bool) → InfoFits (if number then info.Number (section (sections_of v) i).sh_info else info.Section (position_of left (sections_of v) (section (sections_of v) i).sh_info))
+      by_flag : (number : Bool) →
+          InfoFits (if number then info.Number (section (sections_of v) i).sh_info else info.Section
+          (position_of left (sections_of v) (section (sections_of v) i).sh_info))
       by_flag true = (header_of i).sh_info
       by_flag false = tt
 
@@ -155,7 +175,8 @@ module _ (v : ImageValue) (sound : IsSoundImage v) where
   relocations_fit i =
       let f = sections_of v in
       let addends = has_addends (section f i).sh_type in
-      subst (AllByRecursion RelocationFits) (relocations_denoted addends (order f) (content f i)) (table_fits addends (order f) (content f i) (content_of i))
+      subst (AllByRecursion RelocationFits) (relocations_denoted addends (order f) (content f i))
+      (table_fits addends (order f) (content f i) (content_of i))
 
   body_fits : (left : LeftOut) (i : ℕ) (kind : BodyKind) → BodyFits (body_denoted left (sections_of v) i kind)
   body_fits left i Bits = ((header_of i).sh_type, content_of i)
@@ -188,7 +209,8 @@ module _ (v : ImageValue) (sound : IsSoundImage v) where
       let p = symbol_parts f t in
       all_through EntryFits SymbolFits (symbol_denoted left f)
       (λ s fits. record { name = fits.name; info = fits.info; other = fits.other; value = fits.value; size = fits.size }) _
-      (all_dropped EntryFits (symbols_of f t) (entries_fit p.order p.table p.names p.words (content_of t) (content_of (section f t).sh_link)))
+      (all_dropped EntryFits (symbols_of f t)
+      (entries_fit p.order p.table p.names p.words (content_of t) (content_of (section f t).sh_link)))
 
   pub denoted_fits : (o : ObjectValue) → Denotes (sections_of v) o → ObjectFits o
   denoted_fits o denotes =
@@ -199,7 +221,8 @@ module _ (v : ImageValue) (sound : IsSoundImage v) where
         abi = subst (λ (n : ℕ). n < 2 ^ 8) (sym denotes.abi) (header.e_ident_bytes 8);
         machine = subst (λ (n : ℕ). n < 2 ^ 16) (sym denotes.machine) header.e_machine;
         flags = subst (λ (n : ℕ). n < 2 ^ 32) (sym denotes.flags) header.e_flags;
-        sections = subst (AllByRecursion SectionFits) (sym denotes.sections) (all_mapped SectionFits (section_denoted (left_out f) f) (denoted_section_fits (left_out f)) (kept (left_out f) f));
+        sections = subst (AllByRecursion SectionFits) (sym denotes.sections)
+            (all_mapped SectionFits (section_denoted (left_out f) f) (denoted_section_fits (left_out f)) (kept (left_out f) f));
         symbols = subst (AllByRecursion SymbolFits) (sym denotes.symbols) (symbols_fit (left_out f) (symbol_table f));
       }
 
@@ -250,9 +273,11 @@ module _ (o : ObjectValue) (places : List ℕ) (written : IsWrittenAt o places) 
 
   name_at : (p : ℕ) → p < length (plain_sections o) → get_or (section_names o) p [] ≡ (plain_at o p).name
   name_at p lt =
-      ap (λ (names : List (List ℕ)). get_or names p []) (section_names_are o) ∙ get_or-map (λ (s : PlainSection). s.name) (plain_sections o) p no_plain [] lt
+      ap (λ (names : List (List ℕ)). get_or names p []) (section_names_are o) ∙
+      get_or-map (λ (s : PlainSection). s.name) (plain_sections o) p no_plain [] lt
 
-  name_within : (p : ℕ) → p < length (plain_sections o) → name_offset (section_names o) (plain_at o p).name < length (string_table (section_names o))
+  name_within : (p : ℕ) → p < length (plain_sections o) →
+      name_offset (section_names o) (plain_at o p).name < length (string_table (section_names o))
   name_within p lt =
       let many = ap length (section_names_are o) ∙ length-map (plain_sections o) (λ (s : PlainSection). s.name) in
       subst (λ (name : List ℕ). name_offset (section_names o) name < length (string_table (section_names o))) (name_at p lt)
@@ -263,14 +288,16 @@ module _ (o : ObjectValue) (places : List ℕ) (written : IsWrittenAt o places) 
   fits_at : (p : ℕ) → p < length (plain_sections o) → PlainFits (plain_at o p)
   fits_at = each_plain o PlainFits (plain_fits o places written)
 
-  size_fits : (p : ℕ) → p < length (plain_sections o) → (s : PlainSection) → s.space < 2 ^ 64 → length s.content < 2 ^ 64 → (if s.type == SHT_NOBITS then s.space else length s.content) < 2 ^ 64
+  size_fits : (p : ℕ) → p < length (plain_sections o) → (s : PlainSection) → s.space < 2 ^ 64 → length s.content < 2 ^ 64 →
+      (if s.type == SHT_NOBITS then s.space else length s.content) < 2 ^ 64
   size_fits p lt s space long = by_type (s.type == SHT_NOBITS)
     where
       by_type : (none : Bool) → (if none then s.space else length s.content) < 2 ^ 64
       by_type true = space
       by_type false = long
 
-  pub section_fits : (p : ℕ) → p < length (plain_sections o) → IsShdr (section_header (name_offset (section_names o)) (plain_at o p) (get_or places p 0))
+  pub section_fits : (p : ℕ) → p < length (plain_sections o) →
+      IsShdr (section_header (name_offset (section_names o)) (plain_at o p) (get_or places p 0))
   section_fits p lt =
       let fits = fits_at p lt in
       let name = name_within p lt in
@@ -289,7 +316,9 @@ module _ (o : ObjectValue) (places : List ℕ) (written : IsWrittenAt o places) 
         sh_entsize = fits.entsize;
       }
 
-  header_is : (p : ℕ) → p < length (plain_sections o) → section_header_of (canonical_section_headers o places) p ≡ section_header (name_offset (section_names o)) (plain_at o p) (get_or places p 0)
+  header_is : (p : ℕ) → p < length (plain_sections o) →
+      section_header_of (canonical_section_headers o places) p ≡
+      section_header (name_offset (section_names o)) (plain_at o p) (get_or places p 0)
   unfolding written_sections
   header_is p lt = written_section o places written p lt
 
@@ -303,9 +332,12 @@ module _ (o : ObjectValue) (places : List ℕ) (written : IsWrittenAt o places) 
       subst IsShdr (sym (header_is p here)) (section_fits p here))
 
   contents_are_bytes : AllByRecursion IsBytes (contents_of o)
-  contents_are_bytes = map_all (plain_sections o) (all_of_each (λ (s : PlainSection). IsBytes s.content) (plain_sections o) no_plain (λ p lt. (fits_at p lt).bytes))
+  contents_are_bytes =
+      map_all (plain_sections o)
+      (all_of_each (λ (s : PlainSection). IsBytes s.content) (plain_sections o) no_plain (λ p lt. (fits_at p lt).bytes))
     where
-      map_all : (sections : List PlainSection) → AllByRecursion (λ (s : PlainSection). IsBytes s.content) sections → AllByRecursion IsBytes (map (λ (s : PlainSection). s.content) sections)
+      map_all : (sections : List PlainSection) → AllByRecursion (λ (s : PlainSection). IsBytes s.content) sections →
+          AllByRecursion IsBytes (map (λ (s : PlainSection). s.content) sections)
       map_all [] all = tt
       map_all (s ∷ sections) all = (all.0, map_all sections all.1)
 
@@ -315,7 +347,8 @@ module _ (o : ObjectValue) (places : List ℕ) (written : IsWrittenAt o places) 
       let left_long = length-map (contents_of o) length in
       let right_long = length-map (canonical_section_headers o places) (λ (s : Shdr). (content_extent s).len) in
       let all = many in
-      ext_get_or 0 (map length (contents_of o)) (map (λ (s : Shdr). (content_extent s).len) (canonical_section_headers o places)) (omega arith) (λ p lt.
+      ext_get_or 0 (map length (contents_of o)) (map (λ (s : Shdr). (content_extent s).len) (canonical_section_headers o places))
+      (omega arith) (λ p lt.
       let here : p < length (plain_sections o) = omega arith in
       get_or-map length (contents_of o) p [] 0 (omega arith)
       ∙ ap length (get_or-map (λ (s : PlainSection). s.content) (plain_sections o) p no_plain [] here)
@@ -338,8 +371,10 @@ module _ (o : ObjectValue) (places : List ℕ) (written : IsWrittenAt o places) 
   }
 
   -- what holds of each section but that of index 0
-  each_header : (P : Shdr → Type 0) → ((p : ℕ) → p < length (plain_sections o) → P (section_header (name_offset (section_names o)) (plain_at o p) (get_or places p 0))) →
-      (i : ℕ) → 1 ≤ i → i < length (canonical_section_headers o places) + 1 → P (section_header_of (all_headers (canonical_section_headers o places) (name_table_at o)) i)
+  each_header : (P : Shdr → Type 0) →
+      ((p : ℕ) → p < length (plain_sections o) → P (section_header (name_offset (section_names o)) (plain_at o p) (get_or places p 0))) →
+      (i : ℕ) → 1 ≤ i → i < length (canonical_section_headers o places) + 1 →
+      P (section_header_of (all_headers (canonical_section_headers o places) (name_table_at o)) i)
   each_header P each zero above below = absurd (omega arith)
   each_header P each (suc p) above below =
       let all = many in
@@ -348,7 +383,8 @@ module _ (o : ObjectValue) (places : List ℕ) (written : IsWrittenAt o places) 
 
   -- ---- the section name string table
 
-  strings_plain : (far : Bool) → has_index_table o ≡ far → (strings_at o < length (plain_sections o)) × (plain_at o (strings_at o) ≡ strings (codes ".shstrtab") (section_names o))
+  strings_plain : (far : Bool) → has_index_table o ≡ far →
+      (strings_at o < length (plain_sections o)) × (plain_at o (strings_at o) ≡ strings (codes ".shstrtab") (section_names o))
   unfolding last_sections
   strings_plain true is =
       let all = length-plain o true is in
@@ -376,15 +412,19 @@ module _ (o : ObjectValue) (places : List ℕ) (written : IsWrittenAt o places) 
       ∙ ap (λ (s : Shdr). s.sh_type) (header_is (strings_at o) here.0)
       ∙ ap (λ (s : PlainSection). s.type) here.1
 
-  names_kept : KeepsNameRules (length (canonical_section_headers o places) + 1) (name_table_at o) (section_header_of (all_headers (canonical_section_headers o places) (name_table_at o))) (get_or ([] ∷ contents_of o) (name_table_at o) [])
+  names_kept : KeepsNameRules (length (canonical_section_headers o places) + 1) (name_table_at o)
+      (section_header_of (all_headers (canonical_section_headers o places) (name_table_at o)))
+      (get_or ([] ∷ contents_of o) (name_table_at o) [])
   names_kept =
       let holds = holds_names (section_names o) in
       record {
         name_table_type = λ some. names_type;
-        closed = λ some. subst (λ (names : List ℕ). (slice_index names 0 ≡ 0) × (slice_index names (length names - 1) ≡ 0)) (sym names_content) (holds.first, holds.last);
+        closed = λ some. subst (λ (names : List ℕ). (slice_index names 0 ≡ 0) × (slice_index names (length names - 1) ≡ 0))
+            (sym names_content) (holds.first, holds.last);
         names_begin = λ i above below typed.
             each_header (λ (s : Shdr). s.sh_name ≢ 0 → s.sh_name < length (get_or ([] ∷ contents_of o) (name_table_at o) []))
-            (λ p lt named. subst (λ (names : List ℕ). name_offset (section_names o) (plain_at o p).name < length names) (sym names_content) (name_within p lt)) i above below;
+            (λ p lt named. subst (λ (names : List ℕ). name_offset (section_names o) (plain_at o p).name < length names) (sym names_content)
+            (name_within p lt)) i above below;
       }
 
   -- ---- all of it
@@ -439,20 +479,24 @@ unfolding layout_bytes
 written_is_bytes o b written =
     let places = written.laid.places in
     subst IsBytes (sym written.laid.bytes)
-    (relocatable_is_bytes (canonical_header o places) (canonical_section_headers o places) (contents_of o) (name_table_at o) (written_file o places (by_places o b written)))
+    (relocatable_is_bytes (canonical_header o places) (canonical_section_headers o places) (contents_of o) (name_table_at o)
+    (written_file o places (by_places o b written)))
 
 pub written_accepted : (o : ObjectValue) (b : List ℕ) → IsWrittenAs o b → IsFault b None
 unfolding layout_bytes
 written_accepted o b written =
     let places = written.laid.places in
     subst (λ (c : List ℕ). IsFault c None) (sym written.laid.bytes)
-    (relocatable_accepted (canonical_header o places) (canonical_section_headers o places) (contents_of o) (name_table_at o) (written_file o places (by_places o b written)))
+    (relocatable_accepted (canonical_header o places) (canonical_section_headers o places) (contents_of o) (name_table_at o)
+    (written_file o places (by_places o b written)))
 
-pub written_read : (o : ObjectValue) (b : List ℕ) (written : IsWrittenAs o b) (v : ImageValue) → Stands v b → sections_of v ≡ written_sections o written.laid.places
+pub written_read : (o : ObjectValue) (b : List ℕ) (written : IsWrittenAs o b) (v : ImageValue) → Stands v b →
+    sections_of v ≡ written_sections o written.laid.places
 unfolding layout_bytes written_sections
 written_read o b written v stands =
     let places = written.laid.places in
-    let read = relocatable_read (canonical_header o places) (canonical_section_headers o places) (contents_of o) (name_table_at o) (written_file o places (by_places o b written)) v
+    let read = relocatable_read (canonical_header o places) (canonical_section_headers o places) (contents_of o) (name_table_at o)
+    (written_file o places (by_places o b written)) v
     (subst (Stands v) written.laid.bytes stands) in
     let header = read.header in
     let headers = read.sections in
@@ -463,11 +507,14 @@ written_read o b written v stands =
 
 pub written_denotes_object : (o : ObjectValue) (b : List ℕ) → IsWrittenAs o b → (v : ImageValue) → Stands v b → Denotes (sections_of v) o
 written_denotes_object o b written v stands =
-    subst (λ (f : Sections). Denotes f o) (sym (written_read o b written v stands)) (written_denotes o written.laid.places (by_places o b written))
+    subst (λ (f : Sections). Denotes f o) (sym (written_read o b written v stands))
+    (written_denotes o written.laid.places (by_places o b written))
 
-pub written_keeps_object_rules : (o : ObjectValue) (b : List ℕ) → IsWrittenAs o b → (v : ImageValue) → Stands v b → FirstIn (file_rules (sections_of v)) None
+pub written_keeps_object_rules : (o : ObjectValue) (b : List ℕ) → IsWrittenAs o b → (v : ImageValue) → Stands v b →
+    FirstIn (file_rules (sections_of v)) None
 written_keeps_object_rules o b written v stands =
-    subst (λ (f : Sections). FirstIn (file_rules f) None) (sym (written_read o b written v stands)) (written_keeps_rules o written.laid.places (by_places o b written))
+    subst (λ (f : Sections). FirstIn (file_rules f) None) (sym (written_read o b written v stands))
+    (written_keeps_rules o written.laid.places (by_places o b written))
 
 -- two objects that are written as the same bytes are one
 pub one_written : (o p : ObjectValue) (b : List ℕ) → IsWrittenAs o b → IsWrittenAs p b → o ≡ p
@@ -477,7 +524,8 @@ one_written o p b one other =
 
 -- ---- the object that a file denotes
 
-pub denoted_object : (v : ImageValue) (b : List ℕ) (o : ObjectValue) (c : List ℕ) → IsImage v b → FirstIn (file_rules (sections_of v)) None →
+pub denoted_object : (v : ImageValue) (b : List ℕ) (o : ObjectValue) (c : List ℕ) → IsImage v b →
+    FirstIn (file_rules (sections_of v)) None →
     Denotes (sections_of v) o → Laid o c → length c ≤ MAX_LEN → IsWrittenAs o c
 denoted_object v b o c image clean denotes laid short =
     let sound = image_is_sound v b image in
@@ -506,12 +554,14 @@ module _ (o : ObjectValue) (object : IsObject o) (widths : ObjectFits o) where
           (λ same. subst (Denotes (sections_of v)) (sym same) (denotes v stands)),
         );
         one = λ p c p_object p_widths p_laid. (
-          (λ same. one_written p o b (record { object = p_object; widths = p_widths; laid = subst (Laid p) same p_laid; short = short }) written),
+          (λ same. one_written p o b
+              (record { object = p_object; widths = p_widths; laid = subst (Laid p) same p_laid; short = short }) written),
           (λ same. one_layout o c b (subst (λ (q : ObjectValue). Laid q c) same p_laid) laid),
         );
       }
 
-  pub file_written : {T : Type 0} (before after : Option (List ℕ)) (result : Result T ObjectWriteFault) → IsLayoutWritten o before after result →
+  pub file_written : {T : Type 0} (before after : Option (List ℕ)) (result : Result T ObjectWriteFault) →
+      IsLayoutWritten o before after result →
       IsObjectWritten o before after result
   file_written before after (Ok done) (b, laid, short, writes) = (b, file_of b laid short, writes)
   file_written before after (Err TooLong) fault = fault
@@ -522,11 +572,13 @@ module _ (o : ObjectValue) (object : IsObject o) (widths : ObjectFits o) where
 -- and the places are the least ones because each cursor is rounded up only where it has to be.
 
 empty_bytes : empty_object_bytes ≡ layout_bytes empty_object (64 ∷ 88 ∷ 89 ∷ 120 ∷ [])
-unfolding layout_bytes plain_sections section_names sections_before_names relocatable_bytes held name_offset string_table order_of bytes_of first_bytes
+unfolding layout_bytes plain_sections section_names sections_before_names relocatable_bytes held name_offset string_table order_of bytes_of
+    first_bytes
 empty_bytes = refl
 
 one_section_are : one_section_bytes ≡ layout_bytes one_section (64 ∷ 72 ∷ 96 ∷ 97 ∷ 136 ∷ [])
-unfolding layout_bytes plain_sections section_names sections_before_names relocatable_bytes held name_offset string_table order_of bytes_of first_bytes
+unfolding layout_bytes plain_sections section_names sections_before_names relocatable_bytes held name_offset string_table order_of bytes_of
+    first_bytes
 one_section_are = refl
 
 -- ---- their places are the least ones

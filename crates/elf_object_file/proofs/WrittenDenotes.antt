@@ -1,44 +1,58 @@
 -- What is written for an object is read back as that object.
-use Rattle.std.proofs.Common.{◌≡◌, ◌<◌, ◌+◌, ℕ, zero, suc, List, [], ◌∷◌, length, map, get_or, refl, sym, ap, ap₂, ◌∙◌, arith, ◌≤◌, ◌*◌, ◌^◌, Bool, true, false, None, Some, subst, inl, inr, ◌-◌, ◌≢◌}
+use Rattle.std.proofs.Common.{◌≡◌, ◌<◌, ◌+◌, ℕ, zero, suc, List, [], ◌∷◌, length, map, get_or, refl, sym, ap, ap₂, ◌∙◌, arith, ◌≤◌, ◌*◌}
+use Rattle.std.proofs.Common.{◌^◌, Bool, true, false, None, Some, subst, inl, inr, ◌-◌, ◌≢◌}
 use Rattle.std.specs.List.{range_with_len, AllByRecursion, Any, flat_map}
 use Rattle.std.specs.Prelude.{◌/◌, ◌%◌, if◌then◌else◌, ℤ, Option, bit_and, ◌==◌, pos, unwrap_or, drop}
 use Rattle.std.proofs.lemmas.Bool.{cases_lt, le-ltb, lt-ltb, cases_eq, ne_eqb, le-leb}
 use Rattle.std.proofs.lemmas.List.{get_or-map, length-map}
 use Rattle.std.proofs.lemmas.List.Folds.{list_any_at}
 use Rattle.elf_field.proofs.RecordTableLaws.{length-table, record_at}
-use Rattle.elf_field.specs.Abi.{GRP_COMDAT, SHN_LORESERVE, SHF_INFO_LINK, SHT_GROUP, SHT_NOBITS, SHT_REL, SHT_RELA, SHN_ABS, SHN_COMMON, SHN_UNDEF, SHN_XINDEX}
+use Rattle.elf_field.specs.Abi.{GRP_COMDAT, SHN_LORESERVE, SHF_INFO_LINK, SHT_GROUP, SHT_NOBITS, SHT_REL, SHT_RELA, SHN_ABS, SHN_COMMON}
+use Rattle.elf_field.specs.Abi.{SHN_UNDEF, SHN_XINDEX}
 use Rattle.elf_field.specs.Entries.{IsRel, rel_laws, IsRela, rela_laws, IsSym, sym_laws, IsWord, word_bytes, word_laws}
 use Rattle.elf_field.specs.declared.number.Order.{Order}
 use Rattle.elf_field.specs.declared.rel.Rel.{Rel}
 use Rattle.elf_field.specs.declared.rela.Rela.{Rela}
 use Rattle.elf_field.specs.declared.shdr.Shdr.{Shdr}
 use Rattle.elf_field.specs.declared.sym.Sym.{Sym}
-use Rattle.elf_image_type.specs.ImageView.{string}
+use Rattle.elf_field.specs.Strings.{string}
 use Rattle.elf_image_type.specs.WrittenFile.{long_number, short_index}
-use Rattle.elf_object_file.proofs.WrittenFile.{own_content, written_name, written_order, indexes_content, name_read, strings_content, symbols_content, written_abi, written_flags, written_machine, written_osabi}
-use Rattle.elf_object_file.proofs.WrittenSections.{written_kept, written_own, written_position, own_short, symbols_short, written_index_table, written_strings, written_symbol_table, strings_short}
+use Rattle.elf_object_file.proofs.WrittenFile.{own_content, written_name, written_order, indexes_content, name_read, strings_content}
+use Rattle.elf_object_file.proofs.WrittenFile.{symbols_content, written_abi, written_flags, written_machine, written_osabi}
+use Rattle.elf_object_file.proofs.WrittenSections.{written_kept, written_own, written_position, own_short, symbols_short}
+use Rattle.elf_object_file.proofs.WrittenSections.{written_index_table, written_strings, written_symbol_table, strings_short}
 use Rattle.elf_object_file.specs.ObjectFile.{IsWrittenAt, written_sections}
 use Rattle.elf_object_reader.proofs.Public.{denoted_with, section_with, halves, same_symbol}
 use Rattle.elf_object_layout.specs.SectionsLeftOut.{left_out}
-use Rattle.elf_object_reader.specs.Denotes.{info_denoted, link_denoted, plain_info, section_reference, position_of, body_denoted, relocation_denoted, body_kind, section_denoted, kept, place_denoted, symbol_denoted, symbols_denoted, Denotes}
+use Rattle.elf_object_reader.specs.Denotes.{info_denoted, link_denoted, plain_info, section_reference, position_of, body_denoted}
+use Rattle.elf_object_reader.specs.Denotes.{relocation_denoted, body_kind, section_denoted, kept, place_denoted, symbol_denoted}
+use Rattle.elf_object_reader.specs.Denotes.{symbols_denoted, Denotes}
 use Rattle.elf_object_reader.specs.declared.object_file.BodyKind.TheVariants.{Bits, NoBits, Relocs, Group}
 use Rattle.elf_object_reader.specs.declared.object_file.BodyKind.{BodyKind}
 use Rattle.elf_object_layout.specs.declared.left_out.LeftOut.{LeftOut}
 use Rattle.elf_object_strings.proofs.Public.{holds_names}
 use Rattle.elf_object_strings.specs.StringTable.{name_offset, string_table, HasNoZero}
-use Rattle.elf_object_type.proofs.Public.{all_of_map, each_of_all, no_wrong_place, none_of_any, no_info, no_link, zero_addend, no_wrong_bits_type, no_wrong_field, no_wrong_position, no_zero_in_symbol_name}
-use Rattle.elf_object_type.specs.Object.{ObjectValue, SymbolValue, no_relocation, no_symbol, symbol_at, IsPast, ObjectFits, RelocationFits, SymbolFits, symbol_reference, BodyValue, bits, no_bits, relocs, group, SectionValue, info_position, BodyFits, no_section, section_at, SectionFits}
-use Rattle.elf_object_type.specs.ObjectRules.{IsObject, place_position, HasWrongField, IsAgainstFlag, HasWrongReference, IsWrongBitsType, types_without_bits}
+use Rattle.elf_object_type.proofs.Public.{all_of_map, each_of_all, no_wrong_place, none_of_any, no_info, no_link, zero_addend}
+use Rattle.elf_object_type.proofs.Public.{no_wrong_bits_type, no_wrong_field, no_wrong_position, no_zero_in_symbol_name}
+use Rattle.elf_object_type.specs.Object.{ObjectValue, SymbolValue, no_relocation, no_symbol, symbol_at, IsPast, ObjectFits, RelocationFits}
+use Rattle.elf_object_type.specs.Object.{SymbolFits, symbol_reference, BodyValue, bits, no_bits, relocs, group, SectionValue, info_position}
+use Rattle.elf_object_type.specs.Object.{BodyFits, no_section, section_at, SectionFits}
+use Rattle.elf_object_type.specs.ObjectRules.{IsObject, place_position, HasWrongField, IsAgainstFlag, HasWrongReference, IsWrongBitsType}
+use Rattle.elf_object_type.specs.ObjectRules.{types_without_bits}
 use Rattle.elf_object_type.specs.declared.parts.Info.{Info}
 use Rattle.elf_object_type.specs.declared.parts.Place.TheVariants.{Undef, Abs, Common, In}
 use Rattle.elf_object_type.specs.declared.parts.Place.{Place}
 use Rattle.elf_object_type.specs.declared.relocations.Relocation.{Relocation}
 use Rattle.elf_object_layout.proofs.Public.{length-relas, length-rels, length-symbol_table_section}
-use Rattle.elf_object_layout.specs.Laid.{group_words, index_of, index_table_section, index_word, null_symbol, rel_entry, rela_entry, relocation_bytes, relocation_info, shndx, symbol_entry, symbol_names, symbol_table_section, body_info, body_link, own_info, body_bytes, body_space, body_type, relocation_section_type, has_index_table, is_far, symbol_table_at}
+use Rattle.elf_object_layout.specs.Laid.{group_words, index_of, index_table_section, index_word, null_symbol, rel_entry, rela_entry}
+use Rattle.elf_object_layout.specs.Laid.{relocation_bytes, relocation_info, shndx, symbol_entry, symbol_names, symbol_table_section}
+use Rattle.elf_object_layout.specs.Laid.{body_info, body_link, own_info, body_bytes, body_space, body_type, relocation_section_type}
+use Rattle.elf_object_layout.specs.Laid.{has_index_table, is_far, symbol_table_at}
 use Rattle.elf_table_lists.specs.Groups.{group_flags, member, member_count, GroupValue, group_in, group_of, members_in}
 use Rattle.elf_table_lists.specs.Relocations.{relocation_count, relocation_in, has_addends, relocations_in, relocations_of}
 use Rattle.elf_table_symbols.specs.Sections.{Sections, content, order, section}
-use Rattle.elf_table_symbols.specs.Symbols.{entry, entry_count, word, index_table, index_words, entry_binding, place_of, symbol_entry_in, symbols_in, symbols_of}
+use Rattle.elf_table_symbols.specs.Symbols.{entry, entry_count, word, index_table, index_words, entry_binding, place_of, symbol_entry_in}
+use Rattle.elf_table_symbols.specs.Symbols.{symbols_in, symbols_of}
 use Rattle.elf_table_lists.specs.declared.relocations.Relocation as table
 use Rattle.elf_object_type.specs.declared.parts.Info.TheVariants as info
 use Rattle.elf_table_symbols.specs.Symbols as table_symbols
@@ -47,7 +61,8 @@ use Rattle.elf_object_layout.specs.Laid as plain
 
 -- A list is what is read of each of its elements, by index.
 
-pub read_list : {A : Type 0} (read : ℕ → A) (a n : ℕ) (xs : List A) (d : A) → n ≡ length xs → ((i : ℕ) → i < length xs → read (a + i) ≡ get_or xs i d) →
+pub read_list : {A : Type 0} (read : ℕ → A) (a n : ℕ) (xs : List A) (d : A) → n ≡ length xs →
+    ((i : ℕ) → i < length xs → read (a + i) ≡ get_or xs i d) →
     map read (range_with_len a n) ≡ xs
 read_list read a zero [] d long each = refl
 read_list read a (suc n) [] d long each = absurd (omega arith)
@@ -122,7 +137,15 @@ module _ (o : ObjectValue) (widths : ObjectFits o) (strings_short : length (stri
       }
 
   null_fits : IsSym null_symbol
-  null_fits = record { st_name = omega arith; st_info = omega arith; st_other = omega arith; st_shndx = omega arith; st_value = omega arith; st_size = omega arith }
+  null_fits = record {
+    st_name = omega arith;
+    st_info = omega arith;
+    st_other = omega arith;
+    st_shndx = omega arith;
+    st_value = omega arith;
+    st_size =
+        omega arith;
+  }
 
   -- entry j, with the null symbol as entry 0
   entry_read : (j : ℕ) → j < length o.symbols + 1 →
@@ -136,7 +159,8 @@ module _ (o : ObjectValue) (widths : ObjectFits o) (strings_short : length (stri
   pub null_entry : entry o.order (symbol_table_section o).content 0 ≡ null_symbol
   null_entry = entry_read 0 (omega arith)
 
-  pub symbol_entry_read : (k : ℕ) → k < length o.symbols → entry o.order (symbol_table_section o).content (suc k) ≡ symbol_entry o (symbol_at o k)
+  pub symbol_entry_read : (k : ℕ) → k < length o.symbols →
+      entry o.order (symbol_table_section o).content (suc k) ≡ symbol_entry o (symbol_at o k)
   symbol_entry_read k lt = entry_read (suc k) (omega arith) ∙ get_or-map (symbol_entry o) o.symbols k no_symbol null_symbol lt
 
 pub symbol_entry_count : (o : ObjectValue) → entry_count (symbol_table_section o).content ≡ length o.symbols + 1
@@ -165,13 +189,15 @@ module _ (o : ObjectValue) (sound : IsObject o) (few : length o.sections < 2 ^ 3
 
 -- ---- relocations
 
-pub relocation_count_is : (rela : Bool) (order : Order) (entries : List Relocation) → relocation_count rela (relocation_bytes order rela entries) ≡ length entries
+pub relocation_count_is : (rela : Bool) (order : Order) (entries : List Relocation) →
+    relocation_count rela (relocation_bytes order rela entries) ≡ length entries
 relocation_count_is true order entries = let long = length-relas order entries in omega arith
 relocation_count_is false order entries = let long = length-rels order entries in omega arith
 
 -- as the table has it: symbols by their indexes
 abbrev pub table_relocation : Bool → Relocation → table.Relocation
-table_relocation rela r = record { offset = r.offset; symbol = index_of r.symbol; relocation_type = r.kind; addend = if rela then Some r.addend else None }
+table_relocation rela r =
+    record { offset = r.offset; symbol = index_of r.symbol; relocation_type = r.kind; addend = if rela then Some r.addend else None }
 
 index_fits : (count : ℕ) (symbol : Option ℕ) → count < 2 ^ 30 → (IsPast count symbol → ⊥) → index_of symbol < 2 ^ 32
 index_fits count None few right = omega arith
@@ -187,7 +213,8 @@ module _ (count : ℕ) (entries : List Relocation) (are : AreRelocations count e
   index_at_fits : (j : ℕ) → j < length entries → index_of (get_or entries j no_relocation).symbol < 2 ^ 32
   index_at_fits j lt =
       let r = get_or entries j no_relocation in
-      index_fits count r.symbol are.few (none_of_any (λ (entry : Relocation). IsPast count entry.symbol) entries no_relocation are.there j lt)
+      index_fits count r.symbol are.few
+      (none_of_any (λ (entry : Relocation). IsPast count entry.symbol) entries no_relocation are.there j lt)
 
   rela_fits : (j : ℕ) → j < length entries → IsRela (rela_entry (get_or entries j no_relocation))
   rela_fits j lt =
@@ -214,36 +241,43 @@ abbrev of_halves : ℕ → Option ℤ → ℕ → ℕ → table.Relocation
 of_halves offset addend symbol type = record { offset = offset; symbol = symbol; relocation_type = type; addend = addend }
 
 same_halves : (r : Relocation) (addend : Option ℤ) → r.kind < 2 ^ 32 →
-    of_halves r.offset addend (relocation_info r / 2 ^ 32) (relocation_info r % 2 ^ 32) ≡ of_halves r.offset addend (index_of r.symbol) r.kind
-same_halves r addend fits = ap₂ (of_halves r.offset addend) (symbol_half (index_of r.symbol) r.kind fits) (type_half (index_of r.symbol) r.kind fits)
+    of_halves r.offset addend (relocation_info r / 2 ^ 32) (relocation_info r % 2 ^ 32) ≡
+    of_halves r.offset addend (index_of r.symbol) r.kind
+same_halves r addend fits =
+    ap₂ (of_halves r.offset addend) (symbol_half (index_of r.symbol) r.kind fits) (type_half (index_of r.symbol) r.kind fits)
 
-pub relocation_read : (count : ℕ) (rela : Bool) (order : Order) (entries : List Relocation) → AreRelocations count entries → (j : ℕ) → j < length entries →
+pub relocation_read : (count : ℕ) (rela : Bool) (order : Order) (entries : List Relocation) → AreRelocations count entries → (j : ℕ) →
+    j < length entries →
     relocation_in rela order (relocation_bytes order rela entries) j ≡ table_relocation rela (get_or entries j no_relocation)
 unfolding relocation_in
 relocation_read count true order entries are j lt =
     let r = get_or entries j no_relocation in
     let many = length-map entries rela_entry in
     let all = all_of_map IsRela rela_entry entries no_relocation (rela_entry no_relocation) (rela_fits count entries are) in
-    let read = record_at rela_laws order (map rela_entry entries) j (rela_entry no_relocation) all (omega arith) ∙ get_or-map rela_entry entries j no_relocation (rela_entry no_relocation) lt in
+    let read = record_at rela_laws order (map rela_entry entries) j (rela_entry no_relocation) all (omega arith) ∙
+    get_or-map rela_entry entries j no_relocation (rela_entry no_relocation) lt in
     ap (λ (e : Rela). of_halves e.r_offset (Some e.r_addend) (e.r_info / 2 ^ 32) (e.r_info % 2 ^ 32)) read
     ∙ same_halves r (Some r.addend) (each_of_all RelocationFits entries no_relocation are.fit j lt).kind
 relocation_read count false order entries are j lt =
     let r = get_or entries j no_relocation in
     let many = length-map entries rel_entry in
     let all = all_of_map IsRel rel_entry entries no_relocation (rel_entry no_relocation) (rel_fits count entries are) in
-    let read = record_at rel_laws order (map rel_entry entries) j (rel_entry no_relocation) all (omega arith) ∙ get_or-map rel_entry entries j no_relocation (rel_entry no_relocation) lt in
+    let read = record_at rel_laws order (map rel_entry entries) j (rel_entry no_relocation) all (omega arith) ∙
+    get_or-map rel_entry entries j no_relocation (rel_entry no_relocation) lt in
     ap (λ (e : Rel). of_halves e.r_offset None (e.r_info / 2 ^ 32) (e.r_info % 2 ^ 32)) read
     ∙ same_halves r None (each_of_all RelocationFits entries no_relocation are.fit j lt).kind
 
 -- ---- groups
 
-pub length-group_words : (order : Order) (comdat : Bool) (members : List ℕ) → length (flat_map (word_bytes order) (group_words comdat members)) ≡ 4 * (length members + 1)
+pub length-group_words : (order : Order) (comdat : Bool) (members : List ℕ) →
+    length (flat_map (word_bytes order) (group_words comdat members)) ≡ 4 * (length members + 1)
 length-group_words order comdat members =
     let long = length-table word_laws order (group_words comdat members) in
     let many = length-map members (λ (m : ℕ). m + 1) in
     omega arith
 
-pub member_count_is : (order : Order) (comdat : Bool) (members : List ℕ) → member_count (flat_map (word_bytes order) (group_words comdat members)) ≡ length members
+pub member_count_is : (order : Order) (comdat : Bool) (members : List ℕ) →
+    member_count (flat_map (word_bytes order) (group_words comdat members)) ≡ length members
 member_count_is order comdat members = let long = length-group_words order comdat members in omega arith
 
 abbrev pub flags_word : Bool → ℕ
@@ -253,7 +287,8 @@ flags_fit : (comdat : Bool) → flags_word comdat < 2 ^ 32
 flags_fit true = omega arith
 flags_fit false = omega arith
 
-module _ (count : ℕ) (order : Order) (comdat : Bool) (members : List ℕ) (few : count < 2 ^ 30) (there : Any (λ member. count ≤ member) members → ⊥) where
+module _ (count : ℕ) (order : Order) (comdat : Bool) (members : List ℕ) (few : count < 2 ^ 30)
+    (there : Any (λ member. count ≤ member) members → ⊥) where
   -- each member is the position of a section that is there
   pub member_below : (j : ℕ) → j < length members → get_or members j 0 < count
   member_below j lt = elim (cases_lt (get_or members j 0) count) [
@@ -275,7 +310,8 @@ module _ (count : ℕ) (order : Order) (comdat : Bool) (members : List ℕ) (few
   pub group_flags_read : group_flags order (flat_map (word_bytes order) (group_words comdat members)) ≡ flags_word comdat
   group_flags_read = group_word_read 0 (omega arith)
 
-  pub member_read : (j : ℕ) → j < length members → member order (flat_map (word_bytes order) (group_words comdat members)) j ≡ get_or members j 0 + 1
+  pub member_read : (j : ℕ) → j < length members →
+      member order (flat_map (word_bytes order) (group_words comdat members)) j ≡ get_or members j 0 + 1
   member_read j lt =
       let next : j + 1 ≡ suc j = omega arith in
       ap (word order (flat_map (word_bytes order) (group_words comdat members))) next ∙ group_word_read (suc j) (omega arith)
@@ -289,13 +325,15 @@ module _ (count : ℕ) (order : Order) (comdat : Bool) (members : List ℕ) (few
 abbrev pub HasPositions : ObjectValue → LeftOut → Sections → Type 0
 HasPositions o left f = (p : ℕ) → p < length o.sections → position_of left f (suc p) ≡ p
 
-pub position_back : (o : ObjectValue) (left : LeftOut) (f : Sections) (p : ℕ) → HasPositions o left f → (length o.sections ≤ p → ⊥) → position_of left f (p + 1) ≡ p
+pub position_back : (o : ObjectValue) (left : LeftOut) (f : Sections) (p : ℕ) → HasPositions o left f → (length o.sections ≤ p → ⊥) →
+    position_of left f (p + 1) ≡ p
 position_back o left f p positions there = elim (cases_lt p (length o.sections)) [
   | inl below ↦ (let next : p + 1 ≡ suc p = omega arith in ap (position_of left f) next ∙ positions p below)
   | inr past ↦ absurd (there past)
 ]
 
-pub reference_back : (o : ObjectValue) (left : LeftOut) (f : Sections) (link : Option ℕ) → HasPositions o left f → (IsPast (length o.sections) link → ⊥) →
+pub reference_back : (o : ObjectValue) (left : LeftOut) (f : Sections) (link : Option ℕ) → HasPositions o left f →
+    (IsPast (length o.sections) link → ⊥) →
     section_reference left f (index_of link) ≡ link
 reference_back o left f None positions there = refl
 reference_back o left f (Some p) positions there =
@@ -317,28 +355,35 @@ kind_of_body (relocs rela target entries) = Relocs
 kind_of_body (group comdat signature members) = Group
 
 pub link_back : (o : ObjectValue) (left : LeftOut) (f : Sections) (s : SectionValue) (h : Shdr) (b : BodyValue) → HasPositions o left f →
-    (IsPast (length o.sections) s.link → ⊥) → (HasWrongField s b → ⊥) → h.sh_link ≡ body_link o s b → link_denoted left f h (kind_of_body b) ≡ s.link
-link_back o left f s h (bits type content) positions there right is = ap (section_reference left f) is ∙ reference_back o left f s.link positions there
-link_back o left f s h (no_bits size) positions there right is = ap (section_reference left f) is ∙ reference_back o left f s.link positions there
+    (IsPast (length o.sections) s.link → ⊥) → (HasWrongField s b → ⊥) → h.sh_link ≡ body_link o s b →
+    link_denoted left f h (kind_of_body b) ≡ s.link
+link_back o left f s h (bits type content) positions there right is =
+    ap (section_reference left f) is ∙ reference_back o left f s.link positions there
+link_back o left f s h (no_bits size) positions there right is =
+    ap (section_reference left f) is ∙ reference_back o left f s.link positions there
 link_back o left f s h (relocs rela target entries) positions there right is = no_link s.link (λ other. right (inl (inl other)))
 link_back o left f s h (group comdat signature members) positions there right is = no_link s.link (λ other. right (inl (inl other)))
 
 plain_info_back : (o : ObjectValue) (left : LeftOut) (f : Sections) (h : Shdr) (flags : ℕ) (own : Info) → HasPositions o left f →
-    (IsPast (length o.sections) (info_position own) → ⊥) → (IsAgainstFlag flags own → ⊥) → h.sh_flags ≡ flags → h.sh_info ≡ own_info own → plain_info left f h ≡ own
+    (IsPast (length o.sections) (info_position own) → ⊥) → (IsAgainstFlag flags own → ⊥) → h.sh_flags ≡ flags → h.sh_info ≡ own_info own →
+    plain_info left f h ≡ own
 plain_info_back o left f h flags (info.Number number) positions there right is_flags is = elim (cases_eq (bit_and flags SHF_INFO_LINK) 0) [
   | inl none ↦ rw (is_flags, none) (ap (λ (n : ℕ). info.Number n) is)
   | inr has ↦ absurd (right has)
 ]
 plain_info_back o left f h flags (info.Section p) positions there right is_flags is = elim (cases_eq (bit_and flags SHF_INFO_LINK) 0) [
   | inl none ↦ absurd (right none)
-  | inr has ↦ rw (is_flags, ne_eqb (bit_and flags SHF_INFO_LINK) 0 has) (ap (λ (k : ℕ). info.Section (position_of left f k)) is ∙ ap (λ (q : ℕ). info.Section q) (position_back o left f p positions there))
+  | inr has ↦ rw (is_flags, ne_eqb (bit_and flags SHF_INFO_LINK) 0 has)
+      (ap (λ (k : ℕ). info.Section (position_of left f k)) is ∙ ap (λ (q : ℕ). info.Section q) (position_back o left f p positions there))
 ]
 
 pub info_back : (o : ObjectValue) (left : LeftOut) (f : Sections) (s : SectionValue) (h : Shdr) (b : BodyValue) → HasPositions o left f →
     (IsPast (length o.sections) (info_position s.info) → ⊥) → (HasWrongField s b → ⊥) → h.sh_flags ≡ s.flags → h.sh_info ≡ body_info s b →
     info_denoted left f h (kind_of_body b) ≡ s.info
-info_back o left f s h (bits type content) positions there right flags is = plain_info_back o left f h s.flags s.info positions there right flags is
-info_back o left f s h (no_bits size) positions there right flags is = plain_info_back o left f h s.flags s.info positions there right flags is
+info_back o left f s h (bits type content) positions there right flags is =
+    plain_info_back o left f h s.flags s.info positions there right flags is
+info_back o left f s h (no_bits size) positions there right flags is =
+    plain_info_back o left f h s.flags s.info positions there right flags is
 info_back o left f s h (relocs rela target entries) positions there right flags is = no_info s.info (λ other. right (inl (inr other)))
 info_back o left f s h (group comdat signature members) positions there right flags is = no_info s.info (λ other. right (inl (inr other)))
 
@@ -348,7 +393,8 @@ info_back o left f s h (group comdat signature members) positions there right fl
 
 -- ---- relocations
 
-addend_back : (rela : Bool) (addend : ℤ) → (rela ≡ false → addend ≢ pos 0 → ⊥) → unwrap_or (if rela then Some addend else None) (pos 0) ≡ addend
+addend_back : (rela : Bool) (addend : ℤ) → (rela ≡ false → addend ≢ pos 0 → ⊥) →
+    unwrap_or (if rela then Some addend else None) (pos 0) ≡ addend
 addend_back true addend zeros = refl
 addend_back false addend zeros = zero_addend addend (zeros refl)
 
@@ -383,13 +429,16 @@ flag_back : (comdat : Bool) → (flags_word comdat == GRP_COMDAT) ≡ comdat
 flag_back true = refl
 flag_back false = refl
 
-members_back : (o : ObjectValue) (left : LeftOut) (f : Sections) (named : Order) (comdat : Bool) (members : List ℕ) → HasPositions o left f → length o.sections < 2 ^ 30 →
-    (Any (λ member. length o.sections ≤ member) members → ⊥) → map (position_of left f) (members_in named (body_bytes named (group comdat 0 members))) ≡ members
+members_back : (o : ObjectValue) (left : LeftOut) (f : Sections) (named : Order) (comdat : Bool) (members : List ℕ) →
+    HasPositions o left f → length o.sections < 2 ^ 30 →
+    (Any (λ member. length o.sections ≤ member) members → ⊥) →
+    map (position_of left f) (members_in named (body_bytes named (group comdat 0 members))) ≡ members
 unfolding members_in
 members_back o left f named comdat members positions few there =
     let bytes = body_bytes named (group comdat 0 members) in
     map_twice (position_of left f) (member named bytes) (range_with_len 0 (member_count bytes))
-    ∙ read_list (λ (j : ℕ). position_of left f (member named bytes j)) 0 (member_count bytes) members 0 (member_count_is named comdat members) (λ i lt. (
+    ∙ read_list (λ (j : ℕ). position_of left f (member named bytes j)) 0 (member_count bytes) members 0
+    (member_count_is named comdat members) (λ i lt. (
     let at : 0 + i ≡ i = omega arith in
     let below = member_below (length o.sections) named comdat members few there i lt in
     ap (λ (j : ℕ). position_of left f (member named bytes j)) at
@@ -399,7 +448,8 @@ members_back o left f named comdat members positions few there =
 -- ---- each body
 
 -- a type that goes with bits is that of no other body
-not_among : (type : ℕ) (bytes : List ℕ) (k other : ℕ) → (IsWrongBitsType (bits type bytes) → ⊥) → k < 11 → get_or types_without_bits k type ≡ other → type ≢ other
+not_among : (type : ℕ) (bytes : List ℕ) (k other : ℕ) → (IsWrongBitsType (bits type bytes) → ⊥) → k < 11 →
+    get_or types_without_bits k type ≡ other → type ≢ other
 not_among type bytes k other right lt at = λ same. right (k, lt, at ∙ sym same)
 
 pub kind_back : (b : BodyValue) → (IsWrongBitsType b → ⊥) → body_kind (body_type b) ≡ kind_of_body b
@@ -436,34 +486,41 @@ pub record IsBody (o : ObjectValue) (s : SectionValue) (b : BodyValue) : Type 0 
   pub few_symbols : length o.symbols < 2 ^ 30
 
 relocations_of_body : (o : ObjectValue) (f : Sections) (i : ℕ) (s : SectionValue) (rela : Bool) (target : ℕ) (entries : List Relocation) →
-    HoldsBody o f i s (relocs rela target entries) → relocations_of f i ≡ relocations_in rela o.order (relocation_bytes o.order rela entries)
+    HoldsBody o f i s (relocs rela target entries) →
+    relocations_of f i ≡ relocations_in rela o.order (relocation_bytes o.order rela entries)
 unfolding relocations_of
 relocations_of_body o f i s rela target entries holds =
     ap (λ (addends : Bool). relocations_in addends (order f) (content f i)) (ap has_addends holds.type ∙ addends_back rela)
     ∙ ap₂ (relocations_in rela) holds.order holds.content
 
 group_of_body : (o : ObjectValue) (f : Sections) (i : ℕ) (s : SectionValue) (comdat : Bool) (signature : ℕ) (members : List ℕ) →
-    HoldsBody o f i s (group comdat signature members) → group_of f i ≡ group_in o.order (signature + 1) (body_bytes o.order (group comdat 0 members))
+    HoldsBody o f i s (group comdat signature members) →
+    group_of f i ≡ group_in o.order (signature + 1) (body_bytes o.order (group comdat 0 members))
 unfolding group_of
 group_of_body o f i s comdat signature members holds =
     ap (λ (named : Order). group_in named (section f i).sh_info (content f i)) holds.order ∙ ap₂ (group_in o.order) holds.info holds.content
 
-pub body_back : (o : ObjectValue) (left : LeftOut) (f : Sections) (i : ℕ) (s : SectionValue) (b : BodyValue) → HasPositions o left f → HoldsBody o f i s b → IsBody o s b →
+pub body_back : (o : ObjectValue) (left : LeftOut) (f : Sections) (i : ℕ) (s : SectionValue) (b : BodyValue) → HasPositions o left f →
+    HoldsBody o f i s b → IsBody o s b →
     body_denoted left f i (kind_of_body b) ≡ b
 body_back o left f i s (bits type bytes) positions holds is = ap₂ bits holds.type holds.content
 body_back o left f i s (no_bits size) positions holds is = ap no_bits holds.size
 body_back o left f i s (relocs rela target entries) positions holds is =
-    let are : AreRelocations (length o.symbols) entries = record { few = is.few_symbols; fit = is.fits; there = λ past. is.references (inr past) } in
+    let are : AreRelocations (length o.symbols) entries =
+    record { few = is.few_symbols; fit = is.fits; there = λ past. is.references (inr past) } in
     let back = relocations_back (length o.symbols) rela o.order entries are (λ rel some. is.fields (inr (inr (rel, some)))) in
-    ap (λ (addends : Bool). relocs addends (position_of left f (section f i).sh_info) (map relocation_denoted (relocations_of f i))) (ap has_addends holds.type ∙ addends_back rela)
-    ∙ ap₂ (relocs rela) (ap (position_of left f) holds.info ∙ position_back o left f target positions (λ past. is.references (inl (inl past))))
+    ap (λ (addends : Bool). relocs addends (position_of left f (section f i).sh_info) (map relocation_denoted (relocations_of f i)))
+    (ap has_addends holds.type ∙ addends_back rela)
+    ∙ ap₂ (relocs rela)
+    (ap (position_of left f) holds.info ∙ position_back o left f target positions (λ past. is.references (inl (inl past))))
     (ap (map relocation_denoted) (relocations_of_body o f i s rela target entries holds) ∙ back)
 body_back o left f i s (group comdat signature members) positions holds is =
     let there : Any (λ member. length o.sections ≤ member) members → ⊥ = λ past. is.references (inr past) in
     let bytes = body_bytes o.order (group comdat 0 members) in
     let same : signature + 1 - 1 ≡ signature = omega arith in
     let flags = group_flags_read (length o.sections) o.order comdat members is.few_sections there in
-    ap (λ (g : GroupValue). group (g.flags == GRP_COMDAT) (g.signature - 1) (map (position_of left f) g.members)) (group_of_body o f i s comdat signature members holds)
+    ap (λ (g : GroupValue). group (g.flags == GRP_COMDAT) (g.signature - 1) (map (position_of left f) g.members))
+    (group_of_body o f i s comdat signature members holds)
     ∙ ap (λ (word : ℕ). group (word == GRP_COMDAT) (signature + 1 - 1) (map (position_of left f) (members_in o.order bytes))) flags
     ∙ ap₂ (λ (c : Bool) (k : ℕ). group c k (map (position_of left f) (members_in o.order bytes))) (flag_back comdat) same
     ∙ ap (group comdat signature) (members_back o left f o.order comdat members positions is.few_sections there)
@@ -517,7 +574,8 @@ module _ (o : ObjectValue) (places : List ℕ) (written : IsWrittenAt o places) 
         few_symbols = omega arith;
       }
 
-  pub own_back : (p : ℕ) → p < length o.sections → (let f = written_sections o places in section_denoted (left_out f) f (suc p) ≡ section_at o p)
+  pub own_back : (p : ℕ) → p < length o.sections →
+      (let f = written_sections o places in section_denoted (left_out f) f (suc p) ≡ section_at o p)
   own_back p lt =
       let f = written_sections o places in
       let left = left_out f in
@@ -531,9 +589,11 @@ module _ (o : ObjectValue) (places : List ℕ) (written : IsWrittenAt o places) 
       ∙ ap (section_with left f (suc p)) kind
       ∙ same_section (section_with left f (suc p) (kind_of_body s.body)) s
       (written_name o places written p lt)
-      (ap (λ (h : Shdr). h.sh_flags) own) (ap (λ (h : Shdr). h.sh_addr) own) (ap (λ (h : Shdr). h.sh_addralign) own) (ap (λ (h : Shdr). h.sh_entsize) own)
+      (ap (λ (h : Shdr). h.sh_flags) own) (ap (λ (h : Shdr). h.sh_addr) own) (ap (λ (h : Shdr). h.sh_addralign) own)
+      (ap (λ (h : Shdr). h.sh_entsize) own)
       (link_back o left f s (section f (suc p)) s.body positions (λ past. position (inl past)) fields (ap (λ (h : Shdr). h.sh_link) own))
-      (info_back o left f s (section f (suc p)) s.body positions (λ past. position (inr (inl past))) fields (ap (λ (h : Shdr). h.sh_flags) own) (ap (λ (h : Shdr). h.sh_info) own))
+      (info_back o left f s (section f (suc p)) s.body positions (λ past. position (inr (inl past))) fields
+      (ap (λ (h : Shdr). h.sh_flags) own) (ap (λ (h : Shdr). h.sh_info) own))
       (body_back o left f (suc p) s s.body positions (holds_body p lt) (is_body p lt))
 
   -- so are all of them
@@ -567,7 +627,8 @@ in_section o left f p word positions there extended = elim (cases_lt (p + 1) SHN
       ∙ ap (λ (q : ℕ). In q) (position_back o left f p positions there))
 ]
 
-place_back : (o : ObjectValue) (left : LeftOut) (f : Sections) (place : Place) (word : ℕ) → HasPositions o left f → (IsPast (length o.sections) (place_position place) → ⊥) →
+place_back : (o : ObjectValue) (left : LeftOut) (f : Sections) (place : Place) (word : ℕ) → HasPositions o left f →
+    (IsPast (length o.sections) (place_position place) → ⊥) →
     (is_far place ≡ true → word ≡ index_word place) → place_denoted left f (place_of (shndx place) word) ≡ place
 place_back o left f Undef word positions there extended = refl
 place_back o left f Abs word positions there extended = refl
@@ -623,7 +684,8 @@ module _ (o : ObjectValue) (places : List ℕ) (written : IsWrittenAt o places) 
       written_index_table o places written ∙ ap (λ (far : Bool). if far then Some (symbol_table_at o + 1) else None) is in
       ap (index_words f) there ∙ indexes_content o places is
 
-  word_back : (k : ℕ) → k < length o.symbols → is_far (symbol_at o k).place ≡ true → word o.order words (suc k) ≡ index_word (symbol_at o k).place
+  word_back : (k : ℕ) → k < length o.symbols → is_far (symbol_at o k).place ≡ true →
+      word o.order words (suc k) ≡ index_word (symbol_at o k).place
   word_back k lt is =
       let few = own_short o places written in
       ap (λ (ws : List ℕ). word o.order ws (suc k)) (words_are (far_symbol o k lt is)) ∙ symbol_word o written.object (omega arith) k lt
@@ -631,16 +693,20 @@ module _ (o : ObjectValue) (places : List ℕ) (written : IsWrittenAt o places) 
   -- ---- all symbols
 
   symbol_at_back : (k : ℕ) → k < length o.symbols →
-      (let f = written_sections o places in symbol_denoted (left_out f) f (symbol_entry_in o.order (plain.symbol_table_section o).content (string_table (symbol_names o)) words (suc k)) ≡ symbol_at o k)
+      (let f = written_sections o places in
+      symbol_denoted (left_out f) f
+      (symbol_entry_in o.order (plain.symbol_table_section o).content (string_table (symbol_names o)) words (suc k)) ≡ symbol_at o k)
   unfolding symbol_entry_in
   symbol_at_back k lt =
       let f = written_sections o places in
       let strings = strings_short o places written in
       ap (λ (e : Sym). symbol_denoted (left_out f) f (symbol_of (string_table (symbol_names o)) (word o.order words (suc k)) e))
       (symbol_entry_read o written.widths (omega arith) k lt)
-      ∙ entry_back o (left_out f) f k (word o.order words (suc k)) written.object lt (λ p below. written_position o places written p (omega arith)) (word_back k lt)
+      ∙ entry_back o (left_out f) f k (word o.order words (suc k)) written.object lt
+      (λ p below. written_position o places written p (omega arith)) (word_back k lt)
 
-  table_is : (let f = written_sections o places in symbols_of f (symbol_table_at o) ≡ symbols_in o.order (plain.symbol_table_section o).content (string_table (symbol_names o)) words)
+  table_is : (let f = written_sections o places in
+      symbols_of f (symbol_table_at o) ≡ symbols_in o.order (plain.symbol_table_section o).content (string_table (symbol_names o)) words)
   unfolding symbols_of words
   table_is =
       let f = written_sections o places in
@@ -658,10 +724,13 @@ module _ (o : ObjectValue) (places : List ℕ) (written : IsWrittenAt o places) 
       let many : entry_count entries ≡ suc (length o.symbols) = (let all = symbol_entry_count o in omega arith) in
       ap (symbols_denoted (left_out f) f) (written_symbol_table o places written)
       ∙ ap (λ (all : List table_symbols.SymbolEntryValue). map (symbol_denoted (left_out f) f) (drop 1 all)) table_is
-      ∙ ap (λ (n : ℕ). map (symbol_denoted (left_out f) f) (drop 1 (map (symbol_entry_in o.order entries names words) (range_with_len 0 n)))) many
+      ∙ ap (λ (n : ℕ). map (symbol_denoted (left_out f) f)
+      (drop 1 (map (symbol_entry_in o.order entries names words) (range_with_len 0 n)))) many
       ∙ map_twice (symbol_denoted (left_out f) f) (symbol_entry_in o.order entries names words) (range_with_len 1 (length o.symbols))
-      ∙ read_list (λ (j : ℕ). symbol_denoted (left_out f) f (symbol_entry_in o.order entries names words j)) 1 (length o.symbols) o.symbols no_symbol refl
-      (λ k lt. (let next : 1 + k ≡ suc k = omega arith in ap (λ (j : ℕ). symbol_denoted (left_out f) f (symbol_entry_in o.order entries names words j)) next ∙ symbol_at_back k lt))
+      ∙ read_list (λ (j : ℕ). symbol_denoted (left_out f) f (symbol_entry_in o.order entries names words j)) 1
+      (length o.symbols) o.symbols no_symbol refl
+      (λ k lt. (let next : 1 + k ≡ suc k = omega arith in
+      ap (λ (j : ℕ). symbol_denoted (left_out f) f (symbol_entry_in o.order entries names words j)) next ∙ symbol_at_back k lt))
 
 pub written_denotes : (o : ObjectValue) (places : List ℕ) → IsWrittenAt o places → Denotes (written_sections o places) o
 written_denotes o places written = record {

@@ -1,12 +1,14 @@
 -- The sections of the file that an object is written as. Own section p has index p + 1; then come the symbol table, its index table if one
 -- is needed, and the string tables. By cases on whether there is an index table. What holds of index 0 and of each of these holds of all
 -- (`by_section`).
-use Rattle.std.proofs.Common.{◌≡◌, ◌≢◌, ◌<◌, ◌≤◌, ◌+◌, ◌-◌, ◌^◌, ◌||◌, ℕ, zero, suc, Bool, true, false, List, [], ◌∷◌, length, map, get_or, refl, sym, ap, subst, ◌∙◌, arith, inl, inr, ap₂, ◌⊎◌}
+use Rattle.std.proofs.Common.{◌≡◌, ◌≢◌, ◌<◌, ◌≤◌, ◌+◌, ◌-◌, ◌^◌, ◌||◌, ℕ, zero, suc, Bool, true, false, List, [], ◌∷◌, length, map, get_or}
+use Rattle.std.proofs.Common.{refl, sym, ap, subst, ◌∙◌, arith, inl, inr, ap₂, ◌⊎◌}
 use Rattle.std.specs.Prelude.{◌==◌, if◌then◌else◌, codes, Option, None, Some, slice_index}
 use Rattle.std.specs.List.{AllByRecursion, filter, flat_map}
 use Rattle.std.proofs.lemmas.Bool.{cases_lt, ne_eqb}
 use Rattle.std.proofs.lemmas.List.{map-append, get_or-map, length-map}
-use Rattle.elf_field.specs.Abi.{SHT_NOBITS, SHT_NULL, EI_ABIVERSION, EI_OSABI, SHT_DYNAMIC, SHT_DYNSYM, SHT_GROUP, SHT_HASH, SHT_REL, SHT_RELA, SHT_SHLIB, SHT_STRTAB, SHT_SYMTAB, SHT_SYMTAB_SHNDX}
+use Rattle.elf_field.specs.Abi.{SHT_NOBITS, SHT_NULL, EI_ABIVERSION, EI_OSABI, SHT_DYNAMIC, SHT_DYNSYM, SHT_GROUP, SHT_HASH, SHT_REL}
+use Rattle.elf_field.specs.Abi.{SHT_RELA, SHT_SHLIB, SHT_STRTAB, SHT_SYMTAB, SHT_SYMTAB_SHNDX}
 use Rattle.elf_field.specs.Bytes.{IsBytes, IsBytes-append, IsBytes-bytes_of, IsBytes-nil}
 use Rattle.elf_field.specs.Entries.{rel_bytes, rel_layout, rela_bytes, rela_layout, sym_bytes, sym_layout, word_bytes}
 use Rattle.elf_field.specs.Record.{widths, IsBytes-spelled}
@@ -15,21 +17,28 @@ use Rattle.elf_field.specs.declared.shdr.Shdr.{Shdr}
 use Rattle.elf_image_outline.specs.Image.{value_names}
 use Rattle.elf_image_rules.proofs.Public.{above}
 use Rattle.elf_image_type.proofs.Public.{IsBytes-all, order_identified}
-use Rattle.elf_image_type.specs.ImageView.{string}
-use Rattle.elf_object_file.proofs.WrittenSections.{own_short, symbols_short, last_some, own_typed, written_name_table, written_own, written_content, count_of_written, written_last, indexes_no_body, own_type, symbols_no_body, written_first}
+use Rattle.elf_field.specs.Strings.{string}
+use Rattle.elf_object_file.proofs.WrittenSections.{own_short, symbols_short, last_some, own_typed, written_name_table, written_own}
+use Rattle.elf_object_file.proofs.WrittenSections.{written_content, count_of_written, written_last, indexes_no_body, own_type}
+use Rattle.elf_object_file.proofs.WrittenSections.{symbols_no_body, written_first}
 use Rattle.elf_object_file.specs.ObjectFile.{IsWrittenAt, written_sections}
 use Rattle.elf_object_reader.specs.Denotes.{section_name_of}
 use Rattle.elf_object_reader.specs.FileRules.{IsForeignType}
 use Rattle.elf_object_strings.proofs.Public.{holds_names}
 use Rattle.elf_object_strings.specs.StringTable.{string_table, HasNoZero, name_offset}
 use Rattle.elf_object_type.proofs.Public.{all_of_each, each_of_all, no_wrong_bits_type, no_wrong_position, no_zero_in_section_name}
-use Rattle.elf_object_type.specs.Object.{BodyValue, bits, no_bits, relocs, group, ObjectValue, SectionValue, SymbolValue, no_section, section_at, BodyFits, InfoFits, SectionFits, SymbolFits, IsPast, info_position}
+use Rattle.elf_object_type.specs.Object.{BodyValue, bits, no_bits, relocs, group, ObjectValue, SectionValue, SymbolValue, no_section}
+use Rattle.elf_object_type.specs.Object.{section_at, BodyFits, InfoFits, SectionFits, SymbolFits, IsPast, info_position}
 use Rattle.elf_object_type.specs.ObjectRules.{HasWrongReference, IsWrongBitsType}
 use Rattle.elf_object_type.specs.declared.parts.Info.TheVariants.{Number, Section}
 use Rattle.elf_object_type.specs.declared.parts.Info.{Info}
 use Rattle.elf_object_type.specs.declared.relocations.Relocation.{Relocation}
 use Rattle.elf_object_layout.proofs.Public.{last_sections, length-plain, no_plain, plain_at, plain_last, plain_own, last_count}
-use Rattle.elf_object_layout.specs.Laid.{section_size, PlainSection, body_bytes, body_info, body_link, body_space, body_type, group_words, has_index_table, index_of, index_table_section, index_word, is_local, null_symbol, own_info, own_section, plain_sections, rel_entry, rela_entry, relocation_bytes, section_names, sections_before_names, strings, symbol_entry, symbol_names, symbol_table_section, name_table_at, strings_at, symbol_table_at, section_header}
+use Rattle.elf_object_layout.specs.Laid.{section_size, PlainSection, body_bytes, body_info, body_link, body_space, body_type, group_words}
+use Rattle.elf_object_layout.specs.Laid.{has_index_table, index_of, index_table_section, index_word, is_local, null_symbol, own_info}
+use Rattle.elf_object_layout.specs.Laid.{own_section, plain_sections, rel_entry, rela_entry, relocation_bytes, section_names}
+use Rattle.elf_object_layout.specs.Laid.{sections_before_names, strings, symbol_entry, symbol_names, symbol_table_section, name_table_at}
+use Rattle.elf_object_layout.specs.Laid.{strings_at, symbol_table_at, section_header}
 use Rattle.elf_table_symbols.specs.Sections.{content, order, section, Sections, count}
 
 -- The section headers and contents of a written object fit a file: each number its field, each content the size that is reported. The
@@ -44,7 +53,8 @@ pub record EachKind (o : ObjectValue) (P : PlainSection → Type 0) : Type 0 whe
   pub symbol_strings : P (strings (codes ".strtab") (symbol_names o))
   pub section_strings : P (strings (codes ".shstrtab") (section_names o))
 
-last_of : (o : ObjectValue) (P : PlainSection → Type 0) → EachKind o P → (far : Bool) → has_index_table o ≡ far → (k : ℕ) → k < (if far then 4 else 3) → P (get_or (last_sections o far) k no_plain)
+last_of : (o : ObjectValue) (P : PlainSection → Type 0) → EachKind o P → (far : Bool) → has_index_table o ≡ far → (k : ℕ) →
+    k < (if far then 4 else 3) → P (get_or (last_sections o far) k no_plain)
 unfolding last_sections
 last_of o P each true is zero lt = each.symbols
 last_of o P each true is (suc zero) lt = each.indexes is
@@ -73,32 +83,58 @@ IsBytes-flat f each [] = IsBytes-nil
 IsBytes-flat f each (x ∷ xs) = IsBytes-append (f x) (flat_map f xs) (each x) (IsBytes-flat f each xs)
 
 IsBytes-relocations : (order : Order) (rela : Bool) (entries : List Relocation) → IsBytes (relocation_bytes order rela entries)
-IsBytes-relocations order true entries = IsBytes-flat (rela_bytes order) (λ e. IsBytes-spelled order [] (widths rela_layout) (rela_layout.values e) IsBytes-nil) (map rela_entry entries)
-IsBytes-relocations order false entries = IsBytes-flat (rel_bytes order) (λ e. IsBytes-spelled order [] (widths rel_layout) (rel_layout.values e) IsBytes-nil) (map rel_entry entries)
+IsBytes-relocations order true entries =
+    IsBytes-flat (rela_bytes order) (λ e. IsBytes-spelled order [] (widths rela_layout) (rela_layout.values e) IsBytes-nil)
+    (map rela_entry entries)
+IsBytes-relocations order false entries =
+    IsBytes-flat (rel_bytes order) (λ e. IsBytes-spelled order [] (widths rel_layout) (rel_layout.values e) IsBytes-nil)
+    (map rel_entry entries)
 
 IsBytes-words : (order : Order) (words : List ℕ) → IsBytes (flat_map (word_bytes order) words)
 IsBytes-words order words = IsBytes-flat (word_bytes order) (λ word. IsBytes-bytes_of order 4 word) words
 
 IsBytes-symtab : IsBytes (codes ".symtab")
-IsBytes-symtab = IsBytes-all (codes ".symtab") (omega arith, (omega arith, (omega arith, (omega arith, (omega arith, (omega arith, (omega arith, tt)))))))
+IsBytes-symtab =
+    IsBytes-all (codes ".symtab")
+    (omega arith, (omega arith, (omega arith, (omega arith, (omega arith, (omega arith, (omega arith, tt)))))))
 
 IsBytes-symtab_shndx : IsBytes (codes ".symtab_shndx")
 IsBytes-symtab_shndx =
-    IsBytes-all (codes ".symtab_shndx")
-    (omega arith, (omega arith, (omega arith, (omega arith, (omega arith, (omega arith, (omega arith, (omega arith, (omega arith, (omega arith, (omega arith, (omega arith, (omega arith, tt)))))))))))))
+    IsBytes-all (codes ".symtab_shndx") (
+      omega arith,
+      (
+        omega arith,
+        (
+          omega arith,
+          (
+            omega arith,
+            (
+              omega arith,
+              (omega arith, (omega arith, (omega arith, (omega arith, (omega arith, (omega arith, (omega arith, (omega arith, tt)))))))),
+            ),
+          ),
+        ),
+      ),
+    )
 
 IsBytes-strtab : IsBytes (codes ".strtab")
-IsBytes-strtab = IsBytes-all (codes ".strtab") (omega arith, (omega arith, (omega arith, (omega arith, (omega arith, (omega arith, (omega arith, tt)))))))
+IsBytes-strtab =
+    IsBytes-all (codes ".strtab")
+    (omega arith, (omega arith, (omega arith, (omega arith, (omega arith, (omega arith, (omega arith, tt)))))))
 
 IsBytes-shstrtab : IsBytes (codes ".shstrtab")
 IsBytes-shstrtab =
-    IsBytes-all (codes ".shstrtab") (omega arith, (omega arith, (omega arith, (omega arith, (omega arith, (omega arith, (omega arith, (omega arith, (omega arith, tt)))))))))
+    IsBytes-all (codes ".shstrtab") (
+      omega arith,
+      (omega arith, (omega arith, (omega arith, (omega arith, (omega arith, (omega arith, (omega arith, (omega arith, tt)))))))),
+    )
 
 -- ---- the names
 
 pub section_names_are : (o : ObjectValue) → section_names o ≡ map (λ (s : PlainSection). s.name) (plain_sections o)
 unfolding section_names plain_sections
-section_names_are o = sym (map-append (λ (s : PlainSection). s.name) (sections_before_names o) (strings (codes ".shstrtab") (section_names o) ∷ []))
+section_names_are o =
+    sym (map-append (λ (s : PlainSection). s.name) (sections_before_names o) (strings (codes ".shstrtab") (section_names o) ∷ []))
 
 names_are_bytes : (o : ObjectValue) (places : List ℕ) → IsWrittenAt o places → EachKind o (λ s. IsBytes s.name)
 names_are_bytes o places written = record {
@@ -115,14 +151,16 @@ IsBytes-section_names o places written =
     let names = all_of_each (λ (s : PlainSection). IsBytes s.name) (plain_sections o) no_plain each in
     (holds_names (section_names o)).bytes (subst (AllByRecursion IsBytes) (sym (section_names_are o)) (map_all (plain_sections o) names))
   where
-    map_all : (sections : List PlainSection) → AllByRecursion (λ (s : PlainSection). IsBytes s.name) sections → AllByRecursion IsBytes (map (λ (s : PlainSection). s.name) sections)
+    map_all : (sections : List PlainSection) → AllByRecursion (λ (s : PlainSection). IsBytes s.name) sections →
+        AllByRecursion IsBytes (map (λ (s : PlainSection). s.name) sections)
     map_all [] all = tt
     map_all (s ∷ sections) all = (all.0, map_all sections all.1)
 
 IsBytes-symbol_names : (o : ObjectValue) (places : List ℕ) → IsWrittenAt o places → IsBytes (string_table (symbol_names o))
 IsBytes-symbol_names o places written = (holds_names (symbol_names o)).bytes (map_all o.symbols written.widths.symbols)
   where
-    map_all : (symbols : List SymbolValue) → AllByRecursion SymbolFits symbols → AllByRecursion IsBytes (map (λ (s : SymbolValue). s.name) symbols)
+    map_all : (symbols : List SymbolValue) → AllByRecursion SymbolFits symbols →
+        AllByRecursion IsBytes (map (λ (s : SymbolValue). s.name) symbols)
     map_all [] all = tt
     map_all (s ∷ symbols) all = (all.0.name, map_all symbols all.1)
 
@@ -152,7 +190,8 @@ info_short : (n : ℕ) (i : Info) → n < 2 ^ 32 → InfoFits i → (IsPast n (i
 info_short n (Number number) lt fits near = fits
 info_short n (Section p) lt fits near = let below = above p n near in omega arith
 
-bits_taken : (type : ℕ) (n : ℕ) → type ≢ 0 → type ≢ 8 → (if (type == SHT_NULL) || (type == SHT_NOBITS) then 0 else (if type == SHT_NOBITS then 0 else n)) ≡ n
+bits_taken : (type : ℕ) (n : ℕ) → type ≢ 0 → type ≢ 8 →
+    (if (type == SHT_NULL) || (type == SHT_NOBITS) then 0 else (if type == SHT_NOBITS then 0 else n)) ≡ n
 bits_taken type n some other = rw (ne_eqb type SHT_NULL some, ne_eqb type SHT_NOBITS other) refl
 
 -- a body with the section's own fields
@@ -178,9 +217,11 @@ record IsFitBody (o : ObjectValue) (s : SectionValue) (b : BodyValue) : Type 0 w
   info : IsPast (length o.sections) (info_position s.info) → ⊥
   reference : HasWrongReference o b → ⊥
 
-relocations_fit : (o : ObjectValue) (s : SectionValue) (rela : Bool) (target : ℕ) (entries : List Relocation) → body_type (relocs rela target entries) < 2 ^ 32
+relocations_fit : (o : ObjectValue) (s : SectionValue) (rela : Bool) (target : ℕ) (entries : List Relocation) →
+    body_type (relocs rela target entries) < 2 ^ 32
     → taken (own_with o s (relocs rela target entries)) ≡ length (body_bytes o.order (relocs rela target entries))
-    → length o.sections + 3 < 2 ^ 24 → SectionFits s → IsFitBody o s (relocs rela target entries) → PlainFits (own_with o s (relocs rela target entries))
+    → length o.sections + 3 < 2 ^ 24 → SectionFits s → IsFitBody o s (relocs rela target entries) →
+    PlainFits (own_with o s (relocs rela target entries))
 relocations_fit o s rela target entries type all few fits body =
     let within = above target (length o.sections) (λ past. body.reference (inl (inl past))) in
     record {
@@ -196,7 +237,8 @@ relocations_fit o s rela target entries type all few fits body =
       taken = all;
     }
 
-own_fits : (o : ObjectValue) (s : SectionValue) (b : BodyValue) → length o.sections + 3 < 2 ^ 24 → length o.symbols < 2 ^ 30 → SectionFits s → IsFitBody o s b → PlainFits (own_with o s b)
+own_fits : (o : ObjectValue) (s : SectionValue) (b : BodyValue) → length o.sections + 3 < 2 ^ 24 → length o.symbols < 2 ^ 30 →
+    SectionFits s → IsFitBody o s b → PlainFits (own_with o s b)
 own_fits o s (bits type content) few some fits body =
     let link = index_short (length o.sections) s.link body.link in
     record {
@@ -209,7 +251,8 @@ own_fits o s (bits type content) few some fits body =
       entsize = fits.entsize;
       space = omega arith;
       bytes = body.fits.1;
-      taken = bits_taken type (length content) (λ same. body.bits (0, omega arith, sym same)) (λ same. body.bits (5, omega arith, sym same));
+      taken = bits_taken type (length content) (λ same. body.bits (0, omega arith, sym same))
+          (λ same. body.bits (5, omega arith, sym same));
     }
 own_fits o s (no_bits size) few some fits body =
     let link = index_short (length o.sections) s.link body.link in
@@ -246,7 +289,8 @@ locals_short : (symbols : List SymbolValue) → length (filter is_local symbols)
 locals_short [] = omega arith
 locals_short (s ∷ symbols) = by_one (is_local s) (locals_short symbols)
   where
-    by_one : (one : Bool) → length (filter is_local symbols) ≤ length symbols → length (if one then s ∷ filter is_local symbols else filter is_local symbols) ≤ suc (length symbols)
+    by_one : (one : Bool) → length (filter is_local symbols) ≤ length symbols →
+        length (if one then s ∷ filter is_local symbols else filter is_local symbols) ≤ suc (length symbols)
     by_one true le = omega arith
     by_one false le = omega arith
 
@@ -277,7 +321,8 @@ plain_fits o places written =
         align = omega arith;
         entsize = omega arith;
         space = omega arith;
-        bytes = IsBytes-flat (sym_bytes o.order) (λ e. IsBytes-spelled o.order [] (widths sym_layout) (sym_layout.values e) IsBytes-nil) (null_symbol ∷ map (symbol_entry o) o.symbols);
+        bytes = IsBytes-flat (sym_bytes o.order) (λ e. IsBytes-spelled o.order [] (widths sym_layout) (sym_layout.values e) IsBytes-nil)
+            (null_symbol ∷ map (symbol_entry o) o.symbols);
         taken = refl;
       };
       indexes = λ far. record {
@@ -357,18 +402,21 @@ last_content o places far is k lt =
     ap (content (written_sections o places)) next ∙ written_content o places (length o.sections + k) (omega arith)
     ∙ ap (λ (s : PlainSection). s.content) (plain_last o far is k)
 
-pub symbols_content : (o : ObjectValue) (places : List ℕ) → content (written_sections o places) (symbol_table_at o) ≡ (symbol_table_section o).content
+pub symbols_content : (o : ObjectValue) (places : List ℕ) →
+    content (written_sections o places) (symbol_table_at o) ≡ (symbol_table_section o).content
 unfolding last_sections
 symbols_content o places = ap (content (written_sections o places)) at ∙ by_far (has_index_table o) refl
   where
     at : symbol_table_at o ≡ symbol_table_at o + 0
     at = omega arith
 
-    by_far : (far : Bool) → has_index_table o ≡ far → content (written_sections o places) (symbol_table_at o + 0) ≡ (symbol_table_section o).content
+    by_far : (far : Bool) → has_index_table o ≡ far →
+        content (written_sections o places) (symbol_table_at o + 0) ≡ (symbol_table_section o).content
     by_far true is = last_content o places true is 0 (omega arith)
     by_far false is = last_content o places false is 0 (omega arith)
 
-pub indexes_content : (o : ObjectValue) (places : List ℕ) → has_index_table o ≡ true → content (written_sections o places) (symbol_table_at o + 1) ≡ (index_table_section o).content
+pub indexes_content : (o : ObjectValue) (places : List ℕ) → has_index_table o ≡ true →
+    content (written_sections o places) (symbol_table_at o + 1) ≡ (index_table_section o).content
 unfolding last_sections
 indexes_content o places is = last_content o places true is 1 (omega arith)
 
@@ -378,7 +426,8 @@ unfolding last_sections
 strings_content_at o places true is = last_content o places true is 2 (omega arith)
 strings_content_at o places false is = last_content o places false is 1 (omega arith)
 
-pub strings_content : (o : ObjectValue) (places : List ℕ) → content (written_sections o places) (strings_at o) ≡ string_table (symbol_names o)
+pub strings_content : (o : ObjectValue) (places : List ℕ) →
+    content (written_sections o places) (strings_at o) ≡ string_table (symbol_names o)
 strings_content o places = strings_content_at o places (has_index_table o) refl
 
 names_content_at : (o : ObjectValue) (places : List ℕ) (far : Bool) → has_index_table o ≡ far →
@@ -391,7 +440,8 @@ names_content_at o places false is =
     let next : symbol_table_at o + 1 + 1 ≡ symbol_table_at o + 2 = omega arith in
     ap (content (written_sections o places)) next ∙ last_content o places false is 2 (omega arith)
 
-pub names_content : (o : ObjectValue) (places : List ℕ) → content (written_sections o places) (name_table_at o) ≡ string_table (section_names o)
+pub names_content : (o : ObjectValue) (places : List ℕ) →
+    content (written_sections o places) (name_table_at o) ≡ string_table (section_names o)
 names_content o places = names_content_at o places (has_index_table o) refl
 
 -- ---- names
@@ -405,7 +455,8 @@ name_read names i name lt is named =
 -- the section name string table holds the names of all sections
 pub section_name_at : (o : ObjectValue) (p : ℕ) → p < length (plain_sections o) → get_or (section_names o) p [] ≡ (plain_at o p).name
 section_name_at o p lt =
-    ap (λ (names : List (List ℕ)). get_or names p []) (section_names_are o) ∙ get_or-map (λ (s : PlainSection). s.name) (plain_sections o) p no_plain [] lt
+    ap (λ (names : List (List ℕ)). get_or names p []) (section_names_are o) ∙
+    get_or-map (λ (s : PlainSection). s.name) (plain_sections o) p no_plain [] lt
 
 pub written_names : (o : ObjectValue) (places : List ℕ) → IsWrittenAt o places →
     (let f = written_sections o places in value_names f.header f.headers f.contents ≡ string_table (section_names o))
@@ -423,11 +474,13 @@ own_name o p lt named =
     let same = section_name_at o p (omega arith) ∙ ap (λ (s : PlainSection). s.name) (plain_own o p lt) in
     name_read (section_names o) p (section_at o p).name (omega arith) same named
 
-pub written_name : (o : ObjectValue) (places : List ℕ) → IsWrittenAt o places → (p : ℕ) → p < length o.sections → section_name_of (written_sections o places) (suc p) ≡ (section_at o p).name
+pub written_name : (o : ObjectValue) (places : List ℕ) → IsWrittenAt o places → (p : ℕ) → p < length o.sections →
+    section_name_of (written_sections o places) (suc p) ≡ (section_at o p).name
 written_name o places written p lt =
     let names = section_names o in
     rw (ne_eqb (section (written_sections o places) (suc p)).sh_type SHT_NULL (own_typed o places written p lt))
-    (ap₂ (λ (table : List ℕ) (x : ℕ). string table x) (written_names o places written) (ap (λ (s : Shdr). s.sh_name) (written_own o places written p lt))
+    (ap₂ (λ (table : List ℕ) (x : ℕ). string table x) (written_names o places written)
+    (ap (λ (s : Shdr). s.sh_name) (written_own o places written p lt))
     ∙ own_name o p lt (no_zero_in_section_name o written.object p lt))
 
 -- section i of the file is this one
@@ -441,7 +494,8 @@ pub record HasSectionAt (f : Sections) (i : ℕ) (s : PlainSection) : Type 0 whe
   pub sh_entsize : (section f i).sh_entsize ≡ s.entsize
   pub bytes : content f i ≡ s.content
 
-at_header : (f : Sections) (i : ℕ) (s : PlainSection) (name_at : List ℕ → ℕ) (place : ℕ) → i < count f → section f i ≡ section_header name_at s place → content f i ≡ s.content →
+at_header : (f : Sections) (i : ℕ) (s : PlainSection) (name_at : List ℕ → ℕ) (place : ℕ) → i < count f →
+    section f i ≡ section_header name_at s place → content f i ≡ s.content →
     HasSectionAt f i s
 at_header f i s name_at place there header bytes = record {
   there = there;
@@ -462,23 +516,28 @@ own_at o places written p lt =
     let all = count_of_written o places written (has_index_table o) refl in
     let many = length-plain o (has_index_table o) refl in
     let more = last_some (has_index_table o) in
-    at_header (written_sections o places) (suc p) (own_section o (section_at o p)) (name_offset (section_names o)) (get_or places p 0) (omega arith)
+    at_header (written_sections o places) (suc p) (own_section o (section_at o p)) (name_offset (section_names o)) (get_or places p 0)
+    (omega arith)
     (written_own o places written p lt) (own_content o places p lt)
 
 -- ---- those after them
 
-pub last_at : (o : ObjectValue) (places : List ℕ) → IsWrittenAt o places → (far : Bool) → has_index_table o ≡ far → (k : ℕ) → k < last_count far →
+pub last_at : (o : ObjectValue) (places : List ℕ) → IsWrittenAt o places → (far : Bool) → has_index_table o ≡ far → (k : ℕ) →
+    k < last_count far →
     HasSectionAt (written_sections o places) (symbol_table_at o + k) (get_or (last_sections o far) k no_plain)
 last_at o places written far is k lt =
     let all = count_of_written o places written far is in
     let many = length-plain o far is in
     let next : symbol_table_at o + k ≡ suc (length o.sections + k) = omega arith in
-    at_header (written_sections o places) (symbol_table_at o + k) (get_or (last_sections o far) k no_plain) (name_offset (section_names o)) (get_or places (length o.sections + k) 0)
+    at_header (written_sections o places) (symbol_table_at o + k) (get_or (last_sections o far) k no_plain) (name_offset (section_names o))
+    (get_or places (length o.sections + k) 0)
     (omega arith) (written_last o places written far is k lt)
-    (ap (content (written_sections o places)) next ∙ written_content o places (length o.sections + k) (omega arith) ∙ ap (λ (s : PlainSection). s.content) (plain_last o far is k))
+    (ap (content (written_sections o places)) next ∙ written_content o places (length o.sections + k) (omega arith) ∙
+    ap (λ (s : PlainSection). s.content) (plain_last o far is k))
 
 -- section k of them is s, which has index i
-last_here : (o : ObjectValue) (places : List ℕ) (s : PlainSection) (i : ℕ) → IsWrittenAt o places → (far : Bool) → has_index_table o ≡ far → (k : ℕ) → k < last_count far →
+last_here : (o : ObjectValue) (places : List ℕ) (s : PlainSection) (i : ℕ) → IsWrittenAt o places → (far : Bool) → has_index_table o ≡ far →
+    (k : ℕ) → k < last_count far →
     get_or (last_sections o far) k no_plain ≡ s → symbol_table_at o + k ≡ i → HasSectionAt (written_sections o places) i s
 last_here o places s i written far is k lt same at =
     subst (λ (j : ℕ). HasSectionAt (written_sections o places) j s) at
@@ -489,15 +548,18 @@ unfolding last_sections
 first_of_last o true = refl
 first_of_last o false = refl
 
-pub symbols_at : (o : ObjectValue) (places : List ℕ) → IsWrittenAt o places → HasSectionAt (written_sections o places) (symbol_table_at o) (symbol_table_section o)
+pub symbols_at : (o : ObjectValue) (places : List ℕ) → IsWrittenAt o places →
+    HasSectionAt (written_sections o places) (symbol_table_at o) (symbol_table_section o)
 symbols_at o places written =
     let more = last_some (has_index_table o) in
-    last_here o places (symbol_table_section o) (symbol_table_at o) written (has_index_table o) refl 0 (omega arith) (first_of_last o (has_index_table o)) (omega arith)
+    last_here o places (symbol_table_section o) (symbol_table_at o) written (has_index_table o) refl 0 (omega arith)
+    (first_of_last o (has_index_table o)) (omega arith)
 
 abbrev strings_place : Bool → ℕ
 strings_place far = if far then 2 else 1
 
-strings_of_last : (o : ObjectValue) (far : Bool) → get_or (last_sections o far) (strings_place far) no_plain ≡ strings (codes ".strtab") (symbol_names o)
+strings_of_last : (o : ObjectValue) (far : Bool) →
+    get_or (last_sections o far) (strings_place far) no_plain ≡ strings (codes ".strtab") (symbol_names o)
 unfolding last_sections
 strings_of_last o true = refl
 strings_of_last o false = refl
@@ -510,7 +572,8 @@ pub symbol_strings_at : (o : ObjectValue) (places : List ℕ) → IsWrittenAt o 
     HasSectionAt (written_sections o places) (strings_at o) (strings (codes ".strtab") (symbol_names o))
 symbol_strings_at o places written =
     let far = has_index_table o in
-    last_here o places (strings (codes ".strtab") (symbol_names o)) (strings_at o) written far refl (strings_place far) (strings_some far) (strings_of_last o far) refl
+    last_here o places (strings (codes ".strtab") (symbol_names o)) (strings_at o) written far refl (strings_place far) (strings_some far)
+    (strings_of_last o far) refl
 
 second_of_last : (o : ObjectValue) → get_or (last_sections o true) 1 no_plain ≡ index_table_section o
 unfolding last_sections
@@ -524,7 +587,8 @@ indexes_at o places written is =
 -- ---- all of them
 
 -- what holds of section header 0, of each own section and of each one after them holds of all
-pub by_section : (o : ObjectValue) (places : List ℕ) → IsWrittenAt o places → (P : ℕ → Type 0) → P 0 → ((p : ℕ) → p < length o.sections → P (suc p)) →
+pub by_section : (o : ObjectValue) (places : List ℕ) → IsWrittenAt o places → (P : ℕ → Type 0) → P 0 →
+    ((p : ℕ) → p < length o.sections → P (suc p)) →
     ((k : ℕ) → k < last_count (has_index_table o) → P (symbol_table_at o + k)) → (i : ℕ) → i < count (written_sections o places) → P i
 by_section o places written P first own last zero lt = first
 by_section o places written P first own last (suc p) lt = elim (cases_lt p (length o.sections)) [
@@ -561,7 +625,8 @@ no_foreign_number type number is (inr high) =
 -- no body is of such a type
 body_not_foreign : (b : BodyValue) → (IsWrongBitsType b → ⊥) → IsForeignType (body_type b) → ⊥
 body_not_foreign (bits type bytes) right =
-    not_foreign_type type (λ same. right (3, omega arith, sym same)) (λ same. right (4, omega arith, sym same)) (λ same. right (7, omega arith, sym same))
+    not_foreign_type type (λ same. right (3, omega arith, sym same)) (λ same. right (4, omega arith, sym same))
+    (λ same. right (7, omega arith, sym same))
     (λ same. right (8, omega arith, sym same))
 body_not_foreign (no_bits size) right =
     not_foreign_type SHT_NOBITS (λ same. omega arith) (λ same. omega arith) (λ same. omega arith) (λ same. omega arith)
@@ -572,18 +637,33 @@ body_not_foreign (group comdat signature members) right = no_foreign_number SHT_
 
 strings_tell : (o : ObjectValue) (i type : ℕ) → type ≡ SHT_STRTAB → TellsIndex o i type
 strings_tell o i type is =
-    record { symbols = λ same. absurd (omega arith); indexes = λ same. absurd (omega arith); not_foreign = no_foreign_number type SHT_STRTAB is (inl (omega arith)) }
+    record {
+      symbols = λ same. absurd (omega arith);
+      indexes = λ same. absurd (omega arith);
+      not_foreign =
+          no_foreign_number type SHT_STRTAB is (inl (omega arith));
+    }
 
 symbols_tell : (o : ObjectValue) (i : ℕ) → i ≡ symbol_table_at o → TellsIndex o i SHT_SYMTAB
 symbols_tell o i at =
-    record { symbols = λ same. at; indexes = λ same. absurd (omega arith); not_foreign = no_foreign_number SHT_SYMTAB SHT_SYMTAB refl (inl (omega arith)) }
+    record {
+      symbols = λ same. at;
+      indexes = λ same. absurd (omega arith);
+      not_foreign =
+          no_foreign_number SHT_SYMTAB SHT_SYMTAB refl (inl (omega arith));
+    }
 
 last_tells : (o : ObjectValue) (far : Bool) (k : ℕ) → has_index_table o ≡ far → k < last_count far →
     TellsIndex o (symbol_table_at o + k) (get_or (last_sections o far) k no_plain).type
 unfolding last_sections
 last_tells o true zero is lt = symbols_tell o (symbol_table_at o + 0) (omega arith)
 last_tells o true (suc zero) is lt =
-    record { symbols = λ same. absurd (omega arith); indexes = λ same. (is, refl); not_foreign = no_foreign_number SHT_SYMTAB_SHNDX SHT_SYMTAB_SHNDX refl (inr (omega arith)) }
+    record {
+      symbols = λ same. absurd (omega arith);
+      indexes = λ same. (is, refl);
+      not_foreign =
+          no_foreign_number SHT_SYMTAB_SHNDX SHT_SYMTAB_SHNDX refl (inr (omega arith));
+    }
 last_tells o true (suc (suc zero)) is lt = strings_tell o _ _ refl
 last_tells o true (suc (suc (suc zero))) is lt = strings_tell o _ _ refl
 last_tells o true (suc (suc (suc (suc k)))) is lt = absurd (omega arith)
@@ -598,16 +678,23 @@ type_tells o places written =
     let f = written_sections o places in
     let far = has_index_table o in
     by_section o places written (λ i. TellsIndex o i (section f i).sh_type) first own
-    (λ k lt. subst (TellsIndex o (symbol_table_at o + k)) (sym (last_at o places written far refl k lt).sh_type) (last_tells o far k refl lt)) where
+    (λ k lt. subst (TellsIndex o (symbol_table_at o + k)) (sym (last_at o places written far refl k lt).sh_type)
+    (last_tells o far k refl lt)) where
       first : TellsIndex o 0 (section (written_sections o places) 0).sh_type
       first =
           let null = ap (λ (s : Shdr). s.sh_type) (written_first o places written) in
-          record { symbols = λ same. absurd (omega arith); indexes = λ same. absurd (omega arith); not_foreign = no_foreign_number _ SHT_NULL null (inl (omega arith)) }
+          record {
+            symbols = λ same. absurd (omega arith);
+            indexes = λ same. absurd (omega arith);
+            not_foreign =
+                no_foreign_number _ SHT_NULL null (inl (omega arith));
+          }
 
       own : (p : ℕ) → p < length o.sections → TellsIndex o (suc p) (section (written_sections o places) (suc p)).sh_type
       own p lt = record {
         symbols = λ same. absurd (own_type o places SHT_SYMTAB written symbols_no_body p lt same);
         indexes = λ same. absurd (own_type o places SHT_SYMTAB_SHNDX written indexes_no_body p lt same);
         not_foreign =
-            subst (λ (type : ℕ). IsForeignType type → ⊥) (sym (own_at o places written p lt).sh_type) (body_not_foreign (section_at o p).body (no_wrong_bits_type o written.object p lt));
+            subst (λ (type : ℕ). IsForeignType type → ⊥) (sym (own_at o places written p lt).sh_type)
+            (body_not_foreign (section_at o p).body (no_wrong_bits_type o written.object p lt));
       }

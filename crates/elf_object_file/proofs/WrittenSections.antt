@@ -1,6 +1,7 @@
 -- The sections of a written object, by their indexes. Section header p + 1 is that of the section at position p and has its place, by
 -- induction on the sections; content p + 1 is the content of that section.
-use Rattle.std.proofs.Common.{◌≡◌, ◌<◌, ◌+◌, ℕ, zero, suc, List, [], ◌∷◌, length, get_or, refl, ap, ◌∙◌, arith, ◌≤◌, ◌*◌, ◌^◌, ◌⊎◌, ◌||◌, Bool, true, false, inl, inr, ◌≢◌, ◌-◌, Option, None, Some, sym, ap₂, subst}
+use Rattle.std.proofs.Common.{◌≡◌, ◌<◌, ◌+◌, ℕ, zero, suc, List, [], ◌∷◌, length, get_or, refl, ap, ◌∙◌, arith, ◌≤◌, ◌*◌, ◌^◌, ◌⊎◌, ◌||◌}
+use Rattle.std.proofs.Common.{Bool, true, false, inl, inr, ◌≢◌, ◌-◌, Option, None, Some, sym, ap₂, subst}
 use Rattle.std.proofs.lemmas.List.{get_or-map}
 use Rattle.std.specs.Prelude.{not, filter, ◌==◌, ◌&&◌, if◌then◌else◌, Contains}
 use Rattle.std.specs.List.{range_with_len}
@@ -8,7 +9,8 @@ use Rattle.std.specs.Cmp.Derive.{both_true}
 use Rattle.std.proofs.lemmas.Bool.{cases_lt, eq-eqb, eqb-true, le-ltb, lt-ltb, ne_eqb, true≢false}
 use Rattle.std.proofs.lemmas.List.FromFn.{length-range_with_len}
 use Rattle.elf_extent.proofs.Public.{fits_length}
-use Rattle.elf_field.specs.Abi.{SHN_LORESERVE, SHN_XINDEX, SHT_GROUP, SHT_NOBITS, SHT_NULL, SHT_REL, SHT_RELA, SHT_STRTAB, SHT_SYMTAB, SHT_SYMTAB_SHNDX}
+use Rattle.elf_field.specs.Abi.{SHN_LORESERVE, SHN_XINDEX, SHT_GROUP, SHT_NOBITS, SHT_NULL, SHT_REL, SHT_RELA, SHT_STRTAB, SHT_SYMTAB}
+use Rattle.elf_field.specs.Abi.{SHT_SYMTAB_SHNDX}
 use Rattle.elf_field.specs.declared.shdr.Shdr.{Shdr}
 use Rattle.elf_image_rules.specs.Tables.{section_header_of, name_table}
 use Rattle.elf_image_type.specs.WrittenFile.{first_header, long_number, short_index}
@@ -21,14 +23,19 @@ use Rattle.elf_object_strings.specs.StringTable.{name_offset, string_table}
 use Rattle.elf_object_type.proofs.Public.{no_wrong_bits_type}
 use Rattle.elf_object_type.specs.Object.{ObjectValue, BodyValue, bits, no_bits, relocs, group, section_at}
 use Rattle.elf_object_type.specs.ObjectRules.{IsWrongBitsType, types_without_bits}
-use Rattle.elf_object_layout.proofs.Public.{length-canonical_section_headers, length-layout_parts, no_plain, plain_at, content_end, few_sections, few_symbols, own_below, short_names, short_strings, table_end, last_count, last_sections, length-plain, plain_last, plain_own}
-use Rattle.elf_object_layout.specs.Laid.{layout_parts, section_header, section_headers, PlainSection, name_table_at, plain_sections, section_names, layout_bytes, IsLayoutOf, LayoutValue, symbol_names, body_type, has_index_table, own_section, strings_at, symbol_table_at}
+use Rattle.elf_object_layout.proofs.Public.{length-canonical_section_headers, length-layout_parts, no_plain, plain_at, content_end}
+use Rattle.elf_object_layout.proofs.Public.{few_sections, few_symbols, own_below, short_names, short_strings, table_end, last_count}
+use Rattle.elf_object_layout.proofs.Public.{last_sections, length-plain, plain_last, plain_own}
+use Rattle.elf_object_layout.specs.Laid.{layout_parts, section_header, section_headers, PlainSection, name_table_at, plain_sections}
+use Rattle.elf_object_layout.specs.Laid.{section_names, layout_bytes, IsLayoutOf, LayoutValue, symbol_names, body_type, has_index_table}
+use Rattle.elf_object_layout.specs.Laid.{own_section, strings_at, symbol_table_at}
 use Rattle.elf_table_symbols.specs.Sections.{content, count, section}
 use Rattle.elf_table_symbols.specs.Symbols.{IsIndexTable, index_table}
 
 -- ---- by position: section p has index p + 1
 
-header_in : (name_at : List ℕ → ℕ) (sections : List PlainSection) (places : List ℕ) (p : ℕ) → p < length sections → length sections < length places →
+header_in : (name_at : List ℕ → ℕ) (sections : List PlainSection) (places : List ℕ) (p : ℕ) → p < length sections →
+    length sections < length places →
     section_header_of (section_headers name_at sections places) p ≡ section_header name_at (get_or sections p no_plain) (get_or places p 0)
 header_in name_at [] places p lt long = absurd (omega arith)
 header_in name_at (s ∷ sections) [] p lt long = absurd (omega arith)
@@ -40,13 +47,16 @@ length-places o places written =
     let many = fits_length (layout_parts (plain_sections o)) 64 places written.least.fits in
     many ∙ length-layout_parts (plain_sections o)
 
-pub written_count : (o : ObjectValue) (places : List ℕ) → IsWrittenAt o places → count (written_sections o places) ≡ length (plain_sections o) + 1
+pub written_count : (o : ObjectValue) (places : List ℕ) → IsWrittenAt o places →
+    count (written_sections o places) ≡ length (plain_sections o) + 1
 unfolding written_sections
 written_count o places written = let long = length-canonical_section_headers o places written.least.fits in omega arith
 
-pub written_first : (o : ObjectValue) (places : List ℕ) → IsWrittenAt o places → section (written_sections o places) 0 ≡ first_header (length (plain_sections o) + 1) (name_table_at o)
+pub written_first : (o : ObjectValue) (places : List ℕ) → IsWrittenAt o places →
+    section (written_sections o places) 0 ≡ first_header (length (plain_sections o) + 1) (name_table_at o)
 unfolding written_sections
-written_first o places written = ap (λ (n : ℕ). first_header (n + 1) (name_table_at o)) (length-canonical_section_headers o places written.least.fits)
+written_first o places written =
+    ap (λ (n : ℕ). first_header (n + 1) (name_table_at o)) (length-canonical_section_headers o places written.least.fits)
 
 pub written_section : (o : ObjectValue) (places : List ℕ) → IsWrittenAt o places → (p : ℕ) → p < length (plain_sections o) →
     section (written_sections o places) (suc p) ≡ section_header (name_offset (section_names o)) (plain_at o p) (get_or places p 0)
@@ -55,7 +65,8 @@ written_section o places written p lt =
     let long = length-places o places written in
     header_in (name_offset (section_names o)) (plain_sections o) places p lt (omega arith)
 
-pub written_content : (o : ObjectValue) (places : List ℕ) (p : ℕ) → p < length (plain_sections o) → content (written_sections o places) (suc p) ≡ (plain_at o p).content
+pub written_content : (o : ObjectValue) (places : List ℕ) (p : ℕ) → p < length (plain_sections o) →
+    content (written_sections o places) (suc p) ≡ (plain_at o p).content
 unfolding written_sections
 written_content o places p lt = get_or-map (λ (s : PlainSection). s.content) (plain_sections o) p no_plain [] lt
 
@@ -69,10 +80,12 @@ is_layout : (o : ObjectValue) (places : List ℕ) → IsWrittenAt o places → I
 is_layout o places written =
     record { least = written.least; count = length-places o places written; file_len = refl; short = written.short }
 
-pub table_short : (o : ObjectValue) (places : List ℕ) → IsWrittenAt o places → get_or places (length (plain_sections o)) 0 + 64 * (length (plain_sections o) + 1) ≤ 2 ^ 30
+pub table_short : (o : ObjectValue) (places : List ℕ) → IsWrittenAt o places →
+    get_or places (length (plain_sections o)) 0 + 64 * (length (plain_sections o) + 1) ≤ 2 ^ 30
 table_short o places written = table_end o (layout_at o places) (is_layout o places written)
 
-pub content_short : (o : ObjectValue) (places : List ℕ) → IsWrittenAt o places → (p : ℕ) → p < length (plain_sections o) → get_or places p 0 + length (plain_at o p).content ≤ 2 ^ 30
+pub content_short : (o : ObjectValue) (places : List ℕ) → IsWrittenAt o places → (p : ℕ) → p < length (plain_sections o) →
+    get_or places p 0 + length (plain_at o p).content ≤ 2 ^ 30
 content_short o places written p lt = content_end o (layout_at o places) p no_plain (is_layout o places written) lt
 
 pub own_short : (o : ObjectValue) (places : List ℕ) → IsWrittenAt o places → length o.sections + 3 < 2 ^ 24
@@ -95,10 +108,12 @@ names_short o places written = short_names o (layout_at o places) (is_layout o p
 
 -- ---- six reasons to leave a section out
 
-pub none_left_out : (a b c d e g : Bool) → a ≡ false → b ≡ false → c ≡ false → d ≡ false → e ≡ false → g ≡ false → not (a || (b || (c || (d || (e || g))))) ≡ true
+pub none_left_out : (a b c d e g : Bool) → a ≡ false → b ≡ false → c ≡ false → d ≡ false → e ≡ false → g ≡ false →
+    not (a || (b || (c || (d || (e || g))))) ≡ true
 none_left_out a b c d e g is_a is_b is_c is_d is_e is_g = rw (is_a, is_b, is_c, is_d, is_e, is_g) refl
 
-pub one_left_out : (a b c d e g : Bool) → (a ≡ true) ⊎ ((c ≡ true) ⊎ ((d ≡ true) ⊎ ((e ≡ true) ⊎ (g ≡ true)))) → not (a || (b || (c || (d || (e || g))))) ≡ false
+pub one_left_out : (a b c d e g : Bool) → (a ≡ true) ⊎ ((c ≡ true) ⊎ ((d ≡ true) ⊎ ((e ≡ true) ⊎ (g ≡ true)))) →
+    not (a || (b || (c || (d || (e || g))))) ≡ false
 one_left_out true b c d e g is = refl
 one_left_out false true c d e g is = refl
 one_left_out false false true d e g is = refl
@@ -115,16 +130,19 @@ one_left_out false false false false false false (inr (inr (inr (inr is)))) = cc
 
 filter_none : (test : ℕ → Bool) (a n : ℕ) → ((i : ℕ) → a ≤ i → i < a + n → test i ≡ false) → filter test (range_with_len a n) ≡ []
 filter_none test a zero none = refl
-filter_none test a (suc n) none = rw (none a (omega arith) (omega arith)) (filter_none test (a + 1) n (λ i above below. none i (omega arith) (omega arith)))
+filter_none test a (suc n) none =
+    rw (none a (omega arith) (omega arith)) (filter_none test (a + 1) n (λ i above below. none i (omega arith) (omega arith)))
 
-filter_front : (test : ℕ → Bool) (a n m : ℕ) → ((i : ℕ) → a ≤ i → i < a + n → test i ≡ true) → ((i : ℕ) → a + n ≤ i → i < a + n + m → test i ≡ false) →
+filter_front : (test : ℕ → Bool) (a n m : ℕ) → ((i : ℕ) → a ≤ i → i < a + n → test i ≡ true) →
+    ((i : ℕ) → a + n ≤ i → i < a + n + m → test i ≡ false) →
     filter test (range_with_len a (n + m)) ≡ range_with_len a n
 filter_front test a zero m passes fails =
     let same : zero + m ≡ m = omega arith in
     ap (λ (k : ℕ). filter test (range_with_len a k)) same ∙ filter_none test a m (λ i above below. fails i (omega arith) (omega arith))
 filter_front test a (suc n) m passes fails =
     let same : suc n + m ≡ suc (n + m) = omega arith in
-    let rest = filter_front test (a + 1) n m (λ i above below. passes i (omega arith) (omega arith)) (λ i above below. fails i (omega arith) (omega arith)) in
+    let rest = filter_front test (a + 1) n m (λ i above below. passes i (omega arith) (omega arith))
+    (λ i above below. fails i (omega arith) (omega arith)) in
     ap (λ (k : ℕ). filter test (range_with_len a k)) same ∙ rw (passes a (omega arith) (omega arith)) (ap (λ (is : List ℕ). a ∷ is) rest)
 
 each_own : (test : ℕ → Bool) (n : ℕ) → ((p : ℕ) → p < n → test (suc p) ≡ true) → (i : ℕ) → 1 ≤ i → i < 1 + n → test i ≡ true
@@ -132,9 +150,11 @@ each_own test n own zero above below = absurd (omega arith)
 each_own test n own (suc p) above below = own p (omega arith)
 
 -- those that pass are 1 to n
-pub filter_own : (test : ℕ → Bool) (n m : ℕ) → test 0 ≡ false → ((p : ℕ) → p < n → test (suc p) ≡ true) → ((i : ℕ) → n < i → i < 1 + n + m → test i ≡ false) →
+pub filter_own : (test : ℕ → Bool) (n m : ℕ) → test 0 ≡ false → ((p : ℕ) → p < n → test (suc p) ≡ true) →
+    ((i : ℕ) → n < i → i < 1 + n + m → test i ≡ false) →
     filter test (range_with_len 0 (suc (n + m))) ≡ range_with_len 1 n
-filter_own test n m first own behind = rw first (filter_front test 1 n m (each_own test n own) (λ i above below. behind i (omega arith) below))
+filter_own test n m first own behind =
+    rw first (filter_front test 1 n m (each_own test n own) (λ i above below. behind i (omega arith) below))
 
 -- What an object keeps of the file that it is written as. Types of own sections go with a body, so the first symbol table and its index
 -- table are those after them. These two and the string tables are left out, and they are last; so section p + 1 is kept, at position p.
@@ -146,21 +166,24 @@ last_some true = omega arith
 last_some false = omega arith
 
 pub written_own : (o : ObjectValue) (places : List ℕ) → IsWrittenAt o places → (p : ℕ) → p < length o.sections →
-    section (written_sections o places) (suc p) ≡ section_header (name_offset (section_names o)) (own_section o (section_at o p)) (get_or places p 0)
+    section (written_sections o places) (suc p) ≡
+    section_header (name_offset (section_names o)) (own_section o (section_at o p)) (get_or places p 0)
 written_own o places written p lt =
     let many = length-plain o (has_index_table o) refl in
     let more = last_some (has_index_table o) in
     written_section o places written p (omega arith)
     ∙ ap (λ (s : PlainSection). section_header (name_offset (section_names o)) s (get_or places p 0)) (plain_own o p lt)
 
-pub written_last : (o : ObjectValue) (places : List ℕ) → IsWrittenAt o places → (far : Bool) → has_index_table o ≡ far → (k : ℕ) → k < last_count far →
+pub written_last : (o : ObjectValue) (places : List ℕ) → IsWrittenAt o places → (far : Bool) → has_index_table o ≡ far → (k : ℕ) →
+    k < last_count far →
     section (written_sections o places) (symbol_table_at o + k) ≡
     section_header (name_offset (section_names o)) (get_or (last_sections o far) k no_plain) (get_or places (length o.sections + k) 0)
 written_last o places written far is k lt =
     let many = length-plain o far is in
     let next : symbol_table_at o + k ≡ suc (length o.sections + k) = omega arith in
     ap (section (written_sections o places)) next ∙ written_section o places written (length o.sections + k) (omega arith)
-    ∙ ap (λ (s : PlainSection). section_header (name_offset (section_names o)) s (get_or places (length o.sections + k) 0)) (plain_last o far is k)
+    ∙ ap (λ (s : PlainSection). section_header (name_offset (section_names o)) s (get_or places (length o.sections + k) 0))
+    (plain_last o far is k)
 
 pub count_of_written : (o : ObjectValue) (places : List ℕ) → IsWrittenAt o places → (far : Bool) → has_index_table o ≡ far →
     count (written_sections o places) ≡ symbol_table_at o + last_count far
@@ -180,13 +203,37 @@ pub record IsNoBody (type : ℕ) : Type 0 where
   pub not_group : SHT_GROUP ≢ type
 
 null_no_body : IsNoBody SHT_NULL
-null_no_body = record { no_bits_type = (0, omega arith, refl); not_no_bits = λ is. omega arith; not_rela = λ is. omega arith; not_rel = λ is. omega arith; not_group = λ is. omega arith }
+null_no_body =
+    record {
+      no_bits_type = (0, omega arith, refl);
+      not_no_bits = λ is. omega arith;
+      not_rela = λ is. omega arith;
+      not_rel =
+          λ is. omega arith;
+      not_group = λ is. omega arith;
+    }
 
 pub symbols_no_body : IsNoBody SHT_SYMTAB
-symbols_no_body = record { no_bits_type = (1, omega arith, refl); not_no_bits = λ is. omega arith; not_rela = λ is. omega arith; not_rel = λ is. omega arith; not_group = λ is. omega arith }
+symbols_no_body =
+    record {
+      no_bits_type = (1, omega arith, refl);
+      not_no_bits = λ is. omega arith;
+      not_rela = λ is. omega arith;
+      not_rel =
+          λ is. omega arith;
+      not_group = λ is. omega arith;
+    }
 
 pub indexes_no_body : IsNoBody SHT_SYMTAB_SHNDX
-indexes_no_body = record { no_bits_type = (10, omega arith, refl); not_no_bits = λ is. omega arith; not_rela = λ is. omega arith; not_rel = λ is. omega arith; not_group = λ is. omega arith }
+indexes_no_body =
+    record {
+      no_bits_type = (10, omega arith, refl);
+      not_no_bits = λ is. omega arith;
+      not_rela = λ is. omega arith;
+      not_rel =
+          λ is. omega arith;
+      not_group = λ is. omega arith;
+    }
 
 other_body : (type : ℕ) (b : BodyValue) → IsNoBody type → (IsWrongBitsType b → ⊥) → body_type b ≢ type
 other_body type (bits own content) bodyless right = λ same. right (subst (Contains types_without_bits) (sym same) bodyless.no_bits_type)
@@ -207,12 +254,15 @@ pub own_typed : (o : ObjectValue) (places : List ℕ) → IsWrittenAt o places �
 own_typed o places written p lt = own_type o places SHT_NULL written null_no_body p lt
 
 -- no section before the symbol table has this type
-before_symbols : (o : ObjectValue) (places : List ℕ) (type : ℕ) → IsWrittenAt o places → IsNoBody type → SHT_NULL ≢ type → (k : ℕ) → k < symbol_table_at o →
+before_symbols : (o : ObjectValue) (places : List ℕ) (type : ℕ) → IsWrittenAt o places → IsNoBody type → SHT_NULL ≢ type → (k : ℕ) →
+    k < symbol_table_at o →
     (section (written_sections o places) k).sh_type ≢ type
-before_symbols o places type written bodyless typed zero lt = λ same. typed (sym (ap (λ (s : Shdr). s.sh_type) (written_first o places written)) ∙ same)
+before_symbols o places type written bodyless typed zero lt =
+    λ same. typed (sym (ap (λ (s : Shdr). s.sh_type) (written_first o places written)) ∙ same)
 before_symbols o places type written bodyless typed (suc p) lt = own_type o places type written bodyless p (omega arith)
 
-type_at : (o : ObjectValue) (places : List ℕ) → IsWrittenAt o places → (far : Bool) → has_index_table o ≡ far → (k : ℕ) → k < last_count far →
+type_at : (o : ObjectValue) (places : List ℕ) → IsWrittenAt o places → (far : Bool) → has_index_table o ≡ far → (k : ℕ) →
+    k < last_count far →
     (section (written_sections o places) (symbol_table_at o + k)).sh_type ≡ (get_or (last_sections o far) k no_plain).type
 type_at o places written far is k lt = ap (λ (s : Shdr). s.sh_type) (written_last o places written far is k lt)
 
@@ -223,7 +273,8 @@ unfolding last_sections
 first_last o true = refl
 first_last o false = refl
 
-symbols_typed : (o : ObjectValue) (places : List ℕ) → IsWrittenAt o places → (section (written_sections o places) (symbol_table_at o)).sh_type ≡ SHT_SYMTAB
+symbols_typed : (o : ObjectValue) (places : List ℕ) → IsWrittenAt o places →
+    (section (written_sections o places) (symbol_table_at o)).sh_type ≡ SHT_SYMTAB
 symbols_typed o places written =
     let more = last_some (has_index_table o) in
     let at : symbol_table_at o ≡ symbol_table_at o + 0 = omega arith in
@@ -236,13 +287,16 @@ symbols_there o places written =
     let all = count_of_written o places written (has_index_table o) refl in
     omega arith
 
-pub written_symbol_table : (o : ObjectValue) (places : List ℕ) → IsWrittenAt o places → symbol_table (written_sections o places) ≡ Some (symbol_table_at o)
+pub written_symbol_table : (o : ObjectValue) (places : List ℕ) → IsWrittenAt o places →
+    symbol_table (written_sections o places) ≡ Some (symbol_table_at o)
 unfolding symbol_table
 written_symbol_table o places written =
     let f = written_sections o places in
-    sym (first_found (λ (s : Shdr). s.sh_type == SHT_SYMTAB) f (λ k. (section f k).sh_type ≡ SHT_SYMTAB) (symbol_table_at o) (λ k is. eq-eqb _ _ is)
+    sym (first_found (λ (s : Shdr). s.sh_type == SHT_SYMTAB) f (λ k. (section f k).sh_type ≡ SHT_SYMTAB) (symbol_table_at o)
+    (λ k is. eq-eqb _ _ is)
     (λ k test. eqb-true _ _ test) (symbols_there o places written)
-    (λ k below same. before_symbols o places SHT_SYMTAB written symbols_no_body (λ is. omega arith) k below same) (symbols_typed o places written))
+    (λ k below same. before_symbols o places SHT_SYMTAB written symbols_no_body (λ is. omega arith) k below same)
+    (symbols_typed o places written))
 
 -- where there is an index table, it is the one section of its type; it is after the symbol table and is linked to it
 second_last : (o : ObjectValue) → (get_or (last_sections o true) 1 no_plain).type ≡ SHT_SYMTAB_SHNDX
@@ -278,7 +332,8 @@ strings_type o (suc zero) above lt = refl
 strings_type o (suc (suc zero)) above lt = refl
 strings_type o (suc (suc (suc k))) above lt = absurd (omega arith)
 
-none_at_all : (o : ObjectValue) (places : List ℕ) → IsWrittenAt o places → has_index_table o ≡ false → (k : ℕ) → k < count (written_sections o places) →
+none_at_all : (o : ObjectValue) (places : List ℕ) → IsWrittenAt o places → has_index_table o ≡ false → (k : ℕ) →
+    k < count (written_sections o places) →
     IsIndexTable (written_sections o places) (symbol_table_at o) k → ⊥
 none_at_all o places written is k lt found = elim (cases_lt k (symbol_table_at o + 1)) [
   | inl below ↦ none_before o places written k below found
@@ -286,7 +341,8 @@ none_at_all o places written is k lt found = elim (cases_lt k (symbol_table_at o
       let all = count_of_written o places written false is in
       let j = k - symbol_table_at o in
       let at : symbol_table_at o + j ≡ k = omega arith in
-      let typed = sym (ap (λ (i : ℕ). (section (written_sections o places) i).sh_type) at) ∙ type_at o places written false is j (omega arith) ∙ strings_type o j (omega arith) (omega arith) in
+      let typed = sym (ap (λ (i : ℕ). (section (written_sections o places) i).sh_type) at) ∙
+      type_at o places written false is j (omega arith) ∙ strings_type o j (omega arith) (omega arith) in
       let both = sym found.0 ∙ typed in
       absurd (omega arith))
 ]
@@ -299,13 +355,15 @@ index_table_is o places written true is =
     let t = symbol_table_at o in
     let all = count_of_written o places written true is in
     sym (first_found (λ (s : Shdr). (s.sh_type == SHT_SYMTAB_SHNDX) && (s.sh_link == t)) f (IsIndexTable f t) (t + 1)
-    (λ k has. both_true (eq-eqb _ _ has.0) (eq-eqb _ _ has.1)) (λ k test. (let parts = and_true _ _ test in (eqb-true _ _ parts.0, eqb-true _ _ parts.1)))
+    (λ k has. both_true (eq-eqb _ _ has.0) (eq-eqb _ _ has.1))
+    (λ k test. (let parts = and_true _ _ test in (eqb-true _ _ parts.0, eqb-true _ _ parts.1)))
     (omega arith) (none_before o places written) (is_index_table o places written is))
 index_table_is o places written false is =
     let f = written_sections o places in
     let t = symbol_table_at o in
     sym (first_missing (λ (s : Shdr). (s.sh_type == SHT_SYMTAB_SHNDX) && (s.sh_link == t)) f (IsIndexTable f t)
-    (λ k has. both_true (eq-eqb _ _ has.0) (eq-eqb _ _ has.1)) (λ k test. (let parts = and_true _ _ test in (eqb-true _ _ parts.0, eqb-true _ _ parts.1)))
+    (λ k has. both_true (eq-eqb _ _ has.0) (eq-eqb _ _ has.1))
+    (λ k test. (let parts = and_true _ _ test in (eqb-true _ _ parts.0, eqb-true _ _ parts.1)))
     (none_at_all o places written is))
 
 pub written_index_table : (o : ObjectValue) (places : List ℕ) → IsWrittenAt o places →
@@ -330,12 +388,14 @@ unfolding last_sections
 first_link o true = refl
 first_link o false = refl
 
-pub written_strings : (o : ObjectValue) (places : List ℕ) → IsWrittenAt o places → (section (written_sections o places) (symbol_table_at o)).sh_link ≡ strings_at o
+pub written_strings : (o : ObjectValue) (places : List ℕ) → IsWrittenAt o places →
+    (section (written_sections o places) (symbol_table_at o)).sh_link ≡ strings_at o
 written_strings o places written =
     let more = last_some (has_index_table o) in
     let at : symbol_table_at o ≡ symbol_table_at o + 0 = omega arith in
     ap (λ (k : ℕ). (section (written_sections o places) k).sh_link) at
-    ∙ ap (λ (s : Shdr). s.sh_link) (written_last o places written (has_index_table o) refl 0 (omega arith)) ∙ first_link o (has_index_table o)
+    ∙ ap (λ (s : Shdr). s.sh_link) (written_last o places written (has_index_table o) refl 0 (omega arith)) ∙
+    first_link o (has_index_table o)
 
 -- these four
 abbrev pub left_of : ObjectValue → LeftOut
@@ -351,10 +411,18 @@ written_left_out o places written =
     let f = written_sections o places in
     let t = symbol_table_at o in
     let table = written_symbol_table o places written in
-    ap (λ (s : Option ℕ). let l : LeftOut = record { symbol_table = s; strings = symbol_strings f s; index_table = symbol_indexes f s; names = name_table f.header (section f 0) } in l) table
+    ap (λ (s : Option ℕ). let l : LeftOut =
+    record {
+      symbol_table = s;
+      strings = symbol_strings f s;
+      index_table = symbol_indexes f s;
+      names =
+          name_table f.header (section f 0);
+    } in l) table
     ∙ ap₂ (λ (k n : ℕ). let l : LeftOut = record { symbol_table = Some t; strings = Some k; index_table = index_table f t; names = n } in l)
     (written_strings o places written) (written_name_table o places written)
-    ∙ ap (λ (i : Option ℕ). let l : LeftOut = record { symbol_table = Some t; strings = Some (strings_at o); index_table = i; names = name_table_at o } in l)
+    ∙ ap (λ (i : Option ℕ). let l : LeftOut =
+    record { symbol_table = Some t; strings = Some (strings_at o); index_table = i; names = name_table_at o } in l)
     (written_index_table o places written)
 
 -- ---- what is kept
@@ -367,7 +435,8 @@ strings_behind : (far : Bool) → 0 < (if far then 2 else 1)
 strings_behind true = omega arith
 strings_behind false = omega arith
 
-own_kept : (o : ObjectValue) (places : List ℕ) → IsWrittenAt o places → (p : ℕ) → p < length o.sections → is_kept (left_of o) (written_sections o places) (suc p) ≡ true
+own_kept : (o : ObjectValue) (places : List ℕ) → IsWrittenAt o places → (p : ℕ) → p < length o.sections →
+    is_kept (left_of o) (written_sections o places) (suc p) ≡ true
 unfolding is_kept
 own_kept o places written p lt =
     let behind = strings_behind (has_index_table o) in
@@ -401,10 +470,12 @@ last_left_out : (o : ObjectValue) (places : List ℕ) (k : ℕ) → k < last_cou
 unfolding is_kept
 last_left_out o places k lt =
     let i = symbol_table_at o + k in
-    one_left_out ((section (written_sections o places) i).sh_type == SHT_NULL) (i == 0) (symbol_table_at o == i) (strings_at o == i) _ (name_table_at o == i)
+    one_left_out ((section (written_sections o places) i).sh_type == SHT_NULL) (i == 0) (symbol_table_at o == i) (strings_at o == i) _
+    (name_table_at o == i)
     (inr (which_last (symbol_table_at o) (has_index_table o) k lt))
 
-behind_left_out : (o : ObjectValue) (places : List ℕ) → IsWrittenAt o places → (i : ℕ) → length o.sections < i → is_kept (left_of o) (written_sections o places) i ≡ false
+behind_left_out : (o : ObjectValue) (places : List ℕ) → IsWrittenAt o places → (i : ℕ) → length o.sections < i →
+    is_kept (left_of o) (written_sections o places) i ≡ false
 behind_left_out o places written i above = elim (cases_lt i (count (written_sections o places))) [
   | inl below ↦ (
       let all = count_of_written o places written (has_index_table o) refl in
@@ -418,19 +489,24 @@ behind_left_out o places written i above = elim (cases_lt i (count (written_sect
 pub own_is_kept : (o : ObjectValue) (places : List ℕ) → IsWrittenAt o places → (p : ℕ) → p < length o.sections →
     (let f = written_sections o places in is_kept (left_out f) f (suc p) ≡ true)
 own_is_kept o places written p lt =
-    ap (λ (left : LeftOut). is_kept left (written_sections o places) (suc p)) (written_left_out o places written) ∙ own_kept o places written p lt
+    ap (λ (left : LeftOut). is_kept left (written_sections o places) (suc p)) (written_left_out o places written) ∙
+    own_kept o places written p lt
 
-pub first_not_kept : (o : ObjectValue) (places : List ℕ) → IsWrittenAt o places → (let f = written_sections o places in is_kept (left_out f) f 0 ≡ false)
+pub first_not_kept : (o : ObjectValue) (places : List ℕ) → IsWrittenAt o places →
+    (let f = written_sections o places in is_kept (left_out f) f 0 ≡ false)
 first_not_kept o places written =
-    ap (λ (left : LeftOut). is_kept left (written_sections o places) 0) (written_left_out o places written) ∙ first_left_out o places written
+    ap (λ (left : LeftOut). is_kept left (written_sections o places) 0) (written_left_out o places written) ∙
+    first_left_out o places written
 
 pub behind_not_kept : (o : ObjectValue) (places : List ℕ) → IsWrittenAt o places → (i : ℕ) → length o.sections < i →
     (let f = written_sections o places in is_kept (left_out f) f i ≡ false)
 behind_not_kept o places written i above =
-    ap (λ (left : LeftOut). is_kept left (written_sections o places) i) (written_left_out o places written) ∙ behind_left_out o places written i above
+    ap (λ (left : LeftOut). is_kept left (written_sections o places) i) (written_left_out o places written) ∙
+    behind_left_out o places written i above
 
 -- a section that is kept is the own section at some position
-pub own_of_kept : (o : ObjectValue) (places : List ℕ) → IsWrittenAt o places → (i : ℕ) → (let f = written_sections o places in is_kept (left_out f) f i ≡ true) →
+pub own_of_kept : (o : ObjectValue) (places : List ℕ) → IsWrittenAt o places → (i : ℕ) →
+    (let f = written_sections o places in is_kept (left_out f) f i ≡ true) →
     (p : ℕ) × (p < length o.sections) × (i ≡ suc p)
 own_of_kept o places written zero is = absurd (let both : true ≡ false = sym is ∙ first_not_kept o places written in true≢false both)
 own_of_kept o places written (suc p) is = elim (cases_lt p (length o.sections)) [
@@ -441,7 +517,8 @@ own_of_kept o places written (suc p) is = elim (cases_lt p (length o.sections)) 
 -- ---- positions
 
 -- the sections that are kept have the indexes 1 to the number of own sections
-pub written_kept : (o : ObjectValue) (places : List ℕ) → IsWrittenAt o places → (let f = written_sections o places in kept (left_out f) f ≡ range_with_len 1 (length o.sections))
+pub written_kept : (o : ObjectValue) (places : List ℕ) → IsWrittenAt o places →
+    (let f = written_sections o places in kept (left_out f) f ≡ range_with_len 1 (length o.sections))
 written_kept o places written =
     let f = written_sections o places in
     let test = is_kept (left_out f) f in
@@ -449,7 +526,8 @@ written_kept o places written =
     let all = count_of_written o places written (has_index_table o) refl in
     let same : count f ≡ suc (n + last_count (has_index_table o)) = omega arith in
     ap (λ (k : ℕ). filter test (range_with_len 0 k)) same
-    ∙ filter_own test n (last_count (has_index_table o)) (first_not_kept o places written) (own_is_kept o places written) (λ i above below. behind_not_kept o places written i above)
+    ∙ filter_own test n (last_count (has_index_table o)) (first_not_kept o places written) (own_is_kept o places written)
+    (λ i above below. behind_not_kept o places written i above)
 
 -- section p + 1 is at position p
 pub written_position : (o : ObjectValue) (places : List ℕ) → IsWrittenAt o places → (p : ℕ) → p ≤ length o.sections →
@@ -458,5 +536,6 @@ written_position o places written p le =
     let f = written_sections o places in
     let test = is_kept (left_out f) f in
     let same : suc (p + 0) ≡ suc p = omega arith in
-    let own = filter_own test p 0 (first_not_kept o places written) (λ q lt. own_is_kept o places written q (omega arith)) (λ i above below. absurd (omega arith)) in
+    let own = filter_own test p 0 (first_not_kept o places written) (λ q lt. own_is_kept o places written q (omega arith))
+    (λ i above below. absurd (omega arith)) in
     sym (ap (position_of (left_out f) f) same) ∙ ap (λ (is : List ℕ). length is) own ∙ length-range_with_len 1 p

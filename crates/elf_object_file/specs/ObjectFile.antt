@@ -1,5 +1,6 @@
 -- The file that represents an object, and what writing it does to what a writer holds. (gABI chapter 4.)
-use Rattle.std.specs.Prelude.{◌≤◌, ℕ, ◌+◌, List, [], ◌∷◌, length, map, slice_index, ◌≡◌, ◌↔◌, None, Option, Result, Ok, Err, MatchResult, codes}
+use Rattle.std.specs.Prelude.{◌≤◌, ℕ, ◌+◌, List, [], ◌∷◌, length, map, slice_index, ◌≡◌, ◌↔◌, None, Option, Result, Ok, Err, MatchResult}
+use Rattle.std.specs.Prelude.{codes}
 use Rattle.elf_extent.specs.Place.{Least}
 use Rattle.elf_field.specs.Abi.{EHDR_SIZE}
 use Rattle.elf_field.specs.declared.number.Order.TheVariants.{Little, Big}
@@ -15,7 +16,8 @@ use Rattle.elf_object_strings.specs.StringTable.{name_offset}
 use Rattle.elf_object_type.specs.Object.{ObjectValue, ObjectFits, bits}
 use Rattle.elf_object_type.specs.ObjectRules.{IsObject}
 use Rattle.elf_object_type.specs.declared.parts.Info.TheVariants.{Number}
-use Rattle.elf_object_layout.specs.Laid.{Laid, file_header, layout_bytes, layout_parts, section_headers, name_table_at, plain_sections, section_names, IsLayoutFault}
+use Rattle.elf_object_layout.specs.Laid.{Laid, file_header, layout_bytes, layout_parts, section_headers, name_table_at, plain_sections}
+use Rattle.elf_object_layout.specs.Laid.{section_names, IsLayoutFault}
 use Rattle.elf_object_layout.specs.StringTables.{HasSharedNames}
 use Rattle.elf_object_writer.specs.declared.object_writing.ObjectWriteFault.TheVariants.{TooLong, OutOfMemory, Io}
 use Rattle.elf_object_writer.specs.declared.object_writing.ObjectWriteFault.{ObjectWriteFault}
@@ -109,7 +111,8 @@ one_section = record {
   abi = 0;
   machine = 62;
   flags = 0;
-  sections = record { name = codes ".text"; flags = 6; addr = 0; align = 16; entsize = 0; link = None; info = Number 0; body = bits 1 (0xc3 ∷ []) } ∷ [];
+  sections = record
+      { name = codes ".text"; flags = 6; addr = 0; align = 16; entsize = 0; link = None; info = Number 0; body = bits 1 (0xc3 ∷ []) } ∷ [];
   symbols = [];
 }
 

@@ -1,7 +1,8 @@
 //! Laws of written objects, for the proofs of the crates above.
 ghost use Rattle.std.specs.Prelude.{◌≡◌, ℕ, List, ◌≤◌, None, length};
 ghost use Rattle.elf_object_layout.specs.Laid.{Laid};
-ghost use Rattle.elf_object_file.specs.ObjectFile.{empty_object, empty_object_bytes, one_section, one_section_bytes, IsWrittenAs, written_sections};
+ghost use Rattle.elf_object_file.specs.ObjectFile.{empty_object, empty_object_bytes, one_section, one_section_bytes, IsWrittenAs};
+ghost use Rattle.elf_object_file.specs.ObjectFile.{written_sections};
 ghost use Rattle.elf_object_type.specs.Object.{ObjectValue, ObjectFits};
 ghost use Rattle.elf_field.specs.Bytes.{IsBytes};
 ghost use Rattle.elf_image_outline.specs.Image.{ImageValue, IsImage, Stands};
@@ -35,7 +36,8 @@ pub fn written_object()
     ensures accepted { (o : ObjectValue) (b : List ℕ) → IsWrittenAs o b → IsFault b None }
     ensures read { (o : ObjectValue) (b : List ℕ) (written : IsWrittenAs o b) (v : ImageValue) → Stands v b →
         sections_of v ≡ written_sections o written.laid.places }
-    ensures kept { (o : ObjectValue) (b : List ℕ) → IsWrittenAs o b → (v : ImageValue) → Stands v b → FirstIn (file_rules (sections_of v)) None }
+    ensures kept { (o : ObjectValue) (b : List ℕ) → IsWrittenAs o b → (v : ImageValue) → Stands v b →
+        FirstIn (file_rules (sections_of v)) None }
     ensures denotes { (o : ObjectValue) (b : List ℕ) → IsWrittenAs o b → (v : ImageValue) → Stands v b → Denotes (sections_of v) o }
     ensures one { (o p : ObjectValue) (b : List ℕ) → IsWrittenAs o b → IsWrittenAs p b → o ≡ p }
 {}

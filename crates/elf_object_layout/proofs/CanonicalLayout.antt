@@ -1,7 +1,8 @@
 -- An object has one canonical layout, because its parts have one list of least places, and these determine the bytes. If the parts are
 -- placed in order, the file is as long as the end of the last part, the section header table. What is found for saturated sizes is true of
 -- the object's layout (`layout_ok`, `layout_err`).
-use Rattle.std.proofs.Common.{◌≡◌, ◌<◌, ◌≤◌, ◌+◌, ◌-◌, ◌⊎◌, min, ℕ, zero, suc, List, [], ◌∷◌, length, map, get_or, refl, ap, ap₂, subst, inl, inr, arith, ◌*◌, ◌++◌, sym, ◌∙◌, ◌^◌, length-append}
+use Rattle.std.proofs.Common.{◌≡◌, ◌<◌, ◌≤◌, ◌+◌, ◌-◌, ◌⊎◌, min, ℕ, zero, suc, List, [], ◌∷◌, length, map, get_or, refl, ap, ap₂, subst}
+use Rattle.std.proofs.Common.{inl, inr, arith, ◌*◌, ◌++◌, sym, ◌∙◌, ◌^◌, length-append}
 use Rattle.std.proofs.lemmas.Bool.{cases_lt}
 use Rattle.std.proofs.Math.Nat.{le-min, min-eq_left}
 use Rattle.std.specs.Prelude.{Result, Ok, Err, IfErr, IfOk, codes}
@@ -22,7 +23,10 @@ use Rattle.elf_object_strings.proofs.Public.{holds_names}
 use Rattle.elf_object_strings.specs.StringTable.{name_offset, string_table}
 use Rattle.elf_object_type.specs.Object.{ObjectValue}
 use Rattle.elf_object_layout.proofs.PlainSections.{names_found, strings_found, symbols_found, count_far, count_near, either_way, own_below}
-use Rattle.elf_object_layout.specs.Laid.{LARGEST, saturated, AreTooLong, ArePlacedParts, LayoutValue, Laid, content_part, file_header, layout_bytes, layout_parts, section_headers, ArePartsFault, IsLayoutFault, IsLayoutOf, PlainSection, name_table_at, plain_sections, section_names, index_table_section, index_word, null_symbol, sections_before_names, strings, symbol_entry, symbol_names, symbol_table_section}
+use Rattle.elf_object_layout.specs.Laid.{LARGEST, saturated, AreTooLong, ArePlacedParts, LayoutValue, Laid, content_part, file_header}
+use Rattle.elf_object_layout.specs.Laid.{layout_bytes, layout_parts, section_headers, ArePartsFault, IsLayoutFault, IsLayoutOf}
+use Rattle.elf_object_layout.specs.Laid.{PlainSection, name_table_at, plain_sections, section_names, index_table_section, index_word}
+use Rattle.elf_object_layout.specs.Laid.{null_symbol, sections_before_names, strings, symbol_entry, symbol_names, symbol_table_section}
 use Rattle.elf_object_layout.specs.declared.layout.LayoutFault.TheVariants.{TooLong, OutOfMemory}
 use Rattle.elf_object_layout.specs.declared.layout.LayoutFault.{LayoutFault}
 
@@ -31,7 +35,8 @@ use Rattle.elf_object_layout.specs.declared.layout.LayoutFault.{LayoutFault}
 -- themselves.
 
 -- no part ends after the last one
-pub end_last : (ps : List (ℕ × ℕ)) (from : ℕ) (q : List ℕ) (k : ℕ) → Fits ps from q → k < length ps → end_of ps q k ≤ end_of ps q (length ps - 1)
+pub end_last : (ps : List (ℕ × ℕ)) (from : ℕ) (q : List ℕ) (k : ℕ) → Fits ps from q → k < length ps →
+    end_of ps q k ≤ end_of ps q (length ps - 1)
 end_last ps from q k fits lt = elim (cases_lt k (length ps - 1)) [
   | inl earlier ↦ (let above = above_earlier ps from q k (length ps - 1) fits earlier (omega arith) in omega arith)
   | inr late ↦
@@ -83,7 +88,8 @@ whole_end ps q x some least here =
 -- ---- sizes of 64 bits
 
 -- all sizes fit, or one is too large for any file
-pub sizes_fit : (ps : List (ℕ × ℕ)) → (map saturated ps ≡ ps) ⊎ ((k : ℕ) × (k < length ps) × (LARGEST ≤ get_or (map (λ (p : ℕ × ℕ). p.0) ps) k 0))
+pub sizes_fit : (ps : List (ℕ × ℕ)) →
+    (map saturated ps ≡ ps) ⊎ ((k : ℕ) × (k < length ps) × (LARGEST ≤ get_or (map (λ (p : ℕ × ℕ). p.0) ps) k 0))
 sizes_fit [] = inl refl
 sizes_fit (p ∷ ps) = elim (cases_lt p.0 LARGEST) [
   | inr large ↦ inr (0, omega arith, large)
@@ -100,7 +106,8 @@ length-saturated : (ps : List (ℕ × ℕ)) → length (map saturated ps) ≡ le
 length-saturated [] = refl
 length-saturated (p ∷ ps) = ap suc (length-saturated ps)
 
-saturated_size : (ps : List (ℕ × ℕ)) (k : ℕ) → LARGEST ≤ get_or (map (λ (p : ℕ × ℕ). p.0) ps) k 0 → LARGEST ≤ get_or (map (λ (p : ℕ × ℕ). p.0) (map saturated ps)) k 0
+saturated_size : (ps : List (ℕ × ℕ)) (k : ℕ) → LARGEST ≤ get_or (map (λ (p : ℕ × ℕ). p.0) ps) k 0 →
+    LARGEST ≤ get_or (map (λ (p : ℕ × ℕ). p.0) (map saturated ps)) k 0
 saturated_size [] k large = large
 saturated_size (p ∷ ps) zero large = le-min large (omega arith)
 saturated_size (p ∷ ps) (suc k) large = saturated_size ps k large
@@ -138,12 +145,14 @@ one_layout o b c one other =
 
 -- contents and the table by size alone
 unaligned_parts : (sections : List PlainSection) (size : ℕ) (table : List ℕ) (from : ℕ) (places : List ℕ) → length table ≡ size →
-    Fits (map content_part sections ++ ((size, 8) ∷ [])) from places → Fits (map unaligned (map (λ (s : PlainSection). s.content) sections ++ (table ∷ []))) from places
+    Fits (map content_part sections ++ ((size, 8) ∷ [])) from places →
+    Fits (map unaligned (map (λ (s : PlainSection). s.content) sections ++ (table ∷ []))) from places
 unaligned_parts [] size table from [] long fits = absurd fits
 unaligned_parts [] size table from (x ∷ []) long fits = (omega arith, fits.1, tt)
 unaligned_parts [] size table from (x ∷ (y ∷ places)) long fits = absurd fits.2
 unaligned_parts (s ∷ sections) size table from [] long fits = absurd fits
-unaligned_parts (s ∷ sections) size table from (x ∷ places) long fits = (omega arith, fits.1, unaligned_parts sections size table (x + length s.content) places long fits.2)
+unaligned_parts (s ∷ sections) size table from (x ∷ places) long fits =
+    (omega arith, fits.1, unaligned_parts sections size table (x + length s.content) places long fits.2)
 
 -- a section header for each section
 length-section_headers : (name_at : List ℕ → ℕ) (sections : List PlainSection) (places : List ℕ) → length places ≡ suc (length sections) →
@@ -160,7 +169,8 @@ offsets_are name_at [] (x ∷ (y ∷ places)) long = absurd (omega arith)
 offsets_are name_at (s ∷ sections) [] long = absurd (omega arith)
 offsets_are name_at (s ∷ sections) (x ∷ places) long = ap (λ (xs : List ℕ). x ∷ xs) (offsets_are name_at sections places (omega arith))
 
-last_size : (sections : List PlainSection) (size : ℕ) → get_or (map (λ (p : ℕ × ℕ). p.0) (map content_part sections ++ ((size, 8) ∷ []))) (length sections) 0 ≡ size
+last_size : (sections : List PlainSection) (size : ℕ) →
+    get_or (map (λ (p : ℕ × ℕ). p.0) (map content_part sections ++ ((size, 8) ∷ []))) (length sections) 0 ≡ size
 last_size [] size = refl
 last_size (s ∷ sections) size = last_size sections size
 
@@ -182,7 +192,8 @@ canonical_section_headers o places = section_headers (name_offset (section_names
 abbrev pub contents_of : ObjectValue → List (List ℕ)
 contents_of o = map (λ s. s.content) (plain_sections o)
 
-pub length-canonical_section_headers : (o : ObjectValue) (places : List ℕ) → Fits (layout_parts (plain_sections o)) EHDR_SIZE places → length (canonical_section_headers o places) ≡ length (plain_sections o)
+pub length-canonical_section_headers : (o : ObjectValue) (places : List ℕ) → Fits (layout_parts (plain_sections o)) EHDR_SIZE places →
+    length (canonical_section_headers o places) ≡ length (plain_sections o)
 unfolding layout_parts
 length-canonical_section_headers o places fits =
     let sections = plain_sections o in
@@ -192,7 +203,8 @@ length-canonical_section_headers o places fits =
 
 -- each part is after the one before it, as a relocatable file wants it
 pub layout_order : (o : ObjectValue) (places : List ℕ) → Fits (layout_parts (plain_sections o)) EHDR_SIZE places →
-    Fits (map unaligned (behind_header (canonical_header o places) (canonical_section_headers o places) (contents_of o) (name_table_at o))) EHDR_SIZE (offsets (canonical_header o places) (canonical_section_headers o places))
+    Fits (map unaligned (behind_header (canonical_header o places) (canonical_section_headers o places) (contents_of o) (name_table_at o)))
+    EHDR_SIZE (offsets (canonical_header o places) (canonical_section_headers o places))
 unfolding layout_parts
 layout_order o places fits =
     let sections = plain_sections o in
@@ -200,12 +212,14 @@ layout_order o places fits =
     let h = canonical_header o places in
     let ss = canonical_section_headers o places in
     let parts_long = length-parts sections (SHDR_SIZE * count) in
-    let places_long : length places ≡ suc (length sections) = (let many = fits_length (layout_parts sections) EHDR_SIZE places fits in omega arith) in
+    let places_long : length places ≡ suc (length sections) =
+    (let many = fits_length (layout_parts sections) EHDR_SIZE places fits in omega arith) in
     let headers_long = length-section_headers (name_offset (section_names o)) sections places places_long in
     let table_long : length (section_table h ss (name_table_at o)) ≡ SHDR_SIZE * count =
     (let all = length-table shdr_laws (order_of h.e_ident) (all_headers ss (name_table_at o)) in omega arith) in
     let loose = unaligned_parts sections (SHDR_SIZE * count) (section_table h ss (name_table_at o)) EHDR_SIZE places table_long fits in
-    subst (Fits (map unaligned (behind_header h ss (contents_of o) (name_table_at o))) EHDR_SIZE) (sym (offsets_are (name_offset (section_names o)) sections places places_long)) loose
+    subst (Fits (map unaligned (behind_header h ss (contents_of o) (name_table_at o))) EHDR_SIZE)
+    (sym (offsets_are (name_offset (section_names o)) sections places places_long)) loose
 
 pub length-layout_bytes : (o : ObjectValue) (places : List ℕ) → Fits (layout_parts (plain_sections o)) EHDR_SIZE places →
     length (layout_bytes o places) ≡ end_of (layout_parts (plain_sections o)) places (length (layout_parts (plain_sections o)) - 1)
@@ -216,7 +230,8 @@ length-layout_bytes o places fits =
     let parts_long = length-parts sections (SHDR_SIZE * count) in
     let headers_long = length-canonical_section_headers o places fits in
     let contents_long = length-map sections (λ (s : PlainSection). s.content) in
-    let whole = length-relocatable_bytes (canonical_header o places) (canonical_section_headers o places) (contents_of o) (name_table_at o) (omega arith) (layout_order o places fits) in
+    let whole = length-relocatable_bytes (canonical_header o places) (canonical_section_headers o places) (contents_of o) (name_table_at o)
+    (omega arith) (layout_order o places fits) in
     let last : length (map content_part sections ++ ((SHDR_SIZE * count, 8) ∷ [])) - 1 ≡ length sections = omega arith in
     let size = last_size sections (SHDR_SIZE * count) in
     let end = ap (end_of (map content_part sections ++ ((SHDR_SIZE * count, 8) ∷ [])) places) last in
@@ -272,7 +287,8 @@ content_size [] table k d lt = absurd (omega arith)
 content_size (s ∷ sections) table zero d lt = refl
 content_size (s ∷ sections) table (suc k) d lt = content_size sections table k d (omega arith)
 
-table_size : (sections : List PlainSection) (table : ℕ × ℕ) → get_or (map (λ (p : ℕ × ℕ). p.0) (map content_part sections ++ (table ∷ []))) (length sections) 0 ≡ table.0
+table_size : (sections : List PlainSection) (table : ℕ × ℕ) →
+    get_or (map (λ (p : ℕ × ℕ). p.0) (map content_part sections ++ (table ∷ []))) (length sections) 0 ≡ table.0
 table_size [] table = refl
 table_size (s ∷ sections) table = table_size sections table
 
@@ -288,7 +304,8 @@ part_end o layout k laid le =
     let short = laid.short in
     omega arith
 
-pub content_end : (o : ObjectValue) (layout : LayoutValue) (k : ℕ) (d : PlainSection) → IsLayoutOf o layout → k < length (plain_sections o) →
+pub content_end : (o : ObjectValue) (layout : LayoutValue) (k : ℕ) (d : PlainSection) → IsLayoutOf o layout →
+    k < length (plain_sections o) →
     get_or layout.places k 0 + length (get_or (plain_sections o) k d).content ≤ 2 ^ 30
 unfolding layout_parts
 content_end o layout k d laid lt =
@@ -310,7 +327,8 @@ pub few_sections : (o : ObjectValue) (layout : LayoutValue) → IsLayoutOf o lay
 few_sections o layout laid = let end = table_end o layout laid in omega arith
 
 -- the content of a section that has a position
-pub short_content : (o : ObjectValue) (layout : LayoutValue) (k : ℕ) (s : PlainSection) → IsLayoutOf o layout → k < length (plain_sections o) → get_or (plain_sections o) k s ≡ s →
+pub short_content : (o : ObjectValue) (layout : LayoutValue) (k : ℕ) (s : PlainSection) → IsLayoutOf o layout →
+    k < length (plain_sections o) → get_or (plain_sections o) k s ≡ s →
     length s.content ≤ 2 ^ 30
 short_content o layout k s laid lt at =
     let end = content_end o layout k s laid lt in
@@ -332,7 +350,8 @@ length-index_table_section o =
 pub few_symbols : (o : ObjectValue) (layout : LayoutValue) → IsLayoutOf o layout → 24 * (length o.symbols + 1) ≤ 2 ^ 30
 few_symbols o layout laid =
     let below = own_below o in
-    let short = short_content o layout (length o.sections) (symbol_table_section o) laid (omega arith) (symbols_found o (length o.sections) _ refl) in
+    let short = short_content o layout (length o.sections) (symbol_table_section o) laid (omega arith)
+    (symbols_found o (length o.sections) _ refl) in
     let whole = length-symbol_table_section o in
     omega arith
 
@@ -350,7 +369,8 @@ short_names o layout laid =
     let k = length (plain_sections o) - 1 in
     short_content o layout k (strings (codes ".shstrtab") (section_names o)) laid (omega arith) (names_found o k _ (omega arith))
 
-name_below : (names : List (List ℕ)) (i : ℕ) → i < length names → length (string_table names) ≤ 2 ^ 30 → name_offset names (get_or names i []) < 2 ^ 32
+name_below : (names : List (List ℕ)) (i : ℕ) → i < length names → length (string_table names) ≤ 2 ^ 30 →
+    name_offset names (get_or names i []) < 2 ^ 32
 name_below names i lt short = let within = (holds_names names).within i lt in omega arith
 
 pub symbol_name_below : (o : ObjectValue) (layout : LayoutValue) (i : ℕ) → IsLayoutOf o layout → i < length o.symbols →
@@ -375,7 +395,8 @@ section_name_below o layout i laid lt =
     name_below (section_names o) i (omega arith) (short_names o layout laid)
 
 -- the offset of a name, as code reads it
-pub place_read : (names : List (List ℕ)) (places : List ℕ) (i x : ℕ) → places ≡ map (name_offset names) names → i < length names → x ≡ get_or places i x →
+pub place_read : (names : List (List ℕ)) (places : List ℕ) (i x : ℕ) → places ≡ map (name_offset names) names → i < length names →
+    x ≡ get_or places i x →
     x ≡ name_offset names (get_or names i [])
 place_read names places i x are lt is = is ∙ ap (λ (q : List ℕ). get_or q i x) are ∙ get_or-map (name_offset names) names i [] x lt
 

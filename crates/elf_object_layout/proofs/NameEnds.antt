@@ -15,7 +15,8 @@ known_first ends i some = elim (cases_lt i (length ends)) [
   | inr past ↦ (let none : get_or ends i 0 ≡ 0 = get_or_past ends i 0 (omega arith) in absurd (omega arith))
 ]
 
-tails_of_more : (names more : List (List ℕ)) (ends : List ℕ) → AreTails names ends → length ends ≤ length names → AreTails (names ++ more) ends
+tails_of_more : (names more : List (List ℕ)) (ends : List ℕ) → AreTails names ends → length ends ≤ length names →
+    AreTails (names ++ more) ends
 tails_of_more names more ends tails fits i j some one =
     let first = known_first ends i some in
     let second = known_first ends j (subst (λ (e : ℕ). 0 < e) one some) in

@@ -29,7 +29,8 @@ first_found p f P i passes holds there before here =
 
 pub first_missing : (p : Shdr → Bool) (f : Sections) (P : ℕ → Type 0) → ((k : ℕ) → P k → p (section f k) ≡ true) →
     ((k : ℕ) → p (section f k) ≡ true → P k) → ((k : ℕ) → k < count f → P k → ⊥) → None ≡ position p f.headers
-first_missing p f P passes holds never = lowest_position p f.headers no_section_header P None passes holds (λ k other. never k other.0 other.1)
+first_missing p f P passes holds never =
+    lowest_position p f.headers no_section_header P None passes holds (λ k other. never k other.0 other.1)
 
 -- the symbol table is there, and of its type
 pub symbol_table_there : (f : Sections) (t : ℕ) → symbol_table f ≡ Some t → (t < count f) × ((section f t).sh_type ≡ SHT_SYMTAB)

@@ -1,9 +1,12 @@
 -- The canonical layout of an object: the one list of bytes that it is written as.
 -- (gABI chapter 4, ELF Header and Sections; where they leave a place open, the layout is this project's own.)
-use Rattle.std.specs.Prelude.{ℕ, ◌+◌, ◌*◌, ◌^◌, ◌==◌, nat_le, if◌then◌else◌, Bool, false, Option, None, Some, List, [], ◌∷◌, ◌++◌, codes, length, map, ◌≡◌, ◌-◌, slice_index, min, ◌<◌, ◌≤◌}
+use Rattle.std.specs.Prelude.{ℕ, ◌+◌, ◌*◌, ◌^◌, ◌==◌, nat_le, if◌then◌else◌, Bool, false, Option, None, Some, List, [], ◌∷◌, ◌++◌, codes}
+use Rattle.std.specs.Prelude.{length, map, ◌≡◌, ◌-◌, slice_index, min, ◌<◌, ◌≤◌}
 use Rattle.std.specs.List.{filter, flat_map, list_any}
 use Rattle.elf_extent.specs.Place.{Least, end_of}
-use Rattle.elf_field.specs.Abi.{GRP_COMDAT, SHN_ABS, SHN_COMMON, SHN_LORESERVE, SHN_UNDEF, SHT_GROUP, SHT_NOBITS, SHT_REL, SHT_RELA, SHT_STRTAB, SHT_SYMTAB, SHT_SYMTAB_SHNDX, STB_LOCAL, SYM_SIZE, WORD_SIZE, EHDR_SIZE, ET_REL, EV_CURRENT, SHDR_SIZE}
+use Rattle.elf_field.specs.Abi.{GRP_COMDAT, SHN_ABS, SHN_COMMON, SHN_LORESERVE, SHN_UNDEF, SHT_GROUP, SHT_NOBITS, SHT_REL, SHT_RELA}
+use Rattle.elf_field.specs.Abi.{SHT_STRTAB, SHT_SYMTAB, SHT_SYMTAB_SHNDX, STB_LOCAL, SYM_SIZE, WORD_SIZE, EHDR_SIZE, ET_REL, EV_CURRENT}
+use Rattle.elf_field.specs.Abi.{SHDR_SIZE}
 use Rattle.elf_field.specs.Entries.{rel_bytes, rela_bytes, sym_bytes, word_bytes}
 use Rattle.elf_field.specs.declared.ehdr.Ehdr.{Ehdr}
 use Rattle.elf_field.specs.declared.number.Order.{Order}
@@ -227,7 +230,8 @@ own_section o s = record {
 unfoldable pub sections_before_names : ObjectValue → List PlainSection
 sections_before_names o =
     map (own_section o) o.sections ++
-    (symbol_table_section o ∷ ((if has_index_table o then index_table_section o ∷ [] else []) ++ (strings (codes ".strtab") (symbol_names o) ∷ [])))
+    (symbol_table_section
+    o ∷ ((if has_index_table o then index_table_section o ∷ [] else []) ++ (strings (codes ".strtab") (symbol_names o) ∷ [])))
 
 unfoldable pub section_names : ObjectValue → List (List ℕ)
 section_names o = map (λ s. s.name) (sections_before_names o) ++ (codes ".shstrtab" ∷ [])

@@ -1,6 +1,9 @@
 //! Where the parts of an object are in its canonical layout (gABI chapter 4, ELF Header, Sections).
+//!
+//! Sizes are counted in 64 bits that saturate. A saturated size has no place, so the layout is refused as too long.
 ghost use Rattle.std.specs.Prelude.{◌≡◌, ◌<◌, ℕ, ◌+◌, ◌*◌, ◌^◌, IfOk, map, min, ◌-◌, ◌∷◌, IfErr, length, slice_index};
-ghost use Rattle.elf_object_layout.specs.Laid.{content_part, layout_parts, LARGEST, saturated, own_section, plain_sections, ArePartsFault, ArePlacedParts, IsLayoutFault, IsLayoutOf};
+ghost use Rattle.elf_object_layout.specs.Laid.{content_part, layout_parts, LARGEST, saturated, own_section, plain_sections, ArePartsFault};
+ghost use Rattle.elf_object_layout.specs.Laid.{ArePlacedParts, IsLayoutFault, IsLayoutOf};
 ghost use Rattle.elf_object_layout.specs.StringTables.{AreNameTables, HasSharedNames};
 ghost use Rattle.elf_object_type.specs.Object.{ObjectValue};
 ghost use Rattle.elf_object_type.specs.ObjectView.{body_value, section_value};

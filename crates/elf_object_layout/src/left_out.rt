@@ -2,7 +2,8 @@
 //! Table).
 ghost use Rattle.std.specs.Prelude.{◌≡◌, ◌<◌, IfSome, length};
 ghost use Rattle.std.specs.Bool.{OnTrue};
-ghost use Rattle.elf_object_layout.specs.SectionsLeftOut.{is_at as is_at_of, is_kept as is_kept_of, left_out, symbol_table as symbol_table_of};
+ghost use Rattle.elf_object_layout.specs.SectionsLeftOut.{is_at as is_at_of, is_kept as is_kept_of, left_out};
+ghost use Rattle.elf_object_layout.specs.SectionsLeftOut.{symbol_table as symbol_table_of};
 ghost use Rattle.elf_table_symbols.specs.Symbols.{index_table as index_table_of};
 ghost use Rattle.elf_table_symbols.specs.Sections.{sections_of};
 

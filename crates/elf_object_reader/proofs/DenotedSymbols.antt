@@ -1,6 +1,7 @@
 -- The symbols of the object that a file denotes keep rules 7 to 9 of objects: symbol q is entry q + 1. Its name is a string. If the file
 -- breaks no rule, the section it is in is kept by rule 75, and local symbols come first by rule 47.
-use Rattle.std.proofs.Common.{◌≡◌, ℕ, ◌+◌, ◌*◌, ◌<◌, ◌≤◌, List, get_or, length, ap, ◌∙◌, arith, ◌-◌, zero, suc, Bool, true, false, not, cond, min, [], ◌∷◌, drop, take, map, refl, sym, Option, None, Some, inl, inr, subst, ◌⊎◌}
+use Rattle.std.proofs.Common.{◌≡◌, ℕ, ◌+◌, ◌*◌, ◌<◌, ◌≤◌, List, get_or, length, ap, ◌∙◌, arith, ◌-◌, zero, suc, Bool, true, false, not}
+use Rattle.std.proofs.Common.{cond, min, [], ◌∷◌, drop, take, map, refl, sym, Option, None, Some, inl, inr, subst, ◌⊎◌}
 use Rattle.std.specs.Prelude.{◌/◌, ◌%◌, ◌==◌, slice_range, Contains}
 use Rattle.std.specs.List.{before_first, prefix_len, range_with_len}
 use Rattle.std.proofs.lemmas.List.{drop-drop, drop-take, length-drop, take-take, get_or-drop, get_or-map, length-map}
@@ -15,7 +16,7 @@ use Rattle.elf_field.specs.declared.number.Order.{Order}
 use Rattle.elf_field.specs.declared.sym.Sym.{Sym}
 use Rattle.elf_image_rules.proofs.Public.{FirstIn-behind, FirstIn-front}
 use Rattle.elf_image_rules.specs.Rows.{FirstIn}
-use Rattle.elf_image_type.specs.ImageView.{string}
+use Rattle.elf_field.specs.Strings.{string}
 use Rattle.elf_object_reader.proofs.FileRules.{places_sound, symbols_sound}
 use Rattle.elf_object_layout.proofs.Public.{not_kept_past}
 use Rattle.elf_object_reader.proofs.KeptTypes.{no_zero_in_string, position_there}
@@ -23,7 +24,8 @@ use Rattle.elf_object_layout.specs.SectionsLeftOut.{left_out, symbol_table, is_k
 use Rattle.elf_object_reader.specs.Denotes.{Denotes, symbol_denoted, symbols_denoted, place_denoted, relocation_denoted}
 use Rattle.elf_object_reader.specs.FileRules.{block_end, IsSymbolOutside, file_rules, rules_of_symbols, symbol_outside_rules}
 use Rattle.elf_object_layout.specs.declared.left_out.LeftOut.{LeftOut}
-use Rattle.elf_object_type.specs.Object.{SymbolValue, ObjectValue, IsPast, no_symbol, symbol_at, table_count, table_relocation, table_relocations}
+use Rattle.elf_object_type.specs.Object.{SymbolValue, ObjectValue, IsPast, no_symbol, symbol_at, table_count, table_relocation}
+use Rattle.elf_object_type.specs.Object.{table_relocations}
 use Rattle.elf_object_type.specs.ObjectRules.{misplaced_local, place_position, wrong_place, zero_in_symbol_name}
 use Rattle.elf_object_type.specs.ObjectView.{symbol_value}
 use Rattle.elf_object_type.specs.declared.parts.Place.{Place}
@@ -32,7 +34,9 @@ use Rattle.elf_table_lists.specs.Relocations.{relocation_count, relocation_in, r
 use Rattle.elf_table_symbols.proofs.Public.{length_symbols, symbol_get}
 use Rattle.elf_table_symbols.specs.Sections.{Sections, content, order, count, section, own_rules}
 use Rattle.elf_table_symbols.specs.SymbolView.{no_symbol_entry}
-use Rattle.elf_table_symbols.specs.Symbols.{symbol_parts, entry, entry_count, symbol_entry_in, symbols_of, SymbolEntryValue, linked_string_rules, entry_binding, misplaced_binding, rest_rules, symbol_entry_rules, symbol_table_rules}
+use Rattle.elf_table_symbols.specs.Symbols.{symbol_parts, entry, entry_count, symbol_entry_in, symbols_of, SymbolEntryValue}
+use Rattle.elf_table_symbols.specs.Symbols.{linked_string_rules, entry_binding, misplaced_binding, rest_rules, symbol_entry_rules}
+use Rattle.elf_table_symbols.specs.Symbols.{symbol_table_rules}
 use Rattle.elf_table_symbols.specs.declared.symbols.Place.TheVariants.{Undefined, Absolute, Common, Reserved, Section}
 use Rattle.elf_table_symbols.specs.declared.table_section.TableKind.TheVariants.{SymbolTable}
 use Rattle.elf_table_symbols.specs.Symbols as table_symbols
@@ -54,7 +58,8 @@ pub halves : (x : ℕ) → 16 * (x / 16) + x % 16 ≡ x
 halves x = omega arith
 
 pub symbol_info : (f : Sections) (t j : ℕ) → j < length (symbols_of f t) →
-    (let s = get_or (symbols_of f t) j no_symbol_entry in 16 * s.binding + s.symbol_type ≡ (sym_at (order f) (content f t) (24 * j)).st_info)
+    (let s = get_or (symbols_of f t) j no_symbol_entry in
+    16 * s.binding + s.symbol_type ≡ (sym_at (order f) (content f t) (24 * j)).st_info)
 unfolding symbols_of symbol_entry_in entry
 symbol_info f t j lt =
     let p = symbol_parts f t in
@@ -92,7 +97,8 @@ abbrev made : List ℕ → ℕ → ℕ → Place → ℕ → ℕ → SymbolValue
 made name info other place value size = record { name = name; info = info; other = other; place = place; value = value; size = size }
 
 -- symbols are the same where their fields are
-pub same_symbol : (a b : SymbolValue) → a.name ≡ b.name → a.info ≡ b.info → a.other ≡ b.other → a.place ≡ b.place → a.value ≡ b.value → a.size ≡ b.size → a ≡ b
+pub same_symbol : (a b : SymbolValue) → a.name ≡ b.name → a.info ≡ b.info → a.other ≡ b.other → a.place ≡ b.place → a.value ≡ b.value →
+    a.size ≡ b.size → a ≡ b
 same_symbol a b name info other place value size =
     ap (λ (x : List ℕ). made x a.info a.other a.place a.value a.size) name ∙
     ap (λ (x : ℕ). made b.name x a.other a.place a.value a.size) info ∙
@@ -160,7 +166,8 @@ end_kept table start at end is low high =
     let tail : drop k rest ≡ drop at table = drop-drop k start table ∙ ap (λ (n : ℕ). drop n table) place in
     let one = string_length table start in
     let left = prefix_within is_inside k rest (omega arith) in
-    let other : length (string table at) ≡ prefix_len is_inside (drop k rest) = string_length table at ∙ ap (prefix_len is_inside) (sym tail) in
+    let other : length (string table at) ≡ prefix_len is_inside (drop k rest) =
+    string_length table at ∙ ap (prefix_len is_inside) (sym tail) in
     omega arith
 
 -- ---- by the first bytes of the table
@@ -173,7 +180,8 @@ cut_at table at next low =
 near_length : (table : List ℕ) (at next : ℕ) → at ≤ next →
     length (string (take next table) at) ≡ min (next - at) (prefix_len is_inside (drop at table))
 near_length table at next low =
-    string_length (take next table) at ∙ ap (prefix_len is_inside) (cut_at table at next low) ∙ prefix_cut is_inside (next - at) (drop at table)
+    string_length (take next table) at ∙ ap (prefix_len is_inside) (cut_at table at next low) ∙
+    prefix_cut is_inside (next - at) (drop at table)
 
 pub string_near : (table : List ℕ) (at next : ℕ) → at ≤ next → at + length (string (take next table) at) < next →
     string (take next table) at ≡ string table at
@@ -197,7 +205,8 @@ end_far table at next end low beyond is =
     let long = near_length table at next low in
     let left = prefix_within is_inside k rest (omega arith) in
     let one = string_length table at in
-    let other : length (string table next) ≡ prefix_len is_inside (drop k rest) = string_length table next ∙ ap (prefix_len is_inside) (sym tail) in
+    let other : length (string table next) ≡ prefix_len is_inside (drop k rest) =
+    string_length table next ∙ ap (prefix_len is_inside) (sym tail) in
     omega arith
 
 -- ---- of each block of the table
@@ -258,7 +267,8 @@ next_there left f t j read are lt =
     sym (length-map read symbol_value) ∙ ap (λ (symbols : List SymbolValue). length symbols) are ∙ all_but_one left f t in
     omega arith
 
-pub name_read : (left : LeftOut) (f : Sections) (t j : ℕ) (read : List Symbol) (d : Symbol) → map symbol_value read ≡ symbols_denoted left f (Some t) →
+pub name_read : (left : LeftOut) (f : Sections) (t j : ℕ) (read : List Symbol) (d : Symbol) →
+    map symbol_value read ≡ symbols_denoted left f (Some t) →
     j < length read → (get_or read j d).name.now ≡ string (symbol_parts f t).names (sym_at (order f) (content f t) (24 * (j + 1))).st_name
 name_read left f t j read d are lt =
     let next : 1 + j ≡ j + 1 = omega arith in
@@ -276,7 +286,8 @@ pub record IsSymbolOf (f : Sections) (o : ObjectValue) (q t : ℕ) : Type 0 wher
   pub there : q + 1 < length (symbols_of f t)
   pub symbol : symbol_at o q ≡ symbol_denoted (left_out f) f (get_or (symbols_of f t) (q + 1) table_view.no_symbol_entry)
 
-symbol_in_table : (f : Sections) (o : ObjectValue) (q : ℕ) (table : Option ℕ) → symbol_table f ≡ table → o.symbols ≡ symbols_denoted (left_out f) f table →
+symbol_in_table : (f : Sections) (o : ObjectValue) (q : ℕ) (table : Option ℕ) → symbol_table f ≡ table →
+    o.symbols ≡ symbols_denoted (left_out f) f table →
     q < length o.symbols → (t : ℕ) × IsSymbolOf f o q t
 symbol_in_table f o q None is same lt = absurd (let none = ap (λ (ss : List SymbolValue). length ss) same in omega arith)
 symbol_in_table f o q (Some t) is same lt =
@@ -290,7 +301,8 @@ symbol_in_table f o q (Some t) is same lt =
         table = is;
         there = omega arith;
         symbol =
-            ap (λ (ss : List SymbolValue). get_or ss q no_symbol) same ∙ get_or-map D (drop 1 all) q table_view.no_symbol_entry no_symbol within ∙
+            ap (λ (ss : List SymbolValue). get_or ss q no_symbol) same ∙
+            get_or-map D (drop 1 all) q table_view.no_symbol_entry no_symbol within ∙
             ap D (get_or-drop 1 all q table_view.no_symbol_entry ∙ ap (λ (k : ℕ). get_or all k table_view.no_symbol_entry) next);
       },
     )
@@ -299,7 +311,8 @@ pub symbol_at_position : (f : Sections) (o : ObjectValue) (q : ℕ) → Denotes 
 symbol_at_position f o q denotes lt = symbol_in_table f o q (symbol_table f) refl denotes.symbols lt
 
 -- the name of a symbol of a table is a string
-table_name : (f : Sections) (t j : ℕ) → j < length (symbols_of f t) → Contains (get_or (symbols_of f t) j table_view.no_symbol_entry).name 0 → ⊥
+table_name : (f : Sections) (t j : ℕ) → j < length (symbols_of f t) →
+    Contains (get_or (symbols_of f t) j table_view.no_symbol_entry).name 0 → ⊥
 unfolding symbols_of symbol_entry_in
 table_name f t j lt has =
     let p = symbol_parts f t in
@@ -389,7 +402,8 @@ no_misplaced_local f o clean denotes x (i, within, (local, (k, lt, other)), here
 
 -- The relocations of a table are denoted by its bytes.
 
-denoted_is : (rela : Bool) (order : Order) (bytes : List ℕ) (j : ℕ) → table_relocation rela order bytes j ≡ relocation_denoted (relocation_in rela order bytes j)
+denoted_is : (rela : Bool) (order : Order) (bytes : List ℕ) (j : ℕ) →
+    table_relocation rela order bytes j ≡ relocation_denoted (relocation_in rela order bytes j)
 unfolding table_relocation relocation_in
 denoted_is true order bytes j = refl
 denoted_is false order bytes j = refl

@@ -1,5 +1,6 @@
 -- Runs of the rules of relocatable files find what the whole list of rules finds.
-use Rattle.std.proofs.Common.{None, ◌≡◌, ℕ, List, [], ◌++◌, Option, Some, Result, Ok, Err, sym, subst, ◌+◌, ◌-◌, ◌<◌, true, false, inl, refl, ◌≢◌, ◌⊎◌, inr, Bool, arith}
+use Rattle.std.proofs.Common.{None, ◌≡◌, ℕ, List, [], ◌++◌, Option, Some, Result, Ok, Err, sym, subst, ◌+◌, ◌-◌, ◌<◌, true, false, inl}
+use Rattle.std.proofs.Common.{refl, ◌≢◌, ◌⊎◌, inr, Bool, arith}
 use Rattle.std.specs.Prelude.{IfErr, IfOk, filter}
 use Rattle.std.specs.Result.{IsErrAnd}
 use Rattle.std.specs.List.{range_with_len}
@@ -14,7 +15,9 @@ use Rattle.elf_image_stream.specs.declared.fault.Fault.{Fault}
 use Rattle.elf_object_reader.proofs.Kept.{filter_from_kept, filter_from_other}
 use Rattle.elf_object_layout.specs.SectionsLeftOut.{left_out, symbol_table, is_kept}
 use Rattle.elf_object_reader.specs.Denotes.{kept, body_kind}
-use Rattle.elf_object_reader.specs.FileRules.{file_rules, front_rules, reference_rules, rules_behind, rules_of_bodies, rules_of_symbols, symbol_outside_rules, symbol_rules_in, rules_of_body, symbol_outside, IsMemberBefore, wrong_group_member_before, wrong_group_member_of, AreMarks}
+use Rattle.elf_object_reader.specs.FileRules.{file_rules, front_rules, reference_rules, rules_behind, rules_of_bodies, rules_of_symbols}
+use Rattle.elf_object_reader.specs.FileRules.{symbol_outside_rules, symbol_rules_in, rules_of_body, symbol_outside, IsMemberBefore}
+use Rattle.elf_object_reader.specs.FileRules.{wrong_group_member_before, wrong_group_member_of, AreMarks}
 use Rattle.elf_object_layout.specs.declared.left_out.LeftOut.{LeftOut}
 use Rattle.elf_table_symbols.specs.Sections.{Sections, count, section}
 use Rattle.elf_table_symbols.specs.Symbols.{symbol_table_rules}
@@ -46,12 +49,14 @@ places_sound f clean = FirstIn-behind (rules_of_symbols f (symbol_table f)) _ (s
 pub all_bodies_sound : (f : Sections) → FirstIn (file_rules f) None → FirstIn (rules_of_bodies f (kept (left_out f) f)) None
 unfolding rules_behind
 all_bodies_sound f clean =
-    FirstIn-front (rules_of_bodies f (kept (left_out f) f)) _ (FirstIn-behind (symbol_rules_in (left_out f) f (symbol_table f)) _ (behind_sound f clean))
+    FirstIn-front (rules_of_bodies f (kept (left_out f) f)) _
+    (FirstIn-behind (symbol_rules_in (left_out f) f (symbol_table f)) _ (behind_sound f clean))
 
 pub references_sound : (f : Sections) → FirstIn (file_rules f) None → FirstIn (reference_rules (left_out f) f) None
 unfolding rules_behind
 references_sound f clean =
-    FirstIn-behind (rules_of_bodies f (kept (left_out f) f)) _ (FirstIn-behind (symbol_rules_in (left_out f) f (symbol_table f)) _ (behind_sound f clean))
+    FirstIn-behind (rules_of_bodies f (kept (left_out f) f)) _
+    (FirstIn-behind (symbol_rules_in (left_out f) f (symbol_table f)) _ (behind_sound f clean))
 
 -- Verdicts of runs of rules, joined, by cases on the result. After a run without a fault, the verdict of the next run is that of both. For
 -- all rules of a file, a fault of the first run or of a later one is the file's. Out of memory is shown to be a right verdict only if the
@@ -68,7 +73,8 @@ verdict_told rules number at (Ok value) found same = absurd same
 verdict_told rules number at (Err error) found same = subst (λ (e : Fault). IsVerdict rules (Err e)) (sym same) found
 
 -- after a run without a fault is the verdict of the rules after it
-pub verdict_later : (xs ys : List {1} (Ruled ℕ)) (result : Result (Unit {0}) Fault) → FirstIn xs None → IsVerdict ys result → IsVerdict (xs ++ ys) result
+pub verdict_later : (xs ys : List {1} (Ruled ℕ)) (result : Result (Unit {0}) Fault) → FirstIn xs None → IsVerdict ys result →
+    IsVerdict (xs ++ ys) result
 verdict_later xs ys (Ok value) clean (found, unit) = (FirstIn-later xs ys None clean found, tt)
 verdict_later xs ys (Err (Rule number at)) clean found = FirstIn-later xs ys (Some (number, at)) clean found
 verdict_later xs ys (Err OutOfMemory) clean told = tt
@@ -77,12 +83,14 @@ verdict_later xs ys (Err (Io at)) clean told = absurd told
 -- ---- of a file, of which memory is taken only after the first run
 
 -- the first run's own fault
-pub front_fault : {T : Type 0} (f : Sections) (Is : T → Type 0) (number at : ℕ) (result : Result T Fault) → FirstIn (front_rules f) (Some (number, at)) →
+pub front_fault : {T : Type 0} (f : Sections) (Is : T → Type 0) (number at : ℕ) (result : Result T Fault) →
+    FirstIn (front_rules f) (Some (number, at)) →
     IsErrAnd result (λ error. error ≡ Rule number at) → IsValidatedBehind (front_rules f) (file_rules f) Is result
 unfolding file_rules
 front_fault f Is number at (Ok value) found same = absurd same
 front_fault {T} f Is number at (Err error) found same =
-    subst (λ (e : Fault). IsValidatedBehind {T = T} (front_rules f) (file_rules f) Is (Err e)) (sym same) (FirstIn-sooner (front_rules f) _ (number, at) found)
+    subst (λ (e : Fault). IsValidatedBehind {T = T} (front_rules f) (file_rules f) Is (Err e)) (sym same)
+    (FirstIn-sooner (front_rules f) _ (number, at) found)
 
 -- what the rules after it find is what all find
 pub found_behind : (f : Sections) (left : LeftOut) (found : Option (ℕ × ℕ)) → left ≡ left_out f → FirstIn (front_rules f) None →
@@ -92,20 +100,24 @@ found_behind f left found same clean behind =
     FirstIn-later (front_rules f) _ found clean (subst (λ (l : LeftOut). FirstIn (rules_behind l f l.symbol_table) found) same behind)
 
 -- their fault
-pub fault_behind : {T : Type 0} (f : Sections) (left : LeftOut) (Is : T → Type 0) (fault : Fault) (result : Result T Fault) → left ≡ left_out f →
-    FirstIn (front_rules f) None → IsVerdict (rules_behind left f left.symbol_table) (Err fault) → IsErrAnd result (λ error. error ≡ fault) →
+pub fault_behind : {T : Type 0} (f : Sections) (left : LeftOut) (Is : T → Type 0) (fault : Fault) (result : Result T Fault) →
+    left ≡ left_out f →
+    FirstIn (front_rules f) None → IsVerdict (rules_behind left f left.symbol_table) (Err fault) →
+    IsErrAnd result (λ error. error ≡ fault) →
     IsValidatedBehind (front_rules f) (file_rules f) Is result
 fault_behind f left Is fault (Ok value) same clean told handed = absurd handed
 fault_behind {T} f left Is fault (Err error) same clean told handed =
     subst (λ (e : Fault). IsValidatedBehind {T = T} (front_rules f) (file_rules f) Is (Err e)) (sym handed) (known fault told)
   where
-    known : (fault : Fault) → IsVerdict (rules_behind left f left.symbol_table) (Err fault) → IsValidatedBehind {T = T} (front_rules f) (file_rules f) Is (Err fault)
+    known : (fault : Fault) → IsVerdict (rules_behind left f left.symbol_table) (Err fault) →
+        IsValidatedBehind {T = T} (front_rules f) (file_rules f) Is (Err fault)
     known (Rule number at) found = found_behind f left (Some (number, at)) same clean found
     known OutOfMemory found = clean
     known (Io at) found = absurd found
 
 -- where no rule is broken, only memory can be wanted
-pub read_validated : {T : Type 0} (f : Sections) (Is : T → Type 0) (result : Result T Fault) → FirstIn (file_rules f) None → IfOk result Is →
+pub read_validated : {T : Type 0} (f : Sections) (Is : T → Type 0) (result : Result T Fault) → FirstIn (file_rules f) None →
+    IfOk result Is →
     IfErr result (λ error. error ≡ OutOfMemory) → IsValidatedBehind (front_rules f) (file_rules f) Is result
 read_validated f Is (Ok value) clean is memory = (clean, is)
 read_validated {T} f Is (Err error) clean is memory =
@@ -126,7 +138,8 @@ abbrev pub kept_from : LeftOut → Sections → ℕ → List ℕ
 kept_from left f i = filter (is_kept left f) (range_with_len i (count f - i))
 
 abbrev pub IsFoundByAll : LeftOut → Sections → ℕ → Type 0
-IsFoundByAll left f i = (found : Option (ℕ × ℕ)) → FirstIn (rules_of_bodies f (kept_from left f i)) found → FirstIn (rules_of_bodies f (kept left f)) found
+IsFoundByAll left f i = (found : Option (ℕ × ℕ)) → FirstIn (rules_of_bodies f (kept_from left f i)) found →
+    FirstIn (rules_of_bodies f (kept left f)) found
 
 -- after a section without a fault
 pub bodies_next : (left : LeftOut) (f : Sections) (i : ℕ) → i < count f → is_kept left f i ≡ true → IsFoundByAll left f i →
@@ -136,15 +149,18 @@ bodies_next left f i lt is all clean found rest =
     (FirstIn-later (rules_of_body (body_kind (section f i).sh_type) f i) (rules_of_bodies f (kept_from left f (i + 1))) found clean rest))
 
 -- and after one that is left out
-pub bodies_passed : (left : LeftOut) (f : Sections) (i : ℕ) → i < count f → is_kept left f i ≡ false → IsFoundByAll left f i → IsFoundByAll left f (i + 1)
+pub bodies_passed : (left : LeftOut) (f : Sections) (i : ℕ) → i < count f → is_kept left f i ≡ false → IsFoundByAll left f i →
+    IsFoundByAll left f (i + 1)
 bodies_passed left f i lt is all found rest =
-    all found (subst (λ (is : List ℕ). FirstIn (rules_of_bodies f is) found) (sym (filter_from_other (is_kept left f) (count f) i lt is)) rest)
+    all found (subst (λ (is : List ℕ). FirstIn (rules_of_bodies f is) found)
+    (sym (filter_from_other (is_kept left f) (count f) i lt is)) rest)
 
 -- a section's fault is that of all
 pub bodies_fault : (left : LeftOut) (f : Sections) (i : ℕ) (fault : ℕ × ℕ) → i < count f → is_kept left f i ≡ true → IsFoundByAll left f i →
     FirstIn (rules_of_body (body_kind (section f i).sh_type) f i) (Some fault) → FirstIn (rules_of_bodies f (kept left f)) (Some fault)
 bodies_fault left f i fault lt is all found =
-    all (Some fault) (subst (λ (is : List ℕ). FirstIn (rules_of_bodies f is) (Some fault)) (sym (filter_from_kept (is_kept left f) (count f) i lt is))
+    all (Some fault)
+    (subst (λ (is : List ℕ). FirstIn (rules_of_bodies f is) (Some fault)) (sym (filter_from_kept (is_kept left f) (count f) i lt is))
     (FirstIn-sooner (rules_of_body (body_kind (section f i).sh_type) f i) (rules_of_bodies f (kept_from left f (i + 1))) fault found))
 
 -- The rules of the symbol table and of the places of its symbols. Without a symbol table none is broken; with one, its own rules come
@@ -155,7 +171,8 @@ none_kept : (left : LeftOut) (f : Sections) → FirstIn (symbol_rules_in left f 
 unfolding symbol_rules_in symbol_outside_rules
 none_kept left f = ((λ x broken. broken), tt)
 
-pub no_symbols_kept : (left : LeftOut) (f : Sections) (table : Option ℕ) → ((t : ℕ) → table ≡ Some t → ⊥) → FirstIn (symbol_rules_in left f table) None
+pub no_symbols_kept : (left : LeftOut) (f : Sections) (table : Option ℕ) → ((t : ℕ) → table ≡ Some t → ⊥) →
+    FirstIn (symbol_rules_in left f table) None
 no_symbols_kept left f None not_some = none_kept left f
 no_symbols_kept left f (Some t) not_some = absurd (not_some t refl)
 
@@ -201,7 +218,8 @@ below_next : (i h : ℕ) → h < i + 1 → (h < i) ⊎ (h ≡ i)
 below_next i h lt = elim (cases_lt h i) [ inl below ↦ inl below | inr above ↦ inr (omega arith) ]
 
 -- a section that is no group names no member
-pub marks_passed : (f : Sections) (n i : ℕ) (marks : List Bool) → (section f i).sh_type ≢ SHT_GROUP → AreMarks n (IsMemberBefore f i) marks →
+pub marks_passed : (f : Sections) (n i : ℕ) (marks : List Bool) → (section f i).sh_type ≢ SHT_GROUP →
+    AreMarks n (IsMemberBefore f i) marks →
     AreMarks n (IsMemberBefore f (i + 1)) marks
 marks_passed f n i marks other are = record {
   long = are.long;
@@ -230,7 +248,8 @@ pub wrong_next : (left : LeftOut) (f : Sections) (i : ℕ) (before here : Option
     IsLowest (wrong_group_member_before left f i) before → IsLowest (wrong_group_member_of left f i) here →
     IsLowest (wrong_group_member_before left f (i + 1)) (lower_of before here)
 wrong_next left f i before here typed lowest_before lowest_here =
-    IsLowest-same (λ x. wrong_group_member_before left f i x ⊎ wrong_group_member_of left f i x) (wrong_group_member_before left f (i + 1)) (lower_of before here)
+    IsLowest-same (λ x. wrong_group_member_before left f i x ⊎ wrong_group_member_of left f i x) (wrong_group_member_before left f (i + 1))
+    (lower_of before here)
     (λ x either. elim either [
       | inl (h, lt, broken) ↦ (h, omega arith, broken)
       | inr broken ↦ (i, omega arith, (typed, broken))

@@ -1,5 +1,6 @@
 -- The sections of a file that its object keeps, by their positions.
-use Rattle.std.proofs.Common.{◌≡◌, ℕ, ◌<◌, Bool, true, false, inl, inr, refl, ◌+◌, ◌-◌, ◌≤◌, ◌++◌, [], zero, suc, List, ◌∷◌, get_or, length, map, sym, ap, subst, ◌⊎◌, ◌∙◌, arith, length-append, zero-add}
+use Rattle.std.proofs.Common.{◌≡◌, ℕ, ◌<◌, Bool, true, false, inl, inr, refl, ◌+◌, ◌-◌, ◌≤◌, ◌++◌, [], zero, suc, List, ◌∷◌, get_or, length}
+use Rattle.std.proofs.Common.{map, sym, ap, subst, ◌⊎◌, ◌∙◌, arith, length-append, zero-add}
 use Rattle.std.specs.Prelude.{filter}
 use Rattle.std.proofs.lemmas.Bool.{cases_lt}
 use Rattle.std.specs.List.{range_with_len}
@@ -21,39 +22,49 @@ use Rattle.elf_table_symbols.specs.Sections.{Sections, count}
 range_from : (n i : ℕ) → i < n → range_with_len i (n - i) ≡ i ∷ range_with_len (i + 1) (n - (i + 1))
 range_from n i lt = (let same : n - i ≡ suc (n - (i + 1)) = omega arith in ap (λ (k : ℕ). range_with_len i k) same)
 
-pub filter_from_kept : (p : ℕ → Bool) (n i : ℕ) → i < n → p i ≡ true → filter p (range_with_len i (n - i)) ≡ i ∷ filter p (range_with_len (i + 1) (n - (i + 1)))
+pub filter_from_kept : (p : ℕ → Bool) (n i : ℕ) → i < n → p i ≡ true →
+    filter p (range_with_len i (n - i)) ≡ i ∷ filter p (range_with_len (i + 1) (n - (i + 1)))
 filter_from_kept p n i lt is = ap (λ (xs : List ℕ). filter p xs) (range_from n i lt) ∙ rw is refl
 
-pub filter_from_other : (p : ℕ → Bool) (n i : ℕ) → i < n → p i ≡ false → filter p (range_with_len i (n - i)) ≡ filter p (range_with_len (i + 1) (n - (i + 1)))
+pub filter_from_other : (p : ℕ → Bool) (n i : ℕ) → i < n → p i ≡ false →
+    filter p (range_with_len i (n - i)) ≡ filter p (range_with_len (i + 1) (n - (i + 1)))
 filter_from_other p n i lt is = ap (λ (xs : List ℕ). filter p xs) (range_from n i lt) ∙ rw is refl
 
 -- ---- positions
 
 -- the indexes up to i + 1 are those up to i, and i
 range_more : (i : ℕ) → range_with_len 0 (i + 1) ≡ range_with_len 0 i ++ i ∷ []
-range_more i = sym (map-id (range_with_len 0 (i + 1))) ∙ map-range_with_len_more (λ (x : ℕ). x) 0 i i (zero-add i) ∙ ap (λ (xs : List ℕ). xs ++ i ∷ []) (map-id (range_with_len 0 i))
+range_more i =
+    sym (map-id (range_with_len 0 (i + 1))) ∙ map-range_with_len_more (λ (x : ℕ). x) 0 i i (zero-add i) ∙
+    ap (λ (xs : List ℕ). xs ++ i ∷ []) (map-id (range_with_len 0 i))
 
 pub filter_next : (p : ℕ → Bool) (i : ℕ) → filter p (range_with_len 0 (i + 1)) ≡ filter p (range_with_len 0 i) ++ filter p (i ∷ [])
 filter_next p i = ap (λ (xs : List ℕ). filter p xs) (range_more i) ∙ filter-append p (range_with_len 0 i) (i ∷ [])
 
-pub count_kept : (p : ℕ → Bool) (i : ℕ) → p i ≡ true → length (filter p (range_with_len 0 (i + 1))) ≡ length (filter p (range_with_len 0 i)) + 1
+pub count_kept : (p : ℕ → Bool) (i : ℕ) → p i ≡ true →
+    length (filter p (range_with_len 0 (i + 1))) ≡ length (filter p (range_with_len 0 i)) + 1
 count_kept p i is =
     let one : filter p (i ∷ []) ≡ i ∷ [] = rw is refl in
-    ap (λ (xs : List ℕ). length xs) (filter_next p i ∙ ap (λ (xs : List ℕ). filter p (range_with_len 0 i) ++ xs) one) ∙ length-append (filter p (range_with_len 0 i)) (i ∷ [])
+    ap (λ (xs : List ℕ). length xs) (filter_next p i ∙ ap (λ (xs : List ℕ). filter p (range_with_len 0 i) ++ xs) one) ∙
+    length-append (filter p (range_with_len 0 i)) (i ∷ [])
 
-pub count_other : (p : ℕ → Bool) (i : ℕ) → p i ≡ false → length (filter p (range_with_len 0 (i + 1))) ≡ length (filter p (range_with_len 0 i))
+pub count_other : (p : ℕ → Bool) (i : ℕ) → p i ≡ false →
+    length (filter p (range_with_len 0 (i + 1))) ≡ length (filter p (range_with_len 0 i))
 count_other p i is =
     let none : filter p (i ∷ []) ≡ [] = rw is refl in
-    ap (λ (xs : List ℕ). length xs) (filter_next p i ∙ ap (λ (xs : List ℕ). filter p (range_with_len 0 i) ++ xs) none ∙ append-nil (filter p (range_with_len 0 i)))
+    ap (λ (xs : List ℕ). length xs)
+    (filter_next p i ∙ ap (λ (xs : List ℕ). filter p (range_with_len 0 i) ++ xs) none ∙ append-nil (filter p (range_with_len 0 i)))
 
 -- so it has the last position
 past_more : (left : LeftOut) (f : Sections) (d : ℕ) → position_of left f (count f + d) ≡ position_of left f (count f)
 past_more left f zero = ap (position_of left f) (omega arith)
 past_more left f (suc d) =
-    ap (position_of left f) (omega arith) ∙ count_other (is_kept left f) (count f + d) (not_kept_past left f (count f + d) (omega arith)) ∙ past_more left f d
+    ap (position_of left f) (omega arith) ∙ count_other (is_kept left f) (count f + d) (not_kept_past left f (count f + d) (omega arith)) ∙
+    past_more left f d
 
 pub position_past : (left : LeftOut) (f : Sections) (k : ℕ) → count f ≤ k → position_of left f k ≡ position_of left f (count f)
-position_past left f k past = (let same : k ≡ count f + (k - count f) = omega arith in ap (position_of left f) same ∙ past_more left f (k - count f))
+position_past left f k past =
+    (let same : k ≡ count f + (k - count f) = omega arith in ap (position_of left f) same ∙ past_more left f (k - count f))
 
 -- the position that is kept for a section
 pub position_get : (left : LeftOut) (f : Sections) (k : ℕ) → k < count f + 1 →
@@ -64,8 +75,10 @@ position_get left f k lt = get_or-map-range_with_len (position_of left f) 0 (cou
 at_most : (p : ℕ → Bool) (i : ℕ) → length (filter p (range_with_len 0 i)) ≤ i
 at_most p zero = omega arith
 at_most p (suc i) = elim (cases_bool (p i)) [
-  | inl is ↦ (let before = at_most p i in subst (λ (n : ℕ). length (filter p (range_with_len 0 n)) ≤ n) (one_more i) (omega (arith, count_kept p i is)))
-  | inr is ↦ (let before = at_most p i in subst (λ (n : ℕ). length (filter p (range_with_len 0 n)) ≤ n) (one_more i) (omega (arith, count_other p i is)))
+  | inl is ↦ (let before = at_most p i in
+      subst (λ (n : ℕ). length (filter p (range_with_len 0 n)) ≤ n) (one_more i) (omega (arith, count_kept p i is)))
+  | inr is ↦ (let before = at_most p i in
+      subst (λ (n : ℕ). length (filter p (range_with_len 0 n)) ≤ n) (one_more i) (omega (arith, count_other p i is)))
 ] where
   cases_bool : (b : Bool) → (b ≡ true) ⊎ (b ≡ false)
   cases_bool true = inl refl
@@ -84,7 +97,8 @@ pub mapped_next : {X V : Type 0} (view : X → V) (D : ℕ → V) (p : ℕ → B
     map view (items ++ x ∷ []) ≡ map D (filter p (range_with_len 0 (i + 1)))
 mapped_next {X} {V} view D p i items x done same is =
     let one : filter p (i ∷ []) ≡ i ∷ [] = rw is refl in
-    map-append view items (x ∷ []) ∙ ap (λ (vs : List V). vs ++ view x ∷ []) done ∙ ap (λ (v : V). map D (filter p (range_with_len 0 i)) ++ v ∷ []) same ∙
+    map-append view items (x ∷ []) ∙ ap (λ (vs : List V). vs ++ view x ∷ []) done ∙
+    ap (λ (v : V). map D (filter p (range_with_len 0 i)) ++ v ∷ []) same ∙
     sym (map-append D (filter p (range_with_len 0 i)) (i ∷ [])) ∙
     ap (λ (is : List ℕ). map D is) (sym (filter_next p i ∙ ap (λ (xs : List ℕ). filter p (range_with_len 0 i) ++ xs) one))
 
@@ -211,7 +225,8 @@ listed p (suc n) q lt = elim (cases_lt q (place p n)) [
   | inl below ↦ (let (i, is) = listed p n q below in (i, listed_left p n q i below is))
   | inr above ↦ elim (cases_bool (p n)) [
     | inl is ↦ (
-        let long : place p (suc n) ≡ place p n + 1 = ap (λ (xs : List ℕ). length xs) (passing_one p n is) ∙ length-append (passing p n) (n ∷ []) in
+        let long : place p (suc n) ≡ place p n + 1 =
+        ap (λ (xs : List ℕ). length xs) (passing_one p n is) ∙ length-append (passing p n) (n ∷ []) in
         (n, listed_last p n q is (omega arith)))
     | inr is ↦ absurd (let same : place p (suc n) ≡ place p n = ap (λ (xs : List ℕ). length xs) (passing_other p n is) in omega arith)
   ]

@@ -1,7 +1,8 @@
 -- The sections that an object keeps of a file that breaks no rule. By rules 49, 73 and 74 the symbol table and index table left out are the
 -- only ones of their types. Rule 72 excludes foreign types, so rule 2 of objects is kept. The own table of a kept section breaks no rule,
 -- by induction on the list of kept sections.
-use Rattle.std.proofs.Common.{◌≡◌, ℕ, ◌<◌, Bool, List, [], false, true, get_or, length, sym, ap, subst, ◌∙◌, arith, ◌≢◌, zero, suc, ◌||◌, Option, None, Some, ◌∷◌, inl, inr, refl, ◌⊎◌, ◌≤◌, map}
+use Rattle.std.proofs.Common.{◌≡◌, ℕ, ◌<◌, Bool, List, [], false, true, get_or, length, sym, ap, subst, ◌∙◌, arith, ◌≢◌, zero, suc, ◌||◌}
+use Rattle.std.proofs.Common.{Option, None, Some, ◌∷◌, inl, inr, refl, ◌⊎◌, ◌≤◌, map}
 use Rattle.std.specs.Prelude.{◌==◌, Contains, drop, if◌then◌else◌, ◌&&◌, not, bit_and, pos, Any, unwrap_or}
 use Rattle.std.specs.List.{position_or_len, AllByRecursion}
 use Rattle.std.proofs.lemmas.Bool.{eq-eqb, cases_eq, eqb-true}
@@ -11,19 +12,22 @@ use Rattle.std.specs.Cmp.Derive.{both_true}
 use Rattle.std.proofs.Math.Logic.{∥∥₁_elim}
 use Rattle.std.specs.Coded.{Coded-set, coded_option, coded×, coded_ℕ}
 use Rattle.elf_extent.specs.Extent.{Never}
-use Rattle.elf_field.specs.Abi.{SHT_NULL, SHT_SYMTAB, SHT_SYMTAB_SHNDX, SHT_GROUP, SHT_NOBITS, SHT_REL, SHT_RELA, RELA_SIZE, REL_SIZE, SHF_INFO_LINK, relocation_size}
+use Rattle.elf_field.specs.Abi.{SHT_NULL, SHT_SYMTAB, SHT_SYMTAB_SHNDX, SHT_GROUP, SHT_NOBITS, SHT_REL, SHT_RELA, RELA_SIZE, REL_SIZE}
+use Rattle.elf_field.specs.Abi.{SHF_INFO_LINK, relocation_size}
 use Rattle.elf_field.specs.declared.shdr.Shdr.{Shdr}
 use Rattle.elf_image_outline.specs.Image.{value_names, ImageValue, IsSoundImage, program_header_of, section_header_of}
 use Rattle.elf_image_rules.proofs.Public.{FirstIn-behind, FirstIn-front, rules_kept}
 use Rattle.elf_image_rules.specs.KeepsRules.{KeepsSectionRules}
 use Rattle.elf_image_rules.specs.Rows.{FirstIn}
-use Rattle.elf_image_type.specs.ImageView.{string}
+use Rattle.elf_field.specs.Strings.{string}
 use Rattle.elf_object_reader.proofs.FileRules.{all_bodies_sound, front_sound, symbols_sound}
 use Rattle.elf_object_layout.proofs.Public.{and_true, first_found, symbol_table_there}
 use Rattle.elf_object_reader.proofs.Kept.{listed, stands_at}
 use Rattle.elf_object_layout.specs.SectionsLeftOut.{is_kept, left_out, is_at, symbol_indexes, symbol_table}
-use Rattle.elf_object_reader.specs.Denotes.{Denotes, section_denoted, kept, position_of, body_denoted, body_kind, info_denoted, link_denoted, relocation_denoted, section_name_of}
-use Rattle.elf_object_reader.specs.FileRules.{IsForeignType, file_rules, foreign_section, front_rules, rules_of_bodies, rules_of_body, rules_of_symbols, second_symbol_table, stray_index_table, sections_of_file}
+use Rattle.elf_object_reader.specs.Denotes.{Denotes, section_denoted, kept, position_of, body_denoted, body_kind, info_denoted}
+use Rattle.elf_object_reader.specs.Denotes.{link_denoted, relocation_denoted, section_name_of}
+use Rattle.elf_object_reader.specs.FileRules.{IsForeignType, file_rules, foreign_section, front_rules, rules_of_bodies, rules_of_body}
+use Rattle.elf_object_reader.specs.FileRules.{rules_of_symbols, second_symbol_table, stray_index_table, sections_of_file}
 use Rattle.elf_object_reader.specs.declared.object_file.BodyKind.TheVariants.{Bits, NoBits, Relocs, Group}
 use Rattle.elf_object_reader.specs.declared.object_file.BodyKind.{BodyKind}
 use Rattle.elf_object_reader.specs.declared.object_file.FileSection.{FileSection}
@@ -33,16 +37,19 @@ use Rattle.elf_object_reader.specs.declared.reading.KeptSection.{KeptSection}
 use Rattle.elf_object_reader.specs.declared.reading.ObjectReader.{ObjectReader}
 use Rattle.elf_object_type.proofs.Public.{aligned}
 use Rattle.elf_object_type.specs.Object.{ObjectValue, SectionValue, no_section, section_at}
-use Rattle.elf_object_type.specs.ObjectRules.{zero_in_section_name, IsWrongBitsType, types_without_bits, wrong_bits_type, HasWrongAlignment, HasWrongField, IsAgainstFlag, wrong_alignment, wrong_field}
+use Rattle.elf_object_type.specs.ObjectRules.{zero_in_section_name, IsWrongBitsType, types_without_bits, wrong_bits_type, HasWrongAlignment}
+use Rattle.elf_object_type.specs.ObjectRules.{HasWrongField, IsAgainstFlag, wrong_alignment, wrong_field}
 use Rattle.elf_object_type.specs.declared.relocations.Relocation.{Relocation}
 use Rattle.elf_table_all.proofs.Public.{kind_asked, none_kept}
 use Rattle.elf_table_all.specs.Tables.{rules_of_kind, table_rules, HasSoundTable}
 use Rattle.elf_table_lists.proofs.Public.{length_relocations, relocation_get}
 use Rattle.elf_table_lists.specs.Groups.{group_section_rules}
-use Rattle.elf_table_lists.specs.Relocations.{relocation_section_rules, has_addends, no_relocation_entry, relocation_count, relocation_in, relocations_of}
+use Rattle.elf_table_lists.specs.Relocations.{relocation_section_rules, has_addends, no_relocation_entry, relocation_count, relocation_in}
+use Rattle.elf_table_lists.specs.Relocations.{relocations_of}
 use Rattle.elf_table_symbols.proofs.Public.{symbols_kind}
 use Rattle.elf_table_symbols.specs.Sections.{Sections, count, section, own_rules, sections_of, kind_of, content, order, entry_size}
-use Rattle.elf_table_symbols.specs.Symbols.{IsIndexTable, index_table, linked_string_rules, symbol_parts, entry_count, index_table_rules, rest_rules, second_index_table, symbol_entry_rules, symbol_table_rules}
+use Rattle.elf_table_symbols.specs.Symbols.{IsIndexTable, index_table, linked_string_rules, symbol_parts, entry_count, index_table_rules}
+use Rattle.elf_table_symbols.specs.Symbols.{rest_rules, second_index_table, symbol_entry_rules, symbol_table_rules}
 use Rattle.elf_table_symbols.specs.declared.table_section.TableKind.TheVariants.{SymbolTable, RelocationTable, SectionGroup}
 use Rattle.elf_table_symbols.specs.declared.table_section.TableKind.{TableKind}
 use Rattle.elf_object_type.specs.declared.parts.Info.TheVariants as info
@@ -71,8 +78,16 @@ section_count f o denotes =
 pub section_at_position : (f : Sections) (o : ObjectValue) (q : ℕ) → Denotes f o → q < length o.sections → (i : ℕ) × IsSectionOf f o q i
 section_at_position f o q denotes lt =
     let within : q < length (kept (left_out f) f) = omega (arith, section_count f o denotes) in
-    let (i, found) = listed (is_kept (left_out f) f) (count f) q within in
-    (i, record { there = found.there; is_kept = found.passes; position = found.place_is; section = section_get f o q i denotes within found.at })
+    let (i, found) = listed (is_kept (left_out f) f) (count f) q within in (
+      i,
+      record {
+        there = found.there;
+        is_kept = found.passes;
+        position = found.place_is;
+        section =
+            section_get f o q i denotes within found.at;
+      },
+    )
 
 -- and each section of the file that is kept is at its position
 pub position_there : (f : Sections) (o : ObjectValue) (i : ℕ) → Denotes f o → i < count f → is_kept (left_out f) f i ≡ true →
@@ -168,10 +183,12 @@ unfolding front_rules
 no_stray_index_table f clean = (front_sound f clean).1.1.1.1.0
 
 -- a symbol table is the one symbol table
-pub symbol_table_at : (f : Sections) (i : ℕ) → FirstIn (file_rules f) None → i < count f → (section f i).sh_type ≡ SHT_SYMTAB → symbol_table f ≡ Some i
+pub symbol_table_at : (f : Sections) (i : ℕ) → FirstIn (file_rules f) None → i < count f → (section f i).sh_type ≡ SHT_SYMTAB →
+    symbol_table f ≡ Some i
 unfolding symbol_table
 symbol_table_at f i clean lt typed =
-    sym (first_found (λ (s : Shdr). s.sh_type == SHT_SYMTAB) f (λ k. (section f k).sh_type ≡ SHT_SYMTAB) i (λ k is. eq-eqb _ _ is) (λ k test. eqb-true _ _ test)
+    sym (first_found (λ (s : Shdr). s.sh_type == SHT_SYMTAB) f (λ k. (section f k).sh_type ≡ SHT_SYMTAB) i (λ k is. eq-eqb _ _ is)
+    (λ k test. eqb-true _ _ test)
     lt (λ k below other. no_second_symbol_table f clean _ (i, lt, (typed, (k, below, other)), refl)) typed)
 
 at_itself : (i : ℕ) (found : Option ℕ) → found ≡ Some i → is_at found i ≡ false → ⊥
@@ -179,7 +196,8 @@ at_itself i found same other =
     let there : is_at (Some i) i ≡ false = subst (λ (o : Option ℕ). is_at o i ≡ false) same other in
     differs i i there refl
 
-no_symbol_table : (f : Sections) (i : ℕ) → FirstIn (file_rules f) None → i < count f → IsKeptSection (left_out f) f i → (section f i).sh_type ≡ SHT_SYMTAB → ⊥
+no_symbol_table : (f : Sections) (i : ℕ) → FirstIn (file_rules f) None → i < count f → IsKeptSection (left_out f) f i →
+    (section f i).sh_type ≡ SHT_SYMTAB → ⊥
 no_symbol_table f i clean lt is typed = at_itself i (symbol_table f) (symbol_table_at f i clean lt typed) is.no_symbols
 
 -- an index table is linked to it
@@ -190,24 +208,29 @@ linked (Some t) link other = elim (cases_eq t link) [
   | inr differs ↦ absurd (other (λ same. (let t_is : t ≡ link = cc in differs t_is)))
 ]
 
-pub symbols_of_table : (f : Sections) (t : ℕ) → FirstIn (file_rules f) None → symbol_table f ≡ Some t → FirstIn (symbol_table_rules f t) None
+pub symbols_of_table : (f : Sections) (t : ℕ) → FirstIn (file_rules f) None → symbol_table f ≡ Some t →
+    FirstIn (symbol_table_rules f t) None
 symbols_of_table f t clean is = subst (λ (table : Option ℕ). FirstIn (rules_of_symbols f table) None) is (symbols_sound f clean)
 
 no_second_index_table : (f : Sections) (t : ℕ) → FirstIn (symbol_table_rules f t) None → Never (second_index_table f t)
 unfolding symbol_table_rules rest_rules index_table_rules
 no_second_index_table f t clean =
     let p = symbol_parts f t in
-    let behind = FirstIn-behind (symbol_entry_rules p) _ (FirstIn-behind (linked_string_rules p.names p.names_start) _ (FirstIn-behind (own_rules SymbolTable f t) _ clean)) in
+    let behind =
+    FirstIn-behind (symbol_entry_rules p) _
+    (FirstIn-behind (linked_string_rules p.names p.names_start) _ (FirstIn-behind (own_rules SymbolTable f t) _ clean)) in
     (FirstIn-front (index_table_rules f t p.index_table (entry_count p.table)) _ behind).0
 
 index_table_at : (f : Sections) (t i : ℕ) → Never (second_index_table f t) → i < count f → IsIndexTable f t i → index_table f t ≡ Some i
 unfolding index_table
 index_table_at f t i never lt is =
     sym (first_found (λ (s : Shdr). (s.sh_type == SHT_SYMTAB_SHNDX) && (s.sh_link == t)) f (IsIndexTable f t) i
-    (λ k is. both_true (eq-eqb _ _ is.0) (eq-eqb _ _ is.1)) (λ k test. (let parts = and_true _ _ test in (eqb-true _ _ parts.0, eqb-true _ _ parts.1)))
+    (λ k is. both_true (eq-eqb _ _ is.0) (eq-eqb _ _ is.1))
+    (λ k test. (let parts = and_true _ _ test in (eqb-true _ _ parts.0, eqb-true _ _ parts.1)))
     lt (λ k below other. never _ (i, lt, (is, (k, below, other)), refl)) is)
 
-no_index_table : (f : Sections) (i : ℕ) → FirstIn (file_rules f) None → i < count f → IsKeptSection (left_out f) f i → (section f i).sh_type ≡ SHT_SYMTAB_SHNDX → ⊥
+no_index_table : (f : Sections) (i : ℕ) → FirstIn (file_rules f) None → i < count f → IsKeptSection (left_out f) f i →
+    (section f i).sh_type ≡ SHT_SYMTAB_SHNDX → ⊥
 no_index_table f i clean lt is typed =
     let link = (section f i).sh_link in
     let table = linked (symbol_table f) link (λ other. no_stray_index_table f clean _ (i, lt, (typed, other), refl)) in
@@ -233,7 +256,8 @@ relocs_differ same = cc
 group_differs : Group ≡ Bits → ⊥
 group_differs same = cc
 
-type_of_bits : (f : Sections) (i : ℕ) → FirstIn (file_rules f) None → i < count f → IsKeptSection (left_out f) f i → body_kind (section f i).sh_type ≡ Bits →
+type_of_bits : (f : Sections) (i : ℕ) → FirstIn (file_rules f) None → i < count f → IsKeptSection (left_out f) f i →
+    body_kind (section f i).sh_type ≡ Bits →
     Contains types_without_bits (section f i).sh_type → ⊥
 type_of_bits f i clean lt is bits =
     let type = (section f i).sh_type in
@@ -273,7 +297,8 @@ type_of_bits f i clean lt is bits =
       ),
     )
 
-body_of_type : (f : Sections) (i : ℕ) (kind : BodyKind) → body_kind (section f i).sh_type ≡ kind → (kind ≡ Bits → Contains types_without_bits (section f i).sh_type → ⊥) →
+body_of_type : (f : Sections) (i : ℕ) (kind : BodyKind) → body_kind (section f i).sh_type ≡ kind →
+    (kind ≡ Bits → Contains types_without_bits (section f i).sh_type → ⊥) →
     IsWrongBitsType (body_denoted (left_out f) f i kind) → ⊥
 body_of_type f i Bits is never broken = never refl broken
 body_of_type f i NoBits is never broken = broken
@@ -284,7 +309,8 @@ bits_of_section : (f : Sections) (i : ℕ) → FirstIn (file_rules f) None → i
     IsWrongBitsType (section_denoted (left_out f) f i).body → ⊥
 unfolding section_denoted
 bits_of_section f i clean lt is broken =
-    body_of_type f i (body_kind (section f i).sh_type) refl (λ bits. type_of_bits f i clean lt (kept_section (left_out f) f i is) bits) broken
+    body_of_type f i (body_kind (section f i).sh_type) refl
+    (λ bits. type_of_bits f i clean lt (kept_section (left_out f) f i is) bits) broken
 
 pub no_wrong_bits_type : (f : Sections) (o : ObjectValue) → FirstIn (file_rules f) None → Denotes f o → Never (wrong_bits_type o)
 no_wrong_bits_type f o clean denotes x (q, within, broken, here) =
@@ -297,7 +323,8 @@ body_in : (f : Sections) (is : List ℕ) (q : ℕ) → q < length is → FirstIn
     let i = get_or is q 0 in FirstIn (rules_of_body (body_kind (section f i).sh_type) f i) None
 body_in f [] q lt clean = absurd (omega arith)
 body_in f (i ∷ is) zero lt clean = FirstIn-front (rules_of_body (body_kind (section f i).sh_type) f i) _ clean
-body_in f (i ∷ is) (suc q) lt clean = body_in f is q (omega arith) (FirstIn-behind (rules_of_body (body_kind (section f i).sh_type) f i) _ clean)
+body_in f (i ∷ is) (suc q) lt clean =
+    body_in f is q (omega arith) (FirstIn-behind (rules_of_body (body_kind (section f i).sh_type) f i) _ clean)
 
 pub table_sound : (f : Sections) (i : ℕ) → FirstIn (file_rules f) None → i < count f → is_kept (left_out f) f i ≡ true →
     FirstIn (rules_of_body (body_kind (section f i).sh_type) f i) None
@@ -329,17 +356,20 @@ either_true false b is = inr is
 
 pub relocs_kind : (type : ℕ) → body_kind type ≡ Relocs → kind_of type ≡ Some RelocationTable
 relocs_kind type is =
-    elim (either_true (type == SHT_RELA) (type == SHT_REL) (relocs_tested (type == SHT_NOBITS) ((type == SHT_RELA) || (type == SHT_REL)) (type == SHT_GROUP) is)) [
+    elim (either_true (type == SHT_RELA) (type == SHT_REL)
+    (relocs_tested (type == SHT_NOBITS) ((type == SHT_RELA) || (type == SHT_REL)) (type == SHT_GROUP) is)) [
       | inl rela ↦ rw (eqb-true _ _ rela) refl
       | inr rel ↦ rw (eqb-true _ _ rel) refl
     ]
 
 pub group_kind : (type : ℕ) → body_kind type ≡ Group → kind_of type ≡ Some SectionGroup
-group_kind type is = rw (eqb-true _ _ (group_tested (type == SHT_NOBITS) ((type == SHT_RELA) || (type == SHT_REL)) (type == SHT_GROUP) is)) refl
+group_kind type is =
+    rw (eqb-true _ _ (group_tested (type == SHT_NOBITS) ((type == SHT_RELA) || (type == SHT_REL)) (type == SHT_GROUP) is)) refl
 
 -- ---- what the tables ask before they are handed out
 
-ready : (file : ObjectFile) (i : ℕ) (kind : TableKind) → i < count (sections_of_file file) → kind_of (section (sections_of_file file) i).sh_type ≡ Some kind →
+ready : (file : ObjectFile) (i : ℕ) (kind : TableKind) → i < count (sections_of_file file) →
+    kind_of (section (sections_of_file file) i).sh_type ≡ Some kind →
     FirstIn (rules_of_kind (Some kind) (sections_of_file file) i) None → HasSoundTable file.tables i kind
 ready file i kind lt typed sound = record {
   there = subst (λ (v : ImageValue). i < length v.sections) (sym file.own_tables) lt;
@@ -349,20 +379,25 @@ ready file i kind lt typed sound = record {
 }
 
 -- the verdict on a table is that of its kind's rules
-asked : (file : ObjectFile) (i : ℕ) (kind : TableKind) (found : Option (ℕ × ℕ)) → kind_of (section (sections_of_file file) i).sh_type ≡ Some kind →
+asked : (file : ObjectFile) (i : ℕ) (kind : TableKind) (found : Option (ℕ × ℕ)) →
+    kind_of (section (sections_of_file file) i).sh_type ≡ Some kind →
     FirstIn (table_rules (sections_of file.tables.image) i) found → FirstIn (rules_of_kind (Some kind) (sections_of_file file) i) found
 asked file i kind found typed run =
-    kind_asked (sections_of_file file) i (Some kind) found typed (subst (λ (v : ImageValue). FirstIn (table_rules (sections_of v) i) found) file.own_tables run)
+    kind_asked (sections_of_file file) i (Some kind) found typed
+    (subst (λ (v : ImageValue). FirstIn (table_rules (sections_of v) i) found) file.own_tables run)
 
 -- so are the rules of a section, by the kind of its body
-body_told : (s : FileSection) (body : BodyKind) (kind : TableKind) (found : Option (ℕ × ℕ)) → body_kind s.header.sh_type ≡ body → kind_of s.header.sh_type ≡ Some kind →
-    (FirstIn (rules_of_kind (Some kind) (sections_of_file s.file.now) s.index) found → FirstIn (rules_of_body body (sections_of_file s.file.now) s.index) found) →
+body_told : (s : FileSection) (body : BodyKind) (kind : TableKind) (found : Option (ℕ × ℕ)) → body_kind s.header.sh_type ≡ body →
+    kind_of s.header.sh_type ≡ Some kind →
+    (FirstIn (rules_of_kind (Some kind) (sections_of_file s.file.now) s.index) found →
+    FirstIn (rules_of_body body (sections_of_file s.file.now) s.index) found) →
     FirstIn (table_rules (sections_of s.file.now.tables.image) s.index) found →
     (let f = sections_of_file s.file.now in FirstIn (rules_of_body (body_kind (section f s.index).sh_type) f s.index) found)
 body_told s body kind found is typed same run =
     let own = subst (λ (h : Shdr). kind_of h.sh_type ≡ Some kind) s.own_header typed in
     let here = subst (λ (h : Shdr). body_kind h.sh_type ≡ body) s.own_header is in
-    subst (λ (k : BodyKind). FirstIn (rules_of_body k (sections_of_file s.file.now) s.index) found) (sym here) (same (asked s.file.now s.index kind found own run))
+    subst (λ (k : BodyKind). FirstIn (rules_of_body k (sections_of_file s.file.now) s.index) found) (sym here)
+    (same (asked s.file.now s.index kind found own run))
 
 pub relocs_told : (s : FileSection) (found : Option (ℕ × ℕ)) → body_kind s.header.sh_type ≡ Relocs →
     FirstIn (table_rules (sections_of s.file.now.tables.image) s.index) found →
@@ -378,17 +413,22 @@ group_told s found is run = body_told s Group SectionGroup found is (group_kind 
 
 -- its table breaks no rule
 kept_table : (s : KeptSection) (kind : BodyKind) → body_kind s.header.sh_type ≡ kind →
-    (let f = sections_of_file s.reader.now.file in (body_kind (section f s.index).sh_type ≡ kind) × FirstIn (rules_of_body kind f s.index) None)
+    (let f = sections_of_file s.reader.now.file in
+    (body_kind (section f s.index).sh_type ≡ kind) × FirstIn (rules_of_body kind f s.index) None)
 kept_table s kind is =
     let f = sections_of_file s.reader.now.file in
     let typed = subst (λ (h : Shdr). body_kind h.sh_type ≡ kind) s.own_header is in
-    let kept = subst (λ (left : LeftOut). is_kept left f s.index ≡ true) s.reader.now.file.own_left s.kept in
-    (typed, subst (λ (k : BodyKind). FirstIn (rules_of_body k f s.index) None) typed (table_sound f s.index s.reader.now.sound s.there kept))
+    let kept = subst (λ (left : LeftOut). is_kept left f s.index ≡ true) s.reader.now.file.own_left s.kept in (
+      typed,
+      subst (λ (k : BodyKind). FirstIn (rules_of_body k f s.index) None) typed
+          (table_sound f s.index s.reader.now.sound s.there kept),
+    )
 
 pub group_ready : (s : KeptSection) → body_kind s.header.sh_type ≡ Group → HasSoundTable s.reader.now.file.tables s.index SectionGroup
 group_ready s is =
     let (typed, sound) = kept_table s Group is in
-    ready s.reader.now.file s.index SectionGroup s.there (group_kind (section (sections_of_file s.reader.now.file) s.index).sh_type typed) sound
+    ready s.reader.now.file s.index SectionGroup s.there
+    (group_kind (section (sections_of_file s.reader.now.file) s.index).sh_type typed) sound
 
 -- ---- the symbol table
 
@@ -411,11 +451,13 @@ pub symbols_told : (file : ObjectFile) (t : ℕ) (found : Option (ℕ × ℕ)) �
     FirstIn (table_rules (sections_of file.tables.image) t) found → FirstIn (symbol_table_rules (sections_of_file file) t) found
 symbols_told file t found is run = asked file t SymbolTable found (symbols_there file t is).kind run
 
-pub symbols_ready : (file : ObjectFile) (t : ℕ) → file.left.symbol_table ≡ Some t → FirstIn (symbol_table_rules (sections_of_file file) t) None →
+pub symbols_ready : (file : ObjectFile) (t : ℕ) → file.left.symbol_table ≡ Some t →
+    FirstIn (symbol_table_rules (sections_of_file file) t) None →
     HasSoundTable file.tables t SymbolTable
 symbols_ready file t is sound = (let there = symbols_there file t is in ready file t SymbolTable there.here there.kind sound)
 
-pub sound_symbols : (reader : ObjectReader) (t : ℕ) → reader.file.left.symbol_table ≡ Some t → HasSoundTable reader.file.tables t SymbolTable
+pub sound_symbols : (reader : ObjectReader) (t : ℕ) → reader.file.left.symbol_table ≡ Some t →
+    HasSoundTable reader.file.tables t SymbolTable
 sound_symbols reader t is =
     let own = sym (ap (λ (l : LeftOut). l.symbol_table) reader.file.own_left) in
     symbols_ready reader.file t is (symbols_of_table (sections_of_file reader.file) t reader.sound (own ∙ is))
@@ -433,7 +475,8 @@ sections_kept v sound =
     let rules = rules_kept v.len v.header (section_header_of v.sections) (program_header_of v.segments) names sound.clean in
     subst (λ (n : ℕ). KeepsSectionRules v.len n (section_header_of v.sections)) (sym sound.section_count) rules.records.sections
 
-section_aligned : (v : ImageValue) (i : ℕ) → IsSoundImage v → i < length v.sections → is_kept (left_out (sections_of v)) (sections_of v) i ≡ true →
+section_aligned : (v : ImageValue) (i : ℕ) → IsSoundImage v → i < length v.sections →
+    is_kept (left_out (sections_of v)) (sections_of v) i ≡ true →
     HasWrongAlignment (section_denoted (left_out (sections_of v)) (sections_of v) i) → ⊥
 unfolding section_denoted
 section_aligned v i sound lt is broken =
@@ -441,7 +484,8 @@ section_aligned v i sound lt is broken =
     let kept = kept_section (left_out f) f i is in
     let rules = sections_kept v sound in
     let above : 1 ≤ i = (let other = kept.above in omega arith) in
-    aligned (section f i).sh_addralign (section f i).sh_addr (rules.alignment i above lt kept.typed) (rules.address i above lt kept.typed) broken
+    aligned (section f i).sh_addralign (section f i).sh_addr (rules.alignment i above lt kept.typed)
+    (rules.address i above lt kept.typed) broken
 
 pub no_wrong_alignment : (v : ImageValue) (o : ObjectValue) → IsSoundImage v → Denotes (sections_of v) o → Never (wrong_alignment o)
 no_wrong_alignment v o sound denotes x (q, within, broken, here) =
@@ -465,7 +509,8 @@ section_with left f i kind =
       body = body_denoted left f i kind;
     }
 
-pub denoted_with : (left : LeftOut) (f : Sections) (i : ℕ) → section_denoted left f i ≡ section_with left f i (body_kind (section f i).sh_type)
+pub denoted_with : (left : LeftOut) (f : Sections) (i : ℕ) →
+    section_denoted left f i ≡ section_with left f i (body_kind (section f i).sh_type)
 unfolding section_denoted
 denoted_with left f i = refl
 
@@ -475,7 +520,8 @@ flag_agrees flags number position true is against = against (eqb-true _ _ is)
 flag_agrees flags number position false is lacks = let none : true ≡ false = sym (rw lacks refl) ∙ is in cc
 
 -- the entries have their size
-entries_sized : (kind : TableKind) (f : Sections) (i : ℕ) → FirstIn (own_rules kind f i) None → (section f i).sh_entsize ≡ entry_size kind (section f i).sh_type
+entries_sized : (kind : TableKind) (f : Sections) (i : ℕ) → FirstIn (own_rules kind f i) None →
+    (section f i).sh_entsize ≡ entry_size kind (section f i).sh_type
 unfolding own_rules
 entries_sized kind f i own = elim (cases_eq (section f i).sh_entsize (entry_size kind (section f i).sh_type)) [
   | inl same ↦ same
@@ -503,18 +549,22 @@ no_addends : (f : Sections) (i : ℕ) → has_addends (section f i).sh_type ≡ 
 no_addends f i rel (k, x, lt, at, other) =
     let rs = relocations_of f i in
     let within : k < length rs = omega (arith, length-map rs relocation_denoted) in
-    let is : x ≡ relocation_denoted (get_or rs k no_relocation_entry) = sym at ∙ get_or-map relocation_denoted rs k no_relocation_entry x within in
+    let is : x ≡ relocation_denoted (get_or rs k no_relocation_entry) =
+    sym at ∙ get_or-map relocation_denoted rs k no_relocation_entry x within in
     other (ap (λ (r : Relocation). r.addend) is ∙ ap (λ (a : Option _). unwrap_or a (pos 0)) (no_addend f i k rel within))
 
 fields_of : (left : LeftOut) (f : Sections) (i : ℕ) (kind : BodyKind) → FirstIn (rules_of_body kind f i) None →
     HasWrongField (section_with left f i kind) (section_with left f i kind).body → ⊥
 unfolding relocation_section_rules group_section_rules
-fields_of left f i Bits sound broken = flag_agrees (section f i).sh_flags (section f i).sh_info _ (bit_and (section f i).sh_flags SHF_INFO_LINK == 0) refl broken
-fields_of left f i NoBits sound broken = flag_agrees (section f i).sh_flags (section f i).sh_info _ (bit_and (section f i).sh_flags SHF_INFO_LINK == 0) refl broken
+fields_of left f i Bits sound broken =
+    flag_agrees (section f i).sh_flags (section f i).sh_info _ (bit_and (section f i).sh_flags SHF_INFO_LINK == 0) refl broken
+fields_of left f i NoBits sound broken =
+    flag_agrees (section f i).sh_flags (section f i).sh_info _ (bit_and (section f i).sh_flags SHF_INFO_LINK == 0) refl broken
 fields_of left f i Relocs sound (inl (inl linked)) = linked refl
 fields_of left f i Relocs sound (inl (inr told)) = told refl
 fields_of left f i Relocs sound (inr (inl sized)) =
-    sized (entries_sized RelocationTable f i (FirstIn-front (own_rules RelocationTable f i) _ sound) ∙ size_of (has_addends (section f i).sh_type))
+    sized (entries_sized RelocationTable f i (FirstIn-front (own_rules RelocationTable f i) _ sound) ∙
+    size_of (has_addends (section f i).sh_type))
 fields_of left f i Relocs sound (inr (inr (rel, some))) = no_addends f i rel some
 fields_of left f i Group sound (inl (inl linked)) = linked refl
 fields_of left f i Group sound (inl (inr told)) = told refl

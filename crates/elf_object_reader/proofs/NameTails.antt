@@ -1,6 +1,7 @@
 -- Where names end in the string table that they were read from: of two with one end the longer one ends with the other (`tails_of_table`).
 -- The name of symbol j is the string at the `st_name` of entry j + 1 of the symbol table, and that of a section the one at its `sh_name`.
-use Rattle.std.proofs.Common.{◌≡◌, ℕ, ◌+◌, ◌-◌, ◌*◌, ◌<◌, ◌≤◌, Bool, true, false, zero, suc, List, [], ◌∷◌, Option, None, Some, inl, inr, refl, sym, ap, subst, ◌∙◌, arith, get_or, length, map}
+use Rattle.std.proofs.Common.{◌≡◌, ℕ, ◌+◌, ◌-◌, ◌*◌, ◌<◌, ◌≤◌, Bool, true, false, zero, suc, List, [], ◌∷◌, Option, None, Some, inl, inr}
+use Rattle.std.proofs.Common.{refl, sym, ap, subst, ◌∙◌, arith, get_or, length, map}
 use Rattle.std.specs.Prelude.{◌||◌, if◌then◌else◌, nat_lt}
 use Rattle.std.specs.List.{All, list_any}
 use Rattle.std.proofs.lemmas.Bool.{cases_lt}
@@ -10,11 +11,12 @@ use Rattle.std.proofs.lemmas.List.Elements.{filter_passes}
 use Rattle.std.proofs.lemmas.List.FromFn.{get_or-map-range_with_len, length-map-range_with_len}
 use Rattle.elf_field.specs.Entries.{sym_at}
 use Rattle.elf_image_rules.specs.Rules.{MAX_LEN}
-use Rattle.elf_image_type.specs.ImageView.{string}
+use Rattle.elf_field.specs.Strings.{string}
 use Rattle.elf_object_layout.specs.SectionsLeftOut.{is_kept, left_out, symbol_table}
 use Rattle.elf_object_layout.specs.declared.left_out.LeftOut.{LeftOut}
 use Rattle.elf_object_reader.specs.Denotes.{kept, section_denoted, section_name_of, section_name_table, symbols_denoted}
-use Rattle.elf_object_reader.specs.NameEnds.{is_long, name_end, section_end, symbol_end, symbol_ends, useful_section_ends, useful_symbol_ends}
+use Rattle.elf_object_reader.specs.NameEnds.{is_long, name_end, section_end, symbol_end, symbol_ends, useful_section_ends}
+use Rattle.elf_object_reader.specs.NameEnds.{useful_symbol_ends}
 use Rattle.elf_object_strings.proofs.Public.{tails_none, tails_of_table}
 use Rattle.elf_object_strings.specs.StringTable.{AreEndsIn, AreTails}
 use Rattle.elf_object_type.specs.Object.{SectionValue, SymbolValue}
@@ -38,11 +40,13 @@ ends_denoted left f t i some =
       | inl lt ↦
           let offset = (sym_at (order f) (content f t) (24 * (1 + i))).st_name in
           let name = name_denoted left f t i lt in
-          let is : get_or (symbol_ends f (Some t)) i 0 ≡ symbol_end f t (1 + i) = get_or-map-range_with_len (symbol_end f t) 1 n i (1 + i) 0 lt refl in
+          let is : get_or (symbol_ends f (Some t)) i 0 ≡ symbol_end f t (1 + i) =
+          get_or-map-range_with_len (symbol_end f t) 1 n i (1 + i) 0 lt refl in
           let known = known_end offset (string (symbol_parts f t).names offset) (subst (λ (e : ℕ). 0 < e) is some) in
           (offset, name, is ∙ known ∙ ap (λ (s : List ℕ). offset + length s + 1) (sym name))
       | inr past ↦
-          let none : get_or (symbol_ends f (Some t)) i 0 ≡ 0 = get_or_past (symbol_ends f (Some t)) i 0 (omega (arith, length-map-range_with_len (symbol_end f t) 1 n)) in
+          let none : get_or (symbol_ends f (Some t)) i 0 ≡ 0 =
+          get_or_past (symbol_ends f (Some t)) i 0 (omega (arith, length-map-range_with_len (symbol_end f t) 1 n)) in
           absurd (omega arith)
     ]
 
@@ -69,7 +73,8 @@ pub useful_all : (symbols : List SymbolValue) (f : Sections) → list_any (λ (s
     useful_symbol_ends symbols f ≡ symbol_ends f (symbol_table f)
 useful_all symbols f is = rw is refl
 
-pub useful_none : (symbols : List SymbolValue) (f : Sections) → list_any (λ (s : SymbolValue). is_long s.name) symbols ≡ false → useful_symbol_ends symbols f ≡ []
+pub useful_none : (symbols : List SymbolValue) (f : Sections) → list_any (λ (s : SymbolValue). is_long s.name) symbols ≡ false →
+    useful_symbol_ends symbols f ≡ []
 useful_none symbols f is = rw is refl
 
 -- a test of the images of a list
@@ -104,7 +109,8 @@ names_kept left f indexes = map-map (λ (s : SectionValue). s.name) (section_den
 section_tails : (left : LeftOut) (f : Sections) (sections : List SectionValue) → sections ≡ map (section_denoted left f) (kept left f) →
     AreTails (section_names_of sections) (map (section_end f) (kept left f))
 section_tails left f sections are =
-    let names : section_names_of sections ≡ map (section_name_of f) (kept left f) = ap section_names_of are ∙ names_kept left f (kept left f) in
+    let names : section_names_of sections ≡ map (section_name_of f) (kept left f) =
+    ap section_names_of are ∙ names_kept left f (kept left f) in
     subst (λ (ns : List (List ℕ)). AreTails ns (map (section_end f) (kept left f))) (sym names)
     (tails_of_table (section_name_table f) _ _ (ends_in_table left f (kept left f) (filter_passes (is_kept left f) _)))
 
@@ -127,10 +133,12 @@ useful_section_fits left f sections are = by (list_any (λ (s : SectionValue). i
   by false = omega arith
 
 -- the ends are those of all names, or none
-pub section_all : (sections : List SectionValue) (left : LeftOut) (f : Sections) → list_any (λ (s : SectionValue). is_long s.name) sections ≡ true →
+pub section_all : (sections : List SectionValue) (left : LeftOut) (f : Sections) →
+    list_any (λ (s : SectionValue). is_long s.name) sections ≡ true →
     useful_section_ends sections left f ≡ map (section_end f) (kept left f)
 section_all sections left f is = rw is refl
 
-pub section_none : (sections : List SectionValue) (left : LeftOut) (f : Sections) → list_any (λ (s : SectionValue). is_long s.name) sections ≡ false →
+pub section_none : (sections : List SectionValue) (left : LeftOut) (f : Sections) →
+    list_any (λ (s : SectionValue). is_long s.name) sections ≡ false →
     useful_section_ends sections left f ≡ []
 section_none sections left f is = rw is refl

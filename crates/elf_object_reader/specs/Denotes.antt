@@ -1,10 +1,13 @@
--- The object that a relocatable file denotes. (gABI chapter 4: ELF Header, Sections, Symbol Table, Relocation, Section Groups.)
-use Rattle.std.specs.Prelude.{ℕ, ◌==◌, ◌||◌, if◌then◌else◌, Option, None, Some, List, filter, length, ◌≡◌, ◌+◌, ◌-◌, ◌*◌, [], bit_and, drop, map, pos, slice_index, unwrap_or}
+-- The object that a relocatable file denotes. (gABI chapter 4: ELF Header, Sections, Symbol Table, Relocation, Section Groups.) A reserved
+-- index reads as undefined, so that the definition is total: rule 75 refuses the index first. `Denotes` is about a header, section headers
+-- and contents (`Sections`), as the rules of tables are. The law `sections_of_bytes` connects it with bytes.
+use Rattle.std.specs.Prelude.{ℕ, ◌==◌, ◌||◌, if◌then◌else◌, Option, None, Some, List, filter, length, ◌≡◌, ◌+◌, ◌-◌, ◌*◌, [], bit_and, drop}
+use Rattle.std.specs.Prelude.{map, pos, slice_index, unwrap_or}
 use Rattle.std.specs.List.{range_with_len}
 use Rattle.elf_field.specs.Abi.{SHT_GROUP, SHT_NOBITS, SHT_NULL, SHT_REL, SHT_RELA, EI_ABIVERSION, EI_OSABI, GRP_COMDAT, SHF_INFO_LINK}
 use Rattle.elf_field.specs.declared.shdr.Shdr.{Shdr}
 use Rattle.elf_image_outline.specs.Image.{value_names}
-use Rattle.elf_image_type.specs.ImageView.{string}
+use Rattle.elf_field.specs.Strings.{string}
 use Rattle.elf_object_reader.specs.declared.object_file.BodyKind.TheVariants.{Bits, NoBits, Relocs, Group}
 use Rattle.elf_object_reader.specs.declared.object_file.BodyKind.{BodyKind}
 use Rattle.elf_object_layout.specs.SectionsLeftOut.{is_kept, left_out, symbol_table}

@@ -1,11 +1,14 @@
 -- Rules 70 to 79: what a file needs to be an object, beside its tables' own rules, and the order of them all.
 -- (gABI chapter 4: ELF Header, Sections, Symbol Table, Relocation, Section Groups.)
-use Rattle.std.specs.Prelude.{◌≡◌, ◌≢◌, ℕ, ◌+◌, ◌*◌, ◌<◌, ◌⊎◌, true, false, Option, None, Some, List, [], ◌∷◌, ◌++◌, get_or, length, ◌↔◌, Bool, map}
+use Rattle.std.specs.Prelude.{◌≡◌, ◌≢◌, ℕ, ◌+◌, ◌*◌, ◌<◌, ◌⊎◌, true, false, Option, None, Some, List, [], ◌∷◌, ◌++◌, get_or, length, ◌↔◌}
+use Rattle.std.specs.Prelude.{Bool, map}
 use Rattle.std.specs.List.{range_with_len}
-use Rattle.elf_field.specs.Abi.{ET_REL, E_ENTRY_AT, E_PHNUM_AT, E_TYPE_AT, SHF_INFO_LINK, SHT_DYNAMIC, SHT_DYNSYM, SHT_GROUP, SHT_HASH, SHT_SHLIB, SHT_SYMTAB, SHT_SYMTAB_SHNDX, SH_INFO_AT, SH_LINK_AT, SH_TYPE_AT, ST_SHNDX_AT, SYM_SIZE, WORD_SIZE}
+use Rattle.elf_field.specs.Abi.{ET_REL, E_ENTRY_AT, E_PHNUM_AT, E_TYPE_AT, SHF_INFO_LINK, SHT_DYNAMIC, SHT_DYNSYM, SHT_GROUP, SHT_HASH}
+use Rattle.elf_field.specs.Abi.{SHT_SHLIB, SHT_SYMTAB, SHT_SYMTAB_SHNDX, SH_INFO_AT, SH_LINK_AT, SH_TYPE_AT, ST_SHNDX_AT, SYM_SIZE}
+use Rattle.elf_field.specs.Abi.{WORD_SIZE}
 use Rattle.elf_field.specs.declared.ehdr.Ehdr.{Ehdr}
 use Rattle.elf_image_rules.specs.Rows.{AtEntry, Either, OfSome, Row, Ruled, When, rule}
-use Rattle.elf_image_type.specs.ImageView.{string}
+use Rattle.elf_field.specs.Strings.{string}
 use Rattle.elf_object_layout.specs.SectionsLeftOut.{is_kept, left_out, symbol_table}
 use Rattle.elf_object_reader.specs.Denotes.{body_kind, kept, position_of}
 use Rattle.elf_object_reader.specs.declared.file_rules.ReferenceRule.TheVariants.{WrongRelocationTarget, WrongKeptLink, WrongKeptInfo}

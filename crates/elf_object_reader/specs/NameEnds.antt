@@ -4,7 +4,7 @@ use Rattle.std.specs.List.{list_any, range_with_len}
 use Rattle.elf_field.specs.Abi.{SYM_SIZE}
 use Rattle.elf_field.specs.Entries.{sym_at}
 use Rattle.elf_image_rules.specs.Rules.{MAX_LEN}
-use Rattle.elf_image_type.specs.ImageView.{string}
+use Rattle.elf_field.specs.Strings.{string}
 use Rattle.elf_object_layout.specs.SectionsLeftOut.{symbol_table}
 use Rattle.elf_object_layout.specs.declared.left_out.LeftOut.{LeftOut}
 use Rattle.elf_object_reader.specs.Denotes.{kept, section_name_of}

@@ -1,7 +1,13 @@
 //! The rules of a file that is read as an object: 70 to 74, then those of its tables with 75 to 79, in their order.
+//!
+//! Rule 77 marks the members of earlier groups in one pass, which is linear in all groups.
 ghost use Rattle.std.specs.Prelude.{◌≡◌, ◌↔◌, IsTrue, ◌<◌, ◌+◌, IfOk, ◌≤◌, ◌*◌, [], length};
 ghost use Rattle.elf_extent.specs.Extent.{IsLowest, lower_of};
-ghost use Rattle.elf_object_reader.specs.FileRules.{IsForeignType, foreign_section, front_rules, second_symbol_table, stray_index_table, BreaksReference, HasWrongKeptInfo, HasWrongKeptLink, HasWrongRelocationTarget, IsPlain, SomeReference, reference_field, sections_of_file, IsMemberBefore, IsWrongGroupMember, wrong_group_member, wrong_group_member_of, AreMarks, IsSymbolOutside, reference_rules, rules_behind, rules_of_bodies, rules_of_body, symbol_outside, symbol_rules_in};
+ghost use Rattle.elf_object_reader.specs.FileRules.{IsForeignType, foreign_section, front_rules, second_symbol_table, stray_index_table};
+ghost use Rattle.elf_object_reader.specs.FileRules.{BreaksReference, HasWrongKeptInfo, HasWrongKeptLink, HasWrongRelocationTarget, IsPlain};
+ghost use Rattle.elf_object_reader.specs.FileRules.{SomeReference, reference_field, sections_of_file, IsMemberBefore, IsWrongGroupMember};
+ghost use Rattle.elf_object_reader.specs.FileRules.{wrong_group_member, wrong_group_member_of, AreMarks, IsSymbolOutside, reference_rules};
+ghost use Rattle.elf_object_reader.specs.FileRules.{rules_behind, rules_of_bodies, rules_of_body, symbol_outside, symbol_rules_in};
 ghost use Rattle.elf_object_layout.specs.SectionsLeftOut.{symbol_table as symbol_table_of};
 ghost use Rattle.elf_object_reader.specs.Denotes.{body_kind, kept};
 ghost use Rattle.elf_image_rules.specs.Rows.{fault_of, FirstIn};

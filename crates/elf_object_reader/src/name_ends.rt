@@ -1,4 +1,14 @@
 //! Where the names of an object's symbols and sections end in the string tables of its file (gABI chapter 4, String Table).
+//!
+//! Of two names with one end the longer one ends with the shorter one, so neither is read. The longest names of each end, the leaders,
+//! share no bytes. They are sorted, and a name is known by the first and the last leader that end with it (`LeaderRange` of
+//! `elf_object_strings`). Two names are compared by these numbers and their lengths, also where their ends differ. If the ends of long
+//! names ascend, no two are one, and no leader is sought.
+//!
+//! A slice does not say where it is, and the toolchain compares no pointers into different blocks of memory: so the ends go with the object
+//! (`NameEnds` of `elf_object_type`). Names of objects that are made by an application have no known ends, and are compared. Names of up to
+//! 64 bytes are compared too. If no name is longer, no ends are listed. One pass over the string table finds where the names end that go on
+//! from one block of 4,096 bytes into the next (`StringBlocks`).
 ghost use Rattle.std.specs.Prelude.{◌≡◌, ◌<◌, IfOk, Some, length, map};
 ghost use Rattle.std.specs.List.{list_any};
 ghost use Rattle.elf_object_layout.specs.SectionsLeftOut.{left_out, symbol_table};
@@ -20,8 +30,8 @@ use std::alloc::{AllocError, Global};
 
 // Symbols.
 
-/// For each symbol that was read of an image, in their order, where its name ends in the string table. If no name is long, the list is empty:
-/// only the ends of long names save time.
+/// For each symbol that was read of an image, in their order, where its name ends in the string table. If no name is long, the list is
+/// empty: only the ends of long names save time.
 pub(crate) fn useful_symbol_ends(
     alloc: Global,
     image: &Image<'_>,
@@ -82,8 +92,8 @@ fn table_ends(
 
 // Sections.
 
-/// For each section that was read of a file, in their order, where its name ends in the section name string table. If no name is long, the list
-/// is empty.
+/// For each section that was read of a file, in their order, where its name ends in the section name string table. If no name is long, the
+/// list is empty.
 pub(crate) fn useful_section_ends(
     alloc: Global,
     reader: &ObjectReader<'_, '_>,

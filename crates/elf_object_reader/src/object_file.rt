@@ -1,4 +1,6 @@
 //! An image that is read as an object, with what is looked up once for all its sections.
+//!
+//! Its tables are validated once, after rules 70 to 74. So reading takes n log n, also if many relocation sections share a symbol table.
 ghost use Rattle.std.specs.Prelude.{◌≡◌, ◌<◌, length};
 ghost use Rattle.std.specs.Bool.{OnTrue};
 ghost use Rattle.elf_object_layout.specs.SectionsLeftOut.{is_kept as is_kept_of, left_out};

@@ -1,7 +1,8 @@
 //! The sections of a file as those of an object (gABI chapter 4, Sections, Relocation, Section Groups).
 ghost use Rattle.std.specs.Prelude.{◌≡◌, ◌<◌, IfOk, length, map, true};
 ghost use Rattle.elf_object_layout.specs.SectionsLeftOut.{is_kept};
-ghost use Rattle.elf_object_reader.specs.Denotes.{body_denoted, info_denoted, link_denoted, plain_info as plain_info_of, relocation_denoted, section_denoted, section_name_of, body_kind, kept, position_of};
+ghost use Rattle.elf_object_reader.specs.Denotes.{body_denoted, info_denoted, link_denoted, plain_info as plain_info_of};
+ghost use Rattle.elf_object_reader.specs.Denotes.{relocation_denoted, section_denoted, section_name_of, body_kind, kept, position_of};
 ghost use Rattle.elf_object_reader.specs.FileRules.{sections_of_file};
 ghost use Rattle.elf_object_type.specs.ObjectView.{body_value, section_value};
 ghost use Rattle.elf_table_lists.specs.Groups.{group_of};

@@ -1,4 +1,7 @@
 //! A relocatable file read as an object (gABI chapter 4).
+//!
+//! An object that is read is not tested again by rules 1 to 9 of objects: a proof derives these rules from those of images and tables, and
+//! from 70 to 79.
 ghost use Rattle.std.specs.Prelude.{◌≡◌, None, ◌<◌, true, length, ◌+◌, IfOk, IfErr};
 ghost use Rattle.elf_image_rules.specs.KeepsRules.{unbroken_prop};
 ghost use Rattle.elf_image_rules.specs.Rows.{FirstIn};
@@ -119,7 +122,8 @@ pub fn object_of<'a>(alloc: Global, image: &Image<'a>) -> Result<Object<'a>, Fau
 /// The parts of the object that the image denotes, and where their names end.
 fn parts_of<'a>(alloc: Global, image: &Image<'a>) -> Result<(ObjectParts<'a>, NameEnds), Fault>
     ensures { let f = sections_of image.now in
-        IsValidatedBehind (front_rules f) (file_rules f) (λ (parts, ends). Denotes f (value_of parts) × HasNameEnds (value_of parts) ends) result }
+        IsValidatedBehind (front_rules f) (file_rules f)
+        (λ (parts, ends). Denotes f (value_of parts) × HasNameEnds (value_of parts) ends) result }
 {
     let left = LeftOut::of(image);
     validate_front(image, left.symbol_table)?;

@@ -1,7 +1,7 @@
 //! Strings of one table, of which many may share their bytes (gABI chapter 4, String Table).
 ghost use Rattle.std.specs.List.{range_with_len};
 ghost use Rattle.std.specs.Prelude.{◌≡◌, ◌≤◌, ℕ, ◌+◌, ◌/◌, IfOk, length, map, slice_range};
-ghost use Rattle.elf_image_type.specs.ImageView.{string};
+ghost use Rattle.elf_field.specs.Strings.{string};
 ghost use Rattle.elf_object_reader.specs.FileRules.{BLOCK, block_end};
 
 use elf_image_type::strings::string_at;
@@ -30,8 +30,8 @@ impl<'a> StringBlocks<'a> {
         Ok(StringBlocks { table, ends })
     }
 
-    /// The string at an offset, which is read to the end of its block at most. No contract can say so: what is answered is the same if it is
-    /// read whole.
+    /// The string at an offset, which is read to the end of its block at most. No contract can say so: what is answered is the same if it
+    /// is read whole.
     pub(crate) fn string(&self, offset: u32) -> &'a [u8]
         ensures { result.now ≡ string self.now.table.now offset }
     {

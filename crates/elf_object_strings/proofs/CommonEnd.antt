@@ -1,6 +1,7 @@
 -- The longest name that two names end with, found byte by byte from their ends: bytes that both end with are one more where the bytes
 -- before them are equal (`end_more`), and all of them where these differ (`end_there`). An end of both is left out first (`end_before`).
-use Rattle.std.proofs.Common.{◌≡◌, ◌≢◌, ◌<◌, ◌≤◌, ◌+◌, ◌-◌, ℕ, List, [], ◌∷◌, ◌++◌, get_or, length, drop, take, min, refl, sym, ap, ap₂, subst, ◌∙◌, inl, inr, arith, append_assoc, length-append, drop_of_length-le}
+use Rattle.std.proofs.Common.{◌≡◌, ◌≢◌, ◌<◌, ◌≤◌, ◌+◌, ◌-◌, ℕ, List, [], ◌∷◌, ◌++◌, get_or, length, drop, take, min, refl, sym, ap, ap₂}
+use Rattle.std.proofs.Common.{subst, ◌∙◌, inl, inr, arith, append_assoc, length-append, drop_of_length-le}
 use Rattle.std.proofs.lemmas.Bool.{cases_lt}
 use Rattle.std.proofs.lemmas.List.{append_cancel_right, drop_more, get_or-append_right, length-drop, take-append-drop}
 use Rattle.elf_object_strings.proofs.Ends.{suffix_fits, suffix_trans}
@@ -35,7 +36,8 @@ end_more a b n ends fits others same = record {
   one c lt =
       let at : length c - (n + 1) ≡ length c - 1 - n = omega arith in
       let next : length c - 1 - n + 1 ≡ length c - n = omega arith in
-      ap (λ (k : ℕ). drop k c) at ∙ drop_more c (length c - 1 - n) 0 (omega arith) ∙ ap (λ (k : ℕ). get_or c (length c - 1 - n) 0 ∷ drop k c) next
+      ap (λ (k : ℕ). drop k c) at ∙ drop_more c (length c - 1 - n) 0 (omega arith) ∙
+      ap (λ (k : ℕ). get_or c (length c - 1 - n) 0 ∷ drop k c) next
 
 end_suffix : (c : List ℕ) (n : ℕ) → IsSuffix (drop (length c - n) c) c
 end_suffix c n = (take (length c - n) c, sym (take-append-drop (length c - n) c))
@@ -62,7 +64,8 @@ end_there a b n ends fits others differ = common a b n ends most where
   byte c tail (front, is) lt =
       let long : length c ≡ length front + length tail = ap length is ∙ length-append front tail in
       let at : length c - 1 - n - length front ≡ length tail - 1 - n = omega arith in
-      ap (λ (s : List ℕ). get_or s (length c - 1 - n) 0) is ∙ get_or-append_right front tail (length front) (length c - 1 - n) 0 refl (omega arith)
+      ap (λ (s : List ℕ). get_or s (length c - 1 - n) 0) is ∙
+      get_or-append_right front tail (length front) (length c - 1 - n) 0 refl (omega arith)
       ∙ ap (λ (k : ℕ). get_or tail k 0) at
 
   most : (tail : List ℕ) → IsSuffix tail a → IsSuffix tail b → length tail ≤ n
@@ -94,7 +97,8 @@ end_before a b left right n without both =
       most = λ tail own other. elim (cases_lt (length ending) (length tail)) [
         | inl more ↦ (let (front, is) = suffix_of_both ending tail a (left, without.name_is) own (omega arith) in
             let front_long : length tail ≡ length front + length ending = ap length is ∙ length-append front ending in
-            let within = both.most front (cut a left without.name_is tail front is own) (cut b right without.other_is tail front is other) in
+            let within =
+            both.most front (cut a left without.name_is tail front is own) (cut b right without.other_is tail front is other) in
             omega arith)
         | inr fewer ↦ omega arith
       ];

@@ -1,6 +1,7 @@
 -- Where the first of a list of names that ends with a given name has its zero. A name that does not end with it takes its length and a
 -- zero; the first that does has its zero at the end of the given name.
-use Rattle.std.proofs.Common.{◌≡◌, ◌≤◌, ◌+◌, ◌-◌, ℕ, true, false, List, [], ◌∷◌, ◌++◌, length, take, refl, sym, ap, ◌∙◌, append_assoc, arith, length-append, ◌<◌, suc, Bool, drop, get_or, reverse, inl, inr}
+use Rattle.std.proofs.Common.{◌≡◌, ◌≤◌, ◌+◌, ◌-◌, ℕ, true, false, List, [], ◌∷◌, ◌++◌, length, take, refl, sym, ap, ◌∙◌, append_assoc}
+use Rattle.std.proofs.Common.{arith, length-append, ◌<◌, suc, Bool, drop, get_or, reverse, inl, inr}
 use Rattle.std.proofs.lemmas.Bool.{true≢false, or_parts, cases_lt, cases_order}
 use Rattle.std.proofs.lemmas.Bool.Decides.{Decides-eqb, leb_tells}
 use Rattle.std.proofs.lemmas.Slice.Eq.{ends_is}
@@ -13,7 +14,7 @@ use Rattle.std.specs.Cmp.Lexicographic.{slice_cmp}
 use Rattle.std.specs.Ordering.{nat_cmp}
 use Rattle.std.proofs.Math.Dec.{leb}
 use Rattle.std.specs.Prelude.{◌==◌}
-use Rattle.elf_image_type.specs.ImageView.{string}
+use Rattle.elf_field.specs.Strings.{string}
 use Rattle.elf_object_strings.specs.StringTable.{IsSuffix, is_named, is_suffix, closed, end_from, IsTailOf, AreEndsIn, AreTails}
 
 -- Facts on names that end with others: the test is the definition, the relation is reflexive and transitive, and a suffix is no longer
@@ -139,14 +140,16 @@ begin_first [] [] = refl
 begin_first [] (y ∷ ys) = nat_cmp_is 0 (length {A = ℕ} [] + length (y ∷ ys)) Less (omega arith)
 begin_first (x ∷ xs) ys =
     let sum : suc (length xs + length ys) ≡ suc (length xs) + length ys = omega arith in
-    rw (same_number x) (begin_first xs ys ∙ sym (next_number (length xs) (length xs + length ys)) ∙ ap (λ (n : ℕ). nat_cmp (suc (length xs)) n) sum)
+    rw (same_number x)
+    (begin_first xs ys ∙ sym (next_number (length xs) (length xs + length ys)) ∙ ap (λ (n : ℕ). nat_cmp (suc (length xs)) n) sum)
 
 begin_last : (xs ys : List ℕ) → slice_cmp nat_cmp (xs ++ ys) xs ≡ nat_cmp (length xs + length ys) (length xs)
 begin_last [] [] = refl
 begin_last [] (y ∷ ys) = nat_cmp_is (length {A = ℕ} [] + length (y ∷ ys)) 0 Greater (omega arith)
 begin_last (x ∷ xs) ys =
     let sum : suc (length xs + length ys) ≡ suc (length xs) + length ys = omega arith in
-    rw (same_number x) (begin_last xs ys ∙ sym (next_number (length xs + length ys) (length xs)) ∙ ap (λ (n : ℕ). nat_cmp n (suc (length xs))) sum)
+    rw (same_number x)
+    (begin_last xs ys ∙ sym (next_number (length xs + length ys) (length xs)) ∙ ap (λ (n : ℕ). nat_cmp n (suc (length xs))) sum)
 
 pub shorter : (name other : List ℕ) → IsSuffix name other →
     slice_cmp nat_cmp (reverse name) (reverse other) ≡ nat_cmp (length name) (length other)

@@ -1,19 +1,22 @@
 -- The order by ends: names are compared from their last byte on, the greatest first. A name that begins a greater one begins those between,
 -- so the names that end with one name are all together, up to it. After it only its equals end with it, in the order of their indexes.
-use Rattle.std.proofs.Common.{◌≡◌, ◌<◌, ◌≤◌, ℕ, false, List, [], ◌∷◌, ◌++◌, get_or, length, reverse, refl, sym, ap, ◌∙◌, arith, Ordering, true, ◌+◌, set, below_more, get_or-set_other, get_or-set_same, ◌⊎◌, ◌-◌, min, subst, inl, inr}
+use Rattle.std.proofs.Common.{◌≡◌, ◌<◌, ◌≤◌, ℕ, false, List, [], ◌∷◌, ◌++◌, get_or, length, reverse, refl, sym, ap, ◌∙◌, arith, Ordering}
+use Rattle.std.proofs.Common.{true, ◌+◌, set, below_more, get_or-set_other, get_or-set_same, ◌⊎◌, ◌-◌, min, subst, inl, inr}
 use Rattle.std.specs.declared.cmp.Ordering.TheVariants.{Less, Equal, Greater}
 use Rattle.std.specs.Cmp.Lexicographic.{slice_cmp}
 use Rattle.std.specs.Ordering.{is_lt, nat_cmp, ordering_then, MatchOrdering}
 use Rattle.std.proofs.lemmas.Bool.{true≢false, cases_eq, cases_lt}
 use Rattle.std.proofs.lemmas.Cmp.{nat_list_cmp_total, ranked, tied_itself}
-use Rattle.std.proofs.lemmas.List.{reverse-append, reverse-reverse, get_or-map, length-map, get_or_append_left, get_or_push, length_push, length-set}
+use Rattle.std.proofs.lemmas.List.{reverse-append, reverse-reverse, get_or-map, length-map, get_or_append_left, get_or_push, length_push}
+use Rattle.std.proofs.lemmas.List.{length-set}
 use Rattle.std.proofs.lemmas.Map.Keys.{ge_from_not_lt}
 use Rattle.std.specs.Prelude.{◌==◌, if◌then◌else◌}
 use Rattle.std.proofs.lemmas.Bool.Decides.{nat_tests}
 use Rattle.elf_object_strings.proofs.Ends.{suffix_from, suffix_none, suffix_same, suffix_trans}
 use Rattle.std.specs.List.{range_with_len}
 use Rattle.std.proofs.lemmas.List.FromFn.{get_or-range_with_len, length-range_with_len}
-use Rattle.elf_object_strings.specs.Sorting.{AreInEndsOrder, indexes_in, names_by_ends, AreRuns, HaveOwners, IsLeastOwner, IsRun, AreNumbered}
+use Rattle.elf_object_strings.specs.Sorting.{AreInEndsOrder, indexes_in, names_by_ends, AreRuns, HaveOwners, IsLeastOwner, IsRun}
+use Rattle.elf_object_strings.specs.Sorting.{AreNumbered}
 use Rattle.elf_object_strings.specs.StringTable.{IsSuffix, is_suffix, AreOwners, IsFirstOfHeld, IsOwner}
 use Rattle.elf_object_strings.specs.declared.sorting.Numbered.{Numbered}
 
@@ -346,7 +349,8 @@ owners_more names sorted indexes owners position owner numbered within owned new
   rest = λ q more lt.
       (let many : length indexes ≡ length names = numbered.all in
       let as_many : length sorted ≡ length names = numbered.as_many in
-      let other : get_or indexes q 0 ≡ get_or indexes position 0 → ⊥ = λ same. numbered.once position q 0 (omega arith) (omega arith) (sym same) in
+      let other : get_or indexes q 0 ≡ get_or indexes position 0 → ⊥ =
+      λ same. numbered.once position q 0 (omega arith) (omega arith) (sym same) in
       get_or-set_other owners (get_or indexes position 0) (get_or indexes q 0) owner 0 other ∙ owned.rest q (omega arith) lt);
 } where
   written : (i : ℕ) → i ≡ get_or indexes position 0 → get_or (set owners (get_or indexes position 0) owner) i 0 ≡ owner

@@ -1,6 +1,8 @@
--- Which names of a list are equal. Sorted by their ends equal names are one right after the other (`equal_between`): each has the index of the
+-- Which names of a list are equal. Sorted by their ends equal names are one right after the other (`equal_between`): each has the index of
+-- the
 -- one before it, if that is equal, and else its own.
-use Rattle.std.proofs.Common.{◌≡◌, ◌<◌, ◌≤◌, ◌+◌, ◌∙◌, ℕ, List, [], arith, ap, get_or, inl, inr, length, sym, subst, set, get_or-set_other, get_or-set_same}
+use Rattle.std.proofs.Common.{◌≡◌, ◌<◌, ◌≤◌, ◌+◌, ◌∙◌, ℕ, List, [], arith, ap, get_or, inl, inr, length, sym, subst, set, get_or-set_other}
+use Rattle.std.proofs.Common.{get_or-set_same}
 use Rattle.std.proofs.lemmas.Bool.{cases_lt}
 use Rattle.std.proofs.lemmas.List.{length-set}
 use Rattle.std.proofs.lemmas.List.FromFn.{get_or-range_with_len, length-range_with_len}
@@ -10,7 +12,8 @@ use Rattle.elf_object_strings.specs.Sorting.{AreInEndsOrder, AreNumbered}
 use Rattle.elf_object_strings.specs.StringTable.{AreEqualTo, IsSuffix}
 
 -- of three names the one between two equal ones equals them
-equal_between : (sorted : List (List ℕ)) (indexes : List ℕ) → AreInEndsOrder sorted indexes → (p q r : ℕ) → p ≤ q → q ≤ r → r < length sorted →
+equal_between : (sorted : List (List ℕ)) (indexes : List ℕ) → AreInEndsOrder sorted indexes → (p q r : ℕ) → p ≤ q → q ≤ r →
+    r < length sorted →
     get_or sorted p [] ≡ get_or sorted r [] → get_or sorted q [] ≡ get_or sorted r []
 equal_between sorted indexes ordered p q r low high lt same =
     let ends : Ends sorted r q = ends_between sorted indexes ordered p q r low high lt ([], same) in
@@ -85,12 +88,15 @@ firsts_other names sorted indexes firsts before numbered ordered lt differs have
 pub firsts_same : (names sorted : List (List ℕ)) (indexes firsts : List ℕ) (before : ℕ) → AreNumbered names sorted indexes →
     AreInEndsOrder sorted indexes → before + 1 < length sorted → get_or sorted before [] ≡ get_or sorted (before + 1) [] →
     HaveFirsts names sorted indexes firsts (before + 1) →
-    HaveFirsts names sorted indexes (set firsts (get_or indexes (before + 1) 0) (get_or firsts (get_or indexes before 0) 0)) (before + 1 + 1)
+    HaveFirsts names sorted indexes (set firsts (get_or indexes (before + 1) 0) (get_or firsts (get_or indexes before 0) 0))
+    (before + 1 + 1)
 firsts_same names sorted indexes firsts before numbered ordered lt equal have = record {
   all = length-set firsts index first ∙ have.all;
   each = λ q passed q_lt. elim (cases_lt q (before + 1)) [
-    | inl old ↦ (let (below, named) = have.each q old q_lt in
-        (subst (λ k. k < length names) (sym (kept q (omega arith) q_lt)) below, ap (λ k. get_or names k []) (kept q (omega arith) q_lt) ∙ named))
+    | inl old ↦ (let (below, named) = have.each q old q_lt in (
+      subst (λ k. k < length names) (sym (kept q (omega arith) q_lt)) below,
+      ap (λ k. get_or names k []) (kept q (omega arith) q_lt) ∙ named,
+    ))
     | inr new ↦ (let (below, named) = have.each before (omega arith) (omega arith) in
         let is : q ≡ before + 1 = omega arith in (
           subst (λ k. k < length names) (sym (written q is)) below,
@@ -123,7 +129,8 @@ firsts_same names sorted indexes firsts before numbered ordered lt equal have = 
   first : ℕ
   first = get_or firsts (get_or indexes before 0) 0
 
-  kept : (q : ℕ) → (q ≡ before + 1 → ⊥) → q < length sorted → get_or (set firsts index first) (get_or indexes q 0) 0 ≡ get_or firsts (get_or indexes q 0) 0
+  kept : (q : ℕ) → (q ≡ before + 1 → ⊥) → q < length sorted →
+      get_or (set firsts index first) (get_or indexes q 0) 0 ≡ get_or firsts (get_or indexes q 0) 0
   kept q other q_lt = get_or-set_other firsts index (get_or indexes q 0) first 0 (λ same. elim (cases_lt q (before + 1)) [
     | inl less ↦ apart names sorted indexes numbered q (before + 1) less lt same
     | inr more ↦ apart names sorted indexes numbered (before + 1) q (omega arith) q_lt (sym same)

@@ -2,7 +2,8 @@
 -- the last of them decides the place of a name (`range_order`): the sorted names before it are greater than the name, read from their last
 -- bytes on, and those after it end with no name that is. And one name ends with another exactly if its last one is one of the other's
 -- (`range_tail`, `range_within`).
-use Rattle.std.proofs.Common.{◌≡◌, ◌<◌, ◌≤◌, ◌+◌, ◌-◌, ◌⊎◌, ℕ, false, List, [], ◌∷◌, ◌++◌, get_or, length, reverse, set, refl, sym, ap, subst, ◌∙◌, inl, inr, arith, Ordering, length-append, length-set, get_or-set_other, get_or-set_same}
+use Rattle.std.proofs.Common.{◌≡◌, ◌<◌, ◌≤◌, ◌+◌, ◌-◌, ◌⊎◌, ℕ, false, List, [], ◌∷◌, ◌++◌, get_or, length, reverse, set, refl, sym, ap}
+use Rattle.std.proofs.Common.{subst, ◌∙◌, inl, inr, arith, Ordering, length-append, length-set, get_or-set_other, get_or-set_same}
 use Rattle.std.specs.declared.cmp.Ordering.TheVariants.{Less, Equal, Greater}
 use Rattle.std.specs.Cmp.{nat_cmp_is}
 use Rattle.std.specs.Cmp.Lexicographic.{slice_cmp}
@@ -11,8 +12,10 @@ use Rattle.std.proofs.lemmas.Bool.{true≢false, cases_eq, cases_lt, cases_order
 use Rattle.std.proofs.lemmas.List.{get_or_append_left, get_or_past, get_or_push, get_or-reverse, length-reverse}
 use Rattle.std.proofs.lemmas.Cmp.{nat_list_cmp_total, ranked}
 use Rattle.elf_object_strings.proofs.Ends.{longer, shorter, suffix_fits, suffix_trans}
-use Rattle.elf_object_strings.proofs.EndsOrder.{Begins, IsNotLess, at_ends, length-names_by_ends, name_at, no_name, begins_reversed, between, step, suffix_reversed}
-use Rattle.elf_object_strings.specs.Leaders.{AreBetween, AreLasts, AreLed, IsBetween, IsLastWith, IsTailByLeaders, StandTogether, no_range, range_of}
+use Rattle.elf_object_strings.proofs.EndsOrder.{Begins, IsNotLess, at_ends, length-names_by_ends, name_at, no_name, begins_reversed}
+use Rattle.elf_object_strings.proofs.EndsOrder.{between, step, suffix_reversed}
+use Rattle.elf_object_strings.specs.Leaders.{AreBetween, AreLasts, AreLed, IsBetween, IsLastWith, IsTailByLeaders, StandTogether, no_range}
+use Rattle.elf_object_strings.specs.Leaders.{range_of}
 use Rattle.elf_object_strings.specs.declared.sorting.Numbered.{Numbered}
 use Rattle.elf_object_strings.specs.declared.name_list.LeaderRange.{LeaderRange}
 use Rattle.elf_object_strings.specs.Sorting.{AreInEndsOrder, names_by_ends}
@@ -132,7 +135,8 @@ range_found sorted turned by name first last first_some last_some turned_last so
       last = subst (λ (k : ℕ). IsLastWith sorted name (k - 1)) (sym last_is) sorted_last;
       some = omega arith;
       from = omega arith;
-      first = subst (λ (k : ℕ). IsSuffix name (get_or sorted k [])) at (subst (IsSuffix name) (by.each (first - 1) (omega arith)) turned_last.ends);
+      first = subst (λ (k : ℕ). IsSuffix name (get_or sorted k [])) at
+          (subst (IsSuffix name) (by.each (first - 1) (omega arith)) turned_last.ends);
       none = λ r below ends.
           (let turned_at : n - 1 - (n - 1 - r) ≡ r = omega arith in
           turned_last.none (n - 1 - r) (omega arith) (omega arith)
@@ -154,7 +158,8 @@ range_order sorted indexes ordered a b own other first second =
       | inr unlike ↦ elim unlike [
         | inl below ↦ rw (sym (nat_cmp_is other.last own.last Greater below))
             (nat_list_cmp_total.antisymm (reverse a) (reverse b)
-            ∙ ap ordering_reverse (less_name sorted indexes ordered b a (other.last - 1) (own.last - 1) (omega arith) second.last first.last))
+            ∙ ap ordering_reverse
+            (less_name sorted indexes ordered b a (other.last - 1) (own.last - 1) (omega arith) second.last first.last))
         | inr above ↦ rw (sym (nat_cmp_is other.last own.last Less above))
             (less_name sorted indexes ordered a b (own.last - 1) (other.last - 1) (omega arith) first.last second.last)
       ]
@@ -174,11 +179,13 @@ range_tail sorted stand a b own other first second within =
     let own_within = first.last.within in
     let low = within.first in
     let high = within.last in
-    let there = stand a (own.first - 1) (other.last - 1) (own.last - 1) (omega arith) (omega arith) own_within first.first first.last.ends in
+    let there = stand a (own.first - 1) (other.last - 1) (own.last - 1) (omega arith)
+    (omega arith) own_within first.first first.last.ends in
     suffix_of_both a b (get_or sorted (other.last - 1) []) there second.last.ends within.fits
 
 -- and nowhere else
-range_within : (sorted : List (List ℕ)) (a b : List ℕ) (own other : LeaderRange) → IsRangeOf sorted a own → IsRangeOf sorted b other → IsSuffix a b →
+range_within : (sorted : List (List ℕ)) (a b : List ℕ) (own other : LeaderRange) → IsRangeOf sorted a own → IsRangeOf sorted b other →
+    IsSuffix a b →
     IsTailByLeaders a own b other
 range_within sorted a b own other first second ends =
     let there = suffix_trans a b (get_or sorted (other.last - 1) []) ends second.last.ends in
@@ -196,11 +203,13 @@ range_within sorted a b own other first second ends =
       fits = suffix_fits a b ends;
     }
 
-pub led_by : (sorted : List (List ℕ)) (indexes : List ℕ) → AreInEndsOrder sorted indexes → (names : List (List ℕ)) (ranges : List LeaderRange) →
+pub led_by : (sorted : List (List ℕ)) (indexes : List ℕ) → AreInEndsOrder sorted indexes →
+    (names : List (List ℕ)) (ranges : List LeaderRange) →
     ((i : ℕ) → 0 < (range_of ranges i).last → IsRangeOf sorted (get_or names i []) (range_of ranges i)) → AreLed names ranges
 led_by sorted indexes ordered names ranges each = record {
   order = λ i j some other_some. range_order sorted indexes ordered _ _ _ _ (each i some) (each j other_some);
-  tails = λ i j some other_some within. range_tail sorted (together sorted indexes ordered) _ _ _ _ (each i some) (each j other_some) within;
+  tails = λ i j some other_some within. range_tail sorted (together sorted indexes ordered) _ _ _ _ (each i some)
+      (each j other_some) within;
   only = λ i j some other_some ends. range_within sorted _ _ _ _ (each i some) (each j other_some) ends;
 }
 
@@ -232,7 +241,8 @@ lasts_set leaders names lasts index last are new i some = elim (cases_eq i index
 ]
 
 -- a number of a last leader is at most the number of leaders
-pub lasts_fit : (leaders names : List (List ℕ)) (lasts : List ℕ) → AreLasts leaders names lasts → (i : ℕ) → get_or lasts i 0 ≤ length leaders
+pub lasts_fit : (leaders names : List (List ℕ)) (lasts : List ℕ) → AreLasts leaders names lasts → (i : ℕ) →
+    get_or lasts i 0 ≤ length leaders
 lasts_fit leaders names lasts are i = elim (cases_lt 0 (get_or lasts i 0)) [
   | inl some ↦ (let within = (are i some).within in omega arith)
   | inr none ↦ omega arith
@@ -240,7 +250,8 @@ lasts_fit leaders names lasts are i = elim (cases_lt 0 (get_or lasts i 0)) [
 
 -- ---- the ranges of names, one after the other
 
-pub turned_names : (names : List (List ℕ)) (sorted : List Numbered) → AreTurned (names_by_ends names sorted) (names_by_ends names (reverse sorted))
+pub turned_names : (names : List (List ℕ)) (sorted : List Numbered) →
+    AreTurned (names_by_ends names sorted) (names_by_ends names (reverse sorted))
 turned_names names sorted =
     let many : length (names_by_ends names sorted) ≡ length sorted = length-names_by_ends names sorted in
     let turned : length (names_by_ends names (reverse sorted)) ≡ length (reverse sorted) = length-names_by_ends names (reverse sorted) in
@@ -255,11 +266,13 @@ turned_names names sorted =
           ∙ ap (λ (k : ℕ). get_or (names_by_ends names sorted) k []) at);
     }
 
-pub ranges_more : (firsts lasts : List ℕ) (count : ℕ) (ranges : List LeaderRange) (range : LeaderRange) → AreBetween firsts lasts count ranges →
+pub ranges_more : (firsts lasts : List ℕ) (count : ℕ) (ranges : List LeaderRange) (range : LeaderRange) →
+    AreBetween firsts lasts count ranges →
     (0 < range.last → IsBetween (get_or firsts (length ranges) 0) (get_or lasts (length ranges) 0) count range) →
     AreBetween firsts lasts count (ranges ++ (range ∷ []))
 ranges_more firsts lasts count ranges range are new q some = elim (cases_lt q (length ranges)) [
-  | inl below ↦ (let is : range_of (ranges ++ (range ∷ [])) q ≡ range_of ranges q = get_or_append_left ranges (range ∷ []) no_range q below in
+  | inl below ↦
+      (let is : range_of (ranges ++ (range ∷ [])) q ≡ range_of ranges q = get_or_append_left ranges (range ∷ []) no_range q below in
       subst (IsBetween (get_or firsts q 0) (get_or lasts q 0) count) (sym is) (are q (subst (λ (r : LeaderRange). 0 < r.last) is some)))
   | inr beyond ↦ elim (cases_lt (length ranges) q) [
     | inl past ↦ (let long : length (ranges ++ (range ∷ [])) ≡ length ranges + 1 = length-append ranges (range ∷ []) in
@@ -269,7 +282,8 @@ ranges_more firsts lasts count ranges range are new q some = elim (cases_lt q (l
     | inr here ↦ (let same : q ≡ length ranges = omega arith in
         let is : range_of (ranges ++ (range ∷ [])) q ≡ range = get_or_push ranges range no_range q (sym same) in
         subst (IsBetween (get_or firsts q 0) (get_or lasts q 0) count) (sym is)
-        (subst (λ (k : ℕ). IsBetween (get_or firsts k 0) (get_or lasts k 0) count range) (sym same) (new (subst (λ (r : LeaderRange). 0 < r.last) is some))))
+        (subst (λ (k : ℕ). IsBetween (get_or firsts k 0) (get_or lasts k 0) count range) (sym same)
+        (new (subst (λ (r : LeaderRange). 0 < r.last) is some))))
   ]
 ]
 
@@ -283,6 +297,7 @@ ranges_found names sorted firsts lasts ranges first last between q some =
     let last_is = it.last_is in
     let last_some : 0 < get_or lasts q 0 = omega arith in
     let many : length sorted ≡ length (names_by_ends names sorted) = sym (length-names_by_ends names sorted) in
-    range_found (names_by_ends names sorted) (names_by_ends names (reverse sorted)) (turned_names names sorted) (get_or names q []) (get_or firsts q 0)
+    range_found (names_by_ends names sorted) (names_by_ends names (reverse sorted)) (turned_names names sorted) (get_or names q [])
+    (get_or firsts q 0)
     (get_or lasts q 0) it.some last_some (first q it.some) (last q last_some) (range_of ranges q) last_is
     (subst (λ (n : ℕ). (range_of ranges q).first ≡ n - get_or firsts q 0 + 1) many it.first_is)

@@ -1,20 +1,25 @@
 -- A string table holds its names (`holds_names`). It begins and ends with a zero. A name lies at its offset with a zero after it
 -- (`held_at`), because a name that is held ends with it. So what is read there up to the first zero is the name, if the name has no zero
 -- itself.
-use Rattle.std.proofs.Common.{◌≡◌, ◌≢◌, ◌<◌, ◌≤◌, ℕ, zero, suc, ◌+◌, ◌-◌, Bool, true, false, cond, List, [], ◌∷◌, ◌++◌, length, take, drop, get_or, refl, sym, ap, ap₂, ◌∙◌, append_assoc, arith, inl, inr, length-append, map}
+use Rattle.std.proofs.Common.{◌≡◌, ◌≢◌, ◌<◌, ◌≤◌, ℕ, zero, suc, ◌+◌, ◌-◌, Bool, true, false, cond, List, [], ◌∷◌, ◌++◌, length, take, drop}
+use Rattle.std.proofs.Common.{get_or, refl, sym, ap, ap₂, ◌∙◌, append_assoc, arith, inl, inr, length-append, map}
 use Rattle.std.specs.Prelude.{◌⊎◌, ⊤, ◌&&◌, not, ◌==◌}
 use Rattle.std.specs.List.{AllByRecursion, flat_map, list_any, filter, before_first}
 use Rattle.std.proofs.lemmas.Bool.{cases_lt, true≢false, and_parts, not-true, or_left, or_right, and_from, not_from_false, or_cases, ne_eqb}
-use Rattle.std.proofs.lemmas.List.{drop-append-le, drop-drop, drop_at, length-drop, take-append-drop, get_or_default, get_or-append-add, get_or-map, length-map}
+use Rattle.std.proofs.lemmas.List.{drop-append-le, drop-drop, drop_at, length-drop, take-append-drop, get_or_default, get_or-append-add}
+use Rattle.std.proofs.lemmas.List.{get_or-map, length-map}
 use Rattle.std.specs.Str.{bytes_eq}
 use Rattle.std.proofs.lemmas.Slice.Eq.{bytes_eq-Decides}
 use Rattle.std.proofs.lemmas.List.Folds.{Any-from_list_any, list_any_at}
 use Rattle.std.proofs.lemmas.Map.Views.{any-filter_same}
 use Rattle.elf_field.specs.Bytes.{IsBytes, IsBytes-append, IsBytes-cons, IsBytes-nil}
-use Rattle.elf_image_type.specs.ImageView.{string}
-use Rattle.elf_object_strings.proofs.Ends.{suffix_from, suffix_length, suffix_test, length-closed, suffix_named, suffix_same, suffix_trans, IsEndAt, end_stands}
+use Rattle.elf_field.specs.Strings.{string}
+use Rattle.elf_object_strings.proofs.Ends.{suffix_from, suffix_length, suffix_test, length-closed, suffix_named, suffix_same, suffix_trans}
+use Rattle.elf_object_strings.proofs.Ends.{IsEndAt, end_stands}
 use Rattle.elf_object_strings.proofs.Written.{bytes_eq-self, in_distinct, same_name}
-use Rattle.elf_object_strings.specs.StringTable.{AreZeroFree, IsLowestAt, StandsClosedAt, closed, end_from, is_suffix, IsSuffix, distinct, held, is_held, is_named, is_proper_suffix, HasNoZero, HoldsNames, name_offset, string_table, HoldsEach, IsShortest, Shares, SharesTails}
+use Rattle.elf_object_strings.specs.StringTable.{AreZeroFree, IsLowestAt, StandsClosedAt, closed, end_from, is_suffix, IsSuffix, distinct}
+use Rattle.elf_object_strings.specs.StringTable.{held, is_held, is_named, is_proper_suffix, HasNoZero, HoldsNames, name_offset}
+use Rattle.elf_object_strings.specs.StringTable.{string_table, HoldsEach, IsShortest, Shares, SharesTails}
 
 -- The lowest offset of a name among closed names is in the first of them that ends with it. A zero ends each name and none has one inside,
 -- so a name that is found at an offset lies at the end of one closed name.
@@ -166,15 +171,18 @@ lowest_empty t = record { here = (t, refl); lowest = λ y stands. omega arith }
 end_step : (at : ℕ) (k : List ℕ) (ks : List (List ℕ)) (n : List ℕ) (b : Bool) → is_suffix n k ≡ b →
     (list_any (is_suffix n) ks ≡ true → end_from (at + suc (length k)) ks n ≡ (at + suc (length k)) + place_in ks n + length n) →
     list_any (is_suffix n) (k ∷ ks) ≡ true →
-    cond b (at + length k) (end_from (at + suc (length k)) ks n) ≡ at + cond b (length k - length n) (suc (length k) + place_in ks n) + length n
+    cond b (at + length k) (end_from (at + suc (length k)) ks n) ≡ at + cond b (length k - length n)
+    (suc (length k) + place_in ks n) + length n
 end_step at k ks n true is rest any = let long = suffix_length n k (suffix_from n k is) in omega arith
 end_step at k ks n false is rest any = let there = rest (rw is at any) in omega arith
 
-pub end_is : (at : ℕ) (ks : List (List ℕ)) (n : List ℕ) → list_any (is_suffix n) ks ≡ true → end_from at ks n ≡ at + place_in ks n + length n
+pub end_is : (at : ℕ) (ks : List (List ℕ)) (n : List ℕ) → list_any (is_suffix n) ks ≡ true →
+    end_from at ks n ≡ at + place_in ks n + length n
 end_is at [] n any = absurd (true≢false (sym any))
 end_is at (k ∷ ks) n any = end_step at k ks n (is_suffix n k) refl (end_is (at + suc (length k)) ks n) any
 
--- Names without zeros, of which none ends with another, take the bytes of all of them, with a zero each, in whatever list holds them. Cut out
+-- Names without zeros, of which none ends with another, take the bytes of all of them, with a zero each, in whatever list holds them. Cut
+-- out
 -- one name with its zero. Another name that met the cut would end with it, or it with that one. So the others are still there, and by
 -- induction the list is at least that long.
 
@@ -218,7 +226,8 @@ before (b ∷ front) k bs (c ∷ n) cs free other is =
       by_rest same (inl s) = inl (longer_suffix c k n s)
       by_rest same (inr s) = inr (s.0, ap₂ (λ (x : ℕ) (xs : List ℕ). x ∷ xs) same s.1)
 
-left_over : (front k bs before_other n cs : List ℕ) → IsZeroFree k → IsZeroFree n → front ++ (k ++ (0 ∷ bs)) ≡ before_other ++ (n ++ (0 ∷ cs)) →
+left_over : (front k bs before_other n cs : List ℕ) → IsZeroFree k → IsZeroFree n →
+    front ++ (k ++ (0 ∷ bs)) ≡ before_other ++ (n ++ (0 ∷ cs)) →
     IsSuffix n k ⊎ (IsSuffix k n ⊎ Stands (front ++ bs) n)
 left_over [] k bs os n cs free other is = by_inside (inside k bs os n cs free other is) where
   by_inside : IsSuffix n k ⊎ Stands bs n → IsSuffix n k ⊎ (IsSuffix k n ⊎ Stands bs n)
@@ -246,7 +255,8 @@ one_left t k n s free other apart o = by_left (left_over s.front k s.behind o.fr
   by_left (inr (inr is)) = is
 
 all_left : (t k : List ℕ) (s : Stands t k) (ks : List (List ℕ)) → IsZeroFree k → AreZeroFree ks →
-    AllByRecursion (λ n. (IsSuffix n k → ⊥) × (IsSuffix k n → ⊥)) ks → AllByRecursion (Stands t) ks → AllByRecursion (Stands (s.front ++ s.behind)) ks
+    AllByRecursion (λ n. (IsSuffix n k → ⊥) × (IsSuffix k n → ⊥)) ks → AllByRecursion (Stands t) ks →
+    AllByRecursion (Stands (s.front ++ s.behind)) ks
 all_left t k s [] free others apart all = tt
 all_left t k s (n ∷ ks) free others apart all =
     (one_left t k n s free others.0 apart.0 all.0, all_left t k s ks free others.1 apart.1 all.1)
@@ -274,7 +284,8 @@ pub all_weaker : {X : Type 0} (P Q : X → Type 0) → ((x : X) → P x → Q x)
 all_weaker P Q weaker [] all = tt
 all_weaker P Q weaker (x ∷ xs) all = (weaker x all.0, all_weaker P Q weaker xs all.1)
 
-pub all_both : {X : Type 0} (P Q : X → Type 0) (xs : List X) → AllByRecursion P xs → AllByRecursion Q xs → AllByRecursion (λ x. P x × Q x) xs
+pub all_both : {X : Type 0} (P Q : X → Type 0) (xs : List X) → AllByRecursion P xs → AllByRecursion Q xs →
+    AllByRecursion (λ x. P x × Q x) xs
 all_both P Q [] all other = tt
 all_both P Q (x ∷ xs) all other = ((all.0, other.0), all_both P Q xs all.1 other.1)
 
@@ -294,7 +305,8 @@ all_distinct P (n ∷ ns) all =
     (all.0, all_weaker _ P (λ x both. both.0) _ (all_filter P (λ other. not (bytes_eq n other)) (distinct ns) (all_distinct P ns all.1)))
 
 -- what holds of each name holds of each that the table holds, and those are kept
-pub all_held : (P : List ℕ → Type 0) (names : List (List ℕ)) → AllByRecursion P names → AllByRecursion (λ n. P n × (is_held names n ≡ true)) (held names)
+pub all_held : (P : List ℕ → Type 0) (names : List (List ℕ)) → AllByRecursion P names →
+    AllByRecursion (λ n. P n × (is_held names n ≡ true)) (held names)
 unfolding held
 all_held P names all = all_filter P (is_held names) (distinct names) (all_distinct P names all)
 
@@ -303,7 +315,8 @@ all_held P names all = all_filter P (is_held names) (distinct names) (all_distin
 abbrev pub IsAmong : List (List ℕ) → List ℕ → Type 0
 IsAmong names n = (p : List ℕ → Bool) → p n ≡ true → list_any p names ≡ true
 
-among_rest : (names ms : List (List ℕ)) → ((p : List ℕ → Bool) → list_any p ms ≡ true → list_any p names ≡ true) → AllByRecursion (IsAmong names) ms
+among_rest : (names ms : List (List ℕ)) → ((p : List ℕ → Bool) → list_any p ms ≡ true → list_any p names ≡ true) →
+    AllByRecursion (IsAmong names) ms
 among_rest names [] includes = tt
 among_rest names (m ∷ ms) includes =
     ((λ p is. includes p (or_left (p m) (list_any p ms) is)), among_rest names ms (λ p is. includes p (or_right (p m) (list_any p ms) is)))
@@ -336,7 +349,8 @@ all_true (d ∷ ds) = (tt, all_true ds)
 different_distinct : (ns : List (List ℕ)) → AreDifferent (distinct ns)
 different_distinct [] = tt
 different_distinct (n ∷ ns) = (
-  all_weaker _ (λ e. n ≢ e) (λ e both. differs n e both.1) _ (all_filter (λ d. ⊤) (λ other. not (bytes_eq n other)) (distinct ns) (all_true (distinct ns))),
+  all_weaker _ (λ e. n ≢ e) (λ e both. differs n e both.1) _
+      (all_filter (λ d. ⊤) (λ other. not (bytes_eq n other)) (distinct ns) (all_true (distinct ns))),
   different_filter (λ other. not (bytes_eq n other)) (distinct ns) (different_distinct ns),
 )
 
@@ -357,11 +371,15 @@ ends_none names n k kept among other suffix =
     true≢false (sym (among (is_proper_suffix n) (proper n k suffix other)) ∙ none)
 
 apart_step : (names : List (List ℕ)) (d : List ℕ) (ds : List (List ℕ)) (b : Bool) → is_held names d ≡ b → IsAmong names d →
-    AllByRecursion (IsAmong names) ds → AllByRecursion (λ e. d ≢ e) ds → AreApart (filter (is_held names) ds) → AreApart (filter (is_held names) (d ∷ ds))
+    AllByRecursion (IsAmong names) ds → AllByRecursion (λ e. d ≢ e) ds → AreApart (filter (is_held names) ds) →
+    AreApart (filter (is_held names) (d ∷ ds))
 apart_step names d ds true is here all others rest =
     rw is (
       all_weaker _ (λ n. (IsSuffix n d → ⊥) × (IsSuffix d n → ⊥))
-          (λ e both. ((λ suffix. ends_none names e d both.1 here (λ same. both.0.1 (sym same)) suffix), (λ suffix. ends_none names d e is both.0.0 both.0.1 suffix)))
+          (λ e both. (
+            (λ suffix. ends_none names e d both.1 here (λ same. both.0.1 (sym same)) suffix),
+            (λ suffix. ends_none names d e is both.0.0 both.0.1 suffix),
+          ))
           _ (all_filter (λ e. IsAmong names e × (d ≢ e)) (is_held names) ds (all_both (IsAmong names) (λ e. d ≢ e) ds all others)),
       rest,
     )
@@ -554,7 +572,8 @@ place_is : (names : List (List ℕ)) (n : List ℕ) → is_named n ≡ true → 
     name_offset names n ≡ suc (place_in (held names) n)
 unfolding name_offset
 place_is names n named any =
-    let from : end_from 1 (held names) n - length n ≡ suc (place_in (held names) n) = (let end = end_is 1 (held names) n any in omega arith) in
+    let from : end_from 1 (held names) n - length n ≡ suc (place_in (held names) n) =
+    (let end = end_is 1 (held names) n any in omega arith) in
     rw named from
 
 some_of : (n : List ℕ) → is_named n ≡ true → n ≢ []
@@ -590,26 +609,31 @@ shares_each names free = record {
 
 -- ---- each is held
 
-stands_of : (names : List (List ℕ)) (n : List ℕ) (b : Bool) → is_named n ≡ b → (is_named n ≡ true → list_any (is_suffix n) (held names) ≡ true) →
+stands_of : (names : List (List ℕ)) (n : List ℕ) (b : Bool) → is_named n ≡ b →
+    (is_named n ≡ true → list_any (is_suffix n) (held names) ≡ true) →
     (x : ℕ) × StandsClosedAt (string_table names) n x
 unfolding string_table
 stands_of names [] b is any = (0, (flat_map closed (held names), refl))
-stands_of names (c ∷ n) true is any = let there = stands_in (held names) (c ∷ n) (any is) in (suc (place_in (held names) (c ∷ n)), (there.0, there.1))
+stands_of names (c ∷ n) true is any = let there = stands_in (held names) (c ∷ n) (any is) in
+    (suc (place_in (held names) (c ∷ n)), (there.0, there.1))
 stands_of names (c ∷ n) false is any = absurd (true≢false is)
 
 all_stand : (names ms : List (List ℕ)) →
     ((i : ℕ) → i < length ms → is_named (get_or ms i []) ≡ true → list_any (is_suffix (get_or ms i [])) (held names) ≡ true) →
     AllByRecursion (λ n. (x : ℕ) × StandsClosedAt (string_table names) n x) ms
 all_stand names [] found = tt
-all_stand names (m ∷ ms) found =
-    (stands_of names m (is_named m) refl (λ named. found 0 (omega arith) named), all_stand names ms (λ i lt named. found (suc i) (omega arith) named))
+all_stand names (m ∷ ms) found = (
+  stands_of names m (is_named m) refl (λ named. found 0 (omega arith) named),
+  all_stand names ms (λ i lt named. found (suc i) (omega arith) named),
+)
 
 begins_with_zero : (names : List (List ℕ)) → string_table names ≡ 0 ∷ flat_map closed (held names)
 unfolding string_table
 begins_with_zero names = refl
 
 pub holds_each : (names : List (List ℕ)) → HoldsEach (string_table names) names
-holds_each names = record { rest = flat_map closed (held names); begins = begins_with_zero names; each = all_stand names names (ends_held names) }
+holds_each names =
+    record { rest = flat_map closed (held names); begins = begins_with_zero names; each = all_stand names names (ends_held names) }
 
 -- ---- none that holds them is shorter
 
@@ -621,7 +645,9 @@ stands_behind t n (suc x) free some is =
 each_stands : (names : List (List ℕ)) (t : List ℕ) → AreZeroFree names → AllByRecursion (λ n. (x : ℕ) × StandsClosedAt (0 ∷ t) n x) names →
     AllByRecursion (Stands t) (held names)
 each_stands names t free all =
-    all_weaker _ (Stands t) (λ n both. stands_behind t n both.0.1.0 both.0.0 (some_of n (and_parts (is_named n) (not (list_any (is_proper_suffix n) names)) both.1).0) both.0.1.1) (held names)
+    all_weaker _ (Stands t)
+    (λ n both. stands_behind t n both.0.1.0 both.0.0
+    (some_of n (and_parts (is_named n) (not (list_any (is_proper_suffix n) names)) both.1).0) both.0.1.1) (held names)
     (all_held (λ n. IsZeroFree n × ((x : ℕ) × StandsClosedAt (0 ∷ t) n x)) names (all_both IsZeroFree _ names free all))
 
 pub least_table : (names : List (List ℕ)) → AreZeroFree names → IsShortest names (string_table names)

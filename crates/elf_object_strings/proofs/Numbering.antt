@@ -1,7 +1,9 @@
 -- Names with their indexes: in the order of their list, in another order, and sorted. Each pair has a name and its index in the list, also
 -- after a permutation. Pairs sorted by `numbered_order`, which is a total order, are in the order by ends, if each has the number of its
 -- end (`end_decides`).
-use Rattle.std.proofs.Common.{◌≡◌, ℕ, zero, suc, ◌+◌, ◌-◌, ◌*◌, ◌%◌, ◌^◌, ◌<◌, ◌≤◌, ◌⊎◌, List, [], ◌∷◌, ◌++◌, length, get_or, take, drop, min, replicate, reverse, Ordering, Bool, true, false, refl, sym, ap, ap₂, subst, ◌∙◌, inl, inr, add-one, arith, nat_eq}
+use Rattle.std.proofs.Common.{◌≡◌, ℕ, zero, suc, ◌+◌, ◌-◌, ◌*◌, ◌%◌, ◌^◌, ◌<◌, ◌≤◌, ◌⊎◌, List, [], ◌∷◌, ◌++◌, length, get_or, take, drop}
+use Rattle.std.proofs.Common.{min, replicate, reverse, Ordering, Bool, true, false, refl, sym, ap, ap₂, subst, ◌∙◌, inl, inr, add-one}
+use Rattle.std.proofs.Common.{arith, nat_eq}
 use Rattle.std.specs.declared.cmp.Ordering.TheVariants.{Less, Equal, Greater}
 use Rattle.std.specs.Cmp.{nat_cmp_is, IsTotalOrder}
 use Rattle.std.specs.Cmp.Lexicographic.{slice_cmp}
@@ -9,18 +11,22 @@ use Rattle.std.specs.Int.{byte_worth, from_le_bytes, sum_through, w64}
 use Rattle.std.specs.Ordering.{nat_cmp, ordering_then, is_lt}
 use Rattle.std.proofs.Math.Nat.{add-mul, mul-le-mul_right, one-le-pow, pow-succ'}
 use Rattle.std.proofs.lemmas.Bool.{cases_lt, cases_order}
-use Rattle.std.proofs.lemmas.List.{append-nil, drop_all, get_or-reverse, get_or_past, length-append, length-drop, length-replicate, length-reverse, replicate_more, reverse-append, take-append-drop, take-replicate, take_all, take_more, take_rest, get_or-map, get_or_default, length-map, map-append, get_or_append_left, get_or-append_right}
+use Rattle.std.proofs.lemmas.List.{append-nil, drop_all, get_or-reverse, get_or_past, length-append, length-drop, length-replicate}
+use Rattle.std.proofs.lemmas.List.{length-reverse, replicate_more, reverse-append, take-append-drop, take-replicate, take_all, take_more}
+use Rattle.std.proofs.lemmas.List.{take_rest, get_or-map, get_or_default, length-map, map-append, get_or_append_left, get_or-append_right}
 use Rattle.std.specs.List.{All, Contains}
 use Rattle.std.specs.List.Sorted.{IsPermutation, IsSortedBy}
 use Rattle.std.proofs.lemmas.Cmp.{back_total, nat_cmp_total, nat_list_cmp_total, on_total, then_total, tied_itself}
 use Rattle.std.proofs.lemmas.List.Elements.{All-push}
-use Rattle.std.proofs.lemmas.List.Sorted.{All-permutation, Contains-permutation, IsPermutation-map, length_permutation, ranks_by, sorted_far}
+use Rattle.std.proofs.lemmas.List.Sorted.{All-permutation, Contains-permutation, IsPermutation-map, length_permutation, ranks_by}
+use Rattle.std.proofs.lemmas.List.Sorted.{sorted_far}
 use Rattle.std.proofs.lemmas.Bool.Decides.{Decides-eqb, nat_tests}
 use Rattle.std.proofs.lemmas.Map.Keys.{IsDistinct-IsPermutation}
 use Rattle.std.proofs.lemmas.Map.Made.{AllPairs-from_IsDistinct, IsDistinct-from_AllPairs}
 use borrow.Rule.Slice.PartMut.{post_of, put_mid}
 use Rattle.elf_field.specs.Bytes.{IsBytes, IsBytes-rest}
-use Rattle.elf_object_strings.specs.Sorting.{AreWithoutEqualEnds, HasEnd, end_number, ends_order, is_whole, leading, left_of, numbered_order, AreInEndsOrder, AreNumbered, indexes_in, names_by_ends}
+use Rattle.elf_object_strings.specs.Sorting.{AreWithoutEqualEnds, HasEnd, end_number, ends_order, is_whole, leading, left_of}
+use Rattle.elf_object_strings.specs.Sorting.{numbered_order, AreInEndsOrder, AreNumbered, indexes_in, names_by_ends}
 use Rattle.elf_object_strings.specs.StringTable.{IsSuffix}
 use Rattle.elf_object_strings.specs.declared.sorting.Numbered.{Numbered}
 
@@ -306,7 +312,8 @@ tail_number name other (front, is) = elim (cases_lt (length name) 8) [
 same_whole : (name other : List ℕ) → IsBytes (reverse name) → IsBytes (reverse other) → end_number name ≡ end_number other →
     end_number name % 256 < 8 → reverse name ≡ reverse other
 same_whole name other are too same whole =
-    let (ends, lengths) = same_digits (leading 7 (reverse name)) (leading 7 (reverse other)) 256 (min (length name) 8) (min (length other) 8)
+    let (ends, lengths) =
+    same_digits (leading 7 (reverse name)) (leading 7 (reverse other)) 256 (min (length name) 8) (min (length other) 8)
     (omega arith) (omega arith) same in
     leading-same 7 (reverse name) (reverse other) are too (omega (arith, length-reverse name, length-reverse other))
     (omega (arith, length-reverse name)) ends
@@ -348,7 +355,8 @@ left_decides names it other end other_end same true is =
     let equal_names : reverse other_name ≡ reverse name =
     same_whole other_name name (IsBytes-reverse other_name other_end.bytes) (IsBytes-reverse name end.bytes)
     (sym other_end.number ∙ same ∙ end.number) (omega (arith, other_end.number)) in
-    rw (is, other_is) (sym (ap (λ (xs : List ℕ). slice_cmp nat_cmp xs (reverse name)) equal_names ∙ tied_itself nat_list_cmp_total (reverse name)))
+    rw (is, other_is)
+    (sym (ap (λ (xs : List ℕ). slice_cmp nat_cmp xs (reverse name)) equal_names ∙ tied_itself nat_list_cmp_total (reverse name)))
 left_decides names it other end other_end same false is =
     let other_is : is_whole other.end ≡ false = ap is_whole same ∙ is in
     rw (is, other_is) refl
@@ -371,7 +379,8 @@ end_decides names it other end other_end =
             let first : by_names ≡ Less = sym ordered ∙ ap (λ (o : Ordering). ordering_then o by_names) (less other.end it.end below) in
             rw (less other.end it.end below, first) refl
         | inr above ↦
-            let first : by_names ≡ Greater = sym ordered ∙ ap (λ (o : Ordering). ordering_then o by_names) (greater other.end it.end above) in
+            let first : by_names ≡ Greater =
+            sym ordered ∙ ap (λ (o : Ordering). ordering_then o by_names) (greater other.end it.end above) in
             rw (greater other.end it.end above, first) refl
       ]
     ]
@@ -494,7 +503,8 @@ pub numbered_in_order : (names : List (List ℕ)) (sorted : List Numbered) → A
 numbered_in_order names sorted ends up = λ q r le lt.
     let within : r < length sorted = omega (arith, length-map sorted (name_of names)) in
     let q_within : q < length sorted = omega arith in
-    let far = sorted_far (λ a b. is_lt (numbered_order names a b)) (ranks_by (numbered_total names) (λ it. it)) sorted up q r nothing le within in
+    let far = sorted_far (λ a b. is_lt (numbered_order names a b))
+    (ranks_by (numbered_total names) (λ it. it)) sorted up q r nothing le within in
     let later : Numbered = get_or sorted r nothing in
     let earlier : Numbered = get_or sorted q nothing in
     let by_names = end_decides names later earlier (ends r nothing within) (ends q nothing q_within) in

@@ -1,6 +1,7 @@
 -- The bounds of leaders, from the last one back. Those of a name are those of the name after it, cut at the length of their common
 -- end, and its own length (`bounds_back`): a name that both end with has the last name that it had, and a longer one ends no name after it.
-use Rattle.std.proofs.Common.{◌≡◌, ◌<◌, ◌≤◌, ◌+◌, ◌-◌, ◌⊎◌, ℕ, zero, suc, List, [], ◌∷◌, ◌++◌, get_or, length, take, refl, sym, ap, subst, ◌∙◌, inl, inr, arith, length-append, get_or-take, length-take, true, false, ltb}
+use Rattle.std.proofs.Common.{◌≡◌, ◌<◌, ◌≤◌, ◌+◌, ◌-◌, ◌⊎◌, ℕ, zero, suc, List, [], ◌∷◌, ◌++◌, get_or, length, take, refl, sym, ap, subst}
+use Rattle.std.proofs.Common.{◌∙◌, inl, inr, arith, length-append, get_or-take, length-take, true, false, ltb}
 use Rattle.std.proofs.lemmas.Bool.{cases_lt}
 use Rattle.std.specs.List.Sorted.{IsPartitionPoint}
 use borrow.Author.Tests.{ltb-true, ltb-false}
@@ -230,7 +231,8 @@ bounds_back leaders stand bounds cut p c lt before both (k, at, is) = record {
 } where
   more : IsMore bounds (cut ++ (record { limit = length (get_or leaders p []); last = p } ∷ [])) k
       (record { limit = c; last = (get_or bounds k no_bound).last }) (record { limit = length (get_or leaders p []); last = p })
-  more = is_more bounds _ k _ _ at.within (ap (λ (s : List Bound). s ++ (record { limit = length (get_or leaders p []); last = p } ∷ [])) is)
+  more = is_more bounds _ k _ _ at.within
+      (ap (λ (s : List Bound). s ++ (record { limit = length (get_or leaders p []); last = p } ∷ [])) is)
 
   fits : c ≤ length (get_or leaders p [])
   fits = let long = both.long in let short = suffix_fits both.end (get_or leaders p []) both.own in omega arith

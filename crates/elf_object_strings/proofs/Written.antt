@@ -1,19 +1,24 @@
 -- The names that are written, one by one. A name is written exactly if it is not empty and is its own owner (`written_is`). A name's offset
 -- is where its owner ends, less its own length (`offset_is`); that of the empty name is 0. A pass of the loop that writes adds one name's
 -- end (`written_more`).
-use Rattle.std.proofs.Common.{◌≡◌, ℕ, Bool, true, false, cond, not, List, [], ◌∷◌, ◌++◌, refl, sym, ap, ◌∙◌, ◌<◌, ◌≤◌, ◌+◌, ◌-◌, zero, suc, ◌&&◌, ◌⊎◌, inl, inr, length, take, drop, get_or, map, subst, append_assoc, arith, length-append}
+use Rattle.std.proofs.Common.{◌≡◌, ℕ, Bool, true, false, cond, not, List, [], ◌∷◌, ◌++◌, refl, sym, ap, ◌∙◌, ◌<◌, ◌≤◌, ◌+◌, ◌-◌, zero, suc}
+use Rattle.std.proofs.Common.{◌&&◌, ◌⊎◌, inl, inr, length, take, drop, get_or, map, subst, append_assoc, arith, length-append}
 use Rattle.std.specs.Prelude.{◌||◌, ◌==◌}
 use Rattle.std.specs.List.{filter, list_any, flat_map}
 use Rattle.std.specs.Str.{bytes_eq}
 use Rattle.std.specs.Bool.{one_answer}
-use Rattle.std.proofs.lemmas.List.{append-nil, flat_map_more, get_or-map, length-map, get_or-take, get_or_append_left, get_or_default, get_or_push, length-take-le, length_push, take-append-drop, take_all, take_more}
+use Rattle.std.proofs.lemmas.List.{append-nil, flat_map_more, get_or-map, length-map, get_or-take, get_or_append_left, get_or_default}
+use Rattle.std.proofs.lemmas.List.{get_or_push, length-take-le, length_push, take-append-drop, take_all, take_more}
 use Rattle.std.proofs.lemmas.List.Elements.{filter-append}
 use Rattle.std.proofs.lemmas.Map.Views.{any-filter_same}
 use Rattle.std.proofs.lemmas.Slice.Eq.{bytes_eq-Decides}
-use Rattle.std.proofs.lemmas.Bool.{and_from, and_parts, cases_eq, cases_lt, eq-eqb, false_from_ne_true, ne_eqb, not-true, not_from_false, or_from, true≢false}
+use Rattle.std.proofs.lemmas.Bool.{and_from, and_parts, cases_eq, cases_lt, eq-eqb, false_from_ne_true, ne_eqb, not-true, not_from_false}
+use Rattle.std.proofs.lemmas.Bool.{or_from, true≢false}
 use Rattle.std.proofs.lemmas.List.Folds.{list_any-append, list_any_at, list_any_none}
 use Rattle.elf_object_strings.proofs.Ends.{end_behind, suffix_fits, suffix_from, suffix_named, suffix_same, suffix_test}
-use Rattle.elf_object_strings.specs.StringTable.{AreOwners, AreTheirOwn, HaveZeros, distinct, IsFirstOfHeld, IsOwner, IsSuffix, closed, end_from, held, is_held, is_named, is_proper_suffix, is_suffix, name_offset, string_table, HasEnds, held_to, is_written, with_name}
+use Rattle.elf_object_strings.specs.StringTable.{AreOwners, AreTheirOwn, HaveZeros, distinct, IsFirstOfHeld, IsOwner, IsSuffix, closed}
+use Rattle.elf_object_strings.specs.StringTable.{end_from, held, is_held, is_named, is_proper_suffix, is_suffix, name_offset, string_table}
+use Rattle.elf_object_strings.specs.StringTable.{HasEnds, held_to, is_written, with_name}
 
 -- Each name of a list once, one name more: a name that is already there adds nothing, and any other is put at the end. A name is in the
 -- result exactly if it is in the list.
@@ -42,28 +47,37 @@ kept_when m n true is = rw is refl
 kept_when m n false is = rw is refl
 
 -- a name that differs from m is found as well without those that equal m
-found_still : (m n : List ℕ) (ds : List (List ℕ)) → bytes_eq n m ≡ false → list_any (bytes_eq n) (filter (differs m) ds) ≡ list_any (bytes_eq n) ds
+found_still : (m n : List ℕ) (ds : List (List ℕ)) → bytes_eq n m ≡ false →
+    list_any (bytes_eq n) (filter (differs m) ds) ≡ list_any (bytes_eq n) ds
 found_still m n ds other = any-filter_same (bytes_eq n) (differs m) true kept ds where
   kept : (k : List ℕ) → bytes_eq n k ≡ true → differs m k ≡ true
   kept k equal = let is : bytes_eq m k ≡ false = ap (bytes_eq m) (sym (same_name n k equal)) ∙ bytes_eq-swap m n ∙ other in rw is refl
 
-pushed : (m n : List ℕ) (ds es : List (List ℕ)) (e b : Bool) → bytes_eq n m ≡ e → list_any (bytes_eq n) ds ≡ b → es ≡ cond b ds (ds ++ (n ∷ [])) →
-    m ∷ filter (differs m) es ≡ cond (e || list_any (bytes_eq n) (filter (differs m) ds)) (m ∷ filter (differs m) ds) (m ∷ (filter (differs m) ds ++ (n ∷ [])))
+pushed : (m n : List ℕ) (ds es : List (List ℕ)) (e b : Bool) → bytes_eq n m ≡ e → list_any (bytes_eq n) ds ≡ b →
+    es ≡ cond b ds (ds ++ (n ∷ [])) →
+    m ∷ filter (differs m) es ≡
+    cond (e || list_any (bytes_eq n) (filter (differs m) ds)) (m ∷ filter (differs m) ds) (m ∷ (filter (differs m) ds ++ (n ∷ [])))
 pushed m n ds es true true equal found is = ap (λ (xs : List (List ℕ)). m ∷ filter (differs m) xs) is
 pushed m n ds es true false equal found is =
     let gone = kept_when m n true (bytes_eq-swap m n ∙ equal) in
     ap (λ (xs : List (List ℕ)). m ∷ filter (differs m) xs) is
-    ∙ ap (λ (xs : List (List ℕ)). m ∷ xs) (filter-append (differs m) ds (n ∷ []) ∙ ap (λ (xs : List (List ℕ)). filter (differs m) ds ++ xs) gone ∙ append-nil (filter (differs m) ds))
-pushed m n ds es false true equal found is = rw (found_still m n ds equal ∙ found) (ap (λ (xs : List (List ℕ)). m ∷ filter (differs m) xs) is)
+    ∙ ap (λ (xs : List (List ℕ)). m ∷ xs)
+    (filter-append (differs m) ds (n ∷ []) ∙ ap (λ (xs : List (List ℕ)). filter (differs m) ds ++ xs) gone ∙
+    append-nil (filter (differs m) ds))
+pushed m n ds es false true equal found is =
+    rw (found_still m n ds equal ∙ found) (ap (λ (xs : List (List ℕ)). m ∷ filter (differs m) xs) is)
 pushed m n ds es false false equal found is =
     let stays = kept_when m n false (bytes_eq-swap m n ∙ equal) in
     rw (found_still m n ds equal ∙ found)
     (ap (λ (xs : List (List ℕ)). m ∷ filter (differs m) xs) is
-    ∙ ap (λ (xs : List (List ℕ)). m ∷ xs) (filter-append (differs m) ds (n ∷ []) ∙ ap (λ (xs : List (List ℕ)). filter (differs m) ds ++ xs) stays))
+    ∙ ap (λ (xs : List (List ℕ)). m ∷ xs)
+    (filter-append (differs m) ds (n ∷ []) ∙ ap (λ (xs : List (List ℕ)). filter (differs m) ds ++ xs) stays))
 
-pub distinct-push : (ns : List (List ℕ)) (n : List ℕ) → distinct (ns ++ (n ∷ [])) ≡ cond (list_any (bytes_eq n) (distinct ns)) (distinct ns) (distinct ns ++ (n ∷ []))
+pub distinct-push : (ns : List (List ℕ)) (n : List ℕ) →
+    distinct (ns ++ (n ∷ [])) ≡ cond (list_any (bytes_eq n) (distinct ns)) (distinct ns) (distinct ns ++ (n ∷ []))
 distinct-push [] n = refl
-distinct-push (m ∷ ns) n = pushed m n (distinct ns) (distinct (ns ++ (n ∷ []))) (bytes_eq n m) (list_any (bytes_eq n) (distinct ns)) refl refl (distinct-push ns n)
+distinct-push (m ∷ ns) n =
+    pushed m n (distinct ns) (distinct (ns ++ (n ∷ []))) (bytes_eq n m) (list_any (bytes_eq n) (distinct ns)) refl refl (distinct-push ns n)
 
 -- a name is among them exactly if the list has it
 pub in_distinct : (n : List ℕ) (ns : List (List ℕ)) → list_any (bytes_eq n) (distinct ns) ≡ list_any (bytes_eq n) ns

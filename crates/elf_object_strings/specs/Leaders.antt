@@ -1,4 +1,5 @@
--- Long names that may share bytes. Of those that end at one place of a string table the longest is a leader; the leaders that end with a name
+-- Long names that may share bytes. Of those that end at one place of a string table the longest is a leader; the leaders that end with a
+-- name
 -- are one after the other, where they are sorted. By the first and the last of them two names are compared, and neither has to be read.
 -- (gABI chapter 4, String Table.)
 use Rattle.std.specs.Prelude.{◌≡◌, ◌<◌, ◌≤◌, ◌-◌, ◌+◌, ◌⊎◌, ◌++◌, ◌∷◌, ℕ, List, [], get_or, length, reverse, take}
@@ -22,16 +23,20 @@ pub record IsTailByLeaders (name : List ℕ) (range : LeaderRange) (other : List
   pub last : other_range.last ≤ range.last
   pub fits : length name ≤ length other
 
--- Names whose ranges are known are in the order of their last leaders, the later one first, and of their lengths, read from their last bytes
+-- Names whose ranges are known are in the order of their last leaders, the later one first, and of their lengths, read from their last
+-- bytes
 -- on. One ends with another one exactly if its last leader is one of that one's, and it is not shorter.
 pub record AreLed (names : List (List ℕ)) (ranges : List LeaderRange) : Type 0 where
   pub order : (i j : ℕ) → 0 < (range_of ranges i).last → 0 < (range_of ranges j).last →
       slice_cmp nat_cmp (reverse (get_or names i [])) (reverse (get_or names j [])) ≡
-      ordering_then (nat_cmp (range_of ranges j).last (range_of ranges i).last) (nat_cmp (length (get_or names i [])) (length (get_or names j [])))
+      ordering_then (nat_cmp (range_of ranges j).last (range_of ranges i).last)
+      (nat_cmp (length (get_or names i [])) (length (get_or names j [])))
   pub tails : (i j : ℕ) → 0 < (range_of ranges i).last → 0 < (range_of ranges j).last →
-      IsTailByLeaders (get_or names i []) (range_of ranges i) (get_or names j []) (range_of ranges j) → IsSuffix (get_or names i []) (get_or names j [])
+      IsTailByLeaders (get_or names i []) (range_of ranges i) (get_or names j []) (range_of ranges j) →
+      IsSuffix (get_or names i []) (get_or names j [])
   pub only : (i j : ℕ) → 0 < (range_of ranges i).last → 0 < (range_of ranges j).last →
-      IsSuffix (get_or names i []) (get_or names j []) → IsTailByLeaders (get_or names i []) (range_of ranges i) (get_or names j []) (range_of ranges j)
+      IsSuffix (get_or names i []) (get_or names j []) →
+      IsTailByLeaders (get_or names i []) (range_of ranges i) (get_or names j []) (range_of ranges j)
 
 -- the length of the longest name that two names end with
 pub record IsCommonEnd (name other : List ℕ) (n : ℕ) : Type 0 where

@@ -1,11 +1,12 @@
 -- String tables as they are written: a zero, and after it each distinct name that is not empty and no proper suffix of another one, with
 -- the zero that ends it, in the order in which the names first occur. (gABI chapter 4, String Table.)
-use Rattle.std.specs.Prelude.{◌≡◌, ◌<◌, ◌≤◌, ℕ, List, [], ◌++◌, get_or, length, ◌+◌, ◌-◌, suc, Bool, true, false, not, ◌&&◌, if◌then◌else◌, ◌∷◌, nat_eq, Contains, slice_index, drop, map, take}
+use Rattle.std.specs.Prelude.{◌≡◌, ◌<◌, ◌≤◌, ℕ, List, [], ◌++◌, get_or, length, ◌+◌, ◌-◌, suc, Bool, true, false, not, ◌&&◌, if◌then◌else◌}
+use Rattle.std.specs.Prelude.{◌∷◌, nat_eq, Contains, slice_index, drop, map, take}
 use Rattle.std.specs.List.{ends_with, filter, flat_map, list_any, AllByRecursion}
 use Rattle.std.specs.Str.{bytes_eq}
 use Rattle.std.specs.Borrow.{Bor}
 use Rattle.elf_field.specs.Bytes.{IsBytes}
-use Rattle.elf_image_type.specs.ImageView.{string}
+use Rattle.elf_field.specs.Strings.{string}
 
 -- For each name of a list the one whose bytes in the table it shares: its owner. (gABI chapter 4, String Table.)
 

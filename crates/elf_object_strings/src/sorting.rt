@@ -5,7 +5,8 @@ ghost use Rattle.std.specs.Prelude.{◌≡◌, ◌<◌, length, reverse, IfSome,
 ghost use Rattle.std.specs.List.{All};
 ghost use Rattle.std.specs.List.Sorted.{IsPermutation};
 ghost use Rattle.elf_object_strings.specs.Leaders.{IsCommonEnd};
-ghost use Rattle.elf_object_strings.specs.Sorting.{AreWithoutEqualEnds, AreInEndsOrder, AreNumbered, HasEnd, end_number, ends_order, indexes_in, is_whole, names_by_ends, numbered_order};
+ghost use Rattle.elf_object_strings.specs.Sorting.{AreWithoutEqualEnds, AreInEndsOrder, AreNumbered, HasEnd, end_number, ends_order};
+ghost use Rattle.elf_object_strings.specs.Sorting.{indexes_in, is_whole, names_by_ends, numbered_order};
 ghost use Rattle.elf_object_strings.specs.StringTable.{IsSuffix, is_suffix, texts};
 ghost use Rattle.elf_field.specs.Bytes.{IsBytes};
 
@@ -143,7 +144,8 @@ pub(crate) fn sort_by_ends(list: &NameList<'_, '_>, numbered: Vec<Numbered>) -> 
 }
 
 fn number_names(alloc: Global, names: &[&[u8]]) -> Result<Vec<Numbered>, AllocError>
-    ensures numbered { let all = texts names.now in IfOk result (λ numbered. AreNumbered all (names_by_ends all numbered.items) (indexes_in numbered.items)) }
+    ensures numbered { let all = texts names.now in
+        IfOk result (λ numbered. AreNumbered all (names_by_ends all numbered.items) (indexes_in numbered.items)) }
     ensures ends { IfOk result (λ numbered. All (HasEnd (texts names.now)) numbered.items) }
 {
     let mut numbered = Vec::with_capacity(alloc, names.len())?;

@@ -1,8 +1,11 @@
 //! The bytes of a string table, and where its names begin.
 ghost use Rattle.std.specs.Prelude.{◌≡◌, ◌<◌, [], get_or, min, if◌then◌else◌, length, IfOk, ◌≤◌, ◌-◌, true, false, map, set};
 ghost use Rattle.std.specs.List.{All, range_with_len};
-ghost use Rattle.elf_object_strings.specs.StringTable.{AreOwners, AreTails, AreTheirOwn, HaveZeros, texts, is_suffix, AreZeroFree, HoldsEach, IsShortest, Shares, is_named, name_offset, string_table, HasEnds, with_name};
-ghost use Rattle.elf_object_strings.specs.Sorting.{AreBelow, AreRuns, GivesOwner, HasEnd, IsRun, AreInEndsOrder, AreNumbered, indexes_in, names_by_ends};
+ghost use Rattle.elf_object_strings.specs.StringTable.{AreOwners, AreTails, AreTheirOwn, HaveZeros, texts, is_suffix, AreZeroFree};
+ghost use Rattle.elf_object_strings.specs.StringTable.{HoldsEach, IsShortest, Shares, is_named, name_offset, string_table, HasEnds};
+ghost use Rattle.elf_object_strings.specs.StringTable.{with_name};
+ghost use Rattle.elf_object_strings.specs.Sorting.{AreBelow, AreRuns, GivesOwner, HasEnd, IsRun, AreInEndsOrder, AreNumbered, indexes_in};
+ghost use Rattle.elf_object_strings.specs.Sorting.{names_by_ends};
 
 use crate::leaders::ranges_of;
 use crate::name_list::NameList;
@@ -55,8 +58,8 @@ pub(crate) fn own_owners(alloc: Global, count: usize) -> Result<Vec<usize>, Allo
     (0..count).collect(alloc)
 }
 
-/// Sets the owner of a name that is its own owner so far. The names come in the order of their ends, so the writes are scattered: nothing is
-/// written for a name that stays its own owner.
+/// Sets the owner of a name that is its own owner so far. The names come in the order of their ends, so the writes are scattered: nothing
+/// is written for a name that stays its own owner.
 fn set_owner(owners: &mut [usize], index: usize, owner: usize)
     requires within { index < length owners.old }
     requires own { get_or owners.old index 0 ≡ index }
@@ -126,7 +129,8 @@ pub struct Shared {
 pub fn shared_table(alloc: Global, names: &[&[u8]]) -> Result<Shared, OutOfMemory>
     ensures bytes { IfOk result (λ shared. shared.bytes.items ≡ string_table (texts names.now)) }
     ensures offsets { IfOk result (λ shared. shared.offsets.items ≡ map (name_offset (texts names.now)) (texts names.now)) }
-    ensures shares { IfOk result (λ shared. AreZeroFree (texts names.now) → Shares (texts names.now) shared.bytes.items shared.offsets.items) }
+    ensures shares { IfOk result
+        (λ shared. AreZeroFree (texts names.now) → Shares (texts names.now) shared.bytes.items shared.offsets.items) }
     ensures holds { IfOk result (λ shared. HoldsEach shared.bytes.items (texts names.now)) }
     ensures least { IfOk result (λ shared. AreZeroFree (texts names.now) → IsShortest (texts names.now) shared.bytes.items) }
 {
@@ -141,7 +145,8 @@ pub fn shared_table_at(alloc: Global, names: &[&[u8]], ends: &[u32]) -> Result<S
     requires { AreTails (texts names.now) ends.now }
     ensures bytes { IfOk result (λ shared. shared.bytes.items ≡ string_table (texts names.now)) }
     ensures offsets { IfOk result (λ shared. shared.offsets.items ≡ map (name_offset (texts names.now)) (texts names.now)) }
-    ensures shares { IfOk result (λ shared. AreZeroFree (texts names.now) → Shares (texts names.now) shared.bytes.items shared.offsets.items) }
+    ensures shares { IfOk result
+        (λ shared. AreZeroFree (texts names.now) → Shares (texts names.now) shared.bytes.items shared.offsets.items) }
     ensures holds { IfOk result (λ shared. HoldsEach shared.bytes.items (texts names.now)) }
     ensures least { IfOk result (λ shared. AreZeroFree (texts names.now) → IsShortest (texts names.now) shared.bytes.items) }
 {

@@ -1,7 +1,8 @@
 -- No rule of objects is broken exactly if each rule's positive fact holds. A rule says that something is wrong and its fact that it is
 -- right; each is made of tests of numbers and flags at each index, which are decidable. A section is a member only once, because of two
 -- positions the later one would break rule 6.
-use Rattle.std.proofs.Common.{ℕ, Option, None, Some, inl, refl, ◌≡◌, ◌≢◌, ◌<◌, ◌⊎◌, zero, suc, inr, sym, arith, ◌++◌, length, ◌≤◌, Bool, true, false, subst, ◌∙◌, List, ◌+◌, [], get_or, set, get_or-set_other, get_or-set_same}
+use Rattle.std.proofs.Common.{ℕ, Option, None, Some, inl, refl, ◌≡◌, ◌≢◌, ◌<◌, ◌⊎◌, zero, suc, inr, sym, arith, ◌++◌, length, ◌≤◌, Bool}
+use Rattle.std.proofs.Common.{true, false, subst, ◌∙◌, List, ◌+◌, [], get_or, set, get_or-set_other, get_or-set_same}
 use Rattle.std.specs.Prelude.{ℤ, ◌%◌, pos, slice_index, IfSome}
 use Rattle.std.proofs.Math.IntN.{negsuc, pos-ne-negsuc}
 use Rattle.std.proofs.lemmas.Bool.{cases_order, cases_eq, cases_lt}
@@ -13,8 +14,15 @@ use Rattle.elf_image_rules.specs.KeepsRules.{IsAlignment}
 use Rattle.elf_image_rules.specs.Rows.{FirstIn}
 use Rattle.elf_image_rules.specs.Rules.{IsWrongAlignment}
 use Rattle.elf_object_type.proofs.PartsOfObjects.{none_of_any}
-use Rattle.elf_object_type.specs.Object.{ObjectValue, section_at, symbol_at, HasZero, IsPast, BodyValue, bits, no_bits, relocs, group, SectionValue, no_relocation, members_of}
-use Rattle.elf_object_type.specs.ObjectRules.{object_group_rules, wrong_membership, object_rules, object_section_rules, object_symbol_rules, HasWrongMembership, IsObject, HasWrongAlignment, HasWrongField, HasWrongPosition, IsWrongBitsType, IsMisplacedLocal, place_position, FollowsFlag, HasBitsType, HasEntryFields, HasReferences, HasRightFields, HasRightMembers, HasRightPositions, IsAligned, KeepsObjectRules, group_members, member_in, HasLinkOrInfo, HasWrongReference, IsAgainstFlag, IsLocal, HasGroupReferences, HasRelocationReferences, AreMembershipMarks, CannotJoin, IsWrongMembership, NamesMember}
+use Rattle.elf_object_type.specs.Object.{ObjectValue, section_at, symbol_at, HasZero, IsPast, BodyValue, bits, no_bits, relocs, group}
+use Rattle.elf_object_type.specs.Object.{SectionValue, no_relocation, members_of}
+use Rattle.elf_object_type.specs.ObjectRules.{object_group_rules, wrong_membership, object_rules, object_section_rules, object_symbol_rules}
+use Rattle.elf_object_type.specs.ObjectRules.{HasWrongMembership, IsObject, HasWrongAlignment, HasWrongField, HasWrongPosition}
+use Rattle.elf_object_type.specs.ObjectRules.{IsWrongBitsType, IsMisplacedLocal, place_position, FollowsFlag, HasBitsType, HasEntryFields}
+use Rattle.elf_object_type.specs.ObjectRules.{HasReferences, HasRightFields, HasRightMembers, HasRightPositions, IsAligned}
+use Rattle.elf_object_type.specs.ObjectRules.{KeepsObjectRules, group_members, member_in, HasLinkOrInfo, HasWrongReference, IsAgainstFlag}
+use Rattle.elf_object_type.specs.ObjectRules.{IsLocal, HasGroupReferences, HasRelocationReferences, AreMembershipMarks, CannotJoin}
+use Rattle.elf_object_type.specs.ObjectRules.{IsWrongMembership, NamesMember}
 use Rattle.elf_object_type.specs.declared.parts.Info.TheVariants.{Number, Section}
 use Rattle.elf_object_type.specs.declared.parts.Info.{Info}
 use Rattle.elf_object_type.specs.declared.relocations.Relocation.{Relocation}
@@ -22,7 +30,8 @@ use Rattle.elf_object_type.specs.declared.parts.Info.TheVariants as info
 
 -- The nine rules as three runs: of sections, groups and symbols.
 
-pub fault_in_sections : (o : ObjectValue) (fault : ℕ × ℕ) → FirstIn (object_section_rules o) (Some fault) → FirstIn (object_rules o) (Some fault)
+pub fault_in_sections : (o : ObjectValue) (fault : ℕ × ℕ) → FirstIn (object_section_rules o) (Some fault) →
+    FirstIn (object_rules o) (Some fault)
 unfolding object_rules
 fault_in_sections o fault found = FirstIn-sooner (object_section_rules o) _ fault found
 
@@ -39,7 +48,8 @@ found_in_symbols o found sections never symbols =
 
 -- The fields of a section that breaks no rule.
 
-pub aligned : (align addr : ℕ) → IsAlignment align → (1 < align → addr % align ≡ 0) → IsWrongAlignment align ⊎ ((1 < align) × (addr % align ≢ 0)) → ⊥
+pub aligned : (align addr : ℕ) → IsAlignment align → (1 < align → addr % align ≡ 0) →
+    IsWrongAlignment align ⊎ ((1 < align) × (addr % align ≢ 0)) → ⊥
 aligned align addr (inl none) multiple (inl (other, never)) = other none
 aligned align addr (inr power) multiple (inl (other, never)) = never power
 aligned align addr is multiple (inr (above, other)) = other (multiple above)
@@ -147,7 +157,9 @@ references o (no_bits size) never = tt
 references o (relocs rela target entries) never = record {
   target_there = above _ _ (λ past. never (inl (inl past)));
   target_bits = true_of _ (λ other. never (inl (inr other)));
-  symbols_there = λ e lt. there _ _ (none_of_any (λ (r : Relocation). IsPast (length o.symbols) r.symbol) entries no_relocation (λ some. never (inr some)) e lt);
+  symbols_there =
+      λ e lt. there _ _
+      (none_of_any (λ (r : Relocation). IsPast (length o.symbols) r.symbol) entries no_relocation (λ some. never (inr some)) e lt);
 }
 references o (group comdat signature members) never = record {
   signature_there = above _ _ (λ past. never (inl past));
@@ -177,13 +189,16 @@ right_fields s (bits type content) never = follows s.flags s.info never
 right_fields s (no_bits size) never = follows s.flags s.info never
 right_fields s (relocs rela target entries) never = (
   entry_fields s (relocation_size rela) (λ others. never (inl others)) (λ other. never (inr (inl other))),
-  (λ rel e lt. sym (zero_addend _ (none_of_any (λ (r : Relocation). r.addend ≢ pos 0) entries no_relocation (λ some. never (inr (inr (rel, some)))) e lt))),
+  (λ rel e lt. sym
+      (zero_addend _
+      (none_of_any (λ (r : Relocation). r.addend ≢ pos 0) entries no_relocation (λ some. never (inr (inr (rel, some)))) e lt))),
 )
 right_fields s (group comdat signature members) never =
     entry_fields s WORD_SIZE (λ others. never (inl others)) (λ other. never (inr other))
 
 module _ (o : ObjectValue) (never : (p : ℕ) → p < length o.sections → HasWrongMembership o p → ⊥) where
-  once : (p j k : ℕ) → p < length o.sections → j < length (group_members o p) → k < length (group_members o p) → member_in o p j ≡ member_in o p k → j ≡ k
+  once : (p j k : ℕ) → p < length o.sections → j < length (group_members o p) → k < length (group_members o p) →
+      member_in o p j ≡ member_in o p k → j ≡ k
   once p j k within ltj ltk same = elim (cases_order j k) [
     | inl equal_places ↦ equal_places
     | inr (inl before) ↦ absurd (never p within (k, ltk, inr (inl (inl (j, before, same)))))
@@ -245,7 +260,8 @@ right_reference o (relocs rela target entries) has (inl (inl past)) = let below 
 right_reference o (relocs rela target entries) has (inl (inr other)) = not_false _ has.target_bits other
 right_reference o (relocs rela target entries) has (inr (e, x, lt, at, past)) =
     not_past (length o.symbols) x.symbol
-    (subst (λ (r : Relocation). IfSome r.symbol (λ k. k < length o.symbols)) (get_or_default entries e no_relocation x lt ∙ at) (has.symbols_there e lt)) past
+    (subst (λ (r : Relocation). IfSome r.symbol (λ k. k < length o.symbols)) (get_or_default entries e no_relocation x lt ∙ at)
+    (has.symbols_there e lt)) past
 right_reference o (group comdat signature members) has (inl past) = let below = has.signature_there in omega arith
 right_reference o (group comdat signature members) has (inr (j, x, lt, at, past)) =
     let below = has.members_there j lt in
@@ -312,7 +328,8 @@ symbols_unbroken o kept = (
 
 pub object_rules_unbroken : (o : ObjectValue) → KeepsObjectRules o → IsObject o
 object_rules_unbroken o kept =
-    found_in_symbols o None (sections_unbroken o kept) (λ x (p, lt, broken, at). right_member o p kept.membership lt broken) (symbols_unbroken o kept)
+    found_in_symbols o None (sections_unbroken o kept) (λ x (p, lt, broken, at). right_member o p kept.membership lt broken)
+    (symbols_unbroken o kept)
 
 -- If an object breaks no rule, what its relocation sections, groups and symbols refer to is there: positions below the counts. Each is a
 -- field of `object_rules_kept`; a member of a group is found by cases on the body.
@@ -329,7 +346,8 @@ pub group_there : (o : ObjectValue) (p : ℕ) (comdat : Bool) (signature : ℕ) 
     (section_at o p).body ≡ group comdat signature members → HasGroupReferences o signature members
 group_there o p comdat signature members is lt body = subst (λ (b : BodyValue). HasReferences o b) body (references_there o p is lt)
 
-members_in_body : (o : ObjectValue) (b : BodyValue) (j : ℕ) → HasReferences o b → j < length (members_of b) → slice_index (members_of b) j < length o.sections
+members_in_body : (o : ObjectValue) (b : BodyValue) (j : ℕ) → HasReferences o b → j < length (members_of b) →
+    slice_index (members_of b) j < length o.sections
 members_in_body o (bits type content) j has lt = absurd (omega arith)
 members_in_body o (no_bits size) j has lt = absurd (omega arith)
 members_in_body o (relocs rela target entries) j has lt = absurd (omega arith)
@@ -350,7 +368,8 @@ place_there o k is lt = (object_rules_kept o is).places_there k lt
 -- there breaks rule 6 exactly if its mark or its section forbids it.
 
 -- before the first member it is all the same which members there are
-pub marked_anew : (o : ObjectValue) (i : ℕ) (before members : List ℕ) (marks : List Bool) → AreMembershipMarks o i before 0 marks → AreMembershipMarks o i members 0 marks
+pub marked_anew : (o : ObjectValue) (i : ℕ) (before members : List ℕ) (marks : List Bool) → AreMembershipMarks o i before 0 marks →
+    AreMembershipMarks o i members 0 marks
 marked_anew o i before members marks are = record {
   long = are.long;
   right = λ m within. (
@@ -374,7 +393,8 @@ marked_next o i members j marks are there = record {
   right = λ m within. (
       let below : m < length marks = omega (arith, length-set marks (get_or members j 0) true) in
       elim (cases_eq m (get_or members j 0)) [
-        | inl same ↦ ((λ is. inl (j, omega arith, sym same)), (λ named. rw same (get_or-set_same marks (get_or members j 0) true false there)))
+        | inl same ↦
+            ((λ is. inl (j, omega arith, sym same)), (λ named. rw same (get_or-set_same marks (get_or members j 0) true false there)))
         | inr other ↦ (
           (λ is. elim ((are.right m below).0 (sym (get_or-set_other marks (get_or members j 0) m true false other) ∙ is)) [
             | inl (k, lt, here) ↦ inl (k, omega arith, here)
@@ -404,7 +424,8 @@ marked_group o i members marks is are = record {
         | inl below ↦ (are.right m within).1 (inr (h, below, member))
         | inr above ↦ (
             let same : h ≡ i = omega arith in
-            let here = subst (λ k. NamesMember (members_of (section_at o k).body) (length (members_of (section_at o k).body)) m) same member in
+            let here = subst
+            (λ k. NamesMember (members_of (section_at o k).body) (length (members_of (section_at o k).body)) m) same member in
             (are.right m within).1 (inl (subst (λ ms. NamesMember ms (length ms) m) is here)))
       ]
     ]),

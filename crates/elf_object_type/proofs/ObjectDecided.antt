@@ -1,6 +1,7 @@
 -- Each rule of objects is broken or not, for each value: it is made of comparisons of numbers and of searches below a bound, which are
 -- decidable. So for each value there is a first rule that is broken, or none is.
-use Rattle.std.proofs.Common.{◌≡◌, ◌≢◌, ◌^◌, ◌<◌, ◌≤◌, ◌⊎◌, ℕ, zero, suc, Bool, true, false, Option, None, Some, List, [], ◌∷◌, ◌++◌, length, get_or, inl, inr, refl, sym, subst, ◌∙◌, arith}
+use Rattle.std.proofs.Common.{◌≡◌, ◌≢◌, ◌^◌, ◌<◌, ◌≤◌, ◌⊎◌, ℕ, zero, suc, Bool, true, false, Option, None, Some, List, [], ◌∷◌, ◌++◌}
+use Rattle.std.proofs.Common.{length, get_or, inl, inr, refl, sym, subst, ◌∙◌, arith}
 use Rattle.std.specs.Prelude.{◌%◌, ◌/◌, bit_and, slice_index, slice_index_or, Any, Contains, ℤ, pos, negsuc}
 use Rattle.std.specs.Int.{IsPowerOfTwo}
 use Rattle.std.proofs.Math.Nat.{pow-suc}
@@ -12,8 +13,12 @@ use Rattle.elf_image_rules.specs.Rows.{AtEntry, FirstIn, Ruled}
 use Rattle.elf_object_type.specs.declared.relocations.Relocation.{Relocation}
 use Rattle.elf_object_type.specs.declared.parts.Info.{Info}
 use Rattle.elf_object_type.specs.declared.parts.Info.TheVariants.{Number, Section}
-use Rattle.elf_object_type.specs.ObjectRules.{HasWrongMembership, IsInEarlierGroup, IsWrongMembership, NamesMember, object_group_rules, object_rules, HasLinkOrInfo, HasWrongAlignment, HasWrongField, HasWrongPosition, HasWrongReference, IsAgainstFlag, IsWrongBitsType, object_section_rules, types_without_bits, IsLocal, IsMisplacedLocal, object_symbol_rules, place_position}
-use Rattle.elf_object_type.specs.Object.{BodyValue, bits, no_bits, relocs, group, ObjectValue, SectionValue, no_relocation, section_at, symbol_at, HasZero, IsPast, info_position, is_bits, is_group, members_of}
+use Rattle.elf_object_type.specs.ObjectRules.{HasWrongMembership, IsInEarlierGroup, IsWrongMembership, NamesMember, object_group_rules}
+use Rattle.elf_object_type.specs.ObjectRules.{object_rules, HasLinkOrInfo, HasWrongAlignment, HasWrongField, HasWrongPosition}
+use Rattle.elf_object_type.specs.ObjectRules.{HasWrongReference, IsAgainstFlag, IsWrongBitsType, object_section_rules, types_without_bits}
+use Rattle.elf_object_type.specs.ObjectRules.{IsLocal, IsMisplacedLocal, object_symbol_rules, place_position}
+use Rattle.elf_object_type.specs.Object.{BodyValue, bits, no_bits, relocs, group, ObjectValue, SectionValue, no_relocation, section_at}
+use Rattle.elf_object_type.specs.Object.{symbol_at, HasZero, IsPast, info_position, is_bits, is_group, members_of}
 
 -- ---- what is decided
 
@@ -117,7 +122,8 @@ wrong_reference o (group comdat signature members) =
     either (at_most (length o.symbols) signature) (any (λ (m : ℕ). length o.sections ≤ m) members 0 (λ m. at_most (length o.sections) m))
 
 wrong_position : (o : ObjectValue) (s : SectionValue) → Decided (HasWrongPosition o s)
-wrong_position o s = either (past (length o.sections) s.link) (either (past (length o.sections) (info_position s.info)) (wrong_reference o s.body))
+wrong_position o s =
+    either (past (length o.sections) s.link) (either (past (length o.sections) (info_position s.info)) (wrong_reference o s.body))
 
 against_flag : (flags : ℕ) (info : Info) → Decided (IsAgainstFlag flags info)
 against_flag flags (Number number) = not (cases_eq (bit_and flags SHF_INFO_LINK) 0)
@@ -165,7 +171,8 @@ wrong_membership o i members j =
 
 has_wrong_membership : (o : ObjectValue) (i : ℕ) → Decided (HasWrongMembership o i)
 has_wrong_membership o i =
-    let members = members_of (section_at o i).body in some_below (length members) (IsWrongMembership o i members) (wrong_membership o i members)
+    let members = members_of (section_at o i).body in
+    some_below (length members) (IsWrongMembership o i members) (wrong_membership o i members)
 
 local : (o : ObjectValue) (k : ℕ) → Decided (IsLocal (symbol_at o k))
 local o k = cases_eq ((symbol_at o k).info / 16) STB_LOCAL
@@ -217,7 +224,11 @@ of_sections o =
           lowest n (λ i. HasWrongAlignment (section_at o i)) (λ i. wrong_alignment (section_at o i)),
           (
             lowest n (λ i. HasWrongPosition o (section_at o i)) (λ i. wrong_position o (section_at o i)),
-            (lowest n (λ i. HasWrongField (section_at o i) (section_at o i).body) (λ i. wrong_field (section_at o i) (section_at o i).body), tt),
+            (
+              lowest n (λ i. HasWrongField (section_at o i) (section_at o i).body)
+                  (λ i. wrong_field (section_at o i) (section_at o i).body),
+              tt,
+            ),
           ),
         ),
       ),
@@ -233,7 +244,8 @@ of_symbols o =
     let n = length o.symbols in (
       lowest n (λ i. HasZero (symbol_at o i).name) (λ i. contains (symbol_at o i).name 0),
       (
-        lowest n (λ i. IsPast (length o.sections) (place_position (symbol_at o i).place)) (λ i. past (length o.sections) (place_position (symbol_at o i).place)),
+        lowest n (λ i. IsPast (length o.sections) (place_position (symbol_at o i).place))
+            (λ i. past (length o.sections) (place_position (symbol_at o i).place)),
         (lowest n (IsMisplacedLocal o) (misplaced o), tt),
       ),
     )
@@ -242,4 +254,5 @@ pub object_fault : (o : ObjectValue) → (x : Option (ℕ × ℕ)) × FirstIn (o
 unfolding object_rules
 object_fault o =
     first_of (object_rules o)
-    (all_decided (object_section_rules o) (object_group_rules o ++ object_symbol_rules o) (of_sections o) (all_decided (object_group_rules o) (object_symbol_rules o) (of_groups o) (of_symbols o)))
+    (all_decided (object_section_rules o) (object_group_rules o ++ object_symbol_rules o) (of_sections o)
+    (all_decided (object_group_rules o) (object_symbol_rules o) (of_groups o) (of_symbols o)))

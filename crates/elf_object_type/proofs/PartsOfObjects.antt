@@ -1,5 +1,6 @@
 -- Parts of an object: its elements, its relocation tables, and when two are equal.
-use Rattle.std.proofs.Common.{◌<◌, ℕ, zero, suc, List, [], ◌∷◌, get_or, length, map, subst, sym, arith, ◌≡◌, ◌*◌, ◌^◌, Bool, true, false, zero-add, refl, ap₂, ◌∙◌, ◌&&◌, nat_eq}
+use Rattle.std.proofs.Common.{◌<◌, ℕ, zero, suc, List, [], ◌∷◌, get_or, length, map, subst, sym, arith, ◌≡◌, ◌*◌, ◌^◌, Bool, true, false}
+use Rattle.std.proofs.Common.{zero-add, refl, ap₂, ◌∙◌, ◌&&◌, nat_eq}
 use Rattle.std.specs.List.{AllByRecursion, Any}
 use Rattle.std.proofs.lemmas.List.{get_or-map, get_or_default, length-map}
 use Rattle.std.specs.Int.{w64}
@@ -12,8 +13,10 @@ use Rattle.elf_field.specs.Bytes.{IsBytes}
 use Rattle.elf_field.specs.Entries.{rel_at, rela_at, rel_laws, rela_laws}
 use Rattle.elf_field.specs.declared.number.Order.TheVariants.{Little, Big}
 use Rattle.elf_field.specs.declared.number.Order.{Order}
-use Rattle.elf_object_type.specs.Equality.{is_same_body, is_same_info, is_same_object, is_same_order, is_same_place, is_same_position, is_same_section, is_same_symbol}
-use Rattle.elf_object_type.specs.Object.{no_relocation, IsRelocationTable, listed_in, table_count, table_relocation, table_relocations, RelocationFits}
+use Rattle.elf_object_type.specs.Equality.{is_same_body, is_same_info, is_same_object, is_same_order, is_same_place, is_same_position}
+use Rattle.elf_object_type.specs.Equality.{is_same_section, is_same_symbol}
+use Rattle.elf_object_type.specs.Object.{no_relocation, IsRelocationTable, listed_in, table_count, table_relocation, table_relocations}
+use Rattle.elf_object_type.specs.Object.{RelocationFits}
 use Rattle.elf_object_type.specs.ObjectView.{body_value, section_value, symbol_value, value_of}
 use Rattle.elf_object_type.specs.declared.parts.Body.TheVariants.{Bits, NoBits, Relocs, Group}
 use Rattle.elf_object_type.specs.declared.parts.Body.{Body}
@@ -45,7 +48,8 @@ each_of_all P [] d all i lt = absurd (omega arith)
 each_of_all P (x ∷ xs) d all zero lt = all.0
 each_of_all P (x ∷ xs) d all (suc i) lt = each_of_all P xs d all.1 i (omega arith)
 
-pub all_of_map : {A B : Type 0} (P : B → Type 0) (f : A → B) (xs : List A) (d : A) (e : B) → ((i : ℕ) → i < length xs → P (f (get_or xs i d))) →
+pub all_of_map : {A B : Type 0} (P : B → Type 0) (f : A → B) (xs : List A) (d : A) (e : B) →
+    ((i : ℕ) → i < length xs → P (f (get_or xs i d))) →
     AllByRecursion P (map f xs)
 all_of_map P f xs d e each =
     all_of_each P (map f xs) e (λ i lt. (
@@ -60,7 +64,8 @@ none_of_any P xs d none i lt broken = none (i, get_or xs i d, lt, get_or_default
 -- list of bytes fit their fields, by the laws of the records. Bytes that are whole entries long are a table of the relocations in them
 -- (`table_is_of`).
 
-pub length_table_relocations : (rela : Bool) (order : Order) (bytes : List ℕ) → length (table_relocations rela order bytes) ≡ table_count rela bytes
+pub length_table_relocations : (rela : Bool) (order : Order) (bytes : List ℕ) →
+    length (table_relocations rela order bytes) ≡ table_count rela bytes
 unfolding table_relocations
 length_table_relocations rela order bytes = length-map-range_with_len (table_relocation rela order bytes) 0 (table_count rela bytes)
 
@@ -73,7 +78,8 @@ table_relocation_get rela order bytes j within =
 no_addend : FitsSigned w64 (pos 0)
 no_addend = search arith
 
-relocation_fits : (rela : Bool) (order : Order) (bytes : List ℕ) (j : ℕ) → IsBytes bytes → RelocationFits (table_relocation rela order bytes j)
+relocation_fits : (rela : Bool) (order : Order) (bytes : List ℕ) (j : ℕ) → IsBytes bytes →
+    RelocationFits (table_relocation rela order bytes j)
 unfolding table_relocation
 relocation_fits true order bytes j are =
     let fits = rela_laws.valid order bytes (24 * j) are in
@@ -86,13 +92,17 @@ relocation_fits false order bytes j are =
     let kind : e.r_info % 2 ^ 32 < 2 ^ 32 = omega arith in
     record { offset = fits.r_offset; kind = kind; addend = no_addend }
 
-pub relocations_fit : (rela : Bool) (order : Order) (bytes : List ℕ) → IsBytes bytes → AllByRecursion RelocationFits (table_relocations rela order bytes)
+pub relocations_fit : (rela : Bool) (order : Order) (bytes : List ℕ) → IsBytes bytes →
+    AllByRecursion RelocationFits (table_relocations rela order bytes)
 relocations_fit rela order bytes are =
     all_of_each RelocationFits (table_relocations rela order bytes) no_relocation
-    (λ j lt. subst RelocationFits (sym (table_relocation_get rela order bytes j (subst (λ (n : ℕ). j < n) (length_table_relocations rela order bytes) lt))) (relocation_fits rela order bytes j are))
+    (λ j lt. subst RelocationFits
+    (sym (table_relocation_get rela order bytes j (subst (λ (n : ℕ). j < n) (length_table_relocations rela order bytes) lt)))
+    (relocation_fits rela order bytes j are))
 
 -- bytes that end with a relocation are a table of the relocations in them
-whole_table : (rela : Bool) (order : Order) (bytes : List ℕ) → IsBytes bytes → length bytes % relocation_size rela ≡ 0 → IsRelocationTable rela order bytes (table_relocations rela order bytes)
+whole_table : (rela : Bool) (order : Order) (bytes : List ℕ) → IsBytes bytes → length bytes % relocation_size rela ≡ 0 →
+    IsRelocationTable rela order bytes (table_relocations rela order bytes)
 whole_table true order bytes are even =
     let long = length_table_relocations true order bytes in
     record { are_bytes = are; relocations_are = refl; whole = omega arith }
@@ -100,10 +110,12 @@ whole_table false order bytes are even =
     let long = length_table_relocations false order bytes in
     record { are_bytes = are; relocations_are = refl; whole = omega arith }
 
-pub table_is_of : (t : RelocationTable) (rela : Bool) (order : Order) → IsBytes t.bytes.now → t.rela ≡ rela → t.order ≡ order → length t.bytes.now % relocation_size rela ≡ 0 →
+pub table_is_of : (t : RelocationTable) (rela : Bool) (order : Order) → IsBytes t.bytes.now → t.rela ≡ rela → t.order ≡ order →
+    length t.bytes.now % relocation_size rela ≡ 0 →
     IsRelocationTable rela order t.bytes.now (listed_in t)
 table_is_of t rela order are is_rela is_order even =
-    subst (IsRelocationTable rela order t.bytes.now) (sym (ap₂ (λ r o. table_relocations r o t.bytes.now) is_rela is_order)) (whole_table rela order t.bytes.now are even)
+    subst (IsRelocationTable rela order t.bytes.now) (sym (ap₂ (λ r o. table_relocations r o t.bytes.now) is_rela is_order))
+    (whole_table rela order t.bytes.now are even)
 
 -- The derived `==` of object parts is `is_same_object` of their values. By cases on the variants and field by field, each comparison of the
 -- code is the comparison of the values.
@@ -152,7 +164,8 @@ body_same (Group c i ms) (Group d j ns) = refl
 
 section_same : (s t : Section) → (section_eq.ghosts).eq s t ≡ is_same_section (section_value s) (section_value t)
 section_same s t = λ i.
-    pointwise nat_eq s.name.now t.name.now && (nat_eq s.flags t.flags && (nat_eq s.addr t.addr && (nat_eq s.align t.align && (nat_eq s.entsize t.entsize
+    pointwise nat_eq s.name.now
+    t.name.now && (nat_eq s.flags t.flags && (nat_eq s.addr t.addr && (nat_eq s.align t.align && (nat_eq s.entsize t.entsize
     && (is_same_position s.link t.link && (info_same s.info t.info i && body_same s.body t.body i))))))
 
 symbol_same : (s t : Symbol) → (symbol_eq.ghosts).eq s t ≡ is_same_symbol (symbol_value s) (symbol_value t)
@@ -166,10 +179,12 @@ order_same Little Big = refl
 order_same Big Little = refl
 order_same Big Big = refl
 
-sections_same : (ss ts : List Section) → pointwise (section_eq.ghosts).eq ss ts ≡ pointwise is_same_section (map section_value ss) (map section_value ts)
+sections_same : (ss ts : List Section) →
+    pointwise (section_eq.ghosts).eq ss ts ≡ pointwise is_same_section (map section_value ss) (map section_value ts)
 sections_same ss ts = (λ i. pointwise (λ s t. section_same s t i) ss ts) ∙ sym (pointwise-map section_value is_same_section ss ts)
 
-symbols_same : (ss ts : List Symbol) → pointwise (symbol_eq.ghosts).eq ss ts ≡ pointwise is_same_symbol (map symbol_value ss) (map symbol_value ts)
+symbols_same : (ss ts : List Symbol) →
+    pointwise (symbol_eq.ghosts).eq ss ts ≡ pointwise is_same_symbol (map symbol_value ss) (map symbol_value ts)
 symbols_same ss ts = (λ i. pointwise (λ s t. symbol_same s t i) ss ts) ∙ sym (pointwise-map symbol_value is_same_symbol ss ts)
 
 pub parts_same : (p q : ObjectParts) → (parts_eq.ghosts).eq p q ≡ is_same_object (value_of p) (value_of q)

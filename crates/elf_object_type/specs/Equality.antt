@@ -4,7 +4,8 @@ use Rattle.std.specs.Bool.{beq, Decides}
 use Rattle.std.specs.Cmp.Lexicographic.{pointwise, pointwise_decides}
 use Rattle.std.specs.Ordering.{int_eq}
 use Rattle.std.proofs.Common.{◌≡◌, refl, ap}
-use Rattle.std.specs.Cmp.{IsEquivalence, IsPartialEquivalence, booleans_Decides, decided, partial_equiv_from_equiv, signed_Decides, unsigned_Decides}
+use Rattle.std.specs.Cmp.{IsEquivalence, IsPartialEquivalence, booleans_Decides, decided, partial_equiv_from_equiv, signed_Decides}
+use Rattle.std.specs.Cmp.{unsigned_Decides}
 use Rattle.elf_field.specs.declared.number.Order.TheVariants.{Little, Big}
 use Rattle.elf_field.specs.declared.number.Order.{Order}
 use Rattle.elf_object_type.specs.Object.{BodyValue, bits, no_bits, relocs, group, ObjectValue, SectionValue, SymbolValue}
@@ -131,11 +132,15 @@ relocation_decides a b =
     (both _ _ (unsigned_Decides a.kind b.kind)
     (signed_Decides a.addend b.addend))))
     (λ h i. record { offset = h.0 i; symbol = h.1.0 i; kind = h.1.1.0 i; addend = h.1.1.1 i })
-    (λ e. (ap (λ (x : Relocation). x.offset) e, (ap (λ (x : Relocation). x.symbol) e, (ap (λ (x : Relocation). x.kind) e, ap (λ (x : Relocation). x.addend) e))))
+    (λ e. (
+      ap (λ (x : Relocation). x.offset) e,
+      (ap (λ (x : Relocation). x.symbol) e, (ap (λ (x : Relocation). x.kind) e, ap (λ (x : Relocation). x.addend) e)),
+    ))
 
 body_decides : (a b : BodyValue) → Decides (is_same_body a b) (a ≡ b)
 body_decides (bits t b) (bits u c) =
-    instead (is_same_body (bits t b) (bits u c)) (both (nat_eq t u) _ (unsigned_Decides t u) (text_decides b c)) (λ h i. bits (h.0 i) (h.1 i)) (λ e. (cc, cc))
+    instead (is_same_body (bits t b) (bits u c)) (both (nat_eq t u) _ (unsigned_Decides t u) (text_decides b c))
+    (λ h i. bits (h.0 i) (h.1 i)) (λ e. (cc, cc))
 body_decides (bits t b) (no_bits m) = never (λ e. cc)
 body_decides (bits t b) (relocs r j es) = never (λ e. cc)
 body_decides (bits t b) (group d j ns) = never (λ e. cc)
@@ -169,8 +174,33 @@ section_decides a b =
     (both _ _ (position_decides a.link b.link)
     (both _ _ (info_decides a.info b.info)
     (body_decides a.body b.body))))))))
-    (λ h i. record { name = h.0 i; flags = h.1.0 i; addr = h.1.1.0 i; align = h.1.1.1.0 i; entsize = h.1.1.1.1.0 i; link = h.1.1.1.1.1.0 i; info = h.1.1.1.1.1.1.0 i; body = h.1.1.1.1.1.1.1 i })
-    (λ e. (ap (λ (x : SectionValue). x.name) e, (ap (λ (x : SectionValue). x.flags) e, (ap (λ (x : SectionValue). x.addr) e, (ap (λ (x : SectionValue). x.align) e, (ap (λ (x : SectionValue). x.entsize) e, (ap (λ (x : SectionValue). x.link) e, (ap (λ (x : SectionValue). x.info) e, ap (λ (x : SectionValue). x.body) e))))))))
+    (λ h i. record {
+      name = h.0 i;
+      flags = h.1.0 i;
+      addr = h.1.1.0 i;
+      align = h.1.1.1.0 i;
+      entsize = h.1.1.1.1.0 i;
+      link = h.1.1.1.1.1.0 i;
+      info =
+          h.1.1.1.1.1.1.0 i;
+      body = h.1.1.1.1.1.1.1 i;
+    })
+    (λ e. (
+      ap (λ (x : SectionValue). x.name) e,
+      (
+        ap (λ (x : SectionValue). x.flags) e,
+        (
+          ap (λ (x : SectionValue). x.addr) e,
+          (
+            ap (λ (x : SectionValue). x.align) e,
+            (
+              ap (λ (x : SectionValue). x.entsize) e,
+              (ap (λ (x : SectionValue). x.link) e, (ap (λ (x : SectionValue). x.info) e, ap (λ (x : SectionValue). x.body) e)),
+            ),
+          ),
+        ),
+      ),
+    ))
 
 place_decides : (a b : Place) → Decides (is_same_place a b) (a ≡ b)
 place_decides Undef Undef = (λ e. refl, λ e. refl)
@@ -200,7 +230,16 @@ symbol_decides a b =
     (both _ _ (unsigned_Decides a.value b.value)
     (unsigned_Decides a.size b.size))))))
     (λ h i. record { name = h.0 i; info = h.1.0 i; other = h.1.1.0 i; place = h.1.1.1.0 i; value = h.1.1.1.1.0 i; size = h.1.1.1.1.1 i })
-    (λ e. (ap (λ (x : SymbolValue). x.name) e, (ap (λ (x : SymbolValue). x.info) e, (ap (λ (x : SymbolValue). x.other) e, (ap (λ (x : SymbolValue). x.place) e, (ap (λ (x : SymbolValue). x.value) e, ap (λ (x : SymbolValue). x.size) e))))))
+    (λ e. (
+      ap (λ (x : SymbolValue). x.name) e,
+      (
+        ap (λ (x : SymbolValue). x.info) e,
+        (
+          ap (λ (x : SymbolValue). x.other) e,
+          (ap (λ (x : SymbolValue). x.place) e, (ap (λ (x : SymbolValue). x.value) e, ap (λ (x : SymbolValue). x.size) e)),
+        ),
+      ),
+    ))
 
 pub object_decides : (a b : ObjectValue) → Decides (is_same_object a b) (a ≡ b)
 object_decides a b =
@@ -212,8 +251,29 @@ object_decides a b =
     (both _ _ (unsigned_Decides a.flags b.flags)
     (both _ _ (pointwise_decides section_decides a.sections b.sections)
     (pointwise_decides symbol_decides a.symbols b.symbols)))))))
-    (λ h i. record { order = h.0 i; osabi = h.1.0 i; abi = h.1.1.0 i; machine = h.1.1.1.0 i; flags = h.1.1.1.1.0 i; sections = h.1.1.1.1.1.0 i; symbols = h.1.1.1.1.1.1 i })
-    (λ e. (ap (λ (x : ObjectValue). x.order) e, (ap (λ (x : ObjectValue). x.osabi) e, (ap (λ (x : ObjectValue). x.abi) e, (ap (λ (x : ObjectValue). x.machine) e, (ap (λ (x : ObjectValue). x.flags) e, (ap (λ (x : ObjectValue). x.sections) e, ap (λ (x : ObjectValue). x.symbols) e)))))))
+    (λ h i. record {
+      order = h.0 i;
+      osabi = h.1.0 i;
+      abi = h.1.1.0 i;
+      machine = h.1.1.1.0 i;
+      flags = h.1.1.1.1.0 i;
+      sections = h.1.1.1.1.1.0 i;
+      symbols =
+          h.1.1.1.1.1.1 i;
+    })
+    (λ e. (
+      ap (λ (x : ObjectValue). x.order) e,
+      (
+        ap (λ (x : ObjectValue). x.osabi) e,
+        (
+          ap (λ (x : ObjectValue). x.abi) e,
+          (
+            ap (λ (x : ObjectValue). x.machine) e,
+            (ap (λ (x : ObjectValue). x.flags) e, (ap (λ (x : ObjectValue). x.sections) e, ap (λ (x : ObjectValue). x.symbols) e)),
+          ),
+        ),
+      ),
+    ))
 
 pub relocations_decide : (rs ss : List Relocation) → Decides (are_same_relocations rs ss) (rs ≡ ss)
 relocations_decide = pointwise_decides relocation_decides

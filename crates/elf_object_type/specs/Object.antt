@@ -1,6 +1,7 @@
 -- An object as a value: what contracts see of it. (gABI chapter 4: ELF Header, Sections, Symbol Table, Relocation.)
 -- A position is an index in the list of sections or of symbols, from 0.
-use Rattle.std.specs.Prelude.{ℕ, ◌/◌, ◌%◌, Bool, Option, None, List, [], get_or, pos, ◌≡◌, ◌≢◌, ◌≤◌, true, false, Some, bit_and, Contains, ◌<◌, ◌^◌, FitsSigned, ◌*◌, ◌-◌, ◌==◌, if◌then◌else◌, length, map}
+use Rattle.std.specs.Prelude.{ℕ, ◌/◌, ◌%◌, Bool, Option, None, List, [], get_or, pos, ◌≡◌, ◌≢◌, ◌≤◌, true, false, Some, bit_and, Contains}
+use Rattle.std.specs.Prelude.{◌<◌, ◌^◌, FitsSigned, ◌*◌, ◌-◌, ◌==◌, if◌then◌else◌, length, map}
 use Rattle.std.specs.Int.{w64}
 use Rattle.std.specs.List.{AllByRecursion, range_with_len}
 use Rattle.elf_field.specs.Abi.{RELA_SIZE, REL_SIZE, relocation_size}

@@ -1,10 +1,14 @@
 -- The nine rules of an object, and the first one that is broken with its least position.
-use Rattle.std.specs.Prelude.{◌≡◌, ◌≢◌, ℕ, ◌%◌, ◌<◌, ◌≤◌, ◌⊎◌, false, None, List, [], ◌∷◌, length, pos, Any, Contains, ◌↔◌, Bool, true, slice_index, get_or, SomeIndex, Option, Some, ◌++◌, IfSome}
-use Rattle.elf_field.specs.Abi.{SHF_INFO_LINK, SHT_DYNAMIC, SHT_DYNSYM, SHT_GROUP, SHT_HASH, SHT_NOBITS, SHT_NULL, SHT_REL, SHT_RELA, SHT_SHLIB, SHT_SYMTAB, SHT_SYMTAB_SHNDX, WORD_SIZE, relocation_size, SHF_GROUP, STB_LOCAL}
+use Rattle.std.specs.Prelude.{◌≡◌, ◌≢◌, ℕ, ◌%◌, ◌<◌, ◌≤◌, ◌⊎◌, false, None, List, [], ◌∷◌, length, pos, Any, Contains, ◌↔◌, Bool, true}
+use Rattle.std.specs.Prelude.{slice_index, get_or, SomeIndex, Option, Some, ◌++◌, IfSome}
+use Rattle.elf_field.specs.Abi.{SHF_INFO_LINK, SHT_DYNAMIC, SHT_DYNSYM, SHT_GROUP, SHT_HASH, SHT_NOBITS, SHT_NULL, SHT_REL, SHT_RELA}
+use Rattle.elf_field.specs.Abi.{SHT_SHLIB, SHT_SYMTAB, SHT_SYMTAB_SHNDX, WORD_SIZE, relocation_size, SHF_GROUP, STB_LOCAL}
 use Rattle.elf_image_rules.specs.KeepsRules.{IsAlignment}
 use Rattle.elf_image_rules.specs.Rows.{AtEntry, Row, Ruled, rule, FirstIn}
 use Rattle.elf_image_rules.specs.Rules.{IsWrongAlignment}
-use Rattle.elf_object_type.specs.Object.{BodyValue, bits, no_bits, relocs, group, ObjectValue, SectionValue, section_at, HasFlag, HasZero, IsPast, LacksFlag, info_position, is_bits, is_group, members_of, SymbolValue, binding, symbol_at, no_relocation}
+use Rattle.elf_object_type.specs.Object.{BodyValue, bits, no_bits, relocs, group, ObjectValue, SectionValue, section_at, HasFlag, HasZero}
+use Rattle.elf_object_type.specs.Object.{IsPast, LacksFlag, info_position, is_bits, is_group, members_of, SymbolValue, binding, symbol_at}
+use Rattle.elf_object_type.specs.Object.{no_relocation}
 use Rattle.elf_object_type.specs.declared.object.ObjectFault.TheVariants.{Section as ObjectFaultSection, Symbol, OutOfMemory}
 use Rattle.elf_object_type.specs.declared.object.ObjectFault.{ObjectFault}
 use Rattle.elf_object_type.specs.declared.object_rules.SymbolRule.TheVariants.{ZeroInSymbolName, WrongPlace}
@@ -14,7 +18,8 @@ use Rattle.elf_object_type.specs.declared.parts.Info.{Info}
 use Rattle.elf_object_type.specs.declared.parts.Place.TheVariants.{Undef, Abs, Common, In}
 use Rattle.elf_object_type.specs.declared.parts.Place.{Place}
 use Rattle.elf_object_type.specs.declared.relocations.Relocation.{Relocation}
-use Rattle.elf_object_type.specs.declared.section_rules.SectionRule.TheVariants.{ZeroInSectionName, WrongBitsType, WrongAlignment, WrongPosition, WrongField}
+use Rattle.elf_object_type.specs.declared.section_rules.SectionRule.TheVariants.{ZeroInSectionName, WrongBitsType, WrongAlignment}
+use Rattle.elf_object_type.specs.declared.section_rules.SectionRule.TheVariants.{WrongPosition, WrongField}
 use Rattle.elf_object_type.specs.declared.section_rules.SectionRule.{SectionRule}
 
 -- Rules 1 to 5 of an object: what each section says by itself, and whether what it names is there.
@@ -23,7 +28,8 @@ use Rattle.elf_object_type.specs.declared.section_rules.SectionRule.{SectionRule
 -- the section types whose body is another, or that an object can't have
 abbrev pub types_without_bits : List ℕ
 types_without_bits =
-    SHT_NULL ∷ SHT_SYMTAB ∷ SHT_RELA ∷ SHT_HASH ∷ SHT_DYNAMIC ∷ SHT_NOBITS ∷ SHT_REL ∷ SHT_SHLIB ∷ SHT_DYNSYM ∷ SHT_GROUP ∷ SHT_SYMTAB_SHNDX ∷ []
+    SHT_NULL ∷ SHT_SYMTAB ∷ SHT_RELA ∷ SHT_HASH ∷ SHT_DYNAMIC ∷ SHT_NOBITS ∷ SHT_REL ∷ SHT_SHLIB ∷ SHT_DYNSYM ∷
+    SHT_GROUP ∷ SHT_SYMTAB_SHNDX ∷ []
 
 -- rule 2: the section has bits, and a type that doesn't go with them
 abbrev pub IsWrongBitsType : BodyValue → Type 0
@@ -282,7 +288,8 @@ pub record HasRightMembers (o : ObjectValue) : Type 0 where
   pub no_group : EachMember o (λ p m. is_group (section_at o m).body ≡ false)
   pub once : (p j k : ℕ) → p < length o.sections → j < length (group_members o p) → k < length (group_members o p) →
       member_in o p j ≡ member_in o p k → j ≡ k
-  pub of_one : (p q j k : ℕ) → p < length o.sections → q < length o.sections → j < length (group_members o p) → k < length (group_members o q) →
+  pub of_one : (p q j k : ℕ) → p < length o.sections → q < length o.sections → j < length (group_members o p) →
+      k < length (group_members o q) →
       member_in o p j ≡ member_in o q k → p ≡ q
 
 -- rules 1 to 9

@@ -1,4 +1,5 @@
--- What contracts see of an object, its sections and its symbols.
+-- What contracts see of an object, its sections and its symbols. A view repeats the fields that it shows, so that you can read each by
+-- itself.
 use Rattle.std.specs.Prelude.{◌≤◌, length, map}
 use Rattle.elf_object_strings.specs.StringTable.{AreTails}
 use Rattle.elf_object_type.specs.declared.object.NameEnds.{NameEnds}

@@ -1,4 +1,6 @@
 //! The object: parts that break no rule.
+//!
+//! Widths are in the invariant of the type, and not in the definition of an object: what a file denotes fits by itself.
 ghost use Rattle.std.specs.Prelude.{◌≡◌, ◌≤◌, ◌↔◌, IfErr, IfOk, IsTrue, OnOk, length, map};
 ghost use Rattle.elf_object_strings.specs.StringTable.{AreTails};
 ghost use Rattle.elf_object_type.specs.ObjectRules.{IsObject, IsObjectFault};
@@ -183,8 +185,8 @@ impl<'a> Object<'a> {
     }
 }
 
-/// The object of these parts, of which the caller knows that they break no rule, and that of two names with one end the longer one ends with
-/// the other.
+/// The object of these parts, of which the caller knows that they break no rule, and that of two names with one end the longer one ends
+/// with the other.
 pub fn kept_object<'a>(parts: ObjectParts<'a>, ends: NameEnds) -> Object<'a>
     requires rules { IsObject (value_of parts) }
     requires ends { HasNameEnds (value_of parts) ends }

@@ -2,7 +2,9 @@
 ghost use Rattle.std.specs.Prelude.{◌≡◌, ◌↔◌, ◌+◌, ◌<◌, ◌≤◌, ◌⊎◌, IfOk, IsTrue, [], length, IfErr, OnOk};
 ghost use Rattle.std.specs.Bool.{OnFalse};
 ghost use Rattle.elf_extent.specs.Extent.{IsLowest};
-ghost use Rattle.elf_object_type.specs.ObjectRules.{AreMembershipMarks, CannotJoin, HasWrongMembership, wrong_membership, BreaksSymbol, IsLocal, SomeSymbol, misplaced_local, object_symbol_rules, place_position as place_position_of, IsObject, IsObjectFault};
+ghost use Rattle.elf_object_type.specs.ObjectRules.{AreMembershipMarks, CannotJoin, HasWrongMembership, wrong_membership, BreaksSymbol};
+ghost use Rattle.elf_object_type.specs.ObjectRules.{IsLocal, SomeSymbol, misplaced_local, object_symbol_rules};
+ghost use Rattle.elf_object_type.specs.ObjectRules.{place_position as place_position_of, IsObject, IsObjectFault};
 ghost use Rattle.elf_object_type.specs.ObjectView.{value_of, symbol_value};
 ghost use Rattle.elf_image_rules.specs.Rows.{fault_of, FirstIn};
 

@@ -1,7 +1,8 @@
 //! The parts that an object is made from.
 ghost use Rattle.std.specs.Prelude.{◌≡◌, map};
 ghost use Rattle.std.specs.List.{AllByRecursion};
-ghost use Rattle.elf_object_type.specs.Object.{binding as binding_of, symbol_type as symbol_type_of, BodyFits, InfoFits, ObjectFits, SectionFits, SymbolFits};
+ghost use Rattle.elf_object_type.specs.Object.{binding as binding_of, symbol_type as symbol_type_of, BodyFits, InfoFits, ObjectFits};
+ghost use Rattle.elf_object_type.specs.Object.{SectionFits, SymbolFits};
 ghost use Rattle.elf_object_type.specs.ObjectView.{symbol_value, body_value, section_value, value_of};
 ghost use Rattle.elf_field.specs.Bytes.{IsBytes};
 

@@ -1,8 +1,11 @@
 //! The relocations of a section (gABI chapter 4, Relocation).
+//!
+//! Those that were read stay bytes, so they take no memory, and a writer may send them as they are. To every contract they are a list.
 ghost use Rattle.std.specs.Prelude.{◌≡◌, ◌<◌, IsTrue, ◌↔◌, IfSome, get_or, length};
 ghost use Rattle.std.specs.List.{AllByRecursion};
 ghost use Rattle.elf_field.specs.Abi.{relocation_size as relocation_size_of};
-ghost use Rattle.elf_object_type.specs.Object.{IsRelocationTable, listed_in, symbol_reference as symbol_reference_of, table_count, table_relocation, RelocationFits, no_relocation, table_relocations};
+ghost use Rattle.elf_object_type.specs.Object.{IsRelocationTable, listed_in, symbol_reference as symbol_reference_of, table_count};
+ghost use Rattle.elf_object_type.specs.Object.{table_relocation, RelocationFits, no_relocation, table_relocations};
 
 use crate::parts::prove_bytes;
 use elf_field::abi::*;

@@ -1,11 +1,14 @@
 //! Rules 1 to 5: what each section says by itself, and whether what it names is there
 //! (gABI chapter 4, Sections, Relocation).
 ghost use Rattle.std.specs.Prelude.{◌≡◌, ◌↔◌, ◌<◌, ◌≤◌, Any, IsTrue, length, ◌≢◌, Contains, IfErr, pos};
-ghost use Rattle.elf_object_type.specs.Object.{section_at as section_of, symbol_at as symbol_of, HasZero, IsPast, info_position as info_position_of, is_bits as is_bits_of, is_group as is_group_of};
+ghost use Rattle.elf_object_type.specs.Object.{section_at as section_of, symbol_at as symbol_of, HasZero, IsPast};
+ghost use Rattle.elf_object_type.specs.Object.{info_position as info_position_of, is_bits as is_bits_of, is_group as is_group_of};
 ghost use Rattle.elf_object_type.specs.ObjectView.{body_value, section_value, symbol_value, value_of};
 ghost use Rattle.elf_extent.specs.Extent.{IsLowest};
 ghost use Rattle.elf_image_rules.specs.Rows.{fault_of, FirstIn};
-ghost use Rattle.elf_object_type.specs.ObjectRules.{BreaksSection, HasLinkOrInfo, HasWrongAlignment, HasWrongField, HasWrongPosition, HasWrongReference, IsAgainstFlag, IsNoTarget, IsWrongBitsType, SomeSection, object_section_rules, types_without_bits};
+ghost use Rattle.elf_object_type.specs.ObjectRules.{BreaksSection, HasLinkOrInfo, HasWrongAlignment, HasWrongField, HasWrongPosition};
+ghost use Rattle.elf_object_type.specs.ObjectRules.{HasWrongReference, IsAgainstFlag, IsNoTarget, IsWrongBitsType, SomeSection};
+ghost use Rattle.elf_object_type.specs.ObjectRules.{object_section_rules, types_without_bits};
 
 use crate::parts::{Body, Info, ObjectParts, Section, Symbol};
 use crate::relocations::Relocations;

@@ -1,5 +1,6 @@
 -- The section headers of a written object.
-use Rattle.std.proofs.Common.{◌≡◌, ◌<◌, ◌≤◌, ◌+◌, ◌*◌, ◌^◌, ℕ, Option, None, Some, List, length, map, get_or, inl, inr, sym, ap, subst, ◌∙◌, arith, zero, suc, [], ◌∷◌, refl, ap₂, ◌-◌, Bool, true, false, ◌++◌}
+use Rattle.std.proofs.Common.{◌≡◌, ◌<◌, ◌≤◌, ◌+◌, ◌*◌, ◌^◌, ℕ, Option, None, Some, List, length, map, get_or, inl, inr, sym, ap, subst, ◌∙◌}
+use Rattle.std.proofs.Common.{arith, zero, suc, [], ◌∷◌, refl, ap₂, ◌-◌, Bool, true, false, ◌++◌}
 use Rattle.std.proofs.lemmas.Bool.{cases_lt, ne_eqb}
 use Rattle.std.proofs.lemmas.List.{get_or-map, length-map, map-append}
 use Rattle.std.specs.Prelude.{All, Any, filter, codes, cond}
@@ -8,7 +9,8 @@ use Rattle.elf_field.specs.declared.shdr.Shdr.{Shdr}
 use Rattle.elf_image_rules.specs.Tables.{no_section_header}
 use Rattle.elf_object_strings.specs.StringTable.{name_offset}
 use Rattle.elf_object_type.proofs.Public.{no_wrong_place, no_wrong_position, no_wrong_bits_type}
-use Rattle.elf_object_type.specs.Object.{ObjectValue, SymbolValue, no_symbol, symbol_at, IsPast, BodyValue, bits, no_bits, relocs, group, SectionValue, no_section, section_at, info_position}
+use Rattle.elf_object_type.specs.Object.{ObjectValue, SymbolValue, no_symbol, symbol_at, IsPast, BodyValue, bits, no_bits, relocs, group}
+use Rattle.elf_object_type.specs.Object.{SectionValue, no_section, section_at, info_position}
 use Rattle.elf_object_type.specs.ObjectRules.{place_position, HasWrongReference, IsWrongBitsType}
 use Rattle.elf_object_type.specs.ObjectView.{symbol_value, section_value}
 use Rattle.elf_object_type.specs.declared.parts.Section.{Section}
@@ -16,7 +18,8 @@ use Rattle.elf_object_type.specs.declared.parts.Symbol.{Symbol}
 use Rattle.elf_object_type.specs.declared.relocations.Relocation.{Relocation}
 use Rattle.elf_object_layout.proofs.Public.{few_sections, few_symbols, short_content}
 use Rattle.elf_object_layout.proofs.Public.{own_below, own_found, bits_in_file}
-use Rattle.elf_object_layout.specs.Laid.{index_of, section_header, section_size, body_type, is_local, own_info, own_section, strings_at, section_headers, LayoutValue, PlainSection, plain_sections, section_names, sections_before_names}
+use Rattle.elf_object_layout.specs.Laid.{index_of, section_header, section_size, body_type, is_local, own_info, own_section, strings_at}
+use Rattle.elf_object_layout.specs.Laid.{section_headers, LayoutValue, PlainSection, plain_sections, section_names, sections_before_names}
 use Rattle.elf_object_writer.specs.PlacedObject.{IsPlacedObject, PlacedValue, HasShortIndexes, HasShortNumbers, plain_section, IsSectionAt}
 use Rattle.elf_object_writer.specs.declared.placed_object.PlacedSection.TheVariants.{Own, SymbolTable, Names}
 use Rattle.elf_object_writer.specs.declared.placed_object.PlacedSection.{PlacedSection}
@@ -33,14 +36,16 @@ near_index (Some k) n few here = elim (cases_lt k n) [
 ]
 
 -- symbol i, as code reads it
-pub symbol_read : (o : ObjectValue) (symbols : List Symbol) (i : ℕ) (d : Symbol) → map symbol_value symbols ≡ o.symbols → i < length o.symbols →
+pub symbol_read : (o : ObjectValue) (symbols : List Symbol) (i : ℕ) (d : Symbol) → map symbol_value symbols ≡ o.symbols →
+    i < length o.symbols →
     symbol_value (get_or symbols i d) ≡ symbol_at o i
 symbol_read o symbols i d values lt =
     let many = length-map symbols symbol_value in
     let same = ap length values in
     sym (get_or-map symbol_value symbols i d no_symbol (omega arith)) ∙ ap (λ (ss : List SymbolValue). get_or ss i no_symbol) values
 
-pub near_place : (p : PlacedValue) (symbols : List Symbol) (i : ℕ) (d : Symbol) → IsPlacedObject p → map symbol_value symbols ≡ p.object.symbols → i < length p.object.symbols →
+pub near_place : (p : PlacedValue) (symbols : List Symbol) (i : ℕ) (d : Symbol) → IsPlacedObject p →
+    map symbol_value symbols ≡ p.object.symbols → i < length p.object.symbols →
     index_of (place_position (get_or symbols i d).place) < 2 ^ 32
 near_place p symbols i d placed values lt =
     let o = p.object in
@@ -49,7 +54,8 @@ near_place p symbols i d placed values lt =
     subst (λ (s : SymbolValue). index_of (place_position s.place) < 2 ^ 32) (sym (symbol_read o symbols i d values lt))
     (near_index (place_position (symbol_at o i).place) (length o.sections) (omega arith) (no_wrong_place o placed.rules i lt))
 
-pub counted_symbols : (p : PlacedValue) (symbols : List Symbol) → IsPlacedObject p → map symbol_value symbols ≡ p.object.symbols → 24 * (length symbols + 1) ≤ 2 ^ 30
+pub counted_symbols : (p : PlacedValue) (symbols : List Symbol) → IsPlacedObject p → map symbol_value symbols ≡ p.object.symbols →
+    24 * (length symbols + 1) ≤ 2 ^ 30
 counted_symbols p symbols placed values =
     let few = few_symbols p.object p.layout placed.layout in
     let many = length-map symbols symbol_value in
@@ -73,7 +79,8 @@ any_default (x ∷ xs) (suc k) d e lt = any_default xs k d e (omega arith)
 each_here : {A : Type 0} (P : A → Type 0) (Q : A → Type 0) (xs : List A) → ((x : A) → (P x → ⊥) → Q x) → (Any P xs → ⊥) → All Q xs
 each_here P Q xs from none = λ k d lt. from (get_or xs k d) (λ p. none (k, get_or xs k d, lt, any_default xs k (get_or xs k d) d lt, p))
 
-short_indexes : (o : ObjectValue) (b : BodyValue) → length o.sections < 2 ^ 31 → length o.symbols < 2 ^ 31 → (HasWrongReference o b → ⊥) → HasShortIndexes b
+short_indexes : (o : ObjectValue) (b : BodyValue) → length o.sections < 2 ^ 31 → length o.symbols < 2 ^ 31 → (HasWrongReference o b → ⊥) →
+    HasShortIndexes b
 short_indexes o (bits type content) few_s few_m right = tt
 short_indexes o (no_bits size) few_s few_m right = tt
 short_indexes o (relocs rela target entries) few_s few_m right = (
@@ -83,10 +90,12 @@ short_indexes o (relocs rela target entries) few_s few_m right = (
 )
 short_indexes o (group comdat signature members) few_s few_m right = (
   below_count signature (length o.symbols) few_m (λ past. right (inl past)),
-  each_here (λ (m : ℕ). length o.sections ≤ m) (λ m. m + 1 < 2 ^ 32) members (λ m here. below_count m (length o.sections) few_s here) (λ past. right (inr past)),
+  each_here (λ (m : ℕ). length o.sections ≤ m) (λ m. m + 1 < 2 ^ 32) members (λ m here. below_count m (length o.sections) few_s here)
+      (λ past. right (inr past)),
 )
 
-pub short_numbers : (p : PlacedValue) (i : ℕ) → IsPlacedObject p → i < length p.object.sections → HasShortNumbers p.object (section_at p.object i)
+pub short_numbers : (p : PlacedValue) (i : ℕ) → IsPlacedObject p → i < length p.object.sections →
+    HasShortNumbers p.object (section_at p.object i)
 short_numbers p i placed lt =
     let o = p.object in
     let s = section_at o i in
@@ -103,7 +112,8 @@ short_numbers p i placed lt =
     }
 
 -- section i, as code reads it
-pub section_read : (o : ObjectValue) (sections : List Section) (i : ℕ) (d : Section) → map section_value sections ≡ o.sections → i < length o.sections →
+pub section_read : (o : ObjectValue) (sections : List Section) (i : ℕ) (d : Section) → map section_value sections ≡ o.sections →
+    i < length o.sections →
     section_value (get_or sections i d) ≡ section_at o i
 section_read o sections i d values lt =
     let many = length-map sections section_value in
@@ -132,22 +142,26 @@ of_section s offset name type size link info = record {
   sh_entsize = s.entsize;
 }
 
-bits_size : (o : ObjectValue) (s : SectionValue) (b : BodyValue) (type : ℕ) (content : List ℕ) → s.body ≡ b → b ≡ bits type content → (IsWrongBitsType b → ⊥) →
+bits_size : (o : ObjectValue) (s : SectionValue) (b : BodyValue) (type : ℕ) (content : List ℕ) → s.body ≡ b → b ≡ bits type content →
+    (IsWrongBitsType b → ⊥) →
     section_size (own_section o s) ≡ length (own_section o s).content
 bits_size o s b type content is kind right =
     let at = is ∙ kind in
     let other = bits_in_file type content (subst (λ (c : BodyValue). IsWrongBitsType c → ⊥) kind right) in
     rw (at, ne_eqb type SHT_NOBITS other) refl
 
-bits_fields : (o : ObjectValue) (s : SectionValue) (name_at : List ℕ → ℕ) (offset name type size link info : ℕ) → name ≡ name_at s.name → type ≡ body_type s.body →
+bits_fields : (o : ObjectValue) (s : SectionValue) (name_at : List ℕ → ℕ) (offset name type size link info : ℕ) → name ≡ name_at s.name →
+    type ≡ body_type s.body →
     size ≡ section_size (own_section o s) → link ≡ (own_section o s).link → info ≡ (own_section o s).info →
     of_section s offset name type size link info ≡ section_header name_at (own_section o s) offset
 bits_fields o s name_at offset name type size link info named typed sized linked informed =
     ap₂ (λ (n t : ℕ). of_section s offset n t size link info) named typed
     ∙ ap₂ (λ (z l : ℕ). of_section s offset (name_at s.name) (body_type s.body) z l info) sized linked
-    ∙ ap (λ (i : ℕ). of_section s offset (name_at s.name) (body_type s.body) (section_size (own_section o s)) (own_section o s).link i) informed
+    ∙ ap (λ (i : ℕ). of_section s offset (name_at s.name) (body_type s.body) (section_size (own_section o s)) (own_section o s).link i)
+    informed
 
-pub bits_header : (o : ObjectValue) (s t : SectionValue) (type : ℕ) (content : List ℕ) (name_at : List ℕ → ℕ) (h : Shdr) (kind link info : ℕ) → t ≡ s → t.body ≡ bits type content →
+pub bits_header : (o : ObjectValue) (s t : SectionValue) (type : ℕ) (content : List ℕ) (name_at : List ℕ → ℕ) (h : Shdr)
+    (kind link info : ℕ) → t ≡ s → t.body ≡ bits type content →
     (IsWrongBitsType t.body → ⊥) → kind ≡ body_type t.body → link ≡ index_of t.link → info ≡ own_info t.info →
     h ≡ begun (name_at s.name) h.sh_offset (length (own_section o s).content) →
     of_section t h.sh_offset h.sh_name kind h.sh_size link info ≡ section_header name_at (own_section o s) h.sh_offset
@@ -160,37 +174,49 @@ bits_header o s t type content name_at h kind link info same body right typed li
     (rw body linked) (rw body informed)) is
 
 -- one of the object's own sections
-pub own_header_read : (o : ObjectValue) (section : PlacedSection) (position : ℕ) (name offset size : ℕ) (h : Shdr) → section ≡ Own position →
+pub own_header_read : (o : ObjectValue) (section : PlacedSection) (position : ℕ) (name offset size : ℕ) (h : Shdr) →
+    section ≡ Own position →
     size ≡ length (plain_section o section).content →
-    ((name_at : List ℕ → ℕ) → begun name offset size ≡ begun (name_at (section_at o position).name) offset (length (own_section o (section_at o position)).content) →
+    ((name_at : List ℕ → ℕ) →
+    begun name offset size ≡ begun (name_at (section_at o position).name) offset (length (own_section o (section_at o position)).content) →
     h ≡ section_header name_at (own_section o (section_at o position)) offset) →
     (name_at : List ℕ → ℕ) → name ≡ name_at (plain_section o section).name → h ≡ section_header name_at (plain_section o section) offset
 own_header_read o section position name offset size h is sized from name_at named =
-    let P : PlacedSection → Type 0 = λ s. size ≡ length (plain_section o s).content → name ≡ name_at (plain_section o s).name → h ≡ section_header name_at (plain_section o s) offset in
+    let P : PlacedSection → Type 0 = λ s. size ≡ length (plain_section o s).content → name ≡ name_at (plain_section o s).name →
+    h ≡ section_header name_at (plain_section o s) offset in
     subst P (sym is) (λ z n. from name_at (ap₂ (λ (x y : ℕ). begun x offset y) n z)) sized named
 
 -- the symbol table
 pub symbols_header_read : (o : ObjectValue) (section : PlacedSection) (name offset size link info : ℕ) → section ≡ SymbolTable →
     size ≡ length (plain_section o section).content → link ≡ strings_at o → info ≡ 1 + length (filter is_local o.symbols) →
     (name_at : List ℕ → ℕ) → name ≡ name_at (plain_section o section).name →
-    record (begun name offset size) { sh_type = 2; sh_link = link; sh_info = info; sh_addralign = 8; sh_entsize = 24 } ≡ section_header name_at (plain_section o section) offset
+    record (begun name offset size) { sh_type = 2; sh_link = link; sh_info = info; sh_addralign = 8; sh_entsize = 24 } ≡
+    section_header name_at (plain_section o section) offset
 symbols_header_read o section name offset size link info is sized linked informed name_at named =
-    let made : ℕ → ℕ → ℕ → ℕ → Shdr = λ n z l i. record (begun n offset z) { sh_type = 2; sh_link = l; sh_info = i; sh_addralign = 8; sh_entsize = 24 } in
-    let P : PlacedSection → Type 0 = λ s. size ≡ length (plain_section o s).content → name ≡ name_at (plain_section o s).name → made name size link info ≡ section_header name_at (plain_section o s) offset in
-    subst P (sym is) (λ z n. ap₂ (λ (x y : ℕ). made x y link info) n z ∙ ap₂ (λ (x y : ℕ). made (name_at (plain_section o SymbolTable).name) (length (plain_section o SymbolTable).content) x y) linked informed) sized named
+    let made : ℕ → ℕ → ℕ → ℕ → Shdr =
+    λ n z l i. record (begun n offset z) { sh_type = 2; sh_link = l; sh_info = i; sh_addralign = 8; sh_entsize = 24 } in
+    let P : PlacedSection → Type 0 = λ s. size ≡ length (plain_section o s).content → name ≡ name_at (plain_section o s).name →
+    made name size link info ≡ section_header name_at (plain_section o s) offset in
+    subst P (sym is)
+    (λ z n. ap₂ (λ (x y : ℕ). made x y link info) n z ∙
+    ap₂ (λ (x y : ℕ). made (name_at (plain_section o SymbolTable).name) (length (plain_section o SymbolTable).content) x y) linked informed)
+    sized named
 
 -- The section header at position k is made of the section and the place at k, by induction on the list of sections (`header_found`). Its
 -- name is the one at k in the list of all names. The code counts as many local symbols as the object's value has, by induction on the
 -- symbols.
 
 -- the name of a section is the one at its position in the list of all names
-pub name_at_position : (o : ObjectValue) (k : ℕ) (d : PlainSection) → k < length (plain_sections o) → get_or (section_names o) k [] ≡ (get_or (plain_sections o) k d).name
+pub name_at_position : (o : ObjectValue) (k : ℕ) (d : PlainSection) → k < length (plain_sections o) →
+    get_or (section_names o) k [] ≡ (get_or (plain_sections o) k d).name
 unfolding section_names plain_sections
 name_at_position o k d lt =
     let before = sections_before_names o in
-    let all : map (λ (s : PlainSection). s.name) before ++ (codes ".shstrtab" ∷ []) ≡ map (λ (s : PlainSection). s.name) (before ++ (plain_section o Names ∷ [])) =
+    let all : map (λ (s : PlainSection). s.name) before ++ (codes ".shstrtab" ∷ []) ≡
+    map (λ (s : PlainSection). s.name) (before ++ (plain_section o Names ∷ [])) =
     sym (map-append (λ (s : PlainSection). s.name) before (plain_section o Names ∷ [])) in
-    ap (λ (names : List (List ℕ)). get_or names k []) all ∙ get_or-map (λ (s : PlainSection). s.name) (before ++ (plain_section o Names ∷ [])) k d [] lt
+    ap (λ (names : List (List ℕ)). get_or names k []) all ∙
+    get_or-map (λ (s : PlainSection). s.name) (before ++ (plain_section o Names ∷ [])) k d [] lt
 
 pub length-headers : (name_at : List ℕ → ℕ) (sections : List PlainSection) (places : List ℕ) → length places ≡ length sections + 1 →
     length (section_headers name_at sections places) ≡ length sections
@@ -198,12 +224,14 @@ length-headers name_at [] places long = refl
 length-headers name_at (s ∷ sections) [] long = absurd (omega arith)
 length-headers name_at (s ∷ sections) (x ∷ places) long = ap suc (length-headers name_at sections places (omega arith))
 
-pub header_found : (name_at : List ℕ → ℕ) (sections : List PlainSection) (places : List ℕ) (k : ℕ) (h : Shdr) (d : PlainSection) → length places ≡ length sections + 1 → k < length sections →
+pub header_found : (name_at : List ℕ → ℕ) (sections : List PlainSection) (places : List ℕ) (k : ℕ) (h : Shdr) (d : PlainSection) →
+    length places ≡ length sections + 1 → k < length sections →
     get_or (section_headers name_at sections places) k h ≡ section_header name_at (get_or sections k d) (get_or places k 0)
 header_found name_at [] places k h d long lt = absurd (omega arith)
 header_found name_at (s ∷ sections) [] k h d long lt = absurd (omega arith)
 header_found name_at (s ∷ sections) (x ∷ places) zero h d long lt = refl
-header_found name_at (s ∷ sections) (x ∷ places) (suc k) h d long lt = header_found name_at sections places k h d (omega arith) (omega arith)
+header_found name_at (s ∷ sections) (x ∷ places) (suc k) h d long lt =
+    header_found name_at sections places k h d (omega arith) (omega arith)
 
 -- an entry after the first one
 pub behind_first : {A : Type 0} (x : A) (xs : List A) (i : ℕ) (d : A) → 0 < i → get_or (x ∷ xs) i d ≡ get_or xs (i - 1) d
@@ -211,7 +239,8 @@ behind_first x xs zero d some = absurd (omega arith)
 behind_first x xs (suc i) d some = (let e : i ≡ suc i - 1 = omega arith in ap (λ (k : ℕ). get_or xs k d) e)
 
 -- the header of the section that is at a position
-pub header_read : (o : ObjectValue) (layout : LayoutValue) (k name place : ℕ) (s : PlacedSection) (h : Shdr) (d : PlainSection) → k < length (plain_sections o) → IsSectionAt o k s →
+pub header_read : (o : ObjectValue) (layout : LayoutValue) (k name place : ℕ) (s : PlacedSection) (h : Shdr) (d : PlainSection) →
+    k < length (plain_sections o) → IsSectionAt o k s →
     name ≡ name_offset (section_names o) (get_or (section_names o) k []) → place ≡ get_or layout.places k 0 →
     ((name_at : List ℕ → ℕ) → name ≡ name_at (plain_section o s).name → h ≡ section_header name_at (plain_section o s) place) →
     h ≡ section_header (name_offset (section_names o)) (get_or (plain_sections o) k d) (get_or layout.places k 0)
@@ -221,11 +250,13 @@ header_read o layout k name place s h d lt at named placed is =
     is f (named ∙ ap f (name_at_position o k d lt ∙ ap (λ (p : PlainSection). p.name) (sym section)))
     ∙ ap₂ (λ (p : PlainSection) (x : ℕ). section_header f p x) section placed
 
-local_more : (b : Bool) (x : Symbol) (xs : List Symbol) (y : SymbolValue) (ys : List SymbolValue) → length xs ≡ length ys → length (cond b (x ∷ xs) xs) ≡ length (cond b (y ∷ ys) ys)
+local_more : (b : Bool) (x : Symbol) (xs : List Symbol) (y : SymbolValue) (ys : List SymbolValue) → length xs ≡ length ys →
+    length (cond b (x ∷ xs) xs) ≡ length (cond b (y ∷ ys) ys)
 local_more true x xs y ys same = ap suc same
 local_more false x xs y ys same = same
 
-pub local_symbols : (symbols : List Symbol) → length (filter (λ (s : Symbol). is_local (symbol_value s)) symbols) ≡ length (filter is_local (map symbol_value symbols))
+pub local_symbols : (symbols : List Symbol) →
+    length (filter (λ (s : Symbol). is_local (symbol_value s)) symbols) ≡ length (filter is_local (map symbol_value symbols))
 local_symbols [] = refl
 local_symbols (s ∷ symbols) = local_more (is_local (symbol_value s)) s _ (symbol_value s) _ (local_symbols symbols)
 

@@ -1,5 +1,6 @@
 -- An object with its string tables and its canonical layout.
-use Rattle.std.specs.Prelude.{◌≡◌, ℕ, List, ◌<◌, ◌≤◌, ◌+◌, ◌^◌, All, codes, get_or, length, ◌-◌, take, Option, Result, Ok, Err, MatchResult, ◌++◌, replicate, slice_index}
+use Rattle.std.specs.Prelude.{◌≡◌, ℕ, List, ◌<◌, ◌≤◌, ◌+◌, ◌^◌, All, codes, get_or, length, ◌-◌, take, Option, Result, Ok, Err, MatchResult}
+use Rattle.std.specs.Prelude.{◌++◌, replicate, slice_index}
 use Rattle.std.specs.Io.KnownBytes.{Appends}
 use Rattle.std.specs.List.{flat_map}
 use denote.Struct.Props.{props}
@@ -11,7 +12,9 @@ use Rattle.elf_image_type.specs.WrittenFile.{all_headers}
 use Rattle.elf_object_strings.specs.StringTable.{name_offset}
 use Rattle.elf_object_type.specs.Object.{ObjectValue, BodyValue, bits, no_bits, relocs, group, SectionValue, section_at, info_position}
 use Rattle.elf_object_type.specs.ObjectRules.{IsObject, IsWrongBitsType}
-use Rattle.elf_object_layout.specs.Laid.{section_names, symbol_names, IsLayoutOf, LayoutValue, PlainSection, body_bytes, index_of, index_table_section, own_section, plain_sections, strings, symbol_table_section, Laid, section_headers, IsLayoutFault, name_table_at}
+use Rattle.elf_object_layout.specs.Laid.{section_names, symbol_names, IsLayoutOf, LayoutValue, PlainSection, body_bytes, index_of}
+use Rattle.elf_object_layout.specs.Laid.{index_table_section, own_section, plain_sections, strings, symbol_table_section, Laid}
+use Rattle.elf_object_layout.specs.Laid.{section_headers, IsLayoutFault, name_table_at}
 use Rattle.elf_object_layout.specs.StringTables.{AreNameTables}
 use Rattle.elf_object_layout.specs.declared.name_tables.NameTables.{NameTables}
 use Rattle.elf_object_writer.specs.declared.object_writing.ObjectWriteFault.TheVariants.{TooLong, OutOfMemory, Io}
@@ -106,9 +109,11 @@ WritesBehind out before after bytes result = MatchResult result
 
 -- the content of the section at a position of the layout, behind the zeros that it needs after so many bytes
 abbrev pub next_bytes : PlacedValue → ℕ → ℕ → PlainSection → List ℕ
-next_bytes p position out d = replicate (slice_index p.layout.places position - out) 0 ++ (get_or (plain_sections p.object) position d).content
+next_bytes p position out d =
+    replicate (slice_index p.layout.places position - out) 0 ++ (get_or (plain_sections p.object) position d).content
 
 -- the bytes of the section header table
 unfoldable pub header_table : ObjectValue → List ℕ → List ℕ
 header_table o places =
-    flat_map (shdr_bytes o.order) (all_headers (section_headers (name_offset (section_names o)) (plain_sections o) places) (name_table_at o))
+    flat_map (shdr_bytes o.order)
+    (all_headers (section_headers (name_offset (section_names o)) (plain_sections o) places) (name_table_at o))

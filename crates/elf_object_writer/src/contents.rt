@@ -1,7 +1,9 @@
 //! The content of each section of an object's canonical layout, onto a writer (gABI chapter 4, Sections).
 ghost use Rattle.std.specs.Prelude.{◌≡◌, ◌<◌, ℕ, ◌^◌, ◌+◌, All, if◌then◌else◌, length, map, ◌≤◌, ◌*◌, ◌∷◌};
 ghost use Rattle.elf_image_type.specs.WrittenFile.{long_number, short_count, short_index};
-ghost use Rattle.elf_object_layout.specs.Laid.{index_of, index_word, shndx, group_words, rel_entry, rela_entry, relocation_info, null_symbol, symbol_entry, body_bytes, index_table_section, own_section, relocation_bytes, symbol_table_section};
+ghost use Rattle.elf_object_layout.specs.Laid.{index_of, index_word, shndx, group_words, rel_entry, rela_entry, relocation_info};
+ghost use Rattle.elf_object_layout.specs.Laid.{null_symbol, symbol_entry, body_bytes, index_table_section, own_section, relocation_bytes};
+ghost use Rattle.elf_object_layout.specs.Laid.{symbol_table_section};
 ghost use Rattle.elf_object_type.specs.ObjectRules.{place_position};
 ghost use Rattle.elf_field.specs.Abi.{GRP_COMDAT, SYM_SIZE};
 ghost use Rattle.elf_object_type.specs.Object.{symbol_at, section_at};

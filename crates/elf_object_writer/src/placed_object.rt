@@ -1,6 +1,7 @@
 //! An object with all that its canonical layout takes memory for (gABI chapter 4, ELF Header, Sections, String Table).
 ghost use Rattle.std.specs.Prelude.{◌≡◌, ◌<◌, ℕ, ◌+◌, ◌^◌, [], get_or, length, slice_index, IfErr, IfOk};
-ghost use Rattle.elf_object_layout.specs.Laid.{IsLayoutFault, name_table_at, plain_sections, section_names, strings_at, symbol_names, symbol_table_at};
+ghost use Rattle.elf_object_layout.specs.Laid.{IsLayoutFault, name_table_at, plain_sections, section_names, strings_at, symbol_names};
+ghost use Rattle.elf_object_layout.specs.Laid.{symbol_table_at};
 ghost use Rattle.elf_object_writer.specs.PlacedObject.{IsPlacedObject, IsSectionAt, IsThere, is_there_prop};
 ghost use Rattle.elf_object_strings.specs.StringTable.{name_offset, string_table};
 

@@ -11,7 +11,8 @@ use Rattle.elf_field.specs.declared.number.Order.{Order}
 use Rattle.elf_image_rules.proofs.Public.{FirstIn-behind, FirstIn-front, one_fault}
 use Rattle.elf_image_rules.specs.Rows.{FirstIn}
 use Rattle.elf_image_rules.specs.Tables.{bytes_in}
-use Rattle.elf_table_all.specs.Tables.{AreAllIndexTables, index_tables_at, rules_of_kind, table_rules, AreVerdicts, HasSoundTable, TablesValue}
+use Rattle.elf_table_all.specs.Tables.{AreAllIndexTables, index_tables_at, rules_of_kind, table_rules, AreVerdicts, HasSoundTable}
+use Rattle.elf_table_all.specs.Tables.{TablesValue}
 use Rattle.elf_table_all.specs.declared.verdicts.AllIndexTables.{AllIndexTables}
 use Rattle.elf_table_lists.specs.Dynamic.{dynamic_section_rules, dynamic_entry}
 use Rattle.elf_table_lists.specs.Groups.{group_front_rules, group_rules, group_section_rules}
@@ -42,24 +43,28 @@ all_noted f j link old now are is here others = record {
 -- Which rules a section's type asks for.
 
 -- a section of this kind has the rules of the kind
-pub kind_asked : (f : Sections) (i : ℕ) (kind : Option TableKind) (found : Option (ℕ × ℕ)) → kind_of (section f i).sh_type ≡ kind → FirstIn (table_rules f i) found →
+pub kind_asked : (f : Sections) (i : ℕ) (kind : Option TableKind) (found : Option (ℕ × ℕ)) → kind_of (section f i).sh_type ≡ kind →
+    FirstIn (table_rules f i) found →
     FirstIn (rules_of_kind kind f i) found
 unfolding table_rules
 kind_asked f i kind found is run = subst (λ (k : Option TableKind). FirstIn (rules_of_kind k f i) found) is run
 
 -- a sound table keeps the rules of its kind
-pub sound_rules : (tables : TablesValue) (i : ℕ) (kind : TableKind) → AreVerdicts (sections_of tables.image) (length tables.image.sections) tables.verdicts →
+pub sound_rules : (tables : TablesValue) (i : ℕ) (kind : TableKind) →
+    AreVerdicts (sections_of tables.image) (length tables.image.sections) tables.verdicts →
     HasSoundTable tables i kind → FirstIn (rules_of_kind (Some kind) (sections_of tables.image) i) None
 sound_rules tables i kind verdicts has =
     kind_asked (sections_of tables.image) i (Some kind) None has.typed
     (subst (FirstIn (table_rules (sections_of tables.image) i)) has.sound (verdicts.right i has.there))
 
 -- the verdict on a table that breaks no rule is None
-pub none_kept : (f : Sections) (i : ℕ) (kind : Option TableKind) (verdicts : List (Option (ℕ × ℕ))) → AreVerdicts f (count f) verdicts → i < count f →
+pub none_kept : (f : Sections) (i : ℕ) (kind : Option TableKind) (verdicts : List (Option (ℕ × ℕ))) → AreVerdicts f (count f) verdicts →
+    i < count f →
     kind_of (section f i).sh_type ≡ kind → FirstIn (rules_of_kind kind f i) None → get_or verdicts i None ≡ None
 unfolding table_rules
 none_kept f i kind verdicts are there is sound =
-    one_fault (table_rules f i) _ None (are.right i there) (subst (λ (k : Option TableKind). FirstIn (rules_of_kind k f i) None) (sym is) sound)
+    one_fault (table_rules f i) _ None (are.right i there)
+    (subst (λ (k : Option TableKind). FirstIn (rules_of_kind k f i) None) (sym is) sound)
 
 -- ---- a section group
 
@@ -68,7 +73,8 @@ unfolding group_section_rules
 group_link f i sound = link_there SectionGroup f i (FirstIn-front (own_rules SectionGroup f i) _ sound)
 
 -- it links to a symbol table
-pub group_symbols : (f : Sections) (i : ℕ) → FirstIn (group_section_rules f i) None → kind_of (section f (section f i).sh_link).sh_type ≡ Some SymbolTable
+pub group_symbols : (f : Sections) (i : ℕ) → FirstIn (group_section_rules f i) None →
+    kind_of (section f (section f i).sh_link).sh_type ≡ Some SymbolTable
 unfolding group_section_rules own_rules
 group_symbols f i sound =
     let own = FirstIn-front (own_rules SectionGroup f i) _ sound in
@@ -78,12 +84,14 @@ group_symbols f i sound =
     ]
 
 -- which breaks no rule
-pub group_symbols_sound : (f : Sections) (i : ℕ) → FirstIn (group_section_rules f i) None → FirstIn (symbol_table_rules f (section f i).sh_link) None
+pub group_symbols_sound : (f : Sections) (i : ℕ) → FirstIn (group_section_rules f i) None →
+    FirstIn (symbol_table_rules f (section f i).sh_link) None
 unfolding group_section_rules
 group_symbols_sound f i sound = FirstIn-front _ _ (FirstIn-behind (own_rules SectionGroup f i) _ sound)
 
 -- and has the symbol that is the group's signature
-pub group_signature : (f : Sections) (i : ℕ) → FirstIn (group_section_rules f i) None → (section f i).sh_info < length (symbols_of f (section f i).sh_link)
+pub group_signature : (f : Sections) (i : ℕ) → FirstIn (group_section_rules f i) None →
+    (section f i).sh_info < length (symbols_of f (section f i).sh_link)
 unfolding group_section_rules group_rules group_front_rules symbols_of
 group_signature f i sound =
     let rest = FirstIn-behind (symbol_table_rules f (section f i).sh_link) _ (FirstIn-behind (own_rules SectionGroup f i) _ sound) in
@@ -102,20 +110,25 @@ dynamic_link f i sound = link_there DynamicArray f i (FirstIn-front (own_rules D
 -- An entry that lies inside a content is the record at its place in the file, for symbols, words, relocations and dynamic entries. The
 -- content is a part of the file's bytes, and a record of a part is that of the whole (`record_of_part`).
 
-pub symbol_in_file : (o : Order) (b : List ℕ) (e : Extent) (j : ℕ) → SYM_SIZE * j + SYM_SIZE ≤ e.len → entry o (bytes_in b e) j ≡ sym_at o b (e.start + SYM_SIZE * j)
+pub symbol_in_file : (o : Order) (b : List ℕ) (e : Extent) (j : ℕ) → SYM_SIZE * j + SYM_SIZE ≤ e.len →
+    entry o (bytes_in b e) j ≡ sym_at o b (e.start + SYM_SIZE * j)
 unfolding entry
 symbol_in_file o b e j within = record_of_part sym_laws o b e.start e.len (SYM_SIZE * j) within
 
-pub word_in_file : (o : Order) (b : List ℕ) (e : Extent) (j : ℕ) → WORD_SIZE * j + WORD_SIZE ≤ e.len → word o (bytes_in b e) j ≡ word_at o b (e.start + WORD_SIZE * j)
+pub word_in_file : (o : Order) (b : List ℕ) (e : Extent) (j : ℕ) → WORD_SIZE * j + WORD_SIZE ≤ e.len →
+    word o (bytes_in b e) j ≡ word_at o b (e.start + WORD_SIZE * j)
 unfolding word
 word_in_file o b e j within = record_of_part word_laws o b e.start e.len (WORD_SIZE * j) within
 
-pub rela_in_file : (o : Order) (b : List ℕ) (e : Extent) (j : ℕ) → RELA_SIZE * j + RELA_SIZE ≤ e.len → rela_at o (bytes_in b e) (RELA_SIZE * j) ≡ rela_at o b (e.start + RELA_SIZE * j)
+pub rela_in_file : (o : Order) (b : List ℕ) (e : Extent) (j : ℕ) → RELA_SIZE * j + RELA_SIZE ≤ e.len →
+    rela_at o (bytes_in b e) (RELA_SIZE * j) ≡ rela_at o b (e.start + RELA_SIZE * j)
 rela_in_file o b e j within = record_of_part rela_laws o b e.start e.len (RELA_SIZE * j) within
 
-pub rel_in_file : (o : Order) (b : List ℕ) (e : Extent) (j : ℕ) → REL_SIZE * j + REL_SIZE ≤ e.len → rel_at o (bytes_in b e) (REL_SIZE * j) ≡ rel_at o b (e.start + REL_SIZE * j)
+pub rel_in_file : (o : Order) (b : List ℕ) (e : Extent) (j : ℕ) → REL_SIZE * j + REL_SIZE ≤ e.len →
+    rel_at o (bytes_in b e) (REL_SIZE * j) ≡ rel_at o b (e.start + REL_SIZE * j)
 rel_in_file o b e j within = record_of_part rel_laws o b e.start e.len (REL_SIZE * j) within
 
-pub dynamic_in_file : (o : Order) (b : List ℕ) (e : Extent) (j : ℕ) → DYN_SIZE * j + DYN_SIZE ≤ e.len → dynamic_entry o (bytes_in b e) j ≡ dyn_at o b (e.start + DYN_SIZE * j)
+pub dynamic_in_file : (o : Order) (b : List ℕ) (e : Extent) (j : ℕ) → DYN_SIZE * j + DYN_SIZE ≤ e.len →
+    dynamic_entry o (bytes_in b e) j ≡ dyn_at o b (e.start + DYN_SIZE * j)
 unfolding dynamic_entry
 dynamic_in_file o b e j within = record_of_part dyn_laws o b e.start e.len (DYN_SIZE * j) within

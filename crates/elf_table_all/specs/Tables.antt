@@ -18,7 +18,8 @@ use Rattle.elf_table_symbols.specs.Sections.{Sections, count, section, kind_of, 
 use Rattle.elf_table_symbols.specs.SymbolView.{no_symbol_entry}
 use Rattle.elf_table_symbols.specs.Symbols.{symbol_table_rules, AreIndexTables, symbols_of}
 use Rattle.elf_table_symbols.specs.declared.index_tables.IndexTables.{IndexTables}
-use Rattle.elf_table_symbols.specs.declared.table_section.TableKind.TheVariants.{SymbolTable, RelocationTable, SectionGroup, NoteSection, DynamicArray, HashTable}
+use Rattle.elf_table_symbols.specs.declared.table_section.TableKind.TheVariants.{SymbolTable, RelocationTable, SectionGroup, NoteSection}
+use Rattle.elf_table_symbols.specs.declared.table_section.TableKind.TheVariants.{DynamicArray, HashTable}
 use Rattle.elf_table_symbols.specs.declared.table_section.TableKind.{TableKind}
 
 -- The rules of the table that a section holds, by the kind of the table.

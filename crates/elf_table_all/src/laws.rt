@@ -21,8 +21,10 @@ pub fn sections_of_bytes()
 
 /// A table has one fault or none: no other rule and offset meets the definition, and it cannot be that no answer does.
 pub fn one_table_fault()
-    ensures strings { (f : Sections) (i : ℕ) (x y : Option (ℕ × ℕ)) → FirstIn (string_table_rules f i) x → FirstIn (string_table_rules f i) y → x ≡ y }
-    ensures symbols { (f : Sections) (i : ℕ) (x y : Option (ℕ × ℕ)) → FirstIn (symbol_table_rules f i) x → FirstIn (symbol_table_rules f i) y → x ≡ y }
+    ensures strings { (f : Sections) (i : ℕ) (x y : Option (ℕ × ℕ)) → FirstIn (string_table_rules f i) x →
+        FirstIn (string_table_rules f i) y → x ≡ y }
+    ensures symbols { (f : Sections) (i : ℕ) (x y : Option (ℕ × ℕ)) → FirstIn (symbol_table_rules f i) x →
+        FirstIn (symbol_table_rules f i) y → x ≡ y }
     ensures table { (f : Sections) (i : ℕ) (x y : Option (ℕ × ℕ)) → FirstIn (table_rules f i) x → FirstIn (table_rules f i) y → x ≡ y }
     ensures some_strings { (f : Sections) (i : ℕ) → ((x : Option (ℕ × ℕ)) → FirstIn (string_table_rules f i) x → ⊥) → ⊥ }
     ensures some_table { (f : Sections) (i : ℕ) → ((x : Option (ℕ × ℕ)) → FirstIn (table_rules f i) x → ⊥) → ⊥ }
@@ -33,12 +35,20 @@ pub fn one_table_fault()
 /// in the content that the rules of notes walk to, if that is in it, and that note is the one at the content's offset in the file
 /// and that one.
 pub fn entries_in_file()
-    ensures symbols { (o : Order) (b : List ℕ) (e : Extent) (j : ℕ) → SYM_SIZE * j + SYM_SIZE ≤ e.len → entry o (bytes_in b e) j ≡ sym_at o b (e.start + SYM_SIZE * j) }
-    ensures words { (o : Order) (b : List ℕ) (e : Extent) (j : ℕ) → WORD_SIZE * j + WORD_SIZE ≤ e.len → word o (bytes_in b e) j ≡ word_at o b (e.start + WORD_SIZE * j) }
-    ensures rela { (o : Order) (b : List ℕ) (e : Extent) (j : ℕ) → RELA_SIZE * j + RELA_SIZE ≤ e.len → rela_at o (bytes_in b e) (RELA_SIZE * j) ≡ rela_at o b (e.start + RELA_SIZE * j) }
-    ensures rel { (o : Order) (b : List ℕ) (e : Extent) (j : ℕ) → REL_SIZE * j + REL_SIZE ≤ e.len → rel_at o (bytes_in b e) (REL_SIZE * j) ≡ rel_at o b (e.start + REL_SIZE * j) }
-    ensures dynamic { (o : Order) (b : List ℕ) (e : Extent) (j : ℕ) → DYN_SIZE * j + DYN_SIZE ≤ e.len → dynamic_entry o (bytes_in b e) j ≡ dyn_at o b (e.start + DYN_SIZE * j) }
-    ensures notes { (o : Order) (table : List ℕ) (k : ℕ) → note_offset o table 0 k < length table → slice_get (notes_in o table 0) k ≡ Some (note_at o table (note_offset o table 0 k)) }
-    ensures no_note { (o : Order) (table : List ℕ) (k : ℕ) → length table ≤ note_offset o table 0 k → slice_get (notes_in o table 0) k ≡ None }
-    ensures note { (o : Order) (b : List ℕ) (e : Extent) (x : ℕ) → note_end o (bytes_in b e) x ≤ e.len → note_at o (bytes_in b e) x ≡ note_at o b (e.start + x) }
+    ensures symbols { (o : Order) (b : List ℕ) (e : Extent) (j : ℕ) → SYM_SIZE * j + SYM_SIZE ≤ e.len →
+        entry o (bytes_in b e) j ≡ sym_at o b (e.start + SYM_SIZE * j) }
+    ensures words { (o : Order) (b : List ℕ) (e : Extent) (j : ℕ) → WORD_SIZE * j + WORD_SIZE ≤ e.len →
+        word o (bytes_in b e) j ≡ word_at o b (e.start + WORD_SIZE * j) }
+    ensures rela { (o : Order) (b : List ℕ) (e : Extent) (j : ℕ) → RELA_SIZE * j + RELA_SIZE ≤ e.len →
+        rela_at o (bytes_in b e) (RELA_SIZE * j) ≡ rela_at o b (e.start + RELA_SIZE * j) }
+    ensures rel { (o : Order) (b : List ℕ) (e : Extent) (j : ℕ) → REL_SIZE * j + REL_SIZE ≤ e.len →
+        rel_at o (bytes_in b e) (REL_SIZE * j) ≡ rel_at o b (e.start + REL_SIZE * j) }
+    ensures dynamic { (o : Order) (b : List ℕ) (e : Extent) (j : ℕ) → DYN_SIZE * j + DYN_SIZE ≤ e.len →
+        dynamic_entry o (bytes_in b e) j ≡ dyn_at o b (e.start + DYN_SIZE * j) }
+    ensures notes { (o : Order) (table : List ℕ) (k : ℕ) → note_offset o table 0 k < length table →
+        slice_get (notes_in o table 0) k ≡ Some (note_at o table (note_offset o table 0 k)) }
+    ensures no_note { (o : Order) (table : List ℕ) (k : ℕ) → length table ≤ note_offset o table 0 k →
+        slice_get (notes_in o table 0) k ≡ None }
+    ensures note { (o : Order) (b : List ℕ) (e : Extent) (x : ℕ) → note_end o (bytes_in b e) x ≤ e.len →
+        note_at o (bytes_in b e) x ≡ note_at o b (e.start + x) }
 {}

@@ -1,4 +1,8 @@
 //! The tables of an image, each validated once (gABI chapter 4, Sections: sh_type).
+//!
+//! However many tables link to a symbol table, it is validated once, and its verdict is kept. A group's name and the strings of a dynamic
+//! array are in the linked table, which is then known to be sound; so [`Tables`] returns them too. The `new` of `Symbols`, `Strings`,
+//! `Relocs`, `Notes` and `Dynamic` takes no memory; that of `Group` and `Hash` does.
 ghost use Rattle.std.specs.Prelude.{◌≡◌, ◌<◌, None, IfOk, get_or, length};
 ghost use Rattle.elf_image_rules.specs.Rows.{fault_of, FirstIn, HaveOneFault};
 ghost use Rattle.elf_image_outline.specs.Image.{OfItsBytes};
@@ -57,7 +61,8 @@ impl<'i, 'a> Tables<'i, 'a> {
     /// whose symbols have many tails of one long name. Each tail is hashed once, so that this takes the sum of their lengths.
     pub fn new(alloc: Global, image: &'i Image<'a>) -> Result<Tables<'i, 'a>, AllocError>
         ensures image { IfOk result (λ tables. tables.image ≡ image.entry.now) }
-        ensures verdicts { IfOk result (λ tables. AreVerdicts (sections_of image.entry.now) (length image.entry.now.sections) tables.verdicts) }
+        ensures verdicts { IfOk result
+            (λ tables. AreVerdicts (sections_of image.entry.now) (length image.entry.now.sections) tables.verdicts) }
         ensures file { IfOk result (λ tables. OfItsBytes image.entry.now (λ b. AreOnlyVerdicts (sections_in b) tables.verdicts)) }
     {
         image.prove_stands();

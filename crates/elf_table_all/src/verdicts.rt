@@ -112,7 +112,8 @@ fn symbol_verdict(
 ) -> Result<(), Broken<u64>>
     requires { AreAllIndexTables (sections_of table.image.now) (length table.image.now.sections) index_tables.now }
     ensures { let f = sections_of table.entry.image.now in
-        kind_of (section f table.entry.index).sh_type ≡ Some kind.SymbolTable → FirstIn (symbol_table_rules f table.entry.index) (fault_of result) }
+        kind_of (section f table.entry.index).sh_type ≡ Some kind.SymbolTable →
+        FirstIn (symbol_table_rules f table.entry.index) (fault_of result) }
 {
     match TableKind::of(table.header().sh_type) {
         Some(TableKind::SymbolTable) => validate_symbol_table(table, index_tables.of(table.index)),
@@ -130,7 +131,8 @@ fn table_verdict(
 ) -> Result<Result<(), Broken<u64>>, AllocError>
     requires symbols { AreSymbolVerdicts (sections_of table.image.now) (length table.image.now.sections) symbols.now }
     requires hashes { hashes.old ≡ sections_of table.image.now }
-    ensures verdict { IfOk result (λ verdict. FirstIn (table_rules (sections_of table.entry.image.now) table.entry.index) (fault_of verdict)) }
+    ensures verdict { IfOk result
+        (λ verdict. FirstIn (table_rules (sections_of table.entry.image.now) table.entry.index) (fault_of verdict)) }
     ensures hashes { hashes.new ≡ hashes.old }
 {
     let known = SymbolVerdicts::All(symbols);

@@ -1,5 +1,6 @@
 -- Chains of a hash table: how deep they are, and when the rules of chains hold.
-use Rattle.std.proofs.Common.{◌≡◌, ◌≢◌, ℕ, ◌+◌, ◌<◌, ◌≤◌, ◌⊎◌, Bool, true, false, eqb, List, [], ◌∷◌, ◌++◌, length, inl, inr, refl, sym, ap, subst, ◌∙◌, arith, length-append, get_or, set, append_assoc, get_or-set_other, get_or-set_same, zero, suc}
+use Rattle.std.proofs.Common.{◌≡◌, ◌≢◌, ℕ, ◌+◌, ◌<◌, ◌≤◌, ◌⊎◌, Bool, true, false, eqb, List, [], ◌∷◌, ◌++◌, length, inl, inr, refl, sym, ap}
+use Rattle.std.proofs.Common.{subst, ◌∙◌, arith, length-append, get_or, set, append_assoc, get_or-set_other, get_or-set_same, zero, suc}
 use Rattle.std.specs.Prelude.{◌||◌}
 use Rattle.std.specs.List.{AllByRecursion, IsDistinct, list_any}
 use Rattle.std.proofs.lemmas.Bool.{eqb-true, false_from_ne_true, false≢true, cases_eq, cases_lt}
@@ -40,7 +41,8 @@ path_split next a c (x ∷ xs) ys p =
     (b, (p.0, p.1, front), back)
 
 -- what leads to a symbol of it, and goes on from there
-pub path_at : (next : ℕ → ℕ) (a c y : ℕ) (xs ys : List ℕ) → IsPath next a (xs ++ y ∷ ys) c → (y ≢ 0) × IsPath next a xs y × IsPath next (next y) ys c
+pub path_at : (next : ℕ → ℕ) (a c y : ℕ) (xs ys : List ℕ) → IsPath next a (xs ++ y ∷ ys) c →
+    (y ≢ 0) × IsPath next a xs y × IsPath next (next y) ys c
 path_at next a c y xs ys p =
     let (b, front, back) = path_split next a c xs (y ∷ ys) p in
     ((λ none. back.0 (sym back.1 ∙ none)), subst (λ w. IsPath next a xs w) (sym back.1) front, back.2)
@@ -57,10 +59,12 @@ on_from_path next start s xs p some (ys, chain) =
     on_chain ys chain where
       on_chain : (ys : List ℕ) → IsChain next s ys → IsOn next start s
       on_chain [] chain = absurd (some chain)
-      on_chain (y ∷ ys) chain = (xs, ys, path_append next start s 0 xs (s ∷ ys) p (some, refl, subst (λ w. IsPath next (next w) ys 0) chain.1 chain.2))
+      on_chain (y ∷ ys) chain =
+          (xs, ys, path_append next start s 0 xs (s ∷ ys) p (some, refl, subst (λ w. IsPath next (next w) ys 0) chain.1 chain.2))
 
 -- a symbol on a chain is none, and its own chain is the rest
-pub chain_of_on : (next : ℕ → ℕ) (start s : ℕ) (before after : List ℕ) → IsChain next start (before ++ s ∷ after) → IsChain next s (s ∷ after)
+pub chain_of_on : (next : ℕ → ℕ) (start s : ℕ) (before after : List ℕ) → IsChain next start (before ++ s ∷ after) →
+    IsChain next s (s ∷ after)
 chain_of_on next start s before after chain =
     let (some, front, back) = path_at next start 0 s before after chain in
     (some, refl, back)
@@ -89,7 +93,8 @@ or_cases true c either = inl refl
 or_cases false c either = inr either
 
 -- all symbols of a path are below a bound that its start and all chain words are below
-pub path_below : (next : ℕ → ℕ) (m a c q : ℕ) (xs : List ℕ) → ((s : ℕ) → s < m → next s < m) → a < m → IsPath next a xs c → list_any (eqb q) xs ≡ true → q < m
+pub path_below : (next : ℕ → ℕ) (m a c q : ℕ) (xs : List ℕ) → ((s : ℕ) → s < m → next s < m) → a < m → IsPath next a xs c →
+    list_any (eqb q) xs ≡ true → q < m
 path_below next m a c q [] below within p member = absurd (false≢true member)
 path_below next m a c q (x ∷ xs) below within p member =
     let here : x < m = subst (λ w. w < m) (sym p.1) within in
@@ -110,7 +115,8 @@ some_symbols next a c (x ∷ xs) p =
     (false_from_ne_true _ (λ test. p.0 (sym p.1 ∙ sym (eqb-true 0 x test))), some_symbols next (next x) c xs p.2)
 
 -- nor one whose own chain is longer
-shorter : (next : ℕ → ℕ) (a x : ℕ) (xs zs : List ℕ) → IsChain next a xs → length xs < length zs → IsChain next x zs → AllByRecursion (λ y. eqb x y ≡ false) xs
+shorter : (next : ℕ → ℕ) (a x : ℕ) (xs zs : List ℕ) → IsChain next a xs → length xs < length zs → IsChain next x zs →
+    AllByRecursion (λ y. eqb x y ≡ false) xs
 shorter next a x [] zs p less chain = tt
 shorter next a x (y ∷ ys) zs p less chain = (
   false_from_ne_true _ (λ test. (
@@ -167,19 +173,22 @@ known_ends next m depth s are known =
     (xs, chain)
 
 -- what a known chain leads to is known
-pub known_along : (next : ℕ → ℕ) (m : ℕ) (depth : List ℕ) (s t : ℕ) (xs : List ℕ) → AreDepths next m depth → IsDepthKnown depth s → IsPath next s xs t → IsDepthKnown depth t
+pub known_along : (next : ℕ → ℕ) (m : ℕ) (depth : List ℕ) (s t : ℕ) (xs : List ℕ) → AreDepths next m depth → IsDepthKnown depth s →
+    IsPath next s xs t → IsDepthKnown depth t
 known_along next m depth s t [] are known path = subst (IsDepthKnown depth) path known
 known_along next m depth s t (x ∷ xs) are (inl none) path = absurd (path.0 none)
 known_along next m depth s t (x ∷ xs) are (inr some) path =
     known_along next m depth (next x) t xs are (subst (λ k. IsDepthKnown depth (next k)) (sym path.1) (are.closed s some)) path.2
 
 -- a symbol's chain is one longer than that of its chain word
-pub next_depth : (next : ℕ → ℕ) (m : ℕ) (depth : List ℕ) (s : ℕ) → AreDepths next m depth → 0 < get_or depth s 0 → get_or depth (next s) 0 + 1 ≡ get_or depth s 0
+pub next_depth : (next : ℕ → ℕ) (m : ℕ) (depth : List ℕ) (s : ℕ) → AreDepths next m depth → 0 < get_or depth s 0 →
+    get_or depth (next s) 0 + 1 ≡ get_or depth s 0
 next_depth next m depth s are some =
     let (xs, chain, long) = are.right s some in
     let (ys, rest, count) = known_chain next m depth (next s) are (are.closed s some) in
     step xs chain long ys rest count where
-      step : (xs : List ℕ) → IsChain next s xs → length xs ≡ get_or depth s 0 → (ys : List ℕ) → IsChain next (next s) ys → length ys ≡ get_or depth (next s) 0 →
+      step : (xs : List ℕ) → IsChain next s xs → length xs ≡ get_or depth s 0 → (ys : List ℕ) → IsChain next (next s) ys →
+          length ys ≡ get_or depth (next s) 0 →
           get_or depth (next s) 0 + 1 ≡ get_or depth s 0
       step [] chain long ys rest count = absurd (omega arith)
       step (x ∷ xs) chain long ys rest count =
@@ -188,7 +197,8 @@ next_depth next m depth s are some =
           omega arith
 
 -- a known chain is shorter than the number of symbols
-pub depth_short : (next : ℕ → ℕ) (m : ℕ) (depth : List ℕ) (s : ℕ) → ((k : ℕ) → k < m → next k < m) → AreDepths next m depth → IsDepthKnown depth s → s < m → get_or depth s 0 < m
+pub depth_short : (next : ℕ → ℕ) (m : ℕ) (depth : List ℕ) (s : ℕ) → ((k : ℕ) → k < m → next k < m) → AreDepths next m depth →
+    IsDepthKnown depth s → s < m → get_or depth s 0 < m
 depth_short next m depth s below are known within =
     let (xs, chain, long) = known_chain next m depth s are known in
     let short = chain_short next m s xs below within chain in
@@ -201,7 +211,8 @@ pub record OnDepths (depth : List ℕ) (start s : ℕ) (before after : List ℕ)
   pub above : get_or depth start 0 ≡ length before + 1 + length after
   pub here : get_or depth s 0 ≡ 1 + length after
 
-pub on_depths : (next : ℕ → ℕ) (m : ℕ) (depth : List ℕ) (start s : ℕ) (before after : List ℕ) → AreDepths next m depth → IsDepthKnown depth start →
+pub on_depths : (next : ℕ → ℕ) (m : ℕ) (depth : List ℕ) (start s : ℕ) (before after : List ℕ) → AreDepths next m depth →
+    IsDepthKnown depth start →
     IsChain next start (before ++ s ∷ after) → OnDepths depth start s before after
 on_depths next m depth start s before after are known chain =
     let (some, front, back) = path_at next start 0 s before after chain in
@@ -213,7 +224,8 @@ on_depths next m depth start s before after are known chain =
     record { above = omega arith; here = omega arith }
 
 -- one whose chain is as long as the whole is its start
-pub on_same : (next : ℕ → ℕ) (m : ℕ) (depth : List ℕ) (start s : ℕ) → AreDepths next m depth → IsDepthKnown depth start → IsOn next start s →
+pub on_same : (next : ℕ → ℕ) (m : ℕ) (depth : List ℕ) (start s : ℕ) → AreDepths next m depth → IsDepthKnown depth start →
+    IsOn next start s →
     get_or depth start 0 ≤ get_or depth s 0 → start ≡ s
 on_same next m depth start s are known ([], after, chain) deep = sym chain.1
 on_same next m depth start s are known (b ∷ before, after, chain) deep =
@@ -221,7 +233,8 @@ on_same next m depth start s are known (b ∷ before, after, chain) deep =
     absurd (omega arith)
 
 -- it has a chain
-pub on_some : (next : ℕ → ℕ) (m : ℕ) (depth : List ℕ) (start s : ℕ) → AreDepths next m depth → IsDepthKnown depth start → IsOn next start s → 0 < get_or depth s 0
+pub on_some : (next : ℕ → ℕ) (m : ℕ) (depth : List ℕ) (start s : ℕ) → AreDepths next m depth → IsDepthKnown depth start →
+    IsOn next start s → 0 < get_or depth s 0
 on_some next m depth start s are known (before, after, chain) =
     let depths = on_depths next m depth start s before after are known chain in
     omega arith
@@ -238,7 +251,8 @@ end_of_end (b ∷ bs) xs (j ∷ js) zs same le =
     end_of_end bs xs js zs tails le
 
 -- a symbol on a chain is after what the chain leads to, where its own chain is no longer than that one's
-pub on_behind : (next : ℕ → ℕ) (m : ℕ) (depth : List ℕ) (start t s : ℕ) → AreDepths next m depth → IsDepthKnown depth start → Leads next start t →
+pub on_behind : (next : ℕ → ℕ) (m : ℕ) (depth : List ℕ) (start t s : ℕ) → AreDepths next m depth → IsDepthKnown depth start →
+    Leads next start t →
     get_or depth s 0 ≤ get_or depth t 0 → IsOn next start s → IsOn next t s
 on_behind next m depth start t s are known (js, path) deep (before, after, chain) =
     let depths = on_depths next m depth start s before after are known chain in
@@ -261,7 +275,8 @@ pub known_more : (depth : List ℕ) (a d t : ℕ) → a < length depth → IsDep
 known_more depth a d t within (inl none) = inl none
 known_more depth a d t within (inr some) = inr (deep_more depth a d t within some)
 
-pub depths_more : (next : ℕ → ℕ) (m : ℕ) (depth : List ℕ) (a s : ℕ) → AreDepths next m depth → IsDepthKnown depth s → next a ≡ s → a ≢ 0 → a < m →
+pub depths_more : (next : ℕ → ℕ) (m : ℕ) (depth : List ℕ) (a s : ℕ) → AreDepths next m depth → IsDepthKnown depth s → next a ≡ s → a ≢ 0 →
+    a < m →
     AreDepths next m (set depth a (get_or depth s 0 + 1))
 depths_more next m depth a s are known leads some within = let inside : a < length depth = (let long = are.long in omega arith) in record {
   long = length-set depth a (get_or depth s 0 + 1) ∙ are.long;
@@ -278,22 +293,25 @@ depths_more next m depth a s are known leads some within = let inside : a < leng
 }
 
 -- and its jump leads where one of its chain word leads
-pub jumps_more : (next : ℕ → ℕ) (m : ℕ) (jump : List ℕ) (a s far : ℕ) → AreJumps next m jump → Leads next s far → far < m → next a ≡ s → a ≢ 0 → a < m →
+pub jumps_more : (next : ℕ → ℕ) (m : ℕ) (jump : List ℕ) (a s far : ℕ) → AreJumps next m jump → Leads next s far → far < m → next a ≡ s →
+    a ≢ 0 → a < m →
     AreJumps next m (set jump a far)
-jumps_more next m jump a s far are (xs, path) below leads some within = let inside : a < length jump = (let long = are.long in omega arith) in record {
-  long = length-set jump a far ∙ are.long;
-  inside = λ t lt. elim (cases_eq t a) [
-    | inl same ↦ rw same (rw get_or-set_same below)
-    | inr other ↦ rw get_or-set_other (are.inside t lt)
-  ];
-  right = λ t lt. elim (cases_eq t a) [
-    | inl same ↦ rw same (rw get_or-set_same (a ∷ xs, (some, refl, subst (λ k. IsPath next k xs far) (sym leads) path)))
-    | inr other ↦ rw get_or-set_other (are.right t lt)
-  ];
-}
+jumps_more next m jump a s far are (xs, path) below leads some within = let inside : a < length jump =
+    (let long = are.long in omega arith) in record {
+      long = length-set jump a far ∙ are.long;
+      inside = λ t lt. elim (cases_eq t a) [
+        | inl same ↦ rw same (rw get_or-set_same below)
+        | inr other ↦ rw get_or-set_other (are.inside t lt)
+      ];
+      right = λ t lt. elim (cases_eq t a) [
+        | inl same ↦ rw same (rw get_or-set_same (a ∷ xs, (some, refl, subst (λ k. IsPath next k xs far) (sym leads) path)))
+        | inr other ↦ rw get_or-set_other (are.right t lt)
+      ];
+    }
 
 -- and it is met from where its path begins
-pub starts_more : (next : ℕ → ℕ) (m : ℕ) (depth starts : List ℕ) (a d start : ℕ) → AreStarts next m depth starts → Leads next start a → a < m → AreStarts next m (set depth a (d + 1)) (set starts a start)
+pub starts_more : (next : ℕ → ℕ) (m : ℕ) (depth starts : List ℕ) (a d start : ℕ) → AreStarts next m depth starts → Leads next start a →
+    a < m → AreStarts next m (set depth a (d + 1)) (set starts a start)
 starts_more next m depth starts a d start are leads within =
     let inside : a < length starts = (let long = are.long in omega arith) in
     record {
@@ -323,7 +341,8 @@ in_push (r ∷ stack) a t (b ∷ before, after, same) =
     ]
 
 -- one more that waits
-pub seen_more : (m : ℕ) (depth stack : List ℕ) (seen : List Bool) (s : ℕ) → AreSeen m depth stack seen → s < m → AreSeen m depth (stack ++ s ∷ []) (set seen s true)
+pub seen_more : (m : ℕ) (depth stack : List ℕ) (seen : List Bool) (s : ℕ) → AreSeen m depth stack seen → s < m →
+    AreSeen m depth (stack ++ s ∷ []) (set seen s true)
 seen_more m depth stack seen s are within = record {
   long = length-set seen s true ∙ are.long;
   waits = λ t marked. elim (cases_eq t s) [
@@ -336,7 +355,8 @@ seen_more m depth stack seen s are within = record {
 }
 
 -- one that is met again: the chain goes round
-pub seen_twice : (next : ℕ → ℕ) (m start s : ℕ) (depth stack : List ℕ) (seen : List Bool) → AreSeen m depth stack seen → IsPath next start stack s →
+pub seen_twice : (next : ℕ → ℕ) (m start s : ℕ) (depth stack : List ℕ) (seen : List Bool) → AreSeen m depth stack seen →
+    IsPath next start stack s →
     get_or seen s false ≡ true → get_or depth s 0 ≡ 0 → ¬ Ends next start
 seen_twice next m start s depth stack seen are path marked none (xs, chain) =
     elim (are.waits s marked) [
@@ -348,13 +368,15 @@ seen_twice next m start s depth stack seen are path marked none (xs, chain) =
 
 -- all that waited are known
 pub seen_settled : (m : ℕ) (old depth stack : List ℕ) (seen : List Bool) → AreSeen m old stack seen →
-    ((s : ℕ) → 0 < get_or old s 0 → 0 < get_or depth s 0) → ((s : ℕ) → IsAmongSymbols stack s → 0 < get_or depth s 0) → AreSeen m depth [] seen
+    ((s : ℕ) → 0 < get_or old s 0 → 0 < get_or depth s 0) → ((s : ℕ) → IsAmongSymbols stack s → 0 < get_or depth s 0) →
+    AreSeen m depth [] seen
 seen_settled m old depth stack seen are kept settled = record {
   long = are.long;
   waits = λ s marked. elim (are.waits s marked) [ inl deep ↦ inl (kept s deep) | inr waits ↦ inl (settled s waits) ];
 }
 
-pub known_kept : (old depth : List ℕ) (s : ℕ) → ((s : ℕ) → 0 < get_or old s 0 → 0 < get_or depth s 0) → IsDepthKnown old s → IsDepthKnown depth s
+pub known_kept : (old depth : List ℕ) (s : ℕ) → ((s : ℕ) → 0 < get_or old s 0 → 0 < get_or depth s 0) → IsDepthKnown old s →
+    IsDepthKnown depth s
 known_kept old depth s kept (inl none) = inl none
 known_kept old depth s kept (inr deep) = inr (kept s deep)
 
@@ -398,7 +420,8 @@ in_or_not (x ∷ xs) s =
         | inr out ↦ inr (λ member. later x xs s other out member.0 member.1 member.2)
       ]
     ] where
-      later : (x : ℕ) (xs : List ℕ) (s : ℕ) → (x ≡ s → ⊥) → (IsAmongSymbols xs s → ⊥) → (before after : List ℕ) → x ∷ xs ≡ before ++ s ∷ after → ⊥
+      later : (x : ℕ) (xs : List ℕ) (s : ℕ) → (x ≡ s → ⊥) → (IsAmongSymbols xs s → ⊥) → (before after : List ℕ) →
+          x ∷ xs ≡ before ++ s ∷ after → ⊥
       later x xs s other out [] after same = other (let head : x ≡ s = cc in head)
       later x xs s other out (b ∷ before) after same = out (before, after, (let tails : xs ≡ before ++ s ∷ after = cc in tails))
 

@@ -1,7 +1,9 @@
 -- If a hash table breaks none of rules 65 to 69, and its content has all its bytes, it is `Valid` for its names. The rules give its size,
 -- its counts, and that each word is a symbol. Whether chains end, and what is on them, is decided (`ChainsDecided`), so rules 68 and 69
 -- give the rest.
-use Rattle.std.proofs.Common.{◌≡◌, ℕ, ◌/◌, ◌<◌, List, [], ◌∷◌, length, map, get_or, refl, ap, zero-add, ◌≢◌, ◌≤◌, ◌+◌, ◌*◌, ◌%◌, None, inl, inr, sym, subst, ◌∙◌, arith, Option, Some, ◌++◌, fold, length-append, ◌-◌, Bool, true, false, cond, drop, min, not, take, zero, suc}
+use Rattle.std.proofs.Common.{◌≡◌, ℕ, ◌/◌, ◌<◌, List, [], ◌∷◌, length, map, get_or, refl, ap, zero-add, ◌≢◌, ◌≤◌, ◌+◌, ◌*◌, ◌%◌, None, inl}
+use Rattle.std.proofs.Common.{inr, sym, subst, ◌∙◌, arith, Option, Some, ◌++◌, fold, length-append, ◌-◌, Bool, true, false, cond, drop, min}
+use Rattle.std.proofs.Common.{not, take, zero, suc}
 use Rattle.std.specs.List.{range_with_len, before_first, position_or_len}
 use Rattle.std.proofs.lemmas.List.Sums.{fold-append}
 use Rattle.std.proofs.lemmas.List.FromFn.{get_or-map-range_with_len, length-map-range_with_len}
@@ -18,14 +20,18 @@ use Rattle.elf_field.specs.declared.shdr.Shdr.{Shdr}
 use Rattle.elf_image_rules.proofs.Public.{FirstIn-behind, FirstIn-front}
 use Rattle.elf_image_rules.specs.Rows.{FirstIn}
 use Rattle.elf_image_rules.specs.Tables.{content_extent}
-use Rattle.elf_image_type.specs.ImageView.{string}
+use Rattle.elf_field.specs.Strings.{string}
 use Rattle.elf_table_hash.proofs.Chains.{ends_or_not, on_or_not, chain_short, end_below, one_chain, path_append, path_at, path_push}
-use Rattle.elf_table_hash.specs.HashRules.{HashPartsValue, hash_parts, chain_rules, hash_rules, hash_table_rules, hash_word_past_end, word_rules}
-use Rattle.elf_table_hash.specs.HashTable.{names_in, symbol_name, words_in, AreHashWords, Valid, bucket, bucket_of, chain, name_of, nbucket, nchain, Ends, IsOn, hash_of, hash_step, symbol_names_of, IsChain, IsPath, HasSymbolNamed, HashValue, IsEndingChain, IsFirstNamed, IsProbed, NoneNamed}
+use Rattle.elf_table_hash.specs.HashRules.{HashPartsValue, hash_parts, chain_rules, hash_rules, hash_table_rules, hash_word_past_end}
+use Rattle.elf_table_hash.specs.HashRules.{word_rules}
+use Rattle.elf_table_hash.specs.HashTable.{names_in, symbol_name, words_in, AreHashWords, Valid, bucket, bucket_of, chain, name_of, nbucket}
+use Rattle.elf_table_hash.specs.HashTable.{nchain, Ends, IsOn, hash_of, hash_step, symbol_names_of, IsChain, IsPath, HasSymbolNamed}
+use Rattle.elf_table_hash.specs.HashTable.{HashValue, IsEndingChain, IsFirstNamed, IsProbed, NoneNamed}
 use Rattle.elf_table_hash.specs.HashView.{hash_of_section}
 use Rattle.elf_table_symbols.proofs.Public.{type_of_hash}
 use Rattle.elf_table_symbols.specs.Sections.{own_rules, Sections, content, order, section}
-use Rattle.elf_table_symbols.specs.Symbols.{entry_count, word, SymbolEntryValue, symbol_entry_in, symbols_in, symbols_of, symbol_table_rules, symbol_parts}
+use Rattle.elf_table_symbols.specs.Symbols.{entry_count, word, SymbolEntryValue, symbol_entry_in, symbols_in, symbols_of}
+use Rattle.elf_table_symbols.specs.Symbols.{symbol_table_rules, symbol_parts}
 use Rattle.elf_table_symbols.specs.declared.table_section.TableKind.TheVariants.{HashTable}
 
 -- The lists of words and of names have as many entries as whole entries fit, and entry j is `word` or `symbol_name` of j. Both follow from
@@ -43,17 +49,20 @@ pub length_names : (o : Order) (table names : List ℕ) → length (names_in o t
 unfolding names_in
 length_names o table names = length-map-range_with_len (symbol_name o table names) 0 (entry_count table)
 
-pub name_get : (o : Order) (table names : List ℕ) (j : ℕ) → j < entry_count table → get_or (names_in o table names) j [] ≡ symbol_name o table names j
+pub name_get : (o : Order) (table names : List ℕ) (j : ℕ) → j < entry_count table →
+    get_or (names_in o table names) j [] ≡ symbol_name o table names j
 unfolding names_in
 name_get o table names j within = get_or-map-range_with_len (symbol_name o table names) 0 (entry_count table) j j [] within (zero-add j)
 
 -- the names of symbols are those of the table
-map_names : (o : Order) (table names words xs : List ℕ) → map (λ (s : SymbolEntryValue). s.name) (map (symbol_entry_in o table names words) xs) ≡ map (symbol_name o table names) xs
+map_names : (o : Order) (table names words xs : List ℕ) →
+    map (λ (s : SymbolEntryValue). s.name) (map (symbol_entry_in o table names words) xs) ≡ map (symbol_name o table names) xs
 unfolding symbol_entry_in
 map_names o table names words [] = refl
 map_names o table names words (x ∷ xs) = ap (λ (ns : List (List ℕ)). symbol_name o table names x ∷ ns) (map_names o table names words xs)
 
-pub names_are : (o : Order) (table names words : List ℕ) → map (λ (s : SymbolEntryValue). s.name) (symbols_in o table names words) ≡ names_in o table names
+pub names_are : (o : Order) (table names words : List ℕ) →
+    map (λ (s : SymbolEntryValue). s.name) (symbols_in o table names words) ≡ names_in o table names
 unfolding symbols_in names_in
 names_are o table names words = map_names o table names words (range_with_len 0 (entry_count table))
 
@@ -75,14 +84,16 @@ unfolding symbol_names_of symbols_of
 names_of_section f i = sym (names_are _ _ _ (symbol_parts f i).words)
 
 -- a table as long as its buckets and chains, each word of which is that of a symbol
-pub linked_words : (p : HashPartsValue) → length p.words ≡ p.size / WORD_SIZE → p.size ≡ WORD_SIZE * (2 + nbucket p.words + nchain p.words) → Never (hash_word_past_end p) →
+pub linked_words : (p : HashPartsValue) → length p.words ≡ p.size / WORD_SIZE →
+    p.size ≡ WORD_SIZE * (2 + nbucket p.words + nchain p.words) → Never (hash_word_past_end p) →
     AreHashWords p.words
 unfolding bucket chain
 linked_words p sized whole never = record {
   long = omega arith;
   buckets = λ b lt. below b (omega arith);
   chains = λ s lt.
-      subst (λ k. get_or p.words k 0 < nchain p.words) (let e : 2 + (nbucket p.words + s) ≡ 2 + nbucket p.words + s = omega arith in e) (below (nbucket p.words + s) (omega arith));
+      subst (λ k. get_or p.words k 0 < nchain p.words) (let e : 2 + (nbucket p.words + s) ≡ 2 + nbucket p.words + s = omega arith in e)
+      (below (nbucket p.words + s) (omega arith));
 } where
   below : (k : ℕ) → k < nbucket p.words + nchain p.words → get_or p.words (2 + k) 0 < nchain p.words
   below k within =
@@ -95,7 +106,8 @@ above_zero : (n : ℕ) → n ≢ 0 → 0 < n
 above_zero n some = omega arith
 
 -- a table of which rules 65 to 69 hold is one for its names
-pub valid_when : (p : HashPartsValue) → length p.words ≡ p.size / WORD_SIZE → FirstIn (word_rules p) None → FirstIn (chain_rules p) None → Valid p.words p.names
+pub valid_when : (p : HashPartsValue) → length p.words ≡ p.size / WORD_SIZE → FirstIn (word_rules p) None → FirstIn (chain_rules p) None →
+    Valid p.words p.names
 unfolding word_rules chain_rules
 valid_when p sized words chains = record {
   some_bucket = some;
@@ -160,19 +172,22 @@ sound_hash_type f i sound = hash_type f i (FirstIn-front (own_rules HashTable f 
 -- name, because it is on its bucket's chain (`probe_some`).
 
 -- what is left of a chain at a symbol: the symbol, and the chain of its chain word
-pub left_at : (next : ℕ → ℕ) (s : ℕ) (left : List ℕ) → s ≢ 0 → IsChain next s left → (after : List ℕ) × IsChain next (next s) after × (left ≡ s ∷ after)
+pub left_at : (next : ℕ → ℕ) (s : ℕ) (left : List ℕ) → s ≢ 0 → IsChain next s left →
+    (after : List ℕ) × IsChain next (next s) after × (left ≡ s ∷ after)
 left_at next s [] some chain = absurd (some chain)
 left_at next s (y ∷ after) some chain = (after, subst (λ k. IsChain next (next k) after) chain.1 chain.2, ap (λ k. k ∷ after) chain.1)
 
 -- the symbols looked at and those left are fewer than there are
-pub looked_short : (next : ℕ → ℕ) (m start s : ℕ) (done left : List ℕ) → ((k : ℕ) → k < m → next k < m) → start < m → IsPath next start done s → IsChain next s left →
+pub looked_short : (next : ℕ → ℕ) (m start s : ℕ) (done left : List ℕ) → ((k : ℕ) → k < m → next k < m) → start < m →
+    IsPath next start done s → IsChain next s left →
     length done + length left < m
 looked_short next m start s done left below within path ends =
     let short = chain_short next m start (done ++ left) below within (path_append next start s 0 done left path ends) in
     let sum = length-append done left in
     omega arith
 
-pub none_more : (names : List (List ℕ)) (name : List ℕ) (s : ℕ) (done : List ℕ) → NoneNamed names name done → name_of names s ≢ name → NoneNamed names name (done ++ s ∷ [])
+pub none_more : (names : List (List ℕ)) (name : List ℕ) (s : ℕ) (done : List ℕ) → NoneNamed names name done → name_of names s ≢ name →
+    NoneNamed names name (done ++ s ∷ [])
 none_more names name s [] none other = (other, tt)
 none_more names name s (x ∷ done) none other = (none.0, none_more names name s done none.1 other)
 
@@ -197,7 +212,8 @@ walk_begins words names name start chained =
 pub walk_short : (words : List ℕ) (names : List (List ℕ)) (name : List ℕ) (start steps s : ℕ) → IsEndingChain words names start →
     IsWalked words names name start steps s → steps < nchain words
 walk_short words names name start steps s chained walked =
-    let short = looked_short (chain words) (nchain words) start s walked.done walked.left chained.valid.linked.chains chained.inside walked.path walked.ends in
+    let short = looked_short (chain words)
+    (nchain words) start s walked.done walked.left chained.valid.linked.chains chained.inside walked.path walked.ends in
     let count = walked.count in
     omega arith
 
@@ -205,7 +221,8 @@ walk_short words names name start steps s chained walked =
 pub walk_shorter : (words : List ℕ) (names : List (List ℕ)) (name : List ℕ) (start steps s : ℕ) → IsEndingChain words names start →
     IsWalked words names name start steps s → s ≢ 0 → steps + 1 < nchain words
 walk_shorter words names name start steps s chained walked some =
-    let short = looked_short (chain words) (nchain words) start s walked.done walked.left chained.valid.linked.chains chained.inside walked.path walked.ends in
+    let short = looked_short (chain words)
+    (nchain words) start s walked.done walked.left chained.valid.linked.chains chained.inside walked.path walked.ends in
     let count = walked.count in
     let (after, rest, is) = left_at (chain words) s walked.left some walked.ends in
     let long = ap (λ (xs : List ℕ). length xs) is in
@@ -247,7 +264,8 @@ walk_more words names name start steps s chained walked some other =
 -- ---- whether a symbol has a name
 
 -- a symbol of the name is not among those that do not have it
-none_there : (names : List (List ℕ)) (name : List ℕ) (s : ℕ) (before after : List ℕ) → NoneNamed names name (before ++ s ∷ after) → name_of names s ≡ name → ⊥
+none_there : (names : List (List ℕ)) (name : List ℕ) (s : ℕ) (before after : List ℕ) → NoneNamed names name (before ++ s ∷ after) →
+    name_of names s ≡ name → ⊥
 none_there names name s [] after none named = none.0 named
 none_there names name s (x ∷ before) after none named = none_there names name s before after none.1 named
 
@@ -259,7 +277,8 @@ pub bucket_ends : (words : List ℕ) (names : List (List ℕ)) (name : List ℕ)
 bucket_ends words names name valid = valid.ends (hash_of name % nbucket words) (bucket_there words name valid.some_bucket)
 
 -- a symbol is found exactly where one from 1 on has the name
-pub probe_some : (hash : HashValue) (name : List ℕ) (found : Option ℕ) (steps : ℕ) → Valid hash.words hash.names → IsProbed hash name found steps →
+pub probe_some : (hash : HashValue) (name : List ℕ) (found : Option ℕ) (steps : ℕ) → Valid hash.words hash.names →
+    IsProbed hash name found steps →
     (IsSome found → HasSymbolNamed hash name) × (HasSymbolNamed hash name → IsSome found)
 probe_some hash name (Some s) steps valid probed = (
   (λ _. (
@@ -284,7 +303,8 @@ probe_some hash name None steps valid probed = (
 )
 
 -- the chain of a name's bucket ends, and begins in the table
-pub bucket_chain : (words : List ℕ) (names : List (List ℕ)) (name : List ℕ) → Valid words names → IsEndingChain words names (bucket_of words name)
+pub bucket_chain : (words : List ℕ) (names : List (List ℕ)) (name : List ℕ) → Valid words names →
+    IsEndingChain words names (bucket_of words name)
 bucket_chain words names name valid = record {
   valid = valid;
   inside = valid.linked.buckets (hash_of name % nbucket words) (bucket_there words name valid.some_bucket);
@@ -306,7 +326,8 @@ end_near [] (suc n) = omega arith
 end_near (x ∷ xs) zero = omega arith
 end_near (x ∷ xs) (suc n) = by (x == 0) (end_near xs n)
   where
-    by : (b : Bool) → end_of (take n xs) ≡ min n (end_of xs) → cond (not b) (1 + end_of (take n xs)) 0 ≡ min (suc n) (cond (not b) (1 + end_of xs) 0)
+    by : (b : Bool) → end_of (take n xs) ≡ min n (end_of xs) →
+        cond (not b) (1 + end_of (take n xs)) 0 ≡ min (suc n) (cond (not b) (1 + end_of xs) 0)
     by true rest = omega arith
     by false rest = omega arith
 
@@ -340,7 +361,8 @@ rest_from xs x =
     ]
 
 -- the string of n bytes of xs is that of xs, if it has fewer bytes, or xs has no more
-pub near_whole : (xs : List ℕ) (n most : ℕ) → n ≡ min (length xs) (most + 1) → length (string_of (take n xs)) ≤ most → string_of (take n xs) ≡ string_of xs
+pub near_whole : (xs : List ℕ) (n most : ℕ) → n ≡ min (length xs) (most + 1) → length (string_of (take n xs)) ≤ most →
+    string_of (take n xs) ≡ string_of xs
 near_whole xs n most near short = elim (cases_lt (length xs) (most + 1)) [
   | inl below ↦ ap string_of (take_all n xs (omega arith))
   | inr past ↦
@@ -362,18 +384,23 @@ split_string (suc n) (x ∷ xs) le = by (x == 0) le (λ rest. split_string n xs 
         ap (λ (ys : List ℕ). x ∷ ys) (rest (let more : suc n ≤ 1 + end_of xs = le in omega arith))
 
 -- the bytes between two offsets, and the string at the second, are the string at the first, if no zero is between
-pub string_from : (table : List ℕ) (from to : ℕ) → from ≤ to → to ≤ length table → to - from ≤ length (string_of (take (to - from) (drop from table))) →
+pub string_from : (table : List ℕ) (from to : ℕ) → from ≤ to → to ≤ length table →
+    to - from ≤ length (string_of (take (to - from) (drop from table))) →
     string table from ≡ string_of (take (to - from) (drop from table)) ++ string table to
 string_from table from to le within whole =
     let n = to - from in
     let xs = drop from table in
-    let far : n ≤ end_of xs = (let long : n ≤ min (min n (end_of xs)) (length xs) = rw (cut_string xs n, length-take (min n (end_of xs)) xs) at whole in omega arith) in
+    let far : n ≤ end_of xs =
+    (let long : n ≤ min (min n (end_of xs)) (length xs) = rw (cut_string xs n, length-take (min n (end_of xs)) xs) at whole in
+    omega arith) in
     let own : string_of (take n xs) ≡ take n xs = cut_string xs n ∙ ap (λ (k : ℕ). take k xs) (omega arith) in
     let rest : drop n xs ≡ drop to table = drop-drop n from table ∙ ap (λ (k : ℕ). drop k table) (omega arith) in
     rw (split_string n xs far, own, rest) refl
 
 -- and so the hash of these bytes becomes that of the string at the first
-pub hash_from : (table : List ℕ) (from to : ℕ) → from ≤ to → to ≤ length table → to - from ≤ length (string_of (take (to - from) (drop from table))) →
+pub hash_from : (table : List ℕ) (from to : ℕ) → from ≤ to → to ≤ length table →
+    to - from ≤ length (string_of (take (to - from) (drop from table))) →
     fold hash_step (hash_of (string_of (take (to - from) (drop from table)))) (string table to) ≡ hash_of (string table from)
 hash_from table from to le within whole =
-    sym (ap hash_of (string_from table from to le within whole) ∙ fold-append hash_step 0 (string_of (take (to - from) (drop from table))) (string table to))
+    sym (ap hash_of (string_from table from to le within whole) ∙
+    fold-append hash_step 0 (string_of (take (to - from) (drop from table))) (string table to))

@@ -1,10 +1,11 @@
 -- A hash table, as the list of its words: nbucket, nchain, a word for each bucket, and a chain word for each symbol.
 -- (gABI chapter 5, Hash Table.)
-use Rattle.std.specs.Prelude.{◌≡◌, ◌≢◌, ℕ, List, [], ◌∷◌, ◌++◌, ◌+◌, ◌*◌, ◌/◌, ◌%◌, ◌^◌, bit_xor, fold, ◌<◌, get_or, length, ◌≤◌, ◌⊎◌, map, Option, None, Some}
+use Rattle.std.specs.Prelude.{◌≡◌, ◌≢◌, ℕ, List, [], ◌∷◌, ◌++◌, ◌+◌, ◌*◌, ◌/◌, ◌%◌, ◌^◌, bit_xor, fold, ◌<◌, get_or, length, ◌≤◌, ◌⊎◌, map}
+use Rattle.std.specs.Prelude.{Option, None, Some}
 use Rattle.std.specs.List.{range_with_len, AllByRecursion}
 use Rattle.elf_field.specs.Abi.{WORD_SIZE}
 use Rattle.elf_field.specs.declared.number.Order.{Order}
-use Rattle.elf_image_type.specs.ImageView.{string}
+use Rattle.elf_field.specs.Strings.{string}
 use Rattle.elf_table_hash.specs.declared.hash_building.HashFault.TheVariants.{NoBuckets, OutOfMemory, TooMany}
 use Rattle.elf_table_hash.specs.declared.hash_building.HashFault.{HashFault}
 use Rattle.elf_table_symbols.specs.Sections.{Sections}
@@ -143,7 +144,8 @@ NoneNamed names name symbols = AllByRecursion (λ s. name_of names s ≢ name) s
 -- chain, where there is none
 abbrev pub IsFirstNamed : (ℕ → ℕ) → List (List ℕ) → List ℕ → ℕ → Option ℕ → ℕ → Type 0
 IsFirstNamed next names name start (Some s) steps =
-    (before after : List ℕ) × IsChain next start (before ++ s ∷ after) × (steps ≡ length before + 1) × (name_of names s ≡ name) × NoneNamed names name before
+    (before after : List ℕ) × IsChain next start (before ++ s ∷ after) × (steps ≡ length before + 1) × (name_of names s ≡ name) ×
+    NoneNamed names name before
 IsFirstNamed next names name start None steps =
     (symbols : List ℕ) × IsChain next start symbols × (steps ≡ length symbols) × NoneNamed names name symbols
 

@@ -2,7 +2,7 @@
 use Rattle.std.specs.Prelude.{◌≡◌, ◌*◌, ◌+◌, ◌<◌, ◌^◌, ℕ, List, Some, fold, get_or}
 use Rattle.std.specs.BTreeMap.{get}
 use Rattle.std.specs.Ordering.{nat_cmp}
-use Rattle.elf_image_type.specs.ImageView.{string}
+use Rattle.elf_field.specs.Strings.{string}
 use Rattle.elf_table_hash.specs.HashTable.{hash_of, hash_step}
 use Rattle.elf_table_hash.specs.declared.hash_lanes.Lanes.{Lanes}
 use Rattle.elf_table_hash.specs.declared.name_hashes.NameHashes.TheInside.{Inside}
@@ -24,7 +24,8 @@ LANES = 16
 
 -- with the string at the offset `last`, the hash of each lane becomes that of the lane's string
 pub record AreLanesOf (strings : List ℕ) (last : ℕ) (lanes : Lanes) : Type 0 where
-  pub right : (k : ℕ) → k < LANES → fold hash_step (get_or lanes.hashes k 0) (string strings last) ≡ hash_of (string strings (get_or lanes.offsets k 0))
+  pub right : (k : ℕ) → k < LANES →
+      fold hash_step (get_or lanes.hashes k 0) (string strings last) ≡ hash_of (string strings (get_or lanes.offsets k 0))
 
 -- the hash of each lane is that of the lane's string
 pub record AreLanesRun (strings : List ℕ) (lanes : Lanes) : Type 0 where

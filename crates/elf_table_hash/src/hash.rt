@@ -5,7 +5,8 @@ ghost use Rattle.elf_table_symbols.specs.Verdicts.{IsValidatedBehind, IsOnlyVali
 ghost use Rattle.elf_table_symbols.specs.Sections.{sections_of};
 ghost use Rattle.elf_table_hash.specs.HashView.{words_left, hash_of_section};
 ghost use Rattle.elf_table_hash.specs.HashRules.{hash_table_front, hash_table_rules};
-ghost use Rattle.elf_table_hash.specs.HashTable.{nbucket as nbucket_of, nchain as nchain_of, HasSymbolNamed, IsProbed, Valid, chain, IsEndingChain, IsFirstNamed, hash_in};
+ghost use Rattle.elf_table_hash.specs.HashTable.{nbucket as nbucket_of, nchain as nchain_of, HasSymbolNamed, IsProbed, Valid, chain};
+ghost use Rattle.elf_table_hash.specs.HashTable.{IsEndingChain, IsFirstNamed, hash_in};
 
 use crate::hash_building::elf_hash;
 use crate::hash_parts::HashParts;

@@ -1,6 +1,7 @@
 //! Making a hash table (gABI chapter 5, Hash Table).
 ghost use Rattle.std.specs.Prelude.{◌≡◌, ◌≢◌, ◌<◌, ◌≤◌, ◌+◌, ◌%◌, ℕ, IfErr, IfOk, length, get_or, map};
-ghost use Rattle.elf_table_hash.specs.HashTable.{hash_of, hash_step, IsBuilt, IsRefused, MAX_HASH, nbucket as nbucket_of, nchain as nchain_of};
+ghost use Rattle.elf_table_hash.specs.HashTable.{hash_of, hash_step, IsBuilt, IsRefused, MAX_HASH, nbucket as nbucket_of};
+ghost use Rattle.elf_table_hash.specs.HashTable.{nchain as nchain_of};
 ghost use Rattle.elf_table_hash.specs.ChainDepths.{IsThreaded, threaded};
 
 use std::alloc::{AllocError, AllocFailed, Global};

@@ -3,7 +3,8 @@
 //! Chains may share their tails, so that walking each of them to its end could take the number of buckets times the number of
 //! symbols. The walks here stop where the chain's length is known, and go back over the symbols that are new: each
 //! symbol is met once. Whether a symbol is on a chain is asked by jumps down it, of which a few lead to any place.
-ghost use Rattle.std.specs.Prelude.{◌≡◌, ◌≢◌, ◌↔◌, ◌<◌, ◌≤◌, ◌+◌, ◌*◌, ℕ, [], None, IfOk, IfNone, IfSome, IsSome, IsTrue, length, get_or, slice_set};
+ghost use Rattle.std.specs.Prelude.{◌≡◌, ◌≢◌, ◌↔◌, ◌<◌, ◌≤◌, ◌+◌, ◌*◌, ℕ, [], None, IfOk, IfNone, IfSome, IsSome, IsTrue, length, get_or};
+ghost use Rattle.std.specs.Prelude.{slice_set};
 ghost use Rattle.elf_extent.specs.Extent.{IsLowest};
 ghost use Rattle.elf_image_rules.specs.Rules.{MAX_LEN};
 ghost use Rattle.elf_table_symbols.specs.Sections.{Below};

@@ -3,7 +3,7 @@
 //! The hash of a name tells nothing of those of its tails, so each tail is hashed by itself. But from the beginning of the last one on they
 //! have the same bytes, and one instruction of the processor can put a byte into several hashes.
 ghost use Rattle.std.specs.Prelude.{◌≡◌, ◌<◌, ◌≤◌, ℕ, IfSome, fold, get_or, length};
-ghost use Rattle.elf_image_type.specs.ImageView.{string};
+ghost use Rattle.elf_field.specs.Strings.{string};
 ghost use Rattle.elf_table_hash.specs.HashTable.{hash_of, hash_step};
 ghost use Rattle.elf_table_hash.specs.NameHashes.{AreLanesOf, AreLanesRun, LANES as lane_count};
 

@@ -38,7 +38,7 @@ impl<'a> HashParts<'a> {
     ghost use Rattle.elf_table_symbols.specs.Symbols.{symbol_table_rules};
     ghost use Rattle.elf_table_hash.specs.HashRules.{hash_parts, hash_parts_value};
     ghost use Rattle.elf_table_hash.specs.HashTable.{name_of};
-    ghost use Rattle.elf_image_type.specs.ImageView.{string};
+    ghost use Rattle.elf_field.specs.Strings.{string};
 
     /// Those of a hash table whose section header breaks no rule, as the symbol table that it links to.
     pub(crate) fn new(linked: LinkedTable<'_, 'a>) -> HashParts<'a>

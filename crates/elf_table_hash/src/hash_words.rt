@@ -1,7 +1,8 @@
 //! The words of a hash table, and the names that it is for (gABI chapter 5, Hash Table).
 ghost use Rattle.std.specs.Prelude.{◌≡◌, ◌≢◌, ◌↔◌, ◌<◌, ◌≤◌, ◌+◌, ◌%◌, [], IsTrue, length, get_or};
-ghost use Rattle.elf_table_hash.specs.HashTable.{bucket as bucket_word, chain as chain_word, nbucket as nbucket_of, nchain as nchain_of, names_in, words_in};
-ghost use Rattle.elf_image_type.specs.ImageView.{string};
+ghost use Rattle.elf_table_hash.specs.HashTable.{bucket as bucket_word, chain as chain_word, nbucket as nbucket_of, nchain as nchain_of};
+ghost use Rattle.elf_table_hash.specs.HashTable.{names_in, words_in};
+ghost use Rattle.elf_field.specs.Strings.{string};
 
 use elf_field::Order;
 use elf_field::abi::*;

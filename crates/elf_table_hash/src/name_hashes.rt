@@ -1,9 +1,12 @@
 //! The hashes of symbols' names, by their places in the file (gABI chapter 5, Hash Table).
 //!
+//! Each tail of a name is hashed by itself: its hash does not follow from that of a longer or a shorter one. So 16 tails of one name are
+//! hashed side by side. A name of at most 64 bytes is hashed for each symbol.
+//!
 //! Hash tables may share a symbol table, and symbols may share a name. To hash the name of each symbol for each table could read one long
 //! name as often as the file has words. So each long name is hashed once for each place where one begins.
 ghost use Rattle.std.specs.Prelude.{◌≡◌, ◌≤◌, IfSome, length};
-ghost use Rattle.elf_image_type.specs.ImageView.{string};
+ghost use Rattle.elf_field.specs.Strings.{string};
 ghost use Rattle.elf_table_hash.specs.HashTable.{hash_of};
 ghost use Rattle.elf_table_hash.specs.NameHashes.{AreLanesRun, LANES, place_key};
 ghost use Rattle.elf_table_symbols.specs.Sections.{content, sections_of};

@@ -1,5 +1,6 @@
 -- Lists of dynamic entries, relocations and group members, read from the bytes of their sections.
-use Rattle.std.proofs.Common.{◌≡◌, ℕ, ◌<◌, ◌≤◌, true, false, Option, None, Some, List, length, get_or, inl, inr, sym, ◌∙◌, ap, take, arith, zero-add, Bool, refl, ◌+◌, ◌*◌}
+use Rattle.std.proofs.Common.{◌≡◌, ℕ, ◌<◌, ◌≤◌, true, false, Option, None, Some, List, length, get_or, inl, inr, sym, ◌∙◌, ap, take, arith}
+use Rattle.std.proofs.Common.{zero-add, Bool, refl, ◌+◌, ◌*◌}
 use Rattle.std.specs.List.{position_or_len}
 use Rattle.std.proofs.lemmas.Bool.{cases_lt, false_from_ne_true, cases_eq}
 use Rattle.std.proofs.lemmas.Bool.Decides.{Decides-int_eq}
@@ -13,8 +14,10 @@ use Rattle.elf_field.specs.Abi.{DT_NULL, SHT_GROUP, WORD_SIZE}
 use Rattle.elf_field.specs.declared.number.Order.{Order}
 use Rattle.elf_image_rules.proofs.Public.{FirstIn-behind, FirstIn-front}
 use Rattle.elf_image_rules.specs.Rows.{AtEntry, FirstIn}
-use Rattle.elf_table_lists.specs.Dynamic.{IsNullEntry, dynamic_array_of, dynamic_entries, dynamic_entry, dynamic_entry_count, is_null_entry, no_dynamic_entry}
-use Rattle.elf_table_lists.specs.Groups.{group_front_rules, group_rules, group_section_rules, member, member_count, members_in, IsNamedBefore, IsUnfit, IsWrongMember, wrong_member, MembersAscend}
+use Rattle.elf_table_lists.specs.Dynamic.{IsNullEntry, dynamic_array_of, dynamic_entries, dynamic_entry, dynamic_entry_count, is_null_entry}
+use Rattle.elf_table_lists.specs.Dynamic.{no_dynamic_entry}
+use Rattle.elf_table_lists.specs.Groups.{group_front_rules, group_rules, group_section_rules, member, member_count, members_in}
+use Rattle.elf_table_lists.specs.Groups.{IsNamedBefore, IsUnfit, IsWrongMember, wrong_member, MembersAscend}
 use Rattle.elf_table_lists.specs.Relocations.{no_relocation_entry, relocation_count, relocation_in, relocations_in}
 use Rattle.elf_table_symbols.proofs.Public.{type_of_group}
 use Rattle.elf_table_symbols.specs.Sections.{Sections, content, order, own_rules, section, Below}
@@ -30,7 +33,8 @@ pub length_dynamic : (o : Order) (table : List ℕ) (n : ℕ) → length (dynami
 unfolding dynamic_entries
 length_dynamic o table n = length-map-range_with_len (dynamic_entry o table) 0 n
 
-pub dynamic_get : (o : Order) (table : List ℕ) (n j : ℕ) → j < n → get_or (dynamic_entries o table n) j no_dynamic_entry ≡ dynamic_entry o table j
+pub dynamic_get : (o : Order) (table : List ℕ) (n j : ℕ) → j < n →
+    get_or (dynamic_entries o table n) j no_dynamic_entry ≡ dynamic_entry o table j
 unfolding dynamic_entries
 dynamic_get o table n j within = get_or-map-range_with_len (dynamic_entry o table) 0 n j j no_dynamic_entry within (zero-add j)
 
@@ -53,21 +57,25 @@ first_null_at o table end is =
     let within : end ≤ length xs = (let le = is.within in omega arith) in
     let other : (k : ℕ) → k < end → is_null_entry (get_or xs k no_dynamic_entry) ≡ false =
     λ k lt. (let inside : k < n = (let le = is.within in omega arith) in
-    rw (dynamic_get o table n k inside) (false_from_ne_true _ (λ test. is.before k lt ((Decides-int_eq (dynamic_entry o table k).d_tag DT_NULL).0 test)))) in
+    rw (dynamic_get o table n k inside)
+    (false_from_ne_true _ (λ test. is.before k lt ((Decides-int_eq (dynamic_entry o table k).d_tag DT_NULL).0 test)))) in
     let here : end < length xs → is_null_entry (get_or xs end no_dynamic_entry) ≡ true =
     λ lt. (let inside : end < n = omega arith in
     rw (dynamic_get o table n end inside) ((Decides-int_eq (dynamic_entry o table end).d_tag DT_NULL).1 (is.found inside))) in
     position_or_len_is is_null_entry xs end no_dynamic_entry within other here
 
 -- the entries before it are the dynamic array
-pub dynamic_array_is : (f : Sections) (i : ℕ) (o : Order) (table : List ℕ) (end : ℕ) → o ≡ order f → table ≡ content f i → IsEnd o table end →
+pub dynamic_array_is : (f : Sections) (i : ℕ) (o : Order) (table : List ℕ) (end : ℕ) → o ≡ order f → table ≡ content f i →
+    IsEnd o table end →
     dynamic_entries o table end ≡ dynamic_array_of f i
 unfolding dynamic_array_of
 dynamic_array_is f i o table end ordered read is =
     sym (take_entries o table (dynamic_entry_count table) end is.within)
     ∙ ap (λ k. take k (dynamic_entries o table (dynamic_entry_count table))) (sym (first_null_at o table end is))
-    ∙ ap (λ (t : List ℕ). take (position_or_len is_null_entry (dynamic_entries o t (dynamic_entry_count t))) (dynamic_entries o t (dynamic_entry_count t))) read
-    ∙ ap (λ (p : Order). take (position_or_len is_null_entry (dynamic_entries p (content f i) (dynamic_entry_count (content f i)))) (dynamic_entries p (content f i) (dynamic_entry_count (content f i)))) ordered
+    ∙ ap (λ (t : List ℕ). take (position_or_len is_null_entry (dynamic_entries o t (dynamic_entry_count t)))
+    (dynamic_entries o t (dynamic_entry_count t))) read
+    ∙ ap (λ (p : Order). take (position_or_len is_null_entry (dynamic_entries p (content f i) (dynamic_entry_count (content f i))))
+    (dynamic_entries p (content f i) (dynamic_entry_count (content f i)))) ordered
 
 -- the lowest offset of an entry with P before that index is the lowest one of an entry with P that no entry before it, nor itself, ends
 pub lowest_before_end : (n end : ℕ) (Null P : ℕ → Type 0) (place : ℕ → ℕ) (found : Option ℕ) → end ≤ n → ((k : ℕ) → k < end → Null k → ⊥) →
@@ -79,7 +87,8 @@ lowest_before_end n end Null P place found within before null lowest = lower fou
     | inr past ↦ (let le : end ≤ j = past in let lt : end < n = omega arith in absurd (clean.0 end le (null lt)))
   ]
 
-  lower : (found : Option ℕ) → IsLowest (AtEntry end P place) found → IsLowest (AtEntry n (λ j. ((k : ℕ) → k ≤ j → ¬ Null k) × P j) place) found
+  lower : (found : Option ℕ) → IsLowest (AtEntry end P place) found →
+      IsLowest (AtEntry n (λ j. ((k : ℕ) → k ≤ j → ¬ Null k) × P j) place) found
   lower None never = λ x here. never x (inside x here)
   lower (Some x) least = record {
     holds = (let (j, lt, holds, at) = least.holds in (j, (let le = within in omega arith), ((λ k le. before k (omega arith)), holds), at));
@@ -88,7 +97,8 @@ lowest_before_end n end Null P place found within before null lowest = lower fou
 
 -- The relocations of a content, by index.
 
-pub length_relocations : (addends : Bool) (o : Order) (table : List ℕ) → length (relocations_in addends o table) ≡ relocation_count addends table
+pub length_relocations : (addends : Bool) (o : Order) (table : List ℕ) →
+    length (relocations_in addends o table) ≡ relocation_count addends table
 unfolding relocations_in
 length_relocations addends o table = length-map-range_with_len (relocation_in addends o table) 0 (relocation_count addends table)
 
@@ -124,7 +134,8 @@ sound_group f i sound =
     let rest = FirstIn-behind (symbol_table_rules f (section f i).sh_link) _ (FirstIn-behind (own_rules SectionGroup f i) _ sound) in
     let front = FirstIn-front (group_front_rules f i) _ rest in
     record {
-      typed = elim (cases_eq (section f i).sh_type SHT_GROUP) [ inl same ↦ same | inr other ↦ absurd (own.0 _ ((λ is. other (type_of_group _ is)), refl)) ];
+      typed = elim (cases_eq (section f i).sh_type SHT_GROUP)
+          [ inl same ↦ same | inr other ↦ absurd (own.0 _ ((λ is. other (type_of_group _ is)), refl)) ];
       sized = elim (cases_eq ((section f i).sh_size % WORD_SIZE) 0) [ inl same ↦ same | inr other ↦ absurd (own.1.1.0 _ (other, refl)) ];
       some = elim (cases_eq (section f i).sh_size 0) [ inl none ↦ absurd (front.0 _ (none, refl)) | inr other ↦ omega arith ];
     }
@@ -168,5 +179,6 @@ wrong_member_row f i j least = record {
   lowest = λ y other. (let le = least.lowest other.0 (other.1, other.2) in let at = other.3 in omega arith);
 }
 
-pub no_wrong_member : (f : Sections) (i : ℕ) → IsLowest (Below (member_count (content f i)) (IsWrongMember f i)) None → Never (wrong_member f i)
+pub no_wrong_member : (f : Sections) (i : ℕ) → IsLowest (Below (member_count (content f i)) (IsWrongMember f i)) None →
+    Never (wrong_member f i)
 no_wrong_member f i never = λ y other. never other.0 (other.1, other.2)

@@ -1,5 +1,6 @@
 -- Notes are where they begin, and the first broken rule of a note is that of its section.
-use Rattle.std.proofs.Common.{◌≡◌, ℕ, zero, suc, ◌+◌, ◌<◌, ◌≤◌, List, [], ◌∷◌, None, Some, length, inl, inr, refl, sym, ap, ◌∙◌, arith, ◌-◌, take, drop, Option, subst}
+use Rattle.std.proofs.Common.{◌≡◌, ℕ, zero, suc, ◌+◌, ◌<◌, ◌≤◌, List, [], ◌∷◌, None, Some, length, inl, inr, refl, sym, ap, ◌∙◌, arith, ◌-◌}
+use Rattle.std.proofs.Common.{take, drop, Option, subst}
 use Rattle.std.specs.Prelude.{slice_get, MatchOption, ◌⊎◌}
 use Rattle.std.proofs.lemmas.Bool.{cases_lt, le-ltb, lt-ltb, cases_eq}
 use Rattle.std.proofs.lemmas.List.{drop-drop, drop-take, take-take}
@@ -13,7 +14,9 @@ use Rattle.elf_field.specs.declared.number.Order.{Order}
 use Rattle.elf_image_rules.specs.Rows.{FirstIn}
 use Rattle.elf_image_rules.specs.Tables.{bytes_in}
 use Rattle.elf_image_rules.specs.Rows.{Broken}
-use Rattle.elf_table_lists.specs.Notes.{AreNotesWhole, desc_start, first_notes, note_at, note_end, note_offset, notes_in, NoteValue, descsz, name_start, namesz, padded, IsCut, AtNote, IsUnclosedNoteName, name_last, note_desc_past_end, note_name_past_end, note_rules, partial_note, unclosed_note_name}
+use Rattle.elf_table_lists.specs.Notes.{AreNotesWhole, desc_start, first_notes, note_at, note_end, note_offset, notes_in, NoteValue, descsz}
+use Rattle.elf_table_lists.specs.Notes.{name_start, namesz, padded, IsCut, AtNote, IsUnclosedNoteName, name_last, note_desc_past_end}
+use Rattle.elf_table_lists.specs.Notes.{note_name_past_end, note_rules, partial_note, unclosed_note_name}
 
 -- Each note begins where the earlier one ends, and has at least a header, so the offsets of notes rise. Entry k of the list is the note at
 -- offset k, if that offset is inside the content; otherwise there is no entry k. By induction on k; more steps than bytes change nothing
@@ -66,7 +69,8 @@ unfolding first_notes
 one_more o table n x within = rw (lt-ltb x (length table) within) refl
 
 -- a higher bound on their number changes nothing
-enough : (o : Order) (table : List ℕ) (n m x : ℕ) → length table ≤ x + n → length table ≤ x + m → first_notes o table n x ≡ first_notes o table m x
+enough : (o : Order) (table : List ℕ) (n m x : ℕ) → length table ≤ x + n → length table ≤ x + m →
+    first_notes o table n x ≡ first_notes o table m x
 enough o table zero m x low high = none_past o table zero x (omega arith) ∙ sym (none_past o table m x (omega arith))
 enough o table (suc n) zero x low high = none_past o table (suc n) x (omega arith) ∙ sym (none_past o table zero x (omega arith))
 enough o table (suc n) (suc m) x low high = elim (cases_lt x (length table)) [
@@ -81,7 +85,8 @@ pub no_note_left : (o : Order) (table : List ℕ) (x : ℕ) → length table ≤
 unfolding notes_in
 no_note_left o table x past = none_past o table (length table) x past
 
-pub note_left : (o : Order) (table : List ℕ) (x : ℕ) → x < length table → notes_in o table x ≡ note_at o table x ∷ notes_in o table (note_end o table x)
+pub note_left : (o : Order) (table : List ℕ) (x : ℕ) → x < length table →
+    notes_in o table x ≡ note_at o table x ∷ notes_in o table (note_end o table x)
 unfolding notes_in
 note_left o table x within =
     enough o table (length table) (suc (length table)) x (omega arith) (omega arith) ∙ one_more o table (length table) x within
@@ -105,11 +110,13 @@ note_entry o table x (suc k) within =
     ap (λ (notes : List _). slice_get notes (suc k)) (note_left o table x (omega arith)) ∙ note_entry o table (note_end o table x) k within
 
 -- and there is no other
-pub no_note_entry : (o : Order) (table : List ℕ) (x k : ℕ) → length table ≤ note_offset o table x k → slice_get (notes_in o table x) k ≡ None
+pub no_note_entry : (o : Order) (table : List ℕ) (x k : ℕ) → length table ≤ note_offset o table x k →
+    slice_get (notes_in o table x) k ≡ None
 unfolding note_offset
 no_note_entry o table x zero past = ap (λ (notes : List _). slice_get notes zero) (no_note_left o table x past)
 no_note_entry o table x (suc k) past = elim (cases_lt x (length table)) [
-  | inl within ↦ ap (λ (notes : List _). slice_get notes (suc k)) (note_left o table x within) ∙ no_note_entry o table (note_end o table x) k past
+  | inl within ↦
+      ap (λ (notes : List _). slice_get notes (suc k)) (note_left o table x within) ∙ no_note_entry o table (note_end o table x) k past
   | inr none ↦ ap (λ (notes : List _). slice_get notes (suc k)) (no_note_left o table x none)
 ]
 
@@ -157,8 +164,10 @@ note_in_file o b e x within =
     let pads : padded (namesz o t x) ≡ padded (namesz o b (e.start + x)) = ap padded names in
     let second : e.start + desc_start o t x ≡ desc_start o b (e.start + x) = omega arith in
     same_note _ _ _ _ _ _ (word_in_file o b e x N_TYPE_AT (omega arith))
-    (part_of_part b e.start e.len (name_start x) (namesz o t x - 1) (namesz o b (e.start + x) - 1) (name_start (e.start + x)) (omega arith) less first)
-    (part_of_part b e.start e.len (desc_start o t x) (descsz o t x) (descsz o b (e.start + x)) (desc_start o b (e.start + x)) (omega arith) descs second)
+    (part_of_part b e.start e.len (name_start x) (namesz o t x - 1) (namesz o b (e.start + x) - 1) (name_start (e.start + x))
+    (omega arith) less first)
+    (part_of_part b e.start e.len (desc_start o t x) (descsz o t x) (descsz o b (e.start + x)) (desc_start o b (e.start + x))
+    (omega arith) descs second)
 
 -- Notes are tested one by one: all so far are whole, and the lowest name of theirs that is not closed is kept (`AreValidated`,
 -- `validated_more`). A note that is cut short is the last one and breaks one of rules 59 to 61, which is the fault (`cut_fault`). If all
@@ -166,7 +175,8 @@ note_in_file o b e x within =
 
 -- where one of the first n notes has a name that isn't closed, the last byte of it
 abbrev pub UnclosedBefore : Order → List ℕ → ℕ → ℕ → Type 0
-UnclosedBefore o table n = λ y. (k : ℕ) × (k < n) × IsUnclosedNoteName o table (note_offset o table 0 k) × (y ≡ name_last o table (note_offset o table 0 k))
+UnclosedBefore o table n =
+    λ y. (k : ℕ) × (k < n) × IsUnclosedNoteName o table (note_offset o table 0 k) × (y ≡ name_last o table (note_offset o table 0 k))
 
 -- the notes before offset x are whole, and this is the lowest name of theirs that isn't closed
 pub record AreValidated (o : Order) (table : List ℕ) (x : ℕ) (unclosed : Option ℕ) : Type 0 where
@@ -189,7 +199,8 @@ none_validated o table = record {
 -- ---- a note that is cut short
 
 -- a note is one of those before x, or begins at x or after it
-behind : (o : Order) (table : List ℕ) (x : ℕ) (unclosed : Option ℕ) (are : AreValidated o table x unclosed) (k : ℕ) → are.count ≤ k → x ≤ note_offset o table 0 k
+behind : (o : Order) (table : List ℕ) (x : ℕ) (unclosed : Option ℕ) (are : AreValidated o table x unclosed) (k : ℕ) → are.count ≤ k →
+    x ≤ note_offset o table 0 k
 behind o table x unclosed are k le =
     let rises = place_rises o table 0 are.count (k - are.count) in
     let same : note_offset o table 0 (are.count + (k - are.count)) ≡ note_offset o table 0 k = ap (note_offset o table 0) (omega arith) in
@@ -197,13 +208,15 @@ behind o table x unclosed are k le =
     omega arith
 
 -- and where the one at x is cut short none begins after it
-at_cut : (o : Order) (table : List ℕ) (x : ℕ) (unclosed : Option ℕ) (are : AreValidated o table x unclosed) → length table < note_end o table x →
+at_cut : (o : Order) (table : List ℕ) (x : ℕ) (unclosed : Option ℕ) (are : AreValidated o table x unclosed) →
+    length table < note_end o table x →
     (k : ℕ) → note_offset o table 0 k < length table → are.count ≤ k → note_offset o table 0 k ≡ x
 at_cut o table x unclosed are cut k begins le = elim (cases_eq are.count k) [
   | inl same ↦ sym (ap (note_offset o table 0) same) ∙ are.here
   | inr other ↦
       let rises = place_rises o table 0 (suc are.count) (k - suc are.count) in
-      let same : note_offset o table 0 (suc are.count + (k - suc are.count)) ≡ note_offset o table 0 k = ap (note_offset o table 0) (omega arith) in
+      let same : note_offset o table 0 (suc are.count + (k - suc are.count)) ≡ note_offset o table 0 k =
+      ap (note_offset o table 0) (omega arith) in
       let next = place_next o table 0 are.count ∙ ap (note_end o table) are.here in
       absurd (omega arith)
 ]
@@ -217,8 +230,10 @@ never_at o table x unclosed P place are cut past other y broken = elim (cases_lt
 ]
 
 -- and one that is broken at x is broken there first
-least_at : (o : Order) (table : List ℕ) (x : ℕ) (unclosed : Option ℕ) (P : ℕ → Type 0) (place : ℕ → ℕ) → AreValidated o table x unclosed → x < length table →
-    length table < note_end o table x → ((y : ℕ) → note_end o table y ≤ length table → P y → ⊥) → P x → IsLeast (AtNote o table P place) (place x)
+least_at : (o : Order) (table : List ℕ) (x : ℕ) (unclosed : Option ℕ) (P : ℕ → Type 0) (place : ℕ → ℕ) → AreValidated o table x unclosed →
+    x < length table →
+    length table < note_end o table x → ((y : ℕ) → note_end o table y ≤ length table → P y → ⊥) → P x →
+    IsLeast (AtNote o table P place) (place x)
 least_at o table x unclosed P place are within cut past holds = record {
   holds = (are.count, rw are.here within, subst P (sym are.here) holds, ap place (sym are.here));
   lowest = λ y broken. elim (cases_lt broken.0 are.count) [
@@ -246,7 +261,8 @@ name_whole o table y whole cut = let below = desc_below o table y in omega arith
 note_whole : (o : Order) (table : List ℕ) (y : ℕ) → note_end o table y ≤ length table → length table < note_end o table y → ⊥
 note_whole o table y whole cut = omega arith
 
-pub cut_fault : (o : Order) (table : List ℕ) (start x : ℕ) (unclosed : Option ℕ) (broken : Broken ℕ) → AreValidated o table x unclosed → x < length table →
+pub cut_fault : (o : Order) (table : List ℕ) (start x : ℕ) (unclosed : Option ℕ) (broken : Broken ℕ) → AreValidated o table x unclosed →
+    x < length table →
     IsCut o table start x broken → FirstIn (note_rules o table start) (Some (broken.rule, broken.at))
 unfolding note_rules
 cut_fault o table start x unclosed broken are within (inl (short, rule, at)) =
@@ -271,19 +287,22 @@ cut_fault o table start x unclosed broken are within (inr (inr (name, cut, rule,
 -- ---- a note that is whole
 
 -- the last byte of a whole note's name is in it
-last_inside : (o : Order) (table : List ℕ) (y : ℕ) → IsUnclosedNoteName o table y → (y ≤ name_last o table y) × (name_last o table y < note_end o table y)
+last_inside : (o : Order) (table : List ℕ) (y : ℕ) → IsUnclosedNoteName o table y →
+    (y ≤ name_last o table y) × (name_last o table y < note_end o table y)
 unfolding name_last note_end desc_start
 last_inside o table y unclosed = let some = unclosed.0 in (omega arith, omega arith)
 
 -- the notes before x have their names before x
-last_before : (o : Order) (table : List ℕ) (x : ℕ) (unclosed : Option ℕ) (are : AreValidated o table x unclosed) (y : ℕ) → UnclosedBefore o table are.count y → y < x
+last_before : (o : Order) (table : List ℕ) (x : ℕ) (unclosed : Option ℕ) (are : AreValidated o table x unclosed) (y : ℕ) →
+    UnclosedBefore o table are.count y → y < x
 last_before o table x unclosed are y here =
     let k = here.0 in
     let inside = last_inside o table (note_offset o table 0 k) here.2 in
     let next = place_next o table 0 k in
     let rises = place_rises o table 0 (suc k) (are.count - suc k) in
     let lt = here.1 in
-    let same : note_offset o table 0 (suc k + (are.count - suc k)) ≡ note_offset o table 0 are.count = ap (note_offset o table 0) (omega arith) in
+    let same : note_offset o table 0 (suc k + (are.count - suc k)) ≡ note_offset o table 0 are.count =
+    ap (note_offset o table 0) (omega arith) in
     let at = are.here in
     let is = here.3 in
     omega arith
@@ -296,7 +315,8 @@ one_further o table n y here = elim (cases_lt here.0 n) [
   | inr after ↦
       let lt = here.1 in
       let same : here.0 ≡ n = omega arith in
-      inr (subst (λ (k : ℕ). IsUnclosedNoteName o table (note_offset o table 0 k) × (y ≡ name_last o table (note_offset o table 0 k))) same (here.2, here.3))
+      inr (subst (λ (k : ℕ). IsUnclosedNoteName o table (note_offset o table 0 k) × (y ≡ name_last o table (note_offset o table 0 k))) same
+      (here.2, here.3))
 ]
 
 wider : (o : Order) (table : List ℕ) (n y : ℕ) → UnclosedBefore o table n y → UnclosedBefore o table (suc n) y
@@ -307,14 +327,20 @@ abbrev pub FindsUnclosed : Order → List ℕ → ℕ → Option ℕ → Type 0
 FindsUnclosed o table x found = MatchOption found (IsUnclosedNoteName o table x → ⊥)
     (λ last. IsUnclosedNoteName o table x × (last ≡ name_last o table x) × (last < length table))
 
-lowest_more : (o : Order) (table : List ℕ) (x : ℕ) (unclosed found : Option ℕ) (are : AreValidated o table x unclosed) → FindsUnclosed o table x found →
+lowest_more : (o : Order) (table : List ℕ) (x : ℕ) (unclosed found : Option ℕ) (are : AreValidated o table x unclosed) →
+    FindsUnclosed o table x found →
     IsLowest (UnclosedBefore o table (suc are.count)) (option_or unclosed found)
 lowest_more o table x None None are told = λ y here. elim (one_further o table are.count y here) [
   | inl before ↦ are.lowest y before
   | inr last ↦ told (subst (IsUnclosedNoteName o table) are.here last.0)
 ]
 lowest_more o table x None (Some last) are told = record {
-  holds = (are.count, omega arith, subst (IsUnclosedNoteName o table) (sym are.here) told.0, told.1 ∙ ap (name_last o table) (sym are.here));
+  holds = (
+    are.count,
+    omega arith,
+    subst (IsUnclosedNoteName o table) (sym are.here) told.0,
+    told.1 ∙ ap (name_last o table) (sym are.here),
+  );
   lowest = λ y here. elim (one_further o table are.count y here) [
     | inl before ↦ absurd (are.lowest y before)
     | inr same ↦ (let e = same.1 ∙ ap (name_last o table) are.here in let f = told.1 in omega arith)
@@ -348,14 +374,16 @@ validated_more o table x unclosed found are whole told = record {
 -- ---- at the end
 
 -- all notes are among those validated
-all_validated : (o : Order) (table : List ℕ) (x : ℕ) (unclosed : Option ℕ) (are : AreValidated o table x unclosed) → length table ≤ x → (k : ℕ) →
+all_validated : (o : Order) (table : List ℕ) (x : ℕ) (unclosed : Option ℕ) (are : AreValidated o table x unclosed) → length table ≤ x →
+    (k : ℕ) →
     note_offset o table 0 k < length table → k < are.count
 all_validated o table x unclosed are end k begins = elim (cases_lt k are.count) [
   | inl before ↦ before
   | inr le ↦ (let at = behind o table x unclosed are k le in absurd (omega arith))
 ]
 
-never_broken : (o : Order) (table : List ℕ) (x : ℕ) (unclosed : Option ℕ) (P : ℕ → Type 0) (place : ℕ → ℕ) → AreValidated o table x unclosed →
+never_broken : (o : Order) (table : List ℕ) (x : ℕ) (unclosed : Option ℕ) (P : ℕ → Type 0) (place : ℕ → ℕ) →
+    AreValidated o table x unclosed →
     length table ≤ x → ((y : ℕ) → note_end o table y ≤ length table → P y → ⊥) → Never (AtNote o table P place)
 never_broken o table x unclosed P place are end past y broken =
     past (note_offset o table 0 broken.0) (are.whole broken.0 (all_validated o table x unclosed are end broken.0 broken.1)) broken.2
@@ -368,13 +396,15 @@ begins_inside o table x unclosed are k lt =
 unclosed_rule : (o : Order) (table : List ℕ) (start x : ℕ) (unclosed : Option ℕ) → AreValidated o table x unclosed → length table ≤ x →
     IsLowest (unclosed_note_name o table start) (option_map (λ last. start + last) unclosed)
 unclosed_rule o table start x None are end = λ y broken.
-    are.lowest (name_last o table (note_offset o table 0 broken.0)) (broken.0, all_validated o table x None are end broken.0 broken.1, broken.2, refl)
+    are.lowest (name_last o table (note_offset o table 0 broken.0))
+    (broken.0, all_validated o table x None are end broken.0 broken.1, broken.2, refl)
 unclosed_rule o table start x (Some low) are end = record {
   holds =
       (let here = are.lowest.holds in
       (here.0, begins_inside o table x (Some low) are here.0 here.1, here.2, ap (λ (n : ℕ). start + n) here.3));
   lowest = λ y broken.
-      (let le = are.lowest.lowest (name_last o table (note_offset o table 0 broken.0)) (broken.0, all_validated o table x (Some low) are end broken.0 broken.1, broken.2, refl) in
+      (let le = are.lowest.lowest (name_last o table (note_offset o table 0 broken.0))
+      (broken.0, all_validated o table x (Some low) are end broken.0 broken.1, broken.2, refl) in
       let is = broken.3 in omega arith);
 }
 
@@ -386,7 +416,8 @@ whole_rules o table start x unclosed are end = (
   never_broken o table x unclosed _ (λ y. start + y + N_DESCSZ_AT) are end (note_whole o table),
 )
 
-pub closed_notes : (o : Order) (table : List ℕ) (start x : ℕ) → AreValidated o table x None → length table ≤ x → FirstIn (note_rules o table start) None
+pub closed_notes : (o : Order) (table : List ℕ) (start x : ℕ) → AreValidated o table x None → length table ≤ x →
+    FirstIn (note_rules o table start) None
 unfolding note_rules
 closed_notes o table start x are end =
     let whole = whole_rules o table start x None are end in

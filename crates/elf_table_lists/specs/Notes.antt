@@ -1,6 +1,7 @@
 -- The notes of a note section, as values: one after the other, each a header of three words, a name and a descriptor, the two
 -- padded. (gABI chapter 5, Note Section.)
-use Rattle.std.specs.Prelude.{ℕ, zero, suc, ◌+◌, ◌-◌, ◌*◌, ◌/◌, ◌<◌, ◌≤◌, nat_lt, if◌then◌else◌, List, [], ◌∷◌, length, drop, take, ◌≡◌, ◌≢◌, slice_index, ◌⊎◌}
+use Rattle.std.specs.Prelude.{ℕ, zero, suc, ◌+◌, ◌-◌, ◌*◌, ◌/◌, ◌<◌, ◌≤◌, nat_lt, if◌then◌else◌, List, [], ◌∷◌, length, drop, take, ◌≡◌}
+use Rattle.std.specs.Prelude.{◌≢◌, slice_index, ◌⊎◌}
 use Rattle.elf_field.specs.Abi.{N_DESCSZ_AT, N_NAMESZ_AT, N_TYPE_AT, NHDR_SIZE, NOTE_ALIGN, SHT_NOTE}
 use Rattle.elf_field.specs.Entries.{word_at}
 use Rattle.elf_field.specs.declared.number.Order.{Order}
@@ -121,7 +122,8 @@ abbrev pub IsCut : Order → List ℕ → ℕ → ℕ → Broken ℕ → Type 0
 IsCut o table start x broken =
     ((length table < x + NHDR_SIZE) × (broken.rule ≡ 59) × (broken.at ≡ start + x)) ⊎
     ((x + NHDR_SIZE ≤ length table) × (length table < desc_start o table x) × (broken.rule ≡ 60) × (broken.at ≡ start + x + N_NAMESZ_AT)) ⊎
-    ((desc_start o table x ≤ length table) × (length table < note_end o table x) × (broken.rule ≡ 61) × (broken.at ≡ start + x + N_DESCSZ_AT))
+    ((desc_start o table x ≤ length table) × (length table < note_end o table x) × (broken.rule ≡ 61) ×
+    (broken.at ≡ start + x + N_DESCSZ_AT))
 
 -- What contracts see of a note.
 

@@ -1,6 +1,9 @@
 //! Dynamic sections (gABI chapter 5, Dynamic Section).
 ghost use Rattle.std.specs.Prelude.{◌≡◌, ◌<◌, ◌≤◌, ℕ, ◌+◌, ◌*◌, length, None, get_or};
-ghost use Rattle.elf_table_lists.specs.Dynamic.{IsNullEntry, dynamic_entry as dynamic_entry_of, dynamic_entry_count as dynamic_entry_count_of, is_string_tag as is_string_tag_of, IsDynamicStringPastEnd, dynamic_rules, dynamic_section_rules, dynamic_array_of, no_dynamic_entry};
+ghost use Rattle.elf_table_lists.specs.Dynamic.{IsNullEntry, dynamic_entry as dynamic_entry_of};
+ghost use Rattle.elf_table_lists.specs.Dynamic.{dynamic_entry_count as dynamic_entry_count_of, is_string_tag as is_string_tag_of};
+ghost use Rattle.elf_table_lists.specs.Dynamic.{IsDynamicStringPastEnd, dynamic_rules, dynamic_section_rules, dynamic_array_of};
+ghost use Rattle.elf_table_lists.specs.Dynamic.{no_dynamic_entry};
 ghost use Rattle.elf_extent.specs.Extent.{IsLowest};
 ghost use Rattle.elf_image_rules.specs.Rows.{fault_of, AtEntry, FirstIn};
 ghost use Rattle.elf_image_rules.specs.Rules.{MAX_LEN};
@@ -145,7 +148,8 @@ impl<'a> Dynamic<'a> {
     /// are looked at.
     pub fn new(image: &Image<'a>, i: usize) -> Result<Dynamic<'a>, Fault>
         requires { i < length image.now.sections }
-        ensures validated { IsValidated (dynamic_section_rules (sections_of image.now) i) (λ dynamic. dynamic ≡ dynamic_array_of (sections_of image.now) i) result }
+        ensures validated { IsValidated (dynamic_section_rules (sections_of image.now) i)
+            (λ dynamic. dynamic ≡ dynamic_array_of (sections_of image.now) i) result }
         ensures file { OfItsFile image.now
             (λ f. IsOnlyValidated (dynamic_section_rules f i) (λ dynamic. dynamic ≡ dynamic_array_of f i) result) }
     {

@@ -4,7 +4,8 @@ ghost use Rattle.elf_image_stream.specs.declared.fault.Fault.TheVariants.{OutOfM
 ghost use Rattle.elf_image_rules.specs.Rows.{FirstIn, fault_of};
 ghost use Rattle.elf_table_symbols.specs.Verdicts.{IsValidatedBehind, IsOnlyValidatedBehind, OfItsFile};
 ghost use Rattle.elf_table_symbols.specs.Sections.{content, order, sections_of, Below, section};
-ghost use Rattle.elf_table_lists.specs.Groups.{group_section_front, group_section_rules, MembersAscend, group_of, IsUnfit, IsWrongMember, group_front_rules, group_rules, member as member_of, member_count as member_count_of};
+ghost use Rattle.elf_table_lists.specs.Groups.{group_section_front, group_section_rules, MembersAscend, group_of, IsUnfit, IsWrongMember};
+ghost use Rattle.elf_table_lists.specs.Groups.{group_front_rules, group_rules, member as member_of, member_count as member_count_of};
 ghost use Rattle.elf_table_lists.specs.Left.{members_left};
 ghost use Rattle.elf_extent.specs.Extent.{IsLowest};
 ghost use Rattle.elf_table_symbols.specs.Symbols.{AreKnown};

@@ -1,7 +1,8 @@
 //! Note sections (gABI chapter 5, Note Section).
 ghost use Rattle.std.specs.Prelude.{◌≡◌, ◌<◌, ◌≤◌, ◌+◌, ◌^◌, length, MatchResult, MatchOption, None};
 ghost use Rattle.elf_field.specs.Abi.{NHDR_SIZE};
-ghost use Rattle.elf_table_lists.specs.Notes.{note_at as note_of, note_end as note_end_of, padded as padded_of, note_value, IsUnclosedNoteName, name_last, note_rules, note_section_rules, IsCut, notes_of};
+ghost use Rattle.elf_table_lists.specs.Notes.{note_at as note_of, note_end as note_end_of, padded as padded_of, note_value};
+ghost use Rattle.elf_table_lists.specs.Notes.{IsUnclosedNoteName, name_last, note_rules, note_section_rules, IsCut, notes_of};
 ghost use Rattle.elf_image_rules.specs.Rows.{fault_of, FirstIn};
 ghost use Rattle.elf_image_rules.specs.Rules.{MAX_LEN};
 ghost use Rattle.elf_table_symbols.specs.Sections.{sections_of};
@@ -43,7 +44,8 @@ pub struct NoteHeader<'a> {
 
 impl NoteHeader<'_> {
     ghost use Rattle.std.specs.Prelude.{◌≡◌, ◌<◌, ◌^◌};
-    ghost use Rattle.elf_table_lists.specs.Notes.{desc_start as desc_start_of, descsz as descsz_of, namesz as namesz_of, note_end as note_end_of};
+    ghost use Rattle.elf_table_lists.specs.Notes.{desc_start as desc_start_of, descsz as descsz_of};
+    ghost use Rattle.elf_table_lists.specs.Notes.{namesz as namesz_of, note_end as note_end_of};
 
     /// The size in bytes of the note's name, its closing zero counted.
     #[tactic(auto, unfolding(crate::specs::Notes::namesz))]
@@ -207,7 +209,8 @@ impl<'a> Notes<'a> {
     /// Linear in the number of notes: of a name and a descriptor only the ends are looked at.
     pub fn new(image: &Image<'a>, i: usize) -> Result<Notes<'a>, Fault>
         requires { i < length image.now.sections }
-        ensures validated { IsValidated (note_section_rules (sections_of image.now) i) (λ notes. notes ≡ notes_of (sections_of image.now) i) result }
+        ensures validated { IsValidated (note_section_rules (sections_of image.now) i)
+            (λ notes. notes ≡ notes_of (sections_of image.now) i) result }
         ensures file { OfItsFile image.now
             (λ f. IsOnlyValidated (note_section_rules f i) (λ notes. notes ≡ notes_of f i) result) }
     {

@@ -2,7 +2,8 @@
 ghost use Rattle.std.specs.Prelude.{◌≡◌, ◌<◌, ◌≤◌, ◌+◌, ◌*◌, length, ◌==◌, get_or};
 ghost use Rattle.elf_field.specs.Abi.{relocation_size};
 ghost use Rattle.elf_image_rules.specs.Rules.{MAX_LEN};
-ghost use Rattle.elf_table_lists.specs.Relocations.{relocation_count as relocation_count_of, relocation_in, relocation_entry_rules, relocation_section_rules, no_relocation_entry, relocations_of};
+ghost use Rattle.elf_table_lists.specs.Relocations.{relocation_count as relocation_count_of, relocation_in, relocation_entry_rules};
+ghost use Rattle.elf_table_lists.specs.Relocations.{relocation_section_rules, no_relocation_entry, relocations_of};
 ghost use Rattle.elf_extent.specs.Extent.{IsLowest};
 ghost use Rattle.elf_image_rules.specs.Rows.{fault_of, AtEntry, FirstIn};
 ghost use Rattle.elf_table_symbols.specs.Symbols.{AreKnown};
@@ -178,7 +179,8 @@ impl<'a> Relocs<'a> {
     /// section that links to it. `Tables` of `elf_table` validates each symbol table of an image once.
     pub fn new(image: &Image<'a>, i: usize) -> Result<Relocs<'a>, Fault>
         requires { i < length image.now.sections }
-        ensures validated { IsValidated (relocation_section_rules (sections_of image.now) i) (λ relocs. relocs ≡ relocations_of (sections_of image.now) i) result }
+        ensures validated { IsValidated (relocation_section_rules (sections_of image.now) i)
+            (λ relocs. relocs ≡ relocations_of (sections_of image.now) i) result }
         ensures file { OfItsFile image.now
             (λ f. IsOnlyValidated (relocation_section_rules f i) (λ relocs. relocs ≡ relocations_of f i) result) }
     {

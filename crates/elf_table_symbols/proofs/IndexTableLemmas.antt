@@ -59,7 +59,8 @@ pub lowest_position : {X : Type 0} (p : X → Bool) (xs : List X) (d : X) (P : �
     IsLowest (Below (length xs) P) found → found ≡ position p xs
 lowest_position p xs d P None passes holds never =
     let here : position_or_len p xs ≡ length xs =
-    position_or_len_is p xs (length xs) d (omega arith) (λ k lt. false_from_ne_true _ (λ test. never k (lt, holds k test))) (λ lt. absurd (omega arith)) in
+    position_or_len_is p xs (length xs) d (omega arith) (λ k lt. false_from_ne_true _ (λ test. never k (lt, holds k test)))
+    (λ lt. absurd (omega arith)) in
     rw here (rw (le-ltb (length xs) (length xs) (omega arith)) refl)
 lowest_position p xs d P (Some x) passes holds least =
     let within = least.holds.0 in
@@ -78,7 +79,8 @@ index_tables_passed f i j tables are other = record {
 
 -- one that is one is noted
 noted_are : (f : Sections) (i j : ℕ) (first second : Option ℕ) → IsLowest (Below j (IsIndexTable f i)) first →
-    IsLowest (Below j (IsSecondIndexTable f i)) second → IsIndexTable f i j → AreIndexTables f i (j + 1) (noted (record { first = first; second = second }) j)
+    IsLowest (Below j (IsSecondIndexTable f i)) second → IsIndexTable f i j →
+    AreIndexTables f i (j + 1) (noted (record { first = first; second = second }) j)
 noted_are f i j None second never lowest here = record {
   first = lowest_found (IsIndexTable f i) j never here;
   second = lowest_passed (IsSecondIndexTable f i) j second lowest (λ other. (let k = other.1.0 in never k (other.1.1, other.1.2)));
@@ -104,7 +106,8 @@ and_true false t both = cc
 pub first_index_table : (f : Sections) (i : ℕ) (tables : IndexTables) → AreIndexTables f i (count f) tables → tables.first ≡ index_table f i
 unfolding index_table
 first_index_table f i tables are =
-    lowest_position (λ (s : Shdr). (s.sh_type == SHT_SYMTAB_SHNDX) && (s.sh_link == i)) f.headers no_section_header (IsIndexTable f i) tables.first
+    lowest_position (λ (s : Shdr). (s.sh_type == SHT_SYMTAB_SHNDX) && (s.sh_link == i)) f.headers no_section_header
+    (IsIndexTable f i) tables.first
     (λ k here. both_true (eq-eqb _ _ here.0) (eq-eqb _ _ here.1))
     (λ k test. (let parts = and_true _ _ test in (eqb-true _ _ parts.0, eqb-true _ _ parts.1)))
     are.first

@@ -4,4 +4,5 @@
 pub use Rattle.elf_table_symbols.proofs.FileSections.{its_file, sections_of_bytes}
 pub use Rattle.elf_table_symbols.proofs.IndexTableLemmas.{index_tables_noted, index_tables_passed, lowest_position}
 pub use Rattle.elf_table_symbols.proofs.ValidatedLemmas.{validated_handed, validated_later, validated_stop}
-pub use Rattle.elf_table_symbols.proofs.SymbolLists.{link_there, length_symbols, sound_link, symbol_get, symbols_kind, type_of_group, type_of_hash}
+pub use Rattle.elf_table_symbols.proofs.SymbolLists.{link_there, length_symbols, sound_link, symbol_get, symbols_kind, type_of_group}
+pub use Rattle.elf_table_symbols.proofs.SymbolLists.{type_of_hash}

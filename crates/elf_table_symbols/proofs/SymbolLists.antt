@@ -11,7 +11,9 @@ use Rattle.elf_image_rules.proofs.Public.{FirstIn-behind, FirstIn-front}
 use Rattle.elf_image_rules.specs.Rows.{FirstIn}
 use Rattle.elf_table_symbols.specs.Sections.{own_rules, Sections, count, section, IsSymbolType, kind_of}
 use Rattle.elf_table_symbols.specs.SymbolView.{no_symbol_entry}
-use Rattle.elf_table_symbols.specs.Symbols.{index_table, linked_string_rules, SymbolPartsValue, symbol_parts, entry, entry_count, index_table_rules, place_rules, rest_rules, symbol_entry_rules, symbol_table_rules, IsReadable, SymbolEntryValue, symbol_entry_in, symbols_in}
+use Rattle.elf_table_symbols.specs.Symbols.{index_table, linked_string_rules, SymbolPartsValue, symbol_parts, entry, entry_count}
+use Rattle.elf_table_symbols.specs.Symbols.{index_table_rules, place_rules, rest_rules, symbol_entry_rules, symbol_table_rules, IsReadable}
+use Rattle.elf_table_symbols.specs.Symbols.{SymbolEntryValue, symbol_entry_in, symbols_in}
 use Rattle.elf_table_symbols.specs.declared.symbols.Symbols.TheInside.{Inside}
 use Rattle.elf_table_symbols.specs.declared.table_section.TableKind.TheVariants.{HashTable, SectionGroup, SymbolTable}
 use Rattle.elf_table_symbols.specs.declared.table_section.TableKind.{TableKind}
@@ -54,11 +56,13 @@ symbol_get o table names words j within =
 -- ---- a list of symbols, by its fields
 
 -- a symbol of it is an entry of the content
-pub symbol_within : (a : Inside) (symbols : List SymbolEntryValue) (j : ℕ) → symbols_in a.order a.table.now a.names.now a.words.now ≡ symbols → j < length symbols →
+pub symbol_within : (a : Inside) (symbols : List SymbolEntryValue) (j : ℕ) →
+    symbols_in a.order a.table.now a.names.now a.words.now ≡ symbols → j < length symbols →
     j < entry_count a.table.now
 symbol_within a symbols j is within = rw (← is, length_symbols a.order a.table.now a.names.now a.words.now) at within
 
-pub symbol_at : (a : Inside) (symbols : List SymbolEntryValue) (j : ℕ) → symbols_in a.order a.table.now a.names.now a.words.now ≡ symbols → j < length symbols →
+pub symbol_at : (a : Inside) (symbols : List SymbolEntryValue) (j : ℕ) → symbols_in a.order a.table.now a.names.now a.words.now ≡ symbols →
+    j < length symbols →
     get_or symbols j no_symbol_entry ≡ symbol_entry_in a.order a.table.now a.names.now a.words.now j
 symbol_at a symbols j is within = rw (← is) (symbol_get a.order a.table.now a.names.now a.words.now j (symbol_within a symbols j is within))
 
@@ -75,14 +79,16 @@ index_table_kept : (f : Sections) (i : ℕ) → FirstIn (symbol_table_rules f i)
 unfolding symbol_table_rules rest_rules
 index_table_kept f i sound =
     let p = symbol_parts f i in
-    FirstIn-behind (symbol_entry_rules p) _ (FirstIn-behind (linked_string_rules p.names p.names_start) _ (FirstIn-behind (own_rules SymbolTable f i) _ sound))
+    FirstIn-behind (symbol_entry_rules p) _
+    (FirstIn-behind (linked_string_rules p.names p.names_start) _ (FirstIn-behind (own_rules SymbolTable f i) _ sound))
 
 -- its index table has a word for each symbol
 pub sound_words : (f : Sections) (i j : ℕ) → FirstIn (symbol_table_rules f i) None → index_table f i ≡ Some j →
     (section f j).sh_size ≡ WORD_SIZE * entry_count (symbol_parts f i).table
 unfolding index_table_rules
 sound_words f i j sound is =
-    let kept = FirstIn-front (index_table_rules f i (index_table f i) (entry_count (symbol_parts f i).table)) _ (index_table_kept f i sound) in
+    let kept = FirstIn-front (index_table_rules f i (index_table f i) (entry_count (symbol_parts f i).table)) _
+    (index_table_kept f i sound) in
     let size = rw is at kept.1.0 in
     elim (cases_eq (section f j).sh_size (WORD_SIZE * entry_count (symbol_parts f i).table)) [
       | inl same ↦ same
@@ -91,7 +97,8 @@ sound_words f i j sound is =
 
 -- and is there where a symbol needs it
 pub sound_index_table : (f : Sections) (i j : ℕ) → FirstIn (symbol_table_rules f i) None →
-    let p = symbol_parts f i in j < entry_count p.table → (entry p.order p.table j).st_shndx ≡ SHN_XINDEX → (k : ℕ) × (index_table f i ≡ Some k)
+    let p = symbol_parts f i in j < entry_count p.table → (entry p.order p.table j).st_shndx ≡ SHN_XINDEX →
+    (k : ℕ) × (index_table f i ≡ Some k)
 unfolding place_rules
 sound_index_table f i j sound within extended = some (index_table f i) refl where
   places : FirstIn (place_rules (symbol_parts f i)) None
@@ -112,5 +119,6 @@ reads_words f i sound sized j within extended =
     let words = sound_words f i k sound is in
     omega arith
 
-pub readable : (f : Sections) (i : ℕ) (p : SymbolPartsValue) → FirstIn (symbol_table_rules f i) None → p ≡ symbol_parts f i → ReadsWords f i p
+pub readable : (f : Sections) (i : ℕ) (p : SymbolPartsValue) → FirstIn (symbol_table_rules f i) None → p ≡ symbol_parts f i →
+    ReadsWords f i p
 readable f i p sound same = subst (ReadsWords f i) (sym same) (reads_words f i sound)

@@ -1,5 +1,6 @@
 -- What is answered of a list of rules whose last ones take memory, run by run.
-use Rattle.std.proofs.Common.{◌≡◌, ℕ, None, Some, List, ◌++◌, Result, Ok, Err, sym, subst, ◌+◌, ◌<◌, Option, [], ◌∷◌, length, get_or, refl, ◌∙◌, ap, zero-add, arith}
+use Rattle.std.proofs.Common.{◌≡◌, ℕ, None, Some, List, ◌++◌, Result, Ok, Err, sym, subst, ◌+◌, ◌<◌, Option, [], ◌∷◌, length, get_or, refl}
+use Rattle.std.proofs.Common.{◌∙◌, ap, zero-add, arith}
 use Rattle.std.specs.Result.{IsErrAnd}
 use Rattle.std.specs.BTreeMap.{BTreeMap, Updates, get}
 use Rattle.std.specs.Ordering.{nat_cmp}
@@ -14,13 +15,15 @@ use Rattle.elf_table_symbols.specs.Verdicts.{IsValidatedBehind, fault_in, verdic
 
 -- the fault that a run has found is handed on
 pub validated_handed : {T : Type 0} (front rules : List {1} (Ruled ℕ)) (Is : T → Type 0) (broken : Broken ℕ) (result : Result T Fault) →
-    FirstIn rules (Some (broken.rule, broken.at)) → IsErrAnd result (λ fault. fault ≡ Rule broken.rule broken.at) → IsValidatedBehind front rules Is result
+    FirstIn rules (Some (broken.rule, broken.at)) → IsErrAnd result (λ fault. fault ≡ Rule broken.rule broken.at) →
+    IsValidatedBehind front rules Is result
 validated_handed front rules Is broken (Ok table) found same = absurd same
 validated_handed front rules Is broken (Err fault) found same =
     subst (λ (f : Fault). IsValidatedBehind front rules Is (Err f)) (sym same) found
 
 pub validated_stop : {T : Type 0} (front xs ys : List {1} (Ruled ℕ)) (Is : T → Type 0) (broken : Broken ℕ) (result : Result T Fault) →
-    FirstIn xs (Some (broken.rule, broken.at)) → IsErrAnd result (λ fault. fault ≡ Rule broken.rule broken.at) → IsValidatedBehind front (xs ++ ys) Is result
+    FirstIn xs (Some (broken.rule, broken.at)) → IsErrAnd result (λ fault. fault ≡ Rule broken.rule broken.at) →
+    IsValidatedBehind front (xs ++ ys) Is result
 validated_stop front xs ys Is broken result found same =
     validated_handed front (xs ++ ys) Is broken result (FirstIn-sooner xs ys (broken.rule, broken.at) found) same
 
@@ -38,7 +41,8 @@ validated_later xs front rules Is (Err (Io at)) clean validated = absurd validat
 pub length_verdicts : (count : ℕ) (broken : BTreeMap ℕ (Broken ℕ)) → length (verdicts_on count broken) ≡ count
 length_verdicts count broken = length-map-range_with_len (λ (i : ℕ). fault_in (get nat_cmp broken i)) 0 count
 
-verdict_at : (count : ℕ) (broken : BTreeMap ℕ (Broken ℕ)) (i : ℕ) → i < count → get_or (verdicts_on count broken) i None ≡ fault_in (get nat_cmp broken i)
+verdict_at : (count : ℕ) (broken : BTreeMap ℕ (Broken ℕ)) (i : ℕ) → i < count →
+    get_or (verdicts_on count broken) i None ≡ fault_in (get nat_cmp broken i)
 verdict_at count broken i lt = get_or-map-range_with_len (λ (k : ℕ). fault_in (get nat_cmp broken k)) 0 count i i None lt (zero-add i)
 
 pub verdict_get : (count : ℕ) (broken : BTreeMap ℕ (Broken ℕ)) (i : ℕ) → i < length (verdicts_on count broken) →

@@ -1,15 +1,18 @@
 -- What the rules of tables look at: the header of a file, its section headers, and the content of each section.
 -- (gABI chapter 4, ELF Header, Sections.)
-use Rattle.std.specs.Prelude.{ℕ, List, [], length, map, get_or, ◌<◌, ◌≡◌, ◌==◌, ◌⊎◌, Option, None, Some, if◌then◌else◌, ◌≢◌, ◌+◌, ◌%◌, ◌≤◌, ◌∷◌}
+use Rattle.std.specs.Prelude.{ℕ, List, [], length, map, get_or, ◌<◌, ◌≡◌, ◌==◌, ◌⊎◌, Option, None, Some, if◌then◌else◌, ◌≢◌, ◌+◌, ◌%◌, ◌≤◌}
+use Rattle.std.specs.Prelude.{◌∷◌}
 use Rattle.std.specs.List.{range_with_len}
-use Rattle.elf_field.specs.Abi.{DYN_SIZE, RELA_SIZE, REL_SIZE, SHT_DYNAMIC, SHT_DYNSYM, SHT_GROUP, SHT_HASH, SHT_NOTE, SHT_REL, SHT_RELA, SHT_STRTAB, SHT_SYMTAB, SYM_SIZE, WORD_SIZE, SH_ENTSIZE_AT, SH_LINK_AT, SH_SIZE_AT, SH_TYPE_AT}
+use Rattle.elf_field.specs.Abi.{DYN_SIZE, RELA_SIZE, REL_SIZE, SHT_DYNAMIC, SHT_DYNSYM, SHT_GROUP, SHT_HASH, SHT_NOTE, SHT_REL, SHT_RELA}
+use Rattle.elf_field.specs.Abi.{SHT_STRTAB, SHT_SYMTAB, SYM_SIZE, WORD_SIZE, SH_ENTSIZE_AT, SH_LINK_AT, SH_SIZE_AT, SH_TYPE_AT}
 use Rattle.elf_field.specs.declared.ehdr.Ehdr.{Ehdr}
 use Rattle.elf_field.specs.declared.number.Order.{Order}
 use Rattle.elf_field.specs.declared.shdr.Shdr.{Shdr}
 use Rattle.elf_image_outline.specs.Image.{ImageValue, section_header_of}
 use Rattle.elf_image_rules.specs.Rows.{Row, Ruled, When, rule}
 use Rattle.elf_image_rules.specs.Tables.{bytes_in, content_extent, header, order_of, section_header_count, sections, shdr_offset}
-use Rattle.elf_table_symbols.specs.declared.table_section.TableKind.TheVariants.{SymbolTable, RelocationTable, SectionGroup, NoteSection, DynamicArray, HashTable}
+use Rattle.elf_table_symbols.specs.declared.table_section.TableKind.TheVariants.{SymbolTable, RelocationTable, SectionGroup, NoteSection}
+use Rattle.elf_table_symbols.specs.declared.table_section.TableKind.TheVariants.{DynamicArray, HashTable}
 use Rattle.elf_table_symbols.specs.declared.table_section.TableKind.{TableKind}
 
 pub record Sections : Type 0 where

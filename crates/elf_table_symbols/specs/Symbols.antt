@@ -1,16 +1,19 @@
 -- The symbols of a symbol table, as values. (gABI chapter 4, Symbol Table.)
-use Rattle.std.specs.Prelude.{◌≡◌, ℕ, ◌<◌, ◌==◌, ◌&&◌, Option, None, Some, List, [], position, ◌∷◌, ◌≢◌, ◌+◌, ◌*◌, ◌/◌, ◌≤◌, ◌⊎◌, ◌++◌, length, slice_index, ◌%◌, nat_lt, if◌then◌else◌, map, get_or}
+use Rattle.std.specs.Prelude.{◌≡◌, ℕ, ◌<◌, ◌==◌, ◌&&◌, Option, None, Some, List, [], position, ◌∷◌, ◌≢◌, ◌+◌, ◌*◌, ◌/◌, ◌≤◌, ◌⊎◌, ◌++◌}
+use Rattle.std.specs.Prelude.{length, slice_index, ◌%◌, nat_lt, if◌then◌else◌, map, get_or}
 use Rattle.std.specs.List.{range_with_len}
 use Rattle.elf_extent.specs.Extent.{IsLowest}
-use Rattle.elf_field.specs.Abi.{SHT_SYMTAB_SHNDX, SHT_STRTAB, SHN_LORESERVE, SHN_XINDEX, SH_ENTSIZE_AT, SH_INFO_AT, SH_LINK_AT, SH_SIZE_AT, STB_LOCAL, ST_INFO_AT, ST_NAME_AT, ST_SHNDX_AT, SYM_SIZE, WORD_SIZE, SHN_ABS, SHN_COMMON, SHN_UNDEF}
+use Rattle.elf_field.specs.Abi.{SHT_SYMTAB_SHNDX, SHT_STRTAB, SHN_LORESERVE, SHN_XINDEX, SH_ENTSIZE_AT, SH_INFO_AT, SH_LINK_AT, SH_SIZE_AT}
+use Rattle.elf_field.specs.Abi.{STB_LOCAL, ST_INFO_AT, ST_NAME_AT, ST_SHNDX_AT, SYM_SIZE, WORD_SIZE, SHN_ABS, SHN_COMMON, SHN_UNDEF}
 use Rattle.elf_field.specs.Entries.{sym_at, word_at}
 use Rattle.elf_field.specs.declared.number.Order.{Order}
 use Rattle.elf_field.specs.declared.shdr.Shdr.{Shdr}
 use Rattle.elf_field.specs.declared.sym.Sym.{Sym}
 use Rattle.elf_image_rules.specs.Rows.{Row, Ruled, rule, AtEntry, Either, OfSome, When, FirstIn}
 use Rattle.elf_image_rules.specs.Rules.{UnclosedAt}
-use Rattle.elf_image_type.specs.ImageView.{string}
-use Rattle.elf_table_symbols.specs.Sections.{Below, Sections, content, section, count, header_at, order, wrong_table_type, own_rules, kind_of}
+use Rattle.elf_field.specs.Strings.{string}
+use Rattle.elf_table_symbols.specs.Sections.{Below, Sections, content, section, count, header_at, order, wrong_table_type, own_rules}
+use Rattle.elf_table_symbols.specs.Sections.{kind_of}
 use Rattle.elf_table_symbols.specs.declared.index_tables.IndexTables.{IndexTables}
 use Rattle.elf_table_symbols.specs.declared.symbol_rules.SymbolRule.TheVariants.{MisplacedBinding, SymbolNamePastEnd, WrongSymbolSection}
 use Rattle.elf_table_symbols.specs.declared.symbol_rules.SymbolRule.{SymbolRule}
@@ -170,7 +173,8 @@ IsSymbolNamePastEnd size symbol = (symbol.st_name ≢ 0) × (size ≤ symbol.st_
 
 abbrev pub symbol_name_past_end : SymbolPartsValue → Row ℕ
 symbol_name_past_end p =
-    AtEntry (entry_count p.table) (λ j. IsSymbolNamePastEnd (length p.names) (entry p.order p.table j)) (λ j. p.start + SYM_SIZE * j + ST_NAME_AT)
+    AtEntry (entry_count p.table) (λ j. IsSymbolNamePastEnd (length p.names) (entry p.order p.table j))
+    (λ j. p.start + SYM_SIZE * j + ST_NAME_AT)
 
 -- rule 49: the symbol table has a second index table
 abbrev pub second_index_table : Sections → ℕ → Row ℕ
@@ -191,7 +195,8 @@ IsWrongSymbolSection table sections symbol =
 
 abbrev pub wrong_symbol_section : SymbolPartsValue → Row ℕ
 wrong_symbol_section p =
-    AtEntry (entry_count p.table) (λ j. IsWrongSymbolSection p.index_table p.sections (entry p.order p.table j)) (λ j. p.start + SYM_SIZE * j + ST_SHNDX_AT)
+    AtEntry (entry_count p.table) (λ j. IsWrongSymbolSection p.index_table p.sections (entry p.order p.table j))
+    (λ j. p.start + SYM_SIZE * j + ST_SHNDX_AT)
 
 -- rule 52: a word of the index table isn't 0 though the symbol needs none, or it is none of a section that needs one
 abbrev pub IsWrongIndexWord : ℕ → Sym → ℕ → Type 0
@@ -287,14 +292,16 @@ symbols_of f i = let p = symbol_parts f i in symbols_in p.order p.table p.names 
 
 -- the index table has a word for each symbol that needs one
 abbrev pub IsReadable : Order → List ℕ → List ℕ → Type 0
-IsReadable o table words = (j : ℕ) → j < entry_count table → (entry o table j).st_shndx ≡ SHN_XINDEX → WORD_SIZE * j + WORD_SIZE ≤ length words
+IsReadable o table words = (j : ℕ) → j < entry_count table → (entry o table j).st_shndx ≡ SHN_XINDEX →
+    WORD_SIZE * j + WORD_SIZE ≤ length words
 
 -- The verdicts on symbol tables that are known when a table that links to one is validated.
 
 -- for each of the first `end` sections that holds a symbol table the first rule that it breaks, with its lowest offset
 pub record AreSymbolVerdicts (f : Sections) (end : ℕ) (verdicts : List (Option (ℕ × ℕ))) : Type 0 where
   pub long : length verdicts ≡ end
-  pub right : (i : ℕ) → i < end → kind_of (section f i).sh_type ≡ Some SymbolTable → FirstIn (symbol_table_rules f i) (get_or verdicts i None)
+  pub right : (i : ℕ) → i < end → kind_of (section f i).sh_type ≡ Some SymbolTable →
+      FirstIn (symbol_table_rules f i) (get_or verdicts i None)
 
 -- each that is known is the first rule that the symbol table breaks, with its lowest offset
 abbrev pub AreKnown : Sections → SymbolVerdicts → Type 0

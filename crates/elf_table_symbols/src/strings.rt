@@ -2,7 +2,7 @@
 ghost use Rattle.std.specs.Prelude.{◌≡◌, ◌≢◌, ◌<◌, ◌≤◌, ◌⊎◌, ◌+◌, MatchOption, length};
 ghost use Rattle.elf_image_rules.specs.Rules.{MAX_LEN};
 ghost use Rattle.elf_image_rules.specs.Rows.{fault_of, FirstIn};
-ghost use Rattle.elf_image_type.specs.ImageView.{string};
+ghost use Rattle.elf_field.specs.Strings.{string};
 ghost use Rattle.elf_table_symbols.specs.Verdicts.{IsValidated, IsOnlyValidated, OfItsFile};
 ghost use Rattle.elf_table_symbols.specs.Sections.{content, sections_of};
 ghost use Rattle.elf_table_symbols.specs.Symbols.{linked_string_rules, string_table_rules};
@@ -38,7 +38,8 @@ impl<'a> Strings<'a> {
     /// It looks at the first and the last byte of the table alone.
     pub fn new(image: &Image<'a>, i: usize) -> Result<Strings<'a>, Fault>
         requires { i < length image.now.sections }
-        ensures validated { IsValidated (string_table_rules (sections_of image.now) i) (λ strings. strings ≡ content (sections_of image.now) i) result }
+        ensures validated { IsValidated (string_table_rules (sections_of image.now) i)
+            (λ strings. strings ≡ content (sections_of image.now) i) result }
         ensures file { OfItsFile image.now
             (λ f. IsOnlyValidated (string_table_rules f i) (λ strings. strings ≡ content f i) result) }
     {

@@ -44,7 +44,8 @@ impl<'a> SymbolParts<'a> {
     pub(crate) fn new(linked: LinkedTable<'_, 'a>, tables: IndexTables) -> SymbolParts<'a>
         requires { let t = linked.table in AreIndexTables (sections_of t.image.now) t.index (length t.image.now.sections) tables }
         ensures value { parts_value result ≡ symbol_parts (sections_of linked.entry.table.image.now) linked.entry.table.index }
-        ensures sized { (j : ℕ) → tables.first ≡ Some j → length result.words.now ≡ (section (sections_of linked.entry.table.image.now) j).sh_size }
+        ensures sized { (j : ℕ) → tables.first ≡ Some j →
+            length result.words.now ≡ (section (sections_of linked.entry.table.image.now) j).sh_size }
     {
         let table = linked.table;
         let section = table.header();

@@ -2,7 +2,10 @@
 //! SHT_SYMTAB_SHNDX).
 ghost use Rattle.std.specs.Prelude.{◌≡◌, ℕ, Some, ◌*◌, ◌+◌, ◌<◌, ◌≤◌, length, ◌↔◌, ◌≢◌, IsTrue, MatchOption, OnOk};
 ghost use Rattle.elf_image_rules.specs.Rules.{MAX_LEN};
-ghost use Rattle.elf_table_symbols.specs.Symbols.{index_words, index_words_start, entry as entry_of, entry_count, word as word_of, AreIndexTables, parts_value, symbol_parts, BreaksSymbolEntry, symbol_entry_rules, index_table_rules, place_rules, rest_rules, symbol_0_not_null, symbol_field, symbol_table_rules, IsWrongIndexWord, wrong_index_word};
+ghost use Rattle.elf_table_symbols.specs.Symbols.{index_words, index_words_start, entry as entry_of, entry_count, word as word_of};
+ghost use Rattle.elf_table_symbols.specs.Symbols.{AreIndexTables, parts_value, symbol_parts, BreaksSymbolEntry, symbol_entry_rules};
+ghost use Rattle.elf_table_symbols.specs.Symbols.{index_table_rules, place_rules, rest_rules, symbol_0_not_null, symbol_field};
+ghost use Rattle.elf_table_symbols.specs.Symbols.{symbol_table_rules, IsWrongIndexWord, wrong_index_word};
 ghost use Rattle.elf_table_symbols.specs.Sections.{section, sections_of, content};
 ghost use Rattle.elf_extent.specs.Extent.{IsLowest};
 ghost use Rattle.elf_image_rules.specs.Rows.{fault_of, AtEntry, FirstIn};
@@ -101,7 +104,8 @@ impl SymbolRule {
 /// The lowest offset in the file at which a symbol breaks the rule.
 fn lowest_symbol(parts: &SymbolParts<'_>, rule: SymbolRule) -> Option<u64>
     ensures { let p = parts_value parts.now in
-        IsLowest (AtEntry (entry_count p.table) (λ j. BreaksSymbolEntry rule p (entry_of p.order p.table j) j) (λ j. p.start + SYM_SIZE * j + symbol_field rule)) result }
+        IsLowest (AtEntry (entry_count p.table) (λ j. BreaksSymbolEntry rule p (entry_of p.order p.table j) j)
+        (λ j. p.start + SYM_SIZE * j + symbol_field rule)) result }
 {
     for j in 0..parts.len() {
         let symbol = entry(parts.order, parts.table, j);
@@ -156,8 +160,10 @@ fn validate_index_table(
 ) -> Result<(), Broken<u64>>
     requires tables { AreIndexTables (sections_of table.image.now) table.index (length table.image.now.sections) tables }
     requires few { symbols ≤ MAX_LEN }
-    ensures fault { FirstIn (index_table_rules (sections_of table.entry.image.now) table.entry.index tables.first symbols) (fault_of result) }
-    ensures sized { OnOk result ((j : ℕ) → tables.first ≡ Some j → length (content (sections_of table.entry.image.now) j) ≡ WORD_SIZE * symbols) }
+    ensures fault { FirstIn (index_table_rules (sections_of table.entry.image.now) table.entry.index tables.first symbols)
+        (fault_of result) }
+    ensures sized { OnOk result
+        ((j : ℕ) → tables.first ≡ Some j → length (content (sections_of table.entry.image.now) j) ≡ WORD_SIZE * symbols) }
 {
     let image = table.image;
     if let Some(j) = tables.second {

@@ -100,7 +100,8 @@ impl<'a> Symbols<'a> {
     /// `elf_table` looks through the section headers once for all symbol tables of an image.
     pub fn new(image: &Image<'a>, i: usize) -> Result<Symbols<'a>, Fault>
         requires { i < length image.now.sections }
-        ensures validated { IsValidated (symbol_table_rules (sections_of image.now) i) (λ symbols. symbols ≡ symbols_of (sections_of image.now) i) result }
+        ensures validated { IsValidated (symbol_table_rules (sections_of image.now) i)
+            (λ symbols. symbols ≡ symbols_of (sections_of image.now) i) result }
         ensures file { OfItsFile image.now
             (λ f. IsOnlyValidated (symbol_table_rules f i) (λ symbols. symbols ≡ symbols_of f i) result) }
     {

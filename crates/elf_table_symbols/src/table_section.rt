@@ -1,6 +1,7 @@
 //! A section that may hold a table, and one that links to another section (gABI chapter 4, Sections).
 ghost use Rattle.std.specs.Prelude.{◌≡◌, ◌↔◌, ◌<◌, ◌⊎◌, IsTrue, length, ◌%◌, Some, OnOk};
-ghost use Rattle.elf_table_symbols.specs.Sections.{IsLinkOf, IsSymbolType, entry_size as entry_size_of, kind_of, section, sections_of, own_rules, count, entry_size};
+ghost use Rattle.elf_table_symbols.specs.Sections.{IsLinkOf, IsSymbolType, entry_size as entry_size_of, kind_of, section, sections_of};
+ghost use Rattle.elf_table_symbols.specs.Sections.{own_rules, count, entry_size};
 ghost use Rattle.elf_image_rules.specs.Rows.{fault_of, FirstIn};
 
 use crate::rules::*;
@@ -123,7 +124,8 @@ impl<'i, 'a> TableSection<'i, 'a> {
     pub fn content(self) -> &'a [u8]
         ensures bytes { result.now ≡ content (sections_of self.entry.image.now) self.entry.index }
         ensures size { length result.now ≡ (content_extent (section (sections_of self.entry.image.now) self.entry.index)).len }
-        ensures inside { 0 < length result.now → (section (sections_of self.entry.image.now) self.entry.index).sh_offset + length result.now ≤ MAX_LEN }
+        ensures inside { 0 < length result.now →
+            (section (sections_of self.entry.image.now) self.entry.index).sh_offset + length result.now ≤ MAX_LEN }
     {
         self.image.content(self.index)
     }
@@ -159,7 +161,8 @@ impl<'i, 'a> LinkedTable<'i, 'a> {
 
     /// The content of the section that it links to.
     pub fn linked_content(self) -> &'a [u8]
-        ensures bytes { let f = sections_of self.entry.table.image.now in result.now ≡ content f (section f self.entry.table.index).sh_link }
+        ensures bytes { let f = sections_of self.entry.table.image.now in
+            result.now ≡ content f (section f self.entry.table.index).sh_link }
         ensures inside { let f = sections_of self.entry.table.image.now in
             0 < length result.now → (section f (section f self.entry.table.index).sh_link).sh_offset + length result.now ≤ MAX_LEN }
     {
@@ -175,7 +178,8 @@ impl<'i, 'a> LinkedTable<'i, 'a> {
 pub fn validate_own_rules(table: TableSection<'_, '_>, kind: TableKind) -> Result<(), Broken<u64>>
     ensures fault { FirstIn (own_rules kind (sections_of table.entry.image.now) table.entry.index) (fault_of result) }
     ensures typed { OnOk result (kind_of (section (sections_of table.entry.image.now) table.entry.index).sh_type ≡ Some kind) }
-    ensures sized { let s = section (sections_of table.entry.image.now) table.entry.index in OnOk result (s.sh_size % entry_size kind s.sh_type ≡ 0) }
+    ensures sized { let s = section (sections_of table.entry.image.now) table.entry.index in
+        OnOk result (s.sh_size % entry_size kind s.sh_type ≡ 0) }
     ensures linked { let f = sections_of table.entry.image.now in let link = (section f table.entry.index).sh_link in
         OnOk result ((link < count f) × IsLinkOf kind (section f link).sh_type) }
 {

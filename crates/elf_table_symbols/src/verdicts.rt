@@ -83,7 +83,8 @@ pub enum SymbolVerdicts<'a> {
 impl SymbolVerdicts<'_> {
     /// The verdict on the symbol table that this table links to.
     pub fn of(self, linked: LinkedTable<'_, '_>) -> Result<(), Broken<u64>>
-        requires typed { let f = sections_of linked.table.image.now in IsSymbolType (section f (section f linked.table.index).sh_link).sh_type }
+        requires typed { let f = sections_of linked.table.image.now in
+            IsSymbolType (section f (section f linked.table.index).sh_link).sh_type }
         requires known { AreKnown (sections_of linked.table.image.now) self }
         ensures { let f = sections_of linked.entry.table.image.now in
             FirstIn (symbol_table_rules f (section f linked.entry.table.index).sh_link) (fault_of result) }

@@ -15,14 +15,16 @@ use Rattle.elf_exec.proofs.Public as exec
 
 -- What files denote as objects are objects of the code: they break none of the object rules, and fit a file.
 
-pub object_of_file : (files : List (List ℕ)) (fs : List ObjectValue) (f : ℕ) → AreObjectFiles files fs → f < length fs → IsObject (object_at fs f) × ObjectFits (object_at fs f)
+pub object_of_file : (files : List (List ℕ)) (fs : List ObjectValue) (f : ℕ) → AreObjectFiles files fs → f < length fs →
+    IsObject (object_at fs f) × ObjectFits (object_at fs f)
 object_of_file [] [] f are lt = absurd (omega arith)
 object_of_file [] (o ∷ fs) f are lt = absurd are
 object_of_file (b ∷ files) [] f are lt = absurd are
 object_of_file (b ∷ files) (o ∷ fs) zero ((v, image, clean, denotes), rest) lt = sound_object v b o image clean denotes
 object_of_file (b ∷ files) (o ∷ fs) (suc f) (is, rest) lt = object_of_file files fs f rest (omega arith)
 
-sound_link : (opt : Options) (rules : List RelocRule) (files : List (List ℕ)) (fs : List ObjectValue) (m : LinkMapValue) → IsSoundFileLink opt rules files fs m →
+sound_link : (opt : Options) (rules : List RelocRule) (files : List (List ℕ)) (fs : List ObjectValue) (m : LinkMapValue) →
+    IsSoundFileLink opt rules files fs m →
     IsSoundLink fs m rules
 sound_link opt rules files fs m link = record {
   objects = λ f lt. (object_of_file files fs f link.objects lt).0;

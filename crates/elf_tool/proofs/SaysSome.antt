@@ -68,7 +68,8 @@ some_rewritten : (o : ObjectValue) → IsObject o → ObjectFits o → SaysSome 
 some_rewritten o kept fits none =
     let (b, laid) = some_layout o in
     elim (cases_lt MAX_LEN (length b)) [
-      | inl long ↦ none (Refused TooLong) [] ((λ c also. subst (λ (d : List ℕ). MAX_LEN < length d) (one_layout o b c laid also) long), refl)
+      | inl long ↦
+          none (Refused TooLong) [] ((λ c also. subst (λ (d : List ℕ). MAX_LEN < length d) (one_layout o b c laid also) long), refl)
       | inr short ↦ none Done b (file_of o kept fits b laid short)
     ]
 
@@ -104,7 +105,8 @@ some_objects : (files : List (List ℕ)) → AreFilesOfBytes files → ((fs : Li
 some_objects [] bytes no_objects no_refusal = no_objects [] tt
 some_objects (b ∷ files) (here, rest) no_objects no_refusal =
     some_object_file b here
-    (λ o is. some_objects files rest (λ fs are. no_objects (o ∷ fs) (is, are)) (λ f rule at refused. no_refusal (suc f) rule at ((o, is), refused)))
+    (λ o is. some_objects files rest (λ fs are. no_objects (o ∷ fs) (is, are))
+    (λ f rule at refused. no_refusal (suc f) rule at ((o, is), refused)))
     (λ rule at refused. no_refusal zero rule at refused)
 
 -- ---- of several
@@ -115,10 +117,13 @@ some_relocation None opt fs m is clean none = none Done (map_text fs m) refl
 some_relocation (Some rules) opt fs m is clean none = some_site (applied_entry_rules fs m rules) told where
   told : (x : Option (ℕ × Site)) → ¬ FirstAmong (applied_entry_rules fs m rules) x
   told None sound =
-      some_linked fs m rules (any_options fs m (opt, is, clean)) sound (λ l linked. none Done (map_text fs m ++ bytes_lines l) (l, linked, refl))
-  told (Some (rule, p)) first = none (Refused (Link rule p.file p.index p.entry)) (link_refused_line rule p.file p.index p.entry) (first, refl)
+      some_linked fs m rules (any_options fs m (opt, is, clean)) sound
+      (λ l linked. none Done (map_text fs m ++ bytes_lines l) (l, linked, refl))
+  told (Some (rule, p)) first =
+      none (Refused (Link rule p.file p.index p.entry)) (link_refused_line rule p.file p.index p.entry) (first, refl)
 
-pub some_map : (opt : Options) (rules : Option (List RelocRule)) (files : List (List ℕ)) → AreFilesOfBytes files → SaysSome (MapSays opt rules files)
+pub some_map : (opt : Options) (rules : Option (List RelocRule)) (files : List (List ℕ)) → AreFilesOfBytes files →
+    SaysSome (MapSays opt rules files)
 some_map opt rules files bytes none = some_objects files bytes of_objects refused where
   linked : (fs : List ObjectValue) → AreObjectFiles files fs → (x : Option (ℕ × Site)) → ¬ FirstOfLink opt fs x
   linked fs are None clean =

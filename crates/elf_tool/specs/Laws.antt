@@ -14,7 +14,8 @@ use Rattle.elf_tool_check.specs.declared.calls.Verdict.{Verdict}
 
 -- the files are images that denote these objects, m is their map, and none of rules 1 to 16 of the link is broken; the page fits the code's
 -- type
-pub record IsSoundFileLink (opt : Options) (rules : List RelocRule) (files : List (List ℕ)) (fs : List ObjectValue) (m : LinkMapValue) : Type 0 where
+pub record IsSoundFileLink (opt : Options) (rules : List RelocRule) (files : List (List ℕ)) (fs : List ObjectValue)
+    (m : LinkMapValue) : Type 0 where
   pub objects : AreObjectFiles files fs
   pub linked : FirstOfLink opt fs None
   pub map : IsLinkMap opt fs m

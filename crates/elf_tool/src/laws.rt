@@ -38,7 +38,8 @@ pub fn one_rewrite()
 /// `map` has at most one verdict and one text for its options, the relocation rules, if any, and the bytes of its files, and cannot be
 /// without one.
 pub fn one_map()
-    ensures some { (opt : Options) (rules : Option (List RelocRule)) (files : List (List ℕ)) → AreFilesOfBytes files → SaysSome (MapSays opt rules files) }
+    ensures some { (opt : Options) (rules : Option (List RelocRule)) (files : List (List ℕ)) → AreFilesOfBytes files →
+        SaysSome (MapSays opt rules files) }
     ensures one { (opt : Options) (rules : Option (List RelocRule)) (files : List (List ℕ)) → SaysOne (MapSays opt rules files) }
 {}
 

@@ -10,10 +10,12 @@ use Rattle.elf_tool_check.specs.declared.calls.Verdict.{Verdict}
 
 -- ---- a fault before anything is written
 
-module _ (report : Report) (input rest old : Option (List ℕ)) (read items : List ℕ) (count : ℕ) (same : read ≡ items) (long : length read ≡ count)
+module _ (report : Report) (input rest old : Option (List ℕ)) (read items : List ℕ) (count : ℕ) (same : read ≡ items)
+    (long : length read ≡ count)
     (taken : Consumes input rest items) (limit : count ≤ 2 ^ 30 + 1) where
   pub given_up : (fault : ToolFault) → IsReadFaultAfter fault count → IsFileCall report input rest old old (Err fault)
-  given_up (Read at) is = record { bytes = read; taken = rw same taken; limit = rw long limit; answered = inl (is ∙ sym long, Keeps-refl old) }
+  given_up (Read at) is =
+      record { bytes = read; taken = rw same taken; limit = rw long limit; answered = inl (is ∙ sym long, Keeps-refl old) }
   given_up OutOfMemory is = record { bytes = read; taken = rw same taken; limit = rw long limit; answered = inl (Keeps-refl old) }
   given_up (Write written) is = absurd is
 
@@ -26,7 +28,8 @@ kept_early {old = old} answered = record { answered = answered; memory = λ refu
 
 -- a file was read, whole, and a fault came with the first bytes of its text out
 pub stopped : (report : Report) (input rest old new : Option (List ℕ)) (read items : List ℕ) (count : ℕ) (verdict : Verdict) (text : List ℕ)
-    (fault : ToolFault) → read ≡ items → length read ≡ count → Consumes input rest items → count ≤ 2 ^ 30 + 1 → IsAtEnd rest ⊎ (count ≡ 2 ^ 30 + 1)
+    (fault : ToolFault) → read ≡ items → length read ≡ count → Consumes input rest items → count ≤ 2 ^ 30 + 1 →
+    IsAtEnd rest ⊎ (count ≡ 2 ^ 30 + 1)
     → report read verdict text → WritesPrefix text old new fault → IsFileCall report input rest old new (Err fault)
 stopped report input rest old new read items count verdict text fault same long taken limit whole is cut = record {
   bytes = read;
@@ -37,14 +40,16 @@ stopped report input rest old new read items count verdict text fault same long 
 
 -- ---- what is said of a file that was read
 
-pub said_more : (Says More : Verdict → List ℕ → Type 0) (old new : Option (List ℕ)) → ((verdict : Verdict) (text : List ℕ) → Says verdict text → More verdict text)
+pub said_more : (Says More : Verdict → List ℕ → Type 0) (old new : Option (List ℕ)) →
+    ((verdict : Verdict) (text : List ℕ) → Says verdict text → More verdict text)
     → (result : Result Verdict ToolFault) → Prints Says old new result → Prints More old new result
 said_more Says More old new more (Ok verdict) (text, says, out) = (text, more verdict text says, out)
 said_more Says More old new more (Err (Read at)) said = said
 said_more Says More old new more (Err (Write written)) (verdict, text, says, cut) = (verdict, text, more verdict text says, cut)
 said_more Says More old new more (Err OutOfMemory) said = said
 
-module _ (report : Report) (input rest old new : Option (List ℕ)) (read items : List ℕ) (count : ℕ) (same : read ≡ items) (long : length read ≡ count)
+module _ (report : Report) (input rest old new : Option (List ℕ)) (read items : List ℕ) (count : ℕ) (same : read ≡ items)
+    (long : length read ≡ count)
     (taken : Consumes input rest items) (limit : count ≤ 2 ^ 30 + 1) (whole : IsAtEnd rest ⊎ (count ≡ 2 ^ 30 + 1)) where
   answered_with : (result : Result Verdict ToolFault) → Prints (report read) old new result → IsFileCall report input rest old new result
   answered_with (Ok verdict) (text, says, out) = record {
@@ -68,7 +73,8 @@ module _ (report : Report) (input rest old new : Option (List ℕ)) (read items 
   kept_with (Err (Write written)) said refused = cc
   kept_with (Err OutOfMemory) kept refused = kept
 
-  pub said : (result : Result Verdict ToolFault) → Prints (report read) old new result → IsFileCallAllocatingFirst report input rest old new result
+  pub said : (result : Result Verdict ToolFault) → Prints (report read) old new result →
+      IsFileCallAllocatingFirst report input rest old new result
   said result says = record { answered = answered_with result says; memory = kept_with result says }
 
 -- ---- what is said of other words

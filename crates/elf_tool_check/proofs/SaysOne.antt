@@ -14,7 +14,8 @@ use Rattle.elf_tool_check.specs.declared.calls.Verdict.{Verdict}
 
 -- of one answer, which gives both
 pub of_answer : {A : Type 0} (Is : A → Type 0) (verdict : A → Verdict) (text : A → List ℕ) (Says : Verdict → List ℕ → Type 0) →
-    ((a b : A) → Is a → Is b → a ≡ b) → ((v : Verdict) (s : List ℕ) → Says v s → (a : A) × Is a × (v ≡ verdict a) × (s ≡ text a)) → SaysOne Says
+    ((a b : A) → Is a → Is b → a ≡ b) → ((v : Verdict) (s : List ℕ) → Says v s → (a : A) × Is a × (v ≡ verdict a) × (s ≡ text a)) →
+    SaysOne Says
 of_answer Is verdict text Says one told v w s t here there =
     let (a, is, verdict_is, text_is) = told v s here in
     let (b, are, verdict_also, text_also) = told w t there in
@@ -22,7 +23,8 @@ of_answer Is verdict text Says one told v w s t here there =
     (verdict_is ∙ ap verdict same ∙ sym verdict_also, text_is ∙ ap text same ∙ sym text_also)
 
 -- of the one value that is there
-pub of_one : {A : Type 0} (Is : A → Type 0) (Says : A → Verdict → List ℕ → Type 0) → ((a b : A) → Is a → Is b → a ≡ b) → ((a : A) → Is a → SaysOne (Says a)) →
+pub of_one : {A : Type 0} (Is : A → Type 0) (Says : A → Verdict → List ℕ → Type 0) → ((a b : A) → Is a → Is b → a ≡ b) →
+    ((a : A) → Is a → SaysOne (Says a)) →
     SaysOne (λ v s. (a : A) × Is a × Says a v s)
 of_one Is Says same one v w s t (a, is, here) (b, are, there) = one a is v w s t here (subst (λ c. Says c w t) (same b a are is) there)
 
@@ -31,8 +33,10 @@ pub of_holding : (P : Type 0) (Says : Verdict → List ℕ → Type 0) → (P �
 of_holding P Says one v w s t (holds, here) (again, there) = one holds v w s t here there
 
 -- of what says something, and of a refusal, which has one answer and comes only where nothing else is said
-pub or_refused : {A : Type 0} (IsFirst : A → Type 0) (verdict : A → Verdict) (text : A → List ℕ) (Says Refuses : Verdict → List ℕ → Type 0) → SaysOne Says →
-    ((a b : A) → IsFirst a → IsFirst b → a ≡ b) → ((v : Verdict) (s : List ℕ) → Refuses v s → (a : A) × IsFirst a × (v ≡ verdict a) × (s ≡ text a)) →
+pub or_refused : {A : Type 0} (IsFirst : A → Type 0) (verdict : A → Verdict) (text : A → List ℕ)
+    (Says Refuses : Verdict → List ℕ → Type 0) → SaysOne Says →
+    ((a b : A) → IsFirst a → IsFirst b → a ≡ b) →
+    ((v : Verdict) (s : List ℕ) → Refuses v s → (a : A) × IsFirst a × (v ≡ verdict a) × (s ≡ text a)) →
     ((v : Verdict) (s : List ℕ) (a : A) → Says v s → IsFirst a → ⊥) → SaysOne (λ v s. Says v s ⊎ Refuses v s)
 or_refused IsFirst verdict text Says Refuses says one told apart v w s t (inl here) (inl there) = says v w s t here there
 or_refused IsFirst verdict text Says Refuses says one told apart v w s t (inl here) (inr there) =
@@ -63,9 +67,11 @@ abbrev line_of : List ℕ → Option (ℕ × ℕ) → List ℕ
 line_of b None = ok_line (length b) (file_sections b) (file_segments b)
 line_of b (Some fault) = refused_line fault.0 fault.1
 
-told : (b : List ℕ) (v : Verdict) (s : List ℕ) → CheckSays b v s → (found : Option (ℕ × ℕ)) × IsFault b found × (v ≡ verdict_of found) × (s ≡ line_of b found)
+told : (b : List ℕ) (v : Verdict) (s : List ℕ) → CheckSays b v s →
+    (found : Option (ℕ × ℕ)) × IsFault b found × (v ≡ verdict_of found) × (s ≡ line_of b found)
 told b Done s (clean, line) = (None, clean, refl, line)
-told b (Refused (File file rule at)) s (fault, zero_is, line) = (Some (rule, at), fault, ap (λ (n : ℕ). Refused (File n rule at)) zero_is, line)
+told b (Refused (File file rule at)) s (fault, zero_is, line) =
+    (Some (rule, at), fault, ap (λ (n : ℕ). Refused (File n rule at)) zero_is, line)
 told b (Refused (Link rule file index entry)) s never = absurd never
 told b (Refused TooLong) s never = absurd never
 

@@ -77,7 +77,8 @@ Prints Says old new (Err (Write written)) =
 Prints Says old new (Err OutOfMemory) = Keeps old new
 
 -- a call of an engine that takes all its memory before it writes: when out of memory nothing is written
-pub record IsFileCallAllocatingFirst (report : Report) (input rest old new : Option (List ℕ)) (result : Result Verdict ToolFault) : Type 0 where
+pub record IsFileCallAllocatingFirst (report : Report) (input rest old new : Option (List ℕ))
+    (result : Result Verdict ToolFault) : Type 0 where
   pub answered : IsFileCall report input rest old new result
   pub memory : result ≡ Err OutOfMemory → Keeps old new
 

@@ -44,8 +44,8 @@ pub trait Opener {
         ensures kept { holds self.new ≡ holds self.old }
         ensures still { opens self.new ≡ opens self.old };
 
-    /// A source of the file's bytes, no call of which has failed. It fails as [`reader`](Opener::reader) does, and what is known of the files
-    /// stays.
+    /// A source of the file's bytes, no call of which has failed. It fails as [`reader`](Opener::reader) does, and what is known of the
+    /// files stays.
     fn source(&mut self, name: &str) -> Result<Self::Seek, OpenFault>
         ensures bytes { IfSome (holds self.old name.now) (λ bytes.
             IfOk result (λ source. Self.Seek.content source ≡ Some bytes)) }

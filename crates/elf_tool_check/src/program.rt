@@ -37,7 +37,8 @@ fn ending<S: AsStr, O: Opener, W: Write, E: Write>(
     out: &mut W,
     err: &mut E,
 ) -> Status
-    ensures { EndsCheck (map_list S.text words.now) (O.holds files.old) (O.opens files.old) (W.contents out.old) (W.contents out.new) result }
+    ensures { EndsCheck (map_list S.text words.now) (O.holds files.old) (O.opens files.old) (W.contents out.old)
+        (W.contents out.new) result }
 {
     match asked_file(words) {
         Some(file) => check_file(alloc, file, files, out, err),

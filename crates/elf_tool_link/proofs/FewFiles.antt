@@ -1,7 +1,9 @@
 -- The text of `map` on at most 64 files is shorter than 2^64 bytes. The files have less than 2^30 sections and 2^31.5 symbols, and each of
 -- their names and contents has at most 2^30 bytes. No section and no symbol has two lines of a kind. So the lines with names of symbols
 -- have less than 2^63.5 bytes together, and all others less than 2^62.5.
-use Rattle.std.proofs.Common.{◌≡◌, ◌∙◌, ◌<◌, ◌≤◌, ◌+◌, ◌*◌, ◌^◌, ◌++◌, ◌-◌, ℕ, zero, suc, Bool, true, false, List, [], ◌∷◌, None, Option, Some, ap, arith, bytes_eq, codes, cond, get_or, if◌then◌else◌, inl, inr, length, length-append, map, MatchOption, option_map, refl, subst, sym, unwrap_or}
+use Rattle.std.proofs.Common.{◌≡◌, ◌∙◌, ◌<◌, ◌≤◌, ◌+◌, ◌*◌, ◌^◌, ◌++◌, ◌-◌, ℕ, zero, suc, Bool, true, false, List, [], ◌∷◌, None, Option}
+use Rattle.std.proofs.Common.{Some, ap, arith, bytes_eq, codes, cond, get_or, if◌then◌else◌, inl, inr, length, length-append, map}
+use Rattle.std.proofs.Common.{MatchOption, option_map, refl, subst, sym, unwrap_or}
 use Rattle.std.specs.List.{AllByRecursion, IsDistinct, flat_map, list_any}
 use Rattle.std.specs.Fmt.{decimal, digits}
 use Rattle.std.proofs.Math.Dec.{eqb}
@@ -37,7 +39,10 @@ use Rattle.elf_object_type.specs.declared.parts.Place.TheVariants.{Undef, Abs, I
 use Rattle.elf_object_type.specs.declared.parts.Place.{Place}
 use Rattle.elf_tool_check.specs.declared.calls.Verdict.TheVariants.{Done}
 use Rattle.elf_tool_link.proofs.FileSizes.{IsSmall, as_many, each_small}
-use Rattle.elf_tool_link.specs.Map.{MapSays, RelocationSays, binding_text, bits_text, bytes_line, bytes_lines, common_line, common_lines, discarded_line, discarded_lines, discarded_text, file_discarded_text, map_text, member_bytes, member_line, member_text, name_line, name_lines, named_text, output_bytes, output_line, output_lines, output_text, relocated_text, value_text}
+use Rattle.elf_tool_link.specs.Map.{MapSays, RelocationSays, binding_text, bits_text, bytes_line, bytes_lines, common_line, common_lines}
+use Rattle.elf_tool_link.specs.Map.{discarded_line, discarded_lines, discarded_text, file_discarded_text, map_text, member_bytes}
+use Rattle.elf_tool_link.specs.Map.{member_line, member_text, name_line, name_lines, named_text, output_bytes, output_line, output_lines}
+use Rattle.elf_tool_link.specs.Map.{output_text, relocated_text, value_text}
 use Rattle.elf_tool_text.proofs.Public.{bytes_short, decimal_short, hexadecimal_short, indexed_short, line_length, lines_short, name_short}
 use Rattle.elf_tool_text.proofs.TextLines.{few_digits}
 use Rattle.elf_tool_text.specs.Line.{bytes_text, hexadecimal, name_text}
@@ -85,20 +90,24 @@ module _ (n most : ℕ) where
   others p [] apart = tt
   others p (q ∷ qs) apart = (ne_eqb (code most p) (code most q) (apart 0 (omega arith)), others p qs (λ k lt. apart (suc k) (omega arith)))
 
-  codes_distinct : (ps : List Site) → AreOnce ps → ((k : ℕ) → k < length ps → IsIn n most (site_at ps k)) → IsDistinct eqb (map (code most) ps)
+  codes_distinct : (ps : List Site) → AreOnce ps → ((k : ℕ) → k < length ps → IsIn n most (site_at ps k)) →
+      IsDistinct eqb (map (code most) ps)
   unfolding IsDistinct
   codes_distinct [] once are = tt
   codes_distinct (p ∷ ps) once are = (
-    others p ps (λ k lt same. once 0 (suc k) (omega arith) (omega arith) (one_place n most p (site_at ps k) (are 0 (omega arith)) (are (suc k) (omega arith)) same)),
+    others p ps (λ k lt same. once 0 (suc k) (omega arith) (omega arith)
+        (one_place n most p (site_at ps k) (are 0 (omega arith)) (are (suc k) (omega arith)) same)),
     codes_distinct ps (λ j k less lt. once (suc j) (suc k) (omega arith) (omega arith)) (λ k lt. are (suc k) (omega arith)),
   )
 
-  codes_below : (ps : List Site) → ((k : ℕ) → k < length ps → IsIn n most (site_at ps k)) → (q : ℕ) → list_any (eqb q) (map (code most) ps) ≡ true → q < n * most
+  codes_below : (ps : List Site) → ((k : ℕ) → k < length ps → IsIn n most (site_at ps k)) → (q : ℕ) →
+      list_any (eqb q) (map (code most) ps) ≡ true → q < n * most
   codes_below [] are q is = absurd (cc)
   codes_below (p ∷ ps) are q is = by_first (eqb q (code most p)) refl (λ later. codes_below ps (λ k lt. are (suc k) (omega arith)) q later)
     where
       by_first : (same : Bool) → eqb q (code most p) ≡ same → (list_any (eqb q) (map (code most) ps) ≡ true → q < n * most) → q < n * most
-      by_first true same rest = let first = eqb-true q (code most p) same in let below = code_below n most p (are 0 (omega arith)) in omega arith
+      by_first true same rest = let first = eqb-true q (code most p) same in let below = code_below n most p (are 0 (omega arith)) in
+          omega arith
       by_first false same rest = rest (rw same at is)
 
   few_places : (ps : List Site) → AreOnce ps → ((k : ℕ) → k < length ps → IsIn n most (site_at ps k)) → length ps ≤ n * most
@@ -109,10 +118,12 @@ module _ (n most : ℕ) where
 
 -- ---- lines
 
-output_line_short : (o : OutputValue) → o.address < 2 ^ 64 → o.length < 2 ^ 64 → o.flags < 2 ^ 64 → length o.name ≤ 2 ^ 30 → length (output_line o) ≤ 2 ^ 31 + 73
+output_line_short : (o : OutputValue) → o.address < 2 ^ 64 → o.length < 2 ^ 64 → o.flags < 2 ^ 64 → length o.name ≤ 2 ^ 30 →
+    length (output_line o) ≤ 2 ^ 31 + 73
 unfolding output_line
 output_line_short o address long flags name =
-    let whole = line_length (codes "output") (hexadecimal o.address ∷ hexadecimal o.length ∷ bits_text o.no_bits ∷ hexadecimal o.flags ∷ name_text o.name ∷ []) in
+    let whole = line_length (codes "output")
+    (hexadecimal o.address ∷ hexadecimal o.length ∷ bits_text o.no_bits ∷ hexadecimal o.flags ∷ name_text o.name ∷ []) in
     let a = hexadecimal_short o.address address in
     let b = hexadecimal_short o.length long in
     let c = kind o.no_bits in
@@ -124,7 +135,8 @@ output_line_short o address long flags name =
     kind true = omega arith
     kind false = omega arith
 
-member_line_short : (address size : ℕ) (s : Member) → address < 2 ^ 64 → size < 2 ^ 64 → s.file < 2 ^ 64 → s.section < 2 ^ 64 → length (member_line address size s) ≤ 87
+member_line_short : (address size : ℕ) (s : Member) → address < 2 ^ 64 → size < 2 ^ 64 → s.file < 2 ^ 64 → s.section < 2 ^ 64 →
+    length (member_line address size s) ≤ 87
 unfolding member_line
 member_line_short address size s a_fits b_fits c_fits d_fits =
     let whole = line_length (codes "member") (hexadecimal address ∷ hexadecimal size ∷ decimal s.file ∷ decimal s.section ∷ []) in
@@ -169,7 +181,8 @@ binding_short (Common address size align) = omega arith
 binding_short (Weak file symbol) = omega arith
 binding_short Zero = omega arith
 
-name_line_short : (value : Option ℕ) (binding : Binding) (name : List ℕ) → IsShortValue value → length name ≤ 2 ^ 30 → length (name_line value binding name) ≤ 2 ^ 31 + 34
+name_line_short : (value : Option ℕ) (binding : Binding) (name : List ℕ) → IsShortValue value → length name ≤ 2 ^ 30 →
+    length (name_line value binding name) ≤ 2 ^ 31 + 34
 unfolding name_line
 name_line_short value binding name fits short =
     let whole = line_length (codes "name") (value_text value ∷ binding_text binding ∷ name_text name ∷ []) in
@@ -178,7 +191,8 @@ name_line_short value binding name fits short =
     let c = name_short name in
     omega arith
 
-bytes_line_short : (s : Member) (bytes : List ℕ) → s.file < 2 ^ 64 → s.section < 2 ^ 64 → length bytes ≤ 2 ^ 30 → length (bytes_line s bytes) ≤ 2 ^ 31 + 50
+bytes_line_short : (s : Member) (bytes : List ℕ) → s.file < 2 ^ 64 → s.section < 2 ^ 64 → length bytes ≤ 2 ^ 30 →
+    length (bytes_line s bytes) ≤ 2 ^ 31 + 50
 unfolding bytes_line
 bytes_line_short s bytes file section short =
     let whole = line_length (codes "bytes") (decimal s.file ∷ decimal s.section ∷ bytes_text bytes ∷ []) in
@@ -190,7 +204,8 @@ bytes_line_short s bytes file section short =
 -- ---- texts of groups, each with so many bytes for each item of the group
 
 groups_short : {X : Type 0} (f : X → List ℕ) (most : ℕ) (d : X) (xs : List X) (groups : List (List Site)) → length xs ≡ length groups
-    → ((k : ℕ) → k < length xs → length (f (get_or xs k d)) ≤ length (get_or groups k []) * most) → length (flat_map f xs) ≤ length (flat groups) * most
+    → ((k : ℕ) → k < length xs → length (f (get_or xs k d)) ≤ length (get_or groups k []) * most) →
+    length (flat_map f xs) ≤ length (flat groups) * most
 groups_short f most d [] [] same each = omega arith
 groups_short f most d [] (g ∷ groups) same each = absurd (omega arith)
 groups_short f most d (x ∷ xs) [] same each = absurd (omega arith)
@@ -199,7 +214,8 @@ groups_short f most d (x ∷ xs) (g ∷ groups) same each =
     let rest = groups_short f most d xs groups (omega arith) (λ k lt. each (suc k) (omega arith)) in
     let text = length-append (f x) (flat_map f xs) in
     let items = length-append g (flat groups) in
-    let whole : (length g + length (flat groups)) * most ≡ length g * most + length (flat groups) * most = add-mul (length g) (length (flat groups)) most in
+    let whole : (length g + length (flat groups)) * most ≡ length g * most + length (flat groups) * most =
+    add-mul (length g) (length (flat groups)) most in
     subst (λ (n : ℕ). length (flat_map f (x ∷ xs)) ≤ n * most) (sym items) (omega arith)
 
 -- ---- what a name is bound to, by its position
@@ -210,7 +226,8 @@ bound_first : (bs : List (List ℕ × Binding)) (q : List ℕ) (k : ℕ) → k <
 bound_first [] q k lt is none = absurd (omega arith)
 bound_first (b ∷ bs) q zero lt is none = ap (λ (t : Bool). cond t (Some b.1) (bound_in bs q)) ((bytes_eq-Decides q b.0).1 (sym is))
 bound_first (b ∷ bs) q (suc k) lt is none =
-    ap (λ (t : Bool). cond t (Some b.1) (bound_in bs q)) (not_true (bytes_eq q b.0) (λ equal. none 0 (omega arith) (sym ((bytes_eq-Decides q b.0).0 equal)))) ∙
+    ap (λ (t : Bool). cond t (Some b.1) (bound_in bs q))
+    (not_true (bytes_eq q b.0) (λ equal. none 0 (omega arith) (sym ((bytes_eq-Decides q b.0).0 equal)))) ∙
     bound_first bs q k (omega arith) is (λ j below. none (suc j) (omega arith))
 
 -- ---- the lines of a link map
@@ -239,7 +256,8 @@ module _ (opt : Options) (fs : List ObjectValue) (m : LinkMapValue) (l : LinkPla
   few_placed =
       let (ps, openers, mem) = plan.plan.outputs in
       few_places (length fs) (2 ^ 24) (flat groups) (placed_once fs ps groups openers mem)
-      (λ k lt. section_in_file (site_at (flat groups) k) (all_flat (live fs) groups (λ i below. members_live fs ps groups i mem below) k lt))
+      (λ k lt. section_in_file (site_at (flat groups) k)
+      (all_flat (live fs) groups (λ i below. members_live fs ps groups i mem below) k lt))
 
   module _ (k : ℕ) (lt : k < length m.outputs) where
     abbrev o : OutputValue
@@ -287,7 +305,8 @@ module _ (opt : Options) (fs : List ObjectValue) (m : LinkMapValue) (l : LinkPla
         let one = some in
         omega arith
 
-    module _ (linked : LinkedValue) (is : (f s : ℕ) → MatchOption (bytes_at linked f s) (¬ HasLiveBits fs f s) (AreBytesOf fs m linked.rules f s)) where
+    module _ (linked : LinkedValue)
+        (is : (f s : ℕ) → MatchOption (bytes_at linked f s) (¬ HasLiveBits fs f s) (AreBytesOf fs m linked.rules f s)) where
       bytes_at_short : (i : ℕ) (found : Option (List ℕ)) → i < length o.members → (let p = member_at o i in
           MatchOption found (¬ HasLiveBits fs p.file p.section) (AreBytesOf fs m linked.rules p.file p.section)) →
           length (relocated_text (member_at o i) found) ≤ 2 ^ 31 + 50
@@ -303,7 +322,8 @@ module _ (opt : Options) (fs : List ObjectValue) (m : LinkMapValue) (l : LinkPla
       bytes_of_output : length (output_bytes linked o) ≤ length ms * (2 ^ 31 + 50)
       bytes_of_output =
           let each = lines_short (member_bytes linked) (2 ^ 31 + 50) no_member o.members
-          (λ i below. bytes_at_short i (bytes_at linked (member_at o i).file (member_at o i).section) below (is (member_at o i).file (member_at o i).section)) in
+          (λ i below. bytes_at_short i (bytes_at linked (member_at o i).file (member_at o i).section) below
+          (is (member_at o i).file (member_at o i).section)) in
           let count = many in
           omega arith
 
@@ -311,16 +331,20 @@ module _ (opt : Options) (fs : List ObjectValue) (m : LinkMapValue) (l : LinkPla
   unfolding output_lines
   outputs_short = groups_short (output_text fs m) (2 ^ 31 + 160) no_output m.outputs groups of.outputs.count (λ k lt. output_short k lt)
 
-  relocated_short : (rules : List RelocRule) (linked : LinkedValue) → IsLinked fs m rules linked → length (bytes_lines linked) ≤ length (flat groups) * (2 ^ 31 + 50)
+  relocated_short : (rules : List RelocRule) (linked : LinkedValue) → IsLinked fs m rules linked →
+      length (bytes_lines linked) ≤ length (flat groups) * (2 ^ 31 + 50)
   unfolding bytes_lines
   relocated_short rules linked is =
       let each = rw (sym is.same_rules) at is.bytes in
-      subst (λ (n : LinkMapValue). length (flat_map (output_bytes linked) n.outputs) ≤ length (flat groups) * (2 ^ 31 + 50)) (sym is.same_map)
-      (groups_short (output_bytes linked) (2 ^ 31 + 50) no_output m.outputs groups of.outputs.count (λ k lt. bytes_of_output k lt linked each))
+      subst (λ (n : LinkMapValue). length (flat_map (output_bytes linked) n.outputs) ≤ length (flat groups) * (2 ^ 31 + 50))
+      (sym is.same_map)
+      (groups_short (output_bytes linked) (2 ^ 31 + 50) no_output m.outputs groups of.outputs.count
+      (λ k lt. bytes_of_output k lt linked each))
 
   -- ---- discarded sections
 
-  discarded_short : (f s : ℕ) (marked : Bool) → f < length fs → s < length (object_at fs f).sections → length (if marked then discarded_line f s else []) ≤ 52
+  discarded_short : (f s : ℕ) (marked : Bool) → f < length fs → s < length (object_at fs f).sections →
+      length (if marked then discarded_line f s else []) ≤ 52
   discarded_short f s true file index = let count = (small f).section_count in discarded_line_short f s (omega arith) (omega arith)
   discarded_short f s false file index = omega arith
 
@@ -328,13 +352,15 @@ module _ (opt : Options) (fs : List ObjectValue) (m : LinkMapValue) (l : LinkPla
   unfolding discarded_lines
   discarded_all_short = indexed_short (file_discarded_text fs m) (2 ^ 24 * 52) (length fs) (λ f file. (
       let count = (small f).section_count in
-      let each = indexed_short (discarded_text m f) 52 (length (object_at fs f).sections) (λ s index. discarded_short f s (mark m.discarded f s) file index) in
+      let each = indexed_short (discarded_text m f) 52 (length (object_at fs f).sections)
+      (λ s index. discarded_short f s (mark m.discarded f s) file index) in
       omega arith))
 
   -- ---- symbols
 
   few_symbols : (P : ℕ → ℕ → Type 0) (ps : List Site) → Lists (AtSymbol fs P) ps → length ps ≤ length fs * 44739243
-  few_symbols P ps lists = few_places (length fs) 44739243 ps (once_of (AtSymbol fs P) ps lists) (λ k lt. symbol_in_file (site_at ps k) (lists.each k lt))
+  few_symbols P ps lists =
+      few_places (length fs) 44739243 ps (once_of (AtSymbol fs P) ps lists) (λ k lt. symbol_in_file (site_at ps k) (lists.each k lt))
     where
       symbol_in_file : (p : Site) → AtSymbol fs P p → IsIn (length fs) 44739243 p
       symbol_in_file p (file, index, is, entry) = record {
@@ -359,7 +385,8 @@ module _ (opt : Options) (fs : List ObjectValue) (m : LinkMapValue) (l : LinkPla
       let is = of.commons.each k (let count = of.commons.count in omega arith) in
       let within = apart.commons_within k lt in
       let name = name_at_short (chosen_at l.plan.commons k).site in
-      let named : length (common_at m.commons k).name ≡ length (name_at fs (chosen_at l.plan.commons k).site) = ap (λ (c : CommonValue). length c.name) is in
+      let named : length (common_at m.commons k).name ≡ length (name_at fs (chosen_at l.plan.commons k).site) =
+      ap (λ (c : CommonValue). length c.name) is in
       common_line_short (common_at m.commons k) (omega arith) (omega arith) (omega arith)
 
   commons_short : length (common_lines m) ≤ length m.commons * (2 ^ 31 + 47)
@@ -403,13 +430,15 @@ module _ (opt : Options) (fs : List ObjectValue) (m : LinkMapValue) (l : LinkPla
     found k lt =
         let count = as_many_names in
         bound_first m.bindings (name_at fs (site_at ps k)) k lt (name_is k lt)
-        (λ j below also. names_once fs ps lists j k below (omega arith) (name_at fs (site_at ps k)) (sym (name_is j (omega arith)) ∙ also) refl)
+        (λ j below also. names_once fs ps lists j k below (omega arith) (name_at fs (site_at ps k))
+        (sym (name_is j (omega arith)) ∙ also) refl)
 
     named_short : (k : ℕ) → k < length m.bindings → length (named_text fs m (get_or m.bindings k no_name)) ≤ 2 ^ 31 + 34
     named_short k lt =
         let n = get_or m.bindings k no_name in
         let name = name_at fs (site_at ps k) in
-        let bound = subst (λ (b : Option Binding). MatchOption b (Never (entries fs name)) (IsBinding fs m.commons name)) (found k lt) (of.bindings name) in
+        let bound = subst (λ (b : Option Binding). MatchOption b (Never (entries fs name)) (IsBinding fs m.commons name)) (found k lt)
+        (of.bindings name) in
         let short = name_at_short (site_at ps k) in
         let long = ap length (name_is k lt) in
         name_line_short (binding_value fs m n.1) n.1 n.0 (bound_value_short name n.1 bound) (omega arith)
@@ -439,7 +468,8 @@ module _ (opt : Options) (fs : List ObjectValue) (m : LinkMapValue) (l : LinkPla
 
 -- ---- the text on files
 
-said_short : (opt : Options) (fs : List ObjectValue) (m : LinkMapValue) (rules : Option (List RelocRule)) (text : List ℕ) → IsLinkMap opt fs m → length fs ≤ 64
+said_short : (opt : Options) (fs : List ObjectValue) (m : LinkMapValue) (rules : Option (List RelocRule)) (text : List ℕ) →
+    IsLinkMap opt fs m → length fs ≤ 64
     → ((f : ℕ) → IsSmall (object_at fs f)) → RelocationSays rules fs m Done text → length text < 2 ^ 64
 said_short opt fs m None text (l, plan, of) few small same =
     let short = map_text_short opt fs m l plan of few small in

@@ -1,6 +1,7 @@
 -- How much an object of a file has: a file has at most 2^30 bytes, so less than 2^24 sections and 2^26 symbols, and no name and no content
 -- is longer than the file. Its numbers were read from fields of at most 8 bytes.
-use Rattle.std.proofs.Common.{◌≡◌, ◌<◌, ◌≤◌, ◌+◌, ◌*◌, ◌^◌, ◌==◌, ℕ, zero, suc, Bool, true, false, List, [], ◌∷◌, None, Option, Some, arith, drop, get_or, if◌then◌else◌, length, map, subst, sym, take}
+use Rattle.std.proofs.Common.{◌≡◌, ◌<◌, ◌≤◌, ◌+◌, ◌*◌, ◌^◌, ◌==◌, ℕ, zero, suc, Bool, true, false, List, [], ◌∷◌, None, Option, Some, arith}
+use Rattle.std.proofs.Common.{drop, get_or, if◌then◌else◌, length, map, subst, sym, take}
 use Rattle.std.specs.List.{AllByRecursion, range_with_len}
 use Rattle.std.proofs.lemmas.List.{length-drop, length-map, length-take}
 use Rattle.std.proofs.lemmas.List.FromFn.{length-range_with_len}
@@ -16,13 +17,14 @@ use Rattle.elf_image_rules.proofs.Public.{clean_records, kept_short}
 use Rattle.elf_image_rules.specs.Rules.{rules_in}
 use Rattle.elf_image_rules.specs.Tables.{bytes_in, content_extent, header, name_table, names, no_section_header, sections, segments}
 use Rattle.elf_image_type.proofs.Public.{image_is_sound}
-use Rattle.elf_image_type.specs.ImageView.{string}
+use Rattle.elf_field.specs.Strings.{string}
 use Rattle.elf_link_files.specs.Files.{no_object, object_at}
 use Rattle.elf_link_relocate.specs.Fields.{content_of}
 use Rattle.elf_object_layout.specs.SectionsLeftOut.{is_kept, left_out, symbol_table}
 use Rattle.elf_object_layout.specs.declared.left_out.LeftOut.{LeftOut}
 use Rattle.elf_object_reader.proofs.Public.{denoted_with}
-use Rattle.elf_object_reader.specs.Denotes.{Denotes, body_denoted, body_kind, kept, section_denoted, section_name_of, symbol_denoted, symbols_denoted}
+use Rattle.elf_object_reader.specs.Denotes.{Denotes, body_denoted, body_kind, kept, section_denoted, section_name_of, symbol_denoted}
+use Rattle.elf_object_reader.specs.Denotes.{symbols_denoted}
 use Rattle.elf_object_reader.specs.declared.object_file.BodyKind.TheVariants.{Bits, NoBits, Relocs, Group}
 use Rattle.elf_object_reader.specs.declared.object_file.BodyKind.{BodyKind}
 use Rattle.elf_object_type.specs.Object.{ObjectValue, SectionValue, SymbolValue, no_section, no_symbol, section_at, symbol_at}
@@ -60,7 +62,8 @@ all_mapped : {A B : Type 0} (P : B → Type 0) (f : A → B) → ((x : A) → P 
 all_mapped P f each [] = tt
 all_mapped P f each (x ∷ xs) = (each x, all_mapped P f each xs)
 
-all_through : {A B : Type 0} (P : A → Type 0) (Q : B → Type 0) (f : A → B) → ((x : A) → P x → Q (f x)) → (xs : List A) → AllByRecursion P xs → AllByRecursion Q (map f xs)
+all_through : {A B : Type 0} (P : A → Type 0) (Q : B → Type 0) (f : A → B) → ((x : A) → P x → Q (f x)) → (xs : List A) →
+    AllByRecursion P xs → AllByRecursion Q (map f xs)
 all_through P Q f each [] all = tt
 all_through P Q f each (x ∷ xs) all = (each x all.0, all_through P Q f each xs all.1)
 
@@ -105,7 +108,8 @@ module _ (v : ImageValue) (b : List ℕ) (image : IsImage v b) where
 
   content_short : (i : ℕ) → length (content (sections_of v) i) ≤ 2 ^ 30
   content_short i =
-      let within = subst (λ (cs : List (List ℕ)). length (get_or cs i []) ≤ length b) (sym stands.contents) (contents_within b v.sections i) in
+      let within =
+      subst (λ (cs : List (List ℕ)). length (get_or cs i []) ≤ length b) (sym stands.contents) (contents_within b v.sections i) in
       let short = file_short in
       omega arith
 
@@ -121,7 +125,8 @@ module _ (v : ImageValue) (b : List ℕ) (image : IsImage v b) where
   section_name_short : (i : ℕ) → length (section_name_of (sections_of v) i) ≤ 2 ^ 30
   section_name_short i = by_type ((section (sections_of v) i).sh_type == SHT_NULL)
     where
-      by_type : (null : Bool) → length (if null then [] else string (value_names v.header v.sections v.contents) (section (sections_of v) i).sh_name) ≤ 2 ^ 30
+      by_type : (null : Bool) →
+          length (if null then [] else string (value_names v.header v.sections v.contents) (section (sections_of v) i).sh_name) ≤ 2 ^ 30
       by_type true = omega arith
       by_type false =
           let within = string_within (value_names v.header v.sections v.contents) (section (sections_of v) i).sh_name in
@@ -139,7 +144,8 @@ module _ (v : ImageValue) (b : List ℕ) (image : IsImage v b) where
       let f = sections_of v in
       subst IsShortSection (sym (denoted_with left f i)) (record {
         name = section_name_short i;
-        flags = at_any (λ (s : Shdr). s.sh_flags < 2 ^ 64) v.sections no_section_header i (flags_fit v.sections sound.section_headers) (omega arith);
+        flags = at_any (λ (s : Shdr). s.sh_flags < 2 ^ 64) v.sections no_section_header i (flags_fit v.sections sound.section_headers)
+            (omega arith);
         content = body_short left i (body_kind (section f i).sh_type);
       })
     where
@@ -157,16 +163,19 @@ module _ (v : ImageValue) (b : List ℕ) (image : IsImage v b) where
   content_bytes : (i : ℕ) → IsBytes (content (sections_of v) i)
   content_bytes i = at_any IsBytes v.contents [] i sound.bytes IsBytes-nil
 
-  entry_short : (o : Order) (table names words : List ℕ) → IsBytes table → length names ≤ 2 ^ 30 → (j : ℕ) → IsShortEntry (symbol_entry_in o table names words j)
+  entry_short : (o : Order) (table names words : List ℕ) → IsBytes table → length names ≤ 2 ^ 30 → (j : ℕ) →
+      IsShortEntry (symbol_entry_in o table names words j)
   unfolding symbol_entry_in entry
   entry_short o table names words bytes short j =
       let fits = sym_laws.valid o table (24 * j) bytes in
       let within = string_within names (entry o table j).st_name in
       record { name = omega arith; value = fits.st_value; size = fits.st_size }
 
-  entries_short : (o : Order) (table names words : List ℕ) → IsBytes table → length names ≤ 2 ^ 30 → AllByRecursion IsShortEntry (symbols_in o table names words)
+  entries_short : (o : Order) (table names words : List ℕ) → IsBytes table → length names ≤ 2 ^ 30 →
+      AllByRecursion IsShortEntry (symbols_in o table names words)
   unfolding symbols_in
-  entries_short o table names words bytes short = all_mapped IsShortEntry (symbol_entry_in o table names words) (entry_short o table names words bytes short) _
+  entries_short o table names words bytes short =
+      all_mapped IsShortEntry (symbol_entry_in o table names words) (entry_short o table names words bytes short) _
 
   symbols_short : (left : LeftOut) (table : Option ℕ) → AllByRecursion IsShortSymbol (symbols_denoted left (sections_of v) table)
   unfolding symbols_of
@@ -176,7 +185,8 @@ module _ (v : ImageValue) (b : List ℕ) (image : IsImage v b) where
       let p = symbol_parts f t in
       all_through IsShortEntry IsShortSymbol (symbol_denoted left f)
       (λ s short. record { name = short.name; value = short.value; size = short.size }) _
-      (all_dropped IsShortEntry (symbols_of f t) (entries_short p.order p.table p.names p.words (content_bytes t) (content_short (section f t).sh_link)))
+      (all_dropped IsShortEntry (symbols_of f t)
+      (entries_short p.order p.table p.names p.words (content_bytes t) (content_short (section f t).sh_link)))
 
   few_symbols : (left : LeftOut) (table : Option ℕ) → 24 * length (symbols_denoted left (sections_of v) table) ≤ 2 ^ 30
   unfolding symbols_of
@@ -203,14 +213,19 @@ module _ (v : ImageValue) (b : List ℕ) (image : IsImage v b) where
   denoted_small o denotes =
       let f = sections_of v in
       let left = left_out f in
-      let sections = subst (AllByRecursion IsShortSection) (sym denotes.sections) (all_mapped IsShortSection (section_denoted left f) (section_short left) (kept left f)) in
+      let sections =
+      subst (AllByRecursion IsShortSection) (sym denotes.sections)
+      (all_mapped IsShortSection (section_denoted left f) (section_short left) (kept left f)) in
       let symbols = subst (AllByRecursion IsShortSymbol) (sym denotes.symbols) (symbols_short left (symbol_table f)) in
       let long = length-map (kept left f) (section_denoted left f) in
       record {
-        section_count = subst (λ (ss : List SectionValue). length ss ≤ 2 ^ 24) (sym denotes.sections) (let few = few_kept left in omega arith);
+        section_count =
+            subst (λ (ss : List SectionValue). length ss ≤ 2 ^ 24) (sym denotes.sections) (let few = few_kept left in omega arith);
         symbol_count = subst (λ (ss : List SymbolValue). 24 * length ss ≤ 2 ^ 30) (sym denotes.symbols) (few_symbols left (symbol_table f));
-        sections = λ i. at_any IsShortSection o.sections no_section i sections (record { name = omega arith; flags = omega arith; content = omega arith });
-        symbols = λ i. at_any IsShortSymbol o.symbols no_symbol i symbols (record { name = omega arith; value = omega arith; size = omega arith });
+        sections = λ i. at_any IsShortSection o.sections no_section i sections
+            (record { name = omega arith; flags = omega arith; content = omega arith });
+        symbols = λ i. at_any IsShortSymbol o.symbols no_symbol i symbols
+            (record { name = omega arith; value = omega arith; size = omega arith });
       }
 
 -- ---- the objects of files

@@ -21,7 +21,8 @@ not_begun (input ∷ inputs) [] (file ∷ files) d so_far = absurd so_far
 not_begun (input ∷ inputs) (rest ∷ rests) (file ∷ files) d so_far = not_begun inputs rests files d so_far.1
 
 -- it gives its file
-pub one_more : (inputs rests : List (Option (List ℕ))) (files : List (List ℕ)) (d r : Option (List ℕ)) (file : List ℕ) → length files < length rests
+pub one_more : (inputs rests : List (Option (List ℕ))) (files : List (List ℕ)) (d r : Option (List ℕ)) (file : List ℕ) →
+    length files < length rests
     → AreReadSoFar inputs rests files → GivesFile (get_or rests (length files) d) r file
     → AreReadSoFar inputs (set rests (length files) r) (files ++ file ∷ [])
 one_more inputs [] files d r file within so_far gives = absurd (omega arith)
@@ -34,17 +35,21 @@ one_more (input ∷ inputs) (rest ∷ rests) (f ∷ files) d r file within so_fa
     (so_far.0, one_more inputs rests files d r file (omega arith) so_far.1 gives)
 
 -- or stops with just some bytes
-pub stops : (inputs rests : List (Option (List ℕ))) (files : List (List ℕ)) (d r : Option (List ℕ)) (bytes : List ℕ) → length files < length rests
-    → AreReadSoFar inputs rests files → GivesBytes (get_or rests (length files) d) r bytes → StopsAfter inputs (set rests (length files) r) bytes
+pub stops : (inputs rests : List (Option (List ℕ))) (files : List (List ℕ)) (d r : Option (List ℕ)) (bytes : List ℕ) →
+    length files < length rests
+    → AreReadSoFar inputs rests files → GivesBytes (get_or rests (length files) d) r bytes →
+    StopsAfter inputs (set rests (length files) r) bytes
 stops inputs [] files d r bytes within so_far gives = absurd (omega arith)
 stops [] (rest ∷ rests) [] d r bytes within so_far gives = cc
-stops (input ∷ inputs) (rest ∷ rests) [] d r bytes within so_far gives = let same : (rest ≡ input) × (rests ≡ inputs) = ∷-parts so_far in inl (rw (sym same.0) gives, same.1)
+stops (input ∷ inputs) (rest ∷ rests) [] d r bytes within so_far gives = let same : (rest ≡ input) × (rests ≡ inputs) = ∷-parts so_far in
+    inl (rw (sym same.0) gives, same.1)
 stops [] (rest ∷ rests) (f ∷ files) d r bytes within so_far gives = absurd so_far
 stops (input ∷ inputs) (rest ∷ rests) (f ∷ files) d r bytes within so_far gives =
     inr (f, so_far.0, stops inputs rests files d r bytes (omega arith) so_far.1 gives)
 
 -- all of them gave their files
-pub all_read : (inputs rests : List (Option (List ℕ))) (files : List (List ℕ)) → length rests ≤ length files → AreReadSoFar inputs rests files
+pub all_read : (inputs rests : List (Option (List ℕ))) (files : List (List ℕ)) → length rests ≤ length files →
+    AreReadSoFar inputs rests files
     → AreRead inputs rests files
 all_read [] [] [] past so_far = tt
 all_read [] (rest ∷ rests) [] past so_far = absurd (omega arith)
@@ -68,7 +73,8 @@ module _ {X : Type 0} (given : X → Option (List ℕ)) (old now : List X) (file
       here within gives =
           let long = length-map now given in
           let at = get_or-map given now (length files) d (given d) within in
-          subst (λ (rests : List (Option (List ℕ))). AreReadSoFar (map given old) rests (files ++ file ∷ [])) (sym (map-set given now (length files) x))
+          subst (λ (rests : List (Option (List ℕ))). AreReadSoFar (map given old) rests (files ++ file ∷ []))
+          (sym (map-set given now (length files) x))
           (one_more (map given old) (map given now) files (given d) (given x) file (omega arith) so_far
           (subst (λ (r : Option (List ℕ)). GivesFile r (given x) file) (sym at) gives))
 
@@ -87,14 +93,16 @@ module _ {X : Type 0} (given : X → Option (List ℕ)) (old now : List X) (file
           (subst (λ (r : Option (List ℕ)). GivesBytes r (given x) bytes) (sym at) gives))
 
 -- the fault of a reader that stops is reported with what it gave
-pub reading_stopped : (inputs rests : List (Option (List ℕ))) (bytes : List ℕ) (fault : ToolFault) → StopsAfter inputs rests bytes → IsReadFaultAfter fault (length bytes)
+pub reading_stopped : (inputs rests : List (Option (List ℕ))) (bytes : List ℕ) (fault : ToolFault) → StopsAfter inputs rests bytes →
+    IsReadFaultAfter fault (length bytes)
     → IsReadingFault inputs rests fault
 reading_stopped inputs rests bytes (Read at) stop is = (bytes, stop, is)
 reading_stopped inputs rests bytes (Write written) stop is = absurd is
 reading_stopped inputs rests bytes OutOfMemory stop is = (bytes, stop)
 
 -- each reader gave one file
-pub as_many_read : (inputs rests : List (Option (List ℕ))) (files : List (List ℕ)) → AreRead inputs rests files → length files ≡ length inputs
+pub as_many_read : (inputs rests : List (Option (List ℕ))) (files : List (List ℕ)) → AreRead inputs rests files →
+    length files ≡ length inputs
 as_many_read [] [] [] are = omega arith
 as_many_read [] [] (file ∷ files) are = absurd are
 as_many_read [] (rest ∷ rests) files are = absurd are

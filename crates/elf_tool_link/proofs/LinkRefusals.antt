@@ -1,5 +1,6 @@
 -- What `link` reads, and what it refuses.
-use Rattle.std.proofs.Common.{◌≡◌, ◌∙◌, ℕ, ◌<◌, ◌≤◌, List, [], ◌∷◌, ◌++◌, ap, arith, get_or, length, map, subst, sym, Option, inl, inr, refl}
+use Rattle.std.proofs.Common.{◌≡◌, ◌∙◌, ℕ, ◌<◌, ◌≤◌, List, [], ◌∷◌, ◌++◌, ap, arith, get_or, length, map, subst, sym, Option, inl, inr}
+use Rattle.std.proofs.Common.{refl}
 use Rattle.std.proofs.lemmas.List.{get_or-map, length-map}
 use Rattle.std.proofs.KnownBytes.{Appends-nil, Keeps-refl}
 use Rattle.elf_link_field.specs.declared.rule.RelocRule.{RelocRule}
@@ -9,7 +10,8 @@ use Rattle.elf_link_map.specs.LinkMap.{LinkMapValue}
 use Rattle.elf_link_relocate.specs.Fields.{IsRelocationFault}
 use Rattle.elf_object_type.specs.Object.{ObjectValue}
 use Rattle.elf_tool_link.specs.Link.{FilesLink, MapLinks, unlinked_verdict}
-use Rattle.elf_tool_link.specs.ObjectFiles.{AreObjectFiles, BeginAsObjects, IsFirstRefused, IsObjectFile, IsRefusedFile, IsUnlinked, link_unlinked}
+use Rattle.elf_tool_link.specs.ObjectFiles.{AreObjectFiles, BeginAsObjects, IsFirstRefused, IsObjectFile, IsRefusedFile, IsUnlinked}
+use Rattle.elf_tool_link.specs.ObjectFiles.{link_unlinked}
 use Rattle.elf_tool_link.specs.declared.mapped.Unlinked.TheVariants.{Refused, OutOfMemory}
 use Rattle.elf_tool_link.specs.declared.mapped.Unlinked.{Unlinked}
 use Rattle.elf_tool_check.specs.Engine.{Prints}
@@ -31,7 +33,8 @@ pub first_refused : (files : List (List ℕ)) (objects : List ObjectValue) (d : 
     → BeginAsObjects files objects → IsRefusedFile (get_or files (length objects) d) rule at → IsFirstRefused files (length objects) rule at
 first_refused [] objects d rule at within begin is = absurd (omega arith)
 first_refused (b ∷ files) [] d rule at within begin is = is
-first_refused (b ∷ files) (p ∷ objects) d rule at within begin is = ((p, begin.0), first_refused files objects d rule at (omega arith) begin.1 is)
+first_refused (b ∷ files) (p ∷ objects) d rule at within begin is =
+    ((p, begin.0), first_refused files objects d rule at (omega arith) begin.1 is)
 
 -- all of them are
 pub all_objects : (files : List (List ℕ)) (objects : List ObjectValue) → length files ≤ length objects → BeginAsObjects files objects
@@ -42,28 +45,35 @@ all_objects (b ∷ files) [] past begin = absurd (omega arith)
 all_objects (b ∷ files) (o ∷ objects) past begin = (begin.0, all_objects files objects (omega arith) begin.1)
 
 -- the same of a list of files by their bytes
-module _ {X : Type 0} (bytes : X → List ℕ) (xs : List X) (objects : List ObjectValue) (d : X) (begin : BeginAsObjects (map bytes xs) objects) where
-  pub next_object : (i : ℕ) (b : List ℕ) (o : ObjectValue) → length objects ≡ i → i < length xs → b ≡ bytes (get_or xs i d) → IsObjectFile b o
+module _ {X : Type 0} (bytes : X → List ℕ) (xs : List X) (objects : List ObjectValue) (d : X)
+    (begin : BeginAsObjects (map bytes xs) objects) where
+  pub next_object : (i : ℕ) (b : List ℕ) (o : ObjectValue) → length objects ≡ i → i < length xs → b ≡ bytes (get_or xs i d) →
+      IsObjectFile b o
       → BeginAsObjects (map bytes xs) (objects ++ o ∷ [])
   next_object i b o same within is object =
       let long = length-map xs bytes in
-      let at : b ≡ get_or (map bytes xs) (length objects) (bytes d) = is ∙ sym (get_or-map bytes xs i d (bytes d) within) ∙ ap (λ (n : ℕ). get_or (map bytes xs) n (bytes d)) (sym same) in
+      let at : b ≡ get_or (map bytes xs) (length objects) (bytes d) =
+      is ∙ sym (get_or-map bytes xs i d (bytes d) within) ∙ ap (λ (n : ℕ). get_or (map bytes xs) n (bytes d)) (sym same) in
       one_more (map bytes xs) objects (bytes d) o (omega arith) begin (subst (λ (c : List ℕ). IsObjectFile c o) at object)
 
-  pub next_refused : (i : ℕ) (b : List ℕ) (rule at : ℕ) → length objects ≡ i → i < length xs → b ≡ bytes (get_or xs i d) → IsRefusedFile b rule at
+  pub next_refused : (i : ℕ) (b : List ℕ) (rule at : ℕ) → length objects ≡ i → i < length xs → b ≡ bytes (get_or xs i d) →
+      IsRefusedFile b rule at
       → IsFirstRefused (map bytes xs) i rule at
   next_refused i b rule offset same within is refused =
       let long = length-map xs bytes in
-      let at : b ≡ get_or (map bytes xs) (length objects) (bytes d) = is ∙ sym (get_or-map bytes xs i d (bytes d) within) ∙ ap (λ (n : ℕ). get_or (map bytes xs) n (bytes d)) (sym same) in
+      let at : b ≡ get_or (map bytes xs) (length objects) (bytes d) =
+      is ∙ sym (get_or-map bytes xs i d (bytes d) within) ∙ ap (λ (n : ℕ). get_or (map bytes xs) n (bytes d)) (sym same) in
       subst (λ (n : ℕ). IsFirstRefused (map bytes xs) n rule offset) same
-      (first_refused (map bytes xs) objects (bytes d) rule offset (omega arith) begin (subst (λ (c : List ℕ). IsRefusedFile c rule offset) at refused))
+      (first_refused (map bytes xs) objects (bytes d) rule offset (omega arith) begin
+      (subst (λ (c : List ℕ). IsRefusedFile c rule offset) at refused))
 
 -- What is refused, as what `link` makes of files: nothing is written.
 
 pub files_refused : (opt : Options) (rules : List RelocRule) (files : List (List ℕ)) (unlinked : Unlinked) (held : Option (List ℕ)) →
     IsUnlinked opt files unlinked → Prints (FilesLink opt rules files) held held (unlinked_verdict unlinked)
 files_refused opt rules files (Refused (File file rule at)) held is = ([], inr (is, refl), Appends-nil held)
-files_refused opt rules files (Refused (Link rule file index entry)) held (fs, are, stands) = ([], inl (fs, are, inr (stands, refl)), Appends-nil held)
+files_refused opt rules files (Refused (Link rule file index entry)) held (fs, are, stands) =
+    ([], inl (fs, are, inr (stands, refl)), Appends-nil held)
 files_refused opt rules files (Refused TooLong) held is = absurd is
 files_refused opt rules files OutOfMemory held is = Keeps-refl held
 

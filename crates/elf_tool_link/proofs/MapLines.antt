@@ -18,8 +18,10 @@ behind_to_a_blank [] = refl
 behind_to_a_blank (w ∷ ws) =
     ap (λ (s : List ℕ). blank ∷ (w ++ s)) (behind_to_a_blank ws) ∙ sym (append_assoc (blank ∷ w) (further_words ws) (blank ∷ []))
 
-pub line_behind : {T : Type 0} (a c : Option (List ℕ)) (o q : Output) (front w : List ℕ) (ws : List (List ℕ)) (v : List ℕ) (result : Result T WriteFault)
-    → front ≡ w ++ to_a_blank ws → IsPassed a c o q (front ++ (v ++ codes "\n")) result → IsPassed a c o q (line (w ∷ (ws ++ v ∷ []))) result
+pub line_behind : {T : Type 0} (a c : Option (List ℕ)) (o q : Output) (front w : List ℕ) (ws : List (List ℕ)) (v : List ℕ)
+    (result : Result T WriteFault)
+    → front ≡ w ++ to_a_blank ws → IsPassed a c o q (front ++ (v ++ codes "\n")) result →
+    IsPassed a c o q (line (w ∷ (ws ++ v ∷ []))) result
 line_behind a c o q front w ws v result is passed =
     line_of_last a c o q front w ws v result (is ∙ ap (λ (s : List ℕ). w ++ s) (behind_to_a_blank ws)) passed
 
@@ -38,7 +40,8 @@ without : (ws : List (List ℕ)) → to_a_name ws [] ≡ to_a_blank ws
 without [] = refl
 without (w ∷ ws) = ap (λ (s : List ℕ). blank ∷ (w ++ s)) (without ws)
 
-pub line_named : {T : Type 0} (a c : Option (List ℕ)) (o q : Output) (put w : List ℕ) (ws : List (List ℕ)) (is_whole : Bool) (name : List ℕ) (result : Result T WriteFault)
+pub line_named : {T : Type 0} (a c : Option (List ℕ)) (o q : Output) (put w : List ℕ) (ws : List (List ℕ)) (is_whole : Bool) (name : List ℕ)
+    (result : Result T WriteFault)
     → put ≡ w ++ to_a_name ws (name_tail is_whole name) → IsPassed a c o q (ended_by_name put is_whole name) result
     → IsPassed a c o q (line (w ∷ (ws ++ name_text name ∷ []))) result
 line_named a c o q put w ws true name result is passed =

@@ -12,7 +12,8 @@ use Rattle.elf_tool_text.specs.Buffered.{Buffers, IsCutBy, IsCutShort}
 use Rattle.elf_tool_text.specs.declared.output.Output.{Output}
 use Rattle.elf_tool_text.proofs.Public.{all_cut, all_out, cut_later}
 
-cut_at_once : (verdict : Verdict) (old new : Option (List ℕ)) (text : List ℕ) (written : ℕ) → IsCutAt old new text written → IsCutBy verdict old new text written
+cut_at_once : (verdict : Verdict) (old new : Option (List ℕ)) (text : List ℕ) (written : ℕ) → IsCutAt old new text written →
+    IsCutBy verdict old new text written
 cut_at_once Done old new text written (below, out) = (written, below, out, λ short. refl)
 cut_at_once (Refused refusal) old new text written cut = cut
 
@@ -43,7 +44,8 @@ exactly Says old new (Err OutOfMemory) short says = says
 
 -- ---- lines that are passed on as they are made, from the first one on
 
-module _ (Says : Verdict → List ℕ → Type 0) (a : Option (List ℕ)) (o : Output) (text : List ℕ) (is : Says Done text) (empty : o.pending.items ≡ [])
+module _ (Says : Verdict → List ℕ → Type 0) (a : Option (List ℕ)) (o : Output) (text : List ℕ) (is : Says Done text)
+    (empty : o.pending.items ≡ [])
     (none : o.written ≡ 0) where
   -- they stop
   pub lines_stopped : (c : Option (List ℕ)) (written : ℕ) → IsCutShort a c o text (Write written) → PrintsMap Says a c (Err (Write written))
@@ -53,10 +55,12 @@ module _ (Says : Verdict → List ℕ → Type 0) (a : Option (List ℕ)) (o : O
   pub last_stopped : (b c : Option (List ℕ)) (p : Output) (written : ℕ) → Buffers a b o p text → IsCutShort b c p [] (Write written)
       → PrintsMap Says a c (Err (Write written))
   last_stopped b c p written sent stop =
-      lines_stopped c written (subst (λ (s : List ℕ). IsCutShort a c o s (Write written)) (append-nil text) (cut_later a b c o p text [] (Write written) sent stop))
+      lines_stopped c written
+      (subst (λ (s : List ℕ). IsCutShort a c o s (Write written)) (append-nil text) (cut_later a b c o p text [] (Write written) sent stop))
 
   -- or all are written
-  pub lines_written : (b c : Option (List ℕ)) (p q : Output) → Buffers a b o p text → Buffers b c p q [] → q.pending.items ≡ [] → PrintsMap Says a c (Ok Done)
+  pub lines_written : (b c : Option (List ℕ)) (p q : Output) → Buffers a b o p text → Buffers b c p q [] → q.pending.items ≡ [] →
+      PrintsMap Says a c (Ok Done)
   lines_written b c p q sent flushed gone =
       let done : Result ⊤ ToolFault = Ok tt in
       (text, is, all_out a b c o p q text done empty none sent flushed gone)

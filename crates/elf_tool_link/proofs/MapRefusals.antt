@@ -25,7 +25,8 @@ module _ {A : Type 0} (text : A → List ℕ) (none : A) (all : List A) where
       flat_map (λ k. text (get_or all k none)) (range_with_len (length before) (length xs)) ≡ flat_map text xs
   from_position before [] same = refl
   from_position before (x ∷ xs) same =
-      let here : get_or all (length before) none ≡ x = ap (λ (ys : List A). get_or ys (length before) none) same ∙ get_or-append_seam before x xs none in
+      let here : get_or all (length before) none ≡ x =
+      ap (λ (ys : List A). get_or ys (length before) none) same ∙ get_or-append_seam before x xs none in
       let more = from_position (before ++ x ∷ []) xs (same ∙ sym (append_assoc before (x ∷ []) xs)) in
       let next : length before + 1 ≡ length (before ++ x ∷ []) = (let long = length-append before (x ∷ []) in omega arith) in
       ap (λ (y : A). text y ++ flat_map (λ k. text (get_or all k none)) (range_with_len ((length before + 1)) (length xs))) here ∙
@@ -37,14 +38,17 @@ module _ {A : Type 0} (text : A → List ℕ) (none : A) (all : List A) where
 
 -- What is refused, as what `map` says of files.
 
-pub files_refused : (opt : Options) (rules : Option (List RelocRule)) (files : List (List ℕ)) (unlinked : Unlinked) (v : Verdict) (text : List ℕ) →
+pub files_refused : (opt : Options) (rules : Option (List RelocRule)) (files : List (List ℕ)) (unlinked : Unlinked) (v : Verdict)
+    (text : List ℕ) →
     IsUnlinked opt files unlinked → TellsUnlinked unlinked v text → MapSays opt rules files v text
 files_refused opt rules files (Refused (File file rule at)) v text is said = rw said.0 (inr (is, said.1))
-files_refused opt rules files (Refused (Link rule file index entry)) v text (fs, are, stands) said = rw said.0 (inl (fs, are, inr (stands, said.1)))
+files_refused opt rules files (Refused (Link rule file index entry)) v text (fs, are, stands) said =
+    rw said.0 (inl (fs, are, inr (stands, said.1)))
 files_refused opt rules files (Refused TooLong) v text is said = absurd is
 files_refused opt rules files OutOfMemory v text is said = absurd said
 
-pub relocation_refused : (rules : List RelocRule) (fs : List ObjectValue) (m : LinkMapValue) (fault : LinkFault) (v : Verdict) (text : List ℕ) →
+pub relocation_refused : (rules : List RelocRule) (fs : List ObjectValue) (m : LinkMapValue) (fault : LinkFault) (v : Verdict)
+    (text : List ℕ) →
     IsRelocationFault fs m rules fault → TellsUnlinked (link_unlinked fault) v text → RelocationSays (Some rules) fs m v text
 relocation_refused rules fs m (link.Rule rule file index entry) v text is said = rw said.0 (is, said.1)
 relocation_refused rules fs m link.OutOfMemory v text is said = absurd said

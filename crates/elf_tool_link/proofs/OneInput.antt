@@ -22,7 +22,8 @@ use Rattle.elf_tool_link.specs.ObjectFiles.{AreObjectFiles, IsFirstRefused, IsOb
 
 -- At most one rule of the link is broken first, at one site, and none where no rule is broken: of rules 1 to 11, and of 12 to 16.
 
-pub one_of_link : (opt : Options) (fs : List ObjectValue) (x y : ℕ × Site) → FirstOfLink opt fs (Some x) → FirstOfLink opt fs (Some y) → x ≡ y
+pub one_of_link : (opt : Options) (fs : List ObjectValue) (x y : ℕ × Site) → FirstOfLink opt fs (Some x) → FirstOfLink opt fs (Some y) →
+    x ≡ y
 one_of_link opt fs x y first other = same_some x y (one_link_fault opt fs (Some x) (Some y) first other)
 
 pub none_of_link : (opt : Options) (fs : List ObjectValue) (x : ℕ × Site) → FirstOfLink opt fs None → FirstOfLink opt fs (Some x) → ⊥
@@ -45,7 +46,8 @@ one_refused_file b f g (inl fault) (inl other) = one_first (rules_in b) f g faul
 one_refused_file b f g (inl fault) (inr (w, image, other)) = absurd (none_first (rules_in b) f image.clean fault)
 one_refused_file b f g (inr (v, image, fault)) (inl other) = absurd (none_first (rules_in b) g image.clean other)
 one_refused_file b f g (inr (v, image, fault)) (inr (w, also, other)) =
-    one_first (file_rules (sections_of v)) f g fault (subst (λ (i : ImageValue). FirstIn (file_rules (sections_of i)) (Some g)) (one_image w v b also image) other)
+    one_first (file_rules (sections_of v)) f g fault
+    (subst (λ (i : ImageValue). FirstIn (file_rules (sections_of i)) (Some g)) (one_image w v b also image) other)
 
 object_not_refused : (b : List ℕ) (o : ObjectValue) (f : ℕ × ℕ) → IsObjectFile b o → IsRefusedFile b f.0 f.1 → ⊥
 object_not_refused b o f (v, image, clean, denotes) (inl fault) = none_first (rules_in b) f image.clean fault
@@ -70,11 +72,13 @@ one_refused [] x y first other = absurd first
 one_refused (b ∷ files) (zero, rule, at) (zero, number, place) first other =
     ap (λ (f : ℕ × ℕ). (0, f.0, f.1)) (one_refused_file b (rule, at) (number, place) first other)
 one_refused (b ∷ files) (zero, rule, at) (suc g, number, place) first ((o, is), later) = absurd (object_not_refused b o (rule, at) is first)
-one_refused (b ∷ files) (suc f, rule, at) (zero, number, place) ((o, is), later) other = absurd (object_not_refused b o (number, place) is other)
+one_refused (b ∷ files) (suc f, rule, at) (zero, number, place) ((o, is), later) other =
+    absurd (object_not_refused b o (number, place) is other)
 one_refused (b ∷ files) (suc f, rule, at) (suc g, number, place) (is, first) (also, other) =
     ap (λ (x : ℕ × ℕ × ℕ). (suc x.0, x.1, x.2)) (one_refused files (f, rule, at) (g, number, place) first other)
 
-pub objects_not_refused : (files : List (List ℕ)) (fs : List ObjectValue) (x : ℕ × ℕ × ℕ) → AreObjectFiles files fs → IsFirstRefused files x.0 x.1 x.2 → ⊥
+pub objects_not_refused : (files : List (List ℕ)) (fs : List ObjectValue) (x : ℕ × ℕ × ℕ) → AreObjectFiles files fs →
+    IsFirstRefused files x.0 x.1 x.2 → ⊥
 objects_not_refused [] fs x are first = first
 objects_not_refused (b ∷ files) [] x are first = are
 objects_not_refused (b ∷ files) (o ∷ fs) (zero, rule, at) are first = object_not_refused b o (rule, at) are.0 first

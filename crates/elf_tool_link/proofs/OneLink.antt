@@ -25,7 +25,8 @@ use Rattle.elf_tool_check.specs.declared.calls.Verdict.{Verdict}
 
 -- ---- the executable
 
-module _ (fs : List ObjectValue) (m : LinkMapValue) (rules : List RelocRule) (one : (a b : List ℕ) → ExecLaid fs m rules a → ExecLaid fs m rules b → a ≡ b) where
+module _ (fs : List ObjectValue) (m : LinkMapValue) (rules : List RelocRule)
+    (one : (a b : List ℕ) → ExecLaid fs m rules a → ExecLaid fs m rules b → a ≡ b) where
   -- what is written is not too long
   not_long : (s : List ℕ) → IsExecFile fs m rules s → IsTooLongFor fs m rules → ⊥
   not_long s exec (inl many) = (let few = exec.few in omega arith)
@@ -53,13 +54,16 @@ verdict_at x = Refused (Link x.0 x.1.file x.1.index x.1.entry)
 abbrev Refuses : (ℕ × Site → Type 0) → Verdict → List ℕ → Type 0
 Refuses IsFirst = RuleRefuses (λ rule site. IsFirst (rule, site))
 
-refused : (IsFirst : ℕ × Site → Type 0) (v : Verdict) (s : List ℕ) → Refuses IsFirst v s → (x : ℕ × Site) × IsFirst x × (v ≡ verdict_at x) × (s ≡ [])
+refused : (IsFirst : ℕ × Site → Type 0) (v : Verdict) (s : List ℕ) → Refuses IsFirst v s →
+    (x : ℕ × Site) × IsFirst x × (v ≡ verdict_at x) × (s ≡ [])
 refused IsFirst Done s never = absurd never
 refused IsFirst (Refused (File file rule at)) s never = absurd never
-refused IsFirst (Refused (Link rule file index entry)) s (first, none) = ((rule, record { file = file; index = index; entry = entry }), first, refl, none)
+refused IsFirst (Refused (Link rule file index entry)) s (first, none) =
+    ((rule, record { file = file; index = index; entry = entry }), first, refl, none)
 refused IsFirst (Refused TooLong) s never = absurd never
 
-or_rule : (IsFirst : ℕ × Site → Type 0) (Says : Verdict → List ℕ → Type 0) → SaysOne Says → ((x y : ℕ × Site) → IsFirst x → IsFirst y → x ≡ y) →
+or_rule : (IsFirst : ℕ × Site → Type 0) (Says : Verdict → List ℕ → Type 0) → SaysOne Says →
+    ((x y : ℕ × Site) → IsFirst x → IsFirst y → x ≡ y) →
     ((v : Verdict) (s : List ℕ) (x : ℕ × Site) → Says v s → IsFirst x → ⊥) → SaysOne (λ v s. Says v s ⊎ Refuses IsFirst v s)
 or_rule IsFirst Says says one = or_refused IsFirst verdict_at (λ x. []) Says (Refuses IsFirst) says one (refused IsFirst)
 
@@ -72,7 +76,8 @@ of_map rules fs m is =
 
 of_objects : (opt : Options) (rules : List RelocRule) (fs : List ObjectValue) → SaysOne (ObjectsLink opt rules fs)
 of_objects opt rules fs =
-    or_rule (λ x. FirstOfLink opt fs (Some x)) (λ v s. FirstOfLink opt fs None × ((m : LinkMapValue) × IsLinkMap opt fs m × MapLinks rules fs m v s))
+    or_rule (λ x. FirstOfLink opt fs (Some x))
+    (λ v s. FirstOfLink opt fs None × ((m : LinkMapValue) × IsLinkMap opt fs m × MapLinks rules fs m v s))
     (of_holding (FirstOfLink opt fs None) (λ v s. (m : LinkMapValue) × IsLinkMap opt fs m × MapLinks rules fs m v s)
     (λ sound. of_one (IsLinkMap opt fs) (MapLinks rules fs) (one_link_map opt fs) (λ m is. of_map rules fs m (opt, is, sound))))
     (one_of_link opt fs) (λ v s x (sound, says). none_of_link opt fs x sound)

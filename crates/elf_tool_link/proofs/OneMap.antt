@@ -16,7 +16,8 @@ use Rattle.elf_object_type.specs.Object.{ObjectValue}
 use Rattle.elf_tool_check.proofs.SaysOne.{of_answer, of_holding, of_one, or_refused, same_some}
 use Rattle.elf_tool_check.specs.Engine.{SaysOne}
 use Rattle.elf_tool_link.proofs.OneInput.{none_among, none_of_link, objects_not_refused, one_among, one_objects, one_of_link, one_refused}
-use Rattle.elf_tool_link.specs.Map.{FilesRefuse, LinkRefuses, LinkSays, MapSays, RelocationSays, bytes_lines, file_refused_line, link_refused_line, map_text}
+use Rattle.elf_tool_link.specs.Map.{FilesRefuse, LinkRefuses, LinkSays, MapSays, RelocationSays, bytes_lines, file_refused_line}
+use Rattle.elf_tool_link.specs.Map.{link_refused_line, map_text}
 use Rattle.elf_tool_link.specs.ObjectFiles.{AreObjectFiles, IsFirstRefused}
 use Rattle.elf_tool_check.specs.declared.calls.Refusal.TheVariants.{File, Link, TooLong}
 use Rattle.elf_tool_check.specs.declared.calls.Verdict.TheVariants.{Done, Refused}
@@ -26,7 +27,8 @@ use Rattle.elf_tool_check.specs.declared.calls.Verdict.{Verdict}
 -- memory at its addresses, and memory has one byte at each address.
 
 module _ (fs : List ObjectValue) (m : LinkMapValue) (rules : List RelocRule) (is : IsMapOfSome fs m) where
-  one_bytes : (f s : ℕ) (l : LinkedValue) (xs ys : List ℕ) → IsLinked fs m rules l → AreBytesOf fs m rules f s xs → AreBytesOf fs m rules f s ys → xs ≡ ys
+  one_bytes : (f s : ℕ) (l : LinkedValue) (xs ys : List ℕ) → IsLinked fs m rules l → AreBytesOf fs m rules f s xs →
+      AreBytesOf fs m rules f s ys → xs ≡ ys
   one_bytes f s l xs ys linked one other =
       let (a, begins, each) = one.memory in
       let (b, also, every) = other.memory in
@@ -36,7 +38,8 @@ module _ (fs : List ObjectValue) (m : LinkMapValue) (rules : List RelocRule) (is
       one_byte fs m rules (any_options fs m is) linked.sound (a + k) (get_or xs k 0) (get_or ys k 0) (each k lt)
       (subst (λ (x : ℕ). IsMemory fs m rules (x + k) (get_or ys k 0)) same (every k (omega arith))))
 
-  one_copy : (f s : ℕ) (l : LinkedValue) (x y : Option (List ℕ)) → IsLinked fs m rules l → MatchOption x (¬ HasLiveBits fs f s) (AreBytesOf fs m rules f s) →
+  one_copy : (f s : ℕ) (l : LinkedValue) (x y : Option (List ℕ)) → IsLinked fs m rules l →
+      MatchOption x (¬ HasLiveBits fs f s) (AreBytesOf fs m rules f s) →
       MatchOption y (¬ HasLiveBits fs f s) (AreBytesOf fs m rules f s) → x ≡ y
   one_copy f s l None None linked one other = refl
   one_copy f s l None (Some ys) linked one other = absurd (one other.live)
@@ -51,10 +54,14 @@ module _ (fs : List ObjectValue) (m : LinkMapValue) (rules : List RelocRule) (is
 
   pub one_linked : (l n : LinkedValue) → IsLinked fs m rules l → IsLinked fs m rules n → l ≡ n
   one_linked l n one other =
-      ap (λ (x : LinkMapValue). record { map = x; objects = l.objects; rules = l.rules; copies = l.copies }) (one.same_map ∙ sym other.same_map)
-      ∙ ap (λ (x : List ObjectValue). record { map = n.map; objects = x; rules = l.rules; copies = l.copies }) (one.same_objects ∙ sym other.same_objects)
-      ∙ ap (λ (x : List RelocRule). record { map = n.map; objects = n.objects; rules = x; copies = l.copies }) (one.same_rules ∙ sym other.same_rules)
-      ∙ ap (λ (x : List (List (Option (List ℕ)))). record { map = n.map; objects = n.objects; rules = n.rules; copies = x }) (one_copies l n one other)
+      ap (λ (x : LinkMapValue). record { map = x; objects = l.objects; rules = l.rules; copies = l.copies })
+      (one.same_map ∙ sym other.same_map)
+      ∙ ap (λ (x : List ObjectValue). record { map = n.map; objects = x; rules = l.rules; copies = l.copies })
+      (one.same_objects ∙ sym other.same_objects)
+      ∙ ap (λ (x : List RelocRule). record { map = n.map; objects = n.objects; rules = x; copies = l.copies })
+      (one.same_rules ∙ sym other.same_rules)
+      ∙ ap (λ (x : List (List (Option (List ℕ)))). record { map = n.map; objects = n.objects; rules = n.rules; copies = x })
+      (one_copies l n one other)
 
 -- the verdict and the line on a rule that is broken first at a site
 abbrev verdict_at : ℕ × Site → Verdict
@@ -84,18 +91,22 @@ module _ (fs : List ObjectValue) (m : LinkMapValue) (rules : List RelocRule) whe
   one_answer is (inr x) (inl n) one other = absurd (none_among (applied_entry_rules fs m rules) x other.sound one)
   one_answer is (inr x) (inr y) one other = ap inr (one_among (applied_entry_rules fs m rules) x y one other)
 
-  told : (v : Verdict) (s : List ℕ) → RelocationSays (Some rules) fs m v s → (x : LinkedValue ⊎ (ℕ × Site)) × Is x × (v ≡ verdict_of x) × (s ≡ text_of x)
+  told : (v : Verdict) (s : List ℕ) → RelocationSays (Some rules) fs m v s →
+      (x : LinkedValue ⊎ (ℕ × Site)) × Is x × (v ≡ verdict_of x) × (s ≡ text_of x)
   told Done s (l, linked, text) = (inl l, linked, refl, text)
-  told (Refused (Link rule file index entry)) s (first, line) = (inr (rule, record { file = file; index = index; entry = entry }), first, refl, line)
+  told (Refused (Link rule file index entry)) s (first, line) =
+      (inr (rule, record { file = file; index = index; entry = entry }), first, refl, line)
   told (Refused (File file rule at)) s never = absurd never
   told (Refused TooLong) s never = absurd never
 
-of_relocation : (rules : Option (List RelocRule)) (fs : List ObjectValue) (m : LinkMapValue) → IsMapOfSome fs m → SaysOne (RelocationSays rules fs m)
+of_relocation : (rules : Option (List RelocRule)) (fs : List ObjectValue) (m : LinkMapValue) → IsMapOfSome fs m →
+    SaysOne (RelocationSays rules fs m)
 of_relocation None fs m is Done Done s t here there = (refl, here ∙ sym there)
 of_relocation None fs m is (Refused refusal) w s t here there = absurd here
 of_relocation None fs m is v (Refused refusal) s t here there = absurd there
 of_relocation (Some rules) fs m is v w s t here there =
-    of_answer (Is fs m rules) (verdict_of fs m rules) (text_of fs m rules) (RelocationSays (Some rules) fs m) (one_answer fs m rules is) (told fs m rules) v w s t
+    of_answer (Is fs m rules) (verdict_of fs m rules) (text_of fs m rules) (RelocationSays (Some rules) fs m) (one_answer fs m rules is)
+    (told fs m rules) v w s t
     here there
 
 -- ---- the link map, or the first of rules 1 to 11 that is broken
@@ -104,7 +115,8 @@ refused : (opt : Options) (fs : List ObjectValue) (v : Verdict) (s : List ℕ) �
     (x : ℕ × Site) × FirstOfLink opt fs (Some x) × (v ≡ verdict_at x) × (s ≡ line_at x)
 refused opt fs Done s never = absurd never
 refused opt fs (Refused (File file rule at)) s never = absurd never
-refused opt fs (Refused (Link rule file index entry)) s (first, line) = ((rule, record { file = file; index = index; entry = entry }), first, refl, line)
+refused opt fs (Refused (Link rule file index entry)) s (first, line) =
+    ((rule, record { file = file; index = index; entry = entry }), first, refl, line)
 refused opt fs (Refused TooLong) s never = absurd never
 
 of_objects : (opt : Options) (rules : Option (List RelocRule)) (fs : List ObjectValue) → SaysOne (LinkSays opt rules fs)
@@ -112,7 +124,8 @@ of_objects opt rules fs =
     or_refused (λ (x : ℕ × Site). FirstOfLink opt fs (Some x)) verdict_at line_at
     (λ v s. FirstOfLink opt fs None × ((m : LinkMapValue) × IsLinkMap opt fs m × RelocationSays rules fs m v s)) (LinkRefuses opt fs)
     (of_holding (FirstOfLink opt fs None) (λ v s. (m : LinkMapValue) × IsLinkMap opt fs m × RelocationSays rules fs m v s)
-    (λ sound. of_one (IsLinkMap opt fs) (RelocationSays rules fs) (one_link_map opt fs) (λ m is. of_relocation rules fs m (opt, is, sound))))
+    (λ sound. of_one (IsLinkMap opt fs) (RelocationSays rules fs) (one_link_map opt fs)
+    (λ m is. of_relocation rules fs m (opt, is, sound))))
     (one_of_link opt fs) (refused opt fs) (λ v s x (sound, says). none_of_link opt fs x sound)
 
 -- ---- the objects, or the file that is refused first
@@ -127,6 +140,7 @@ file_refused files (Refused TooLong) s never = absurd never
 pub one_map : (opt : Options) (rules : Option (List RelocRule)) (files : List (List ℕ)) → SaysOne (MapSays opt rules files)
 one_map opt rules files =
     or_refused (λ (x : ℕ × ℕ × ℕ). IsFirstRefused files x.0 x.1 x.2) (λ (x : ℕ × ℕ × ℕ). Refused (File x.0 x.1 x.2))
-    (λ (x : ℕ × ℕ × ℕ). file_refused_line x.0 x.1 x.2) (λ v s. (fs : List ObjectValue) × AreObjectFiles files fs × LinkSays opt rules fs v s) (FilesRefuse files)
+    (λ (x : ℕ × ℕ × ℕ). file_refused_line x.0 x.1 x.2)
+    (λ v s. (fs : List ObjectValue) × AreObjectFiles files fs × LinkSays opt rules fs v s) (FilesRefuse files)
     (of_one (AreObjectFiles files) (LinkSays opt rules) (one_objects files) (λ fs are. of_objects opt rules fs))
     (one_refused files) (file_refused files) (λ v s x (fs, are, says). objects_not_refused files fs x are)

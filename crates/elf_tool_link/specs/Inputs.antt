@@ -42,6 +42,7 @@ IsReadingFault inputs rests (Write written) = ⊥
 IsReadingFault inputs rests OutOfMemory = (bytes : List ℕ) × StopsAfter inputs rests bytes
 
 -- a fault while the files are read: nothing is written
-abbrev pub FailsReading : List (Option (List ℕ)) → List (Option (List ℕ)) → Option (List ℕ) → Option (List ℕ) → Result Verdict ToolFault → Type 0
+abbrev pub FailsReading : List (Option (List ℕ)) → List (Option (List ℕ)) → Option (List ℕ) → Option (List ℕ) → Result Verdict ToolFault →
+    Type 0
 FailsReading inputs rests old new (Ok verdict) = ⊥
 FailsReading inputs rests old new (Err fault) = IsReadingFault inputs rests fault × Keeps old new

@@ -32,7 +32,8 @@ ExecSays fs m rules (Refused TooLong) text = IsTooLongFor fs m rules × (text �
 abbrev pub RuleRefuses : (ℕ → Site → Type 0) → Verdict → List ℕ → Type 0
 RuleRefuses IsFirst Done text = ⊥
 RuleRefuses IsFirst (Refused (File file rule at)) text = ⊥
-RuleRefuses IsFirst (Refused (Link rule file index entry)) text = IsFirst rule (record { file = file; index = index; entry = entry }) × (text ≡ [])
+RuleRefuses IsFirst (Refused (Link rule file index entry)) text =
+    IsFirst rule (record { file = file; index = index; entry = entry }) × (text ≡ [])
 RuleRefuses IsFirst (Refused TooLong) text = ⊥
 
 -- of objects and their link map: none of rules 12 to 16 is broken, and what is said of their executable; or the first one that is broken
@@ -65,7 +66,8 @@ unlinked_verdict (unlinked.Refused refusal) = Ok (Refused refusal)
 unlinked_verdict unlinked.OutOfMemory = Err OutOfMemory
 
 -- a call of `link`: its readers, which had `inputs` left and have `rests`; and its writer, which held `old` and holds `new`
-abbrev pub IsLinkCall : Options → List RelocRule → List (Option (List ℕ)) → List (Option (List ℕ)) → Option (List ℕ) → Option (List ℕ) → Result Verdict ToolFault → Type 0
+abbrev pub IsLinkCall : Options → List RelocRule → List (Option (List ℕ)) → List (Option (List ℕ)) → Option (List ℕ) → Option (List ℕ) →
+    Result Verdict ToolFault → Type 0
 IsLinkCall opt rules inputs rests old new result =
     FailsReading inputs rests old new result
     ⊎ ((files : List (List ℕ)) × AreRead inputs rests files × Prints (FilesLink opt rules files) old new result)

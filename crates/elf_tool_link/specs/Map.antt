@@ -1,5 +1,6 @@
 -- What `map` says of files.
-use Rattle.std.specs.Prelude.{ℕ, Bool, true, false, Option, None, Some, List, [], ◌∷◌, ◌++◌, codes, if◌then◌else◌, length, unwrap_or, ◌≡◌, ◌⊎◌, Result, Ok, Err}
+use Rattle.std.specs.Prelude.{ℕ, Bool, true, false, Option, None, Some, List, [], ◌∷◌, ◌++◌, codes, if◌then◌else◌, length, unwrap_or, ◌≡◌}
+use Rattle.std.specs.Prelude.{◌⊎◌, Result, Ok, Err}
 use Rattle.std.specs.Fmt.{decimal}
 use Rattle.std.specs.List.{flat_map, range_with_len}
 use Rattle.std.specs.Io.KnownBytes.{Appends, Keeps}
@@ -163,7 +164,8 @@ LinkRefuses opt fs verdict text = ⊥
 -- of objects: no rule of the link is broken, and what is said of their link map; or the first one that is
 abbrev pub LinkSays : Options → Option (List RelocRule) → List ObjectValue → Verdict → List ℕ → Type 0
 LinkSays opt rules fs verdict text =
-    (FirstOfLink opt fs None × ((m : LinkMapValue) × IsLinkMap opt fs m × RelocationSays rules fs m verdict text)) ⊎ LinkRefuses opt fs verdict text
+    (FirstOfLink opt fs None × ((m : LinkMapValue) × IsLinkMap opt fs m × RelocationSays rules fs m verdict text)) ⊎
+    LinkRefuses opt fs verdict text
 
 -- the line on the first file that is refused, with the first rule that it breaks and its lowest offset
 abbrev pub FilesRefuse : List (List ℕ) → Verdict → List ℕ → Type 0
@@ -197,13 +199,15 @@ PrintsMap Says old new (Err (Write written)) =
 PrintsMap Says old new (Err OutOfMemory) = Keeps old new
 
 -- a call of `map`: its readers, which had `inputs` left and have `rests`; and its writer, which held `old` and holds `new`
-abbrev pub IsMapped : Options → Option (List RelocRule) → List (Option (List ℕ)) → List (Option (List ℕ)) → Option (List ℕ) → Option (List ℕ) → Result Verdict ToolFault → Type 0
+abbrev pub IsMapped : Options → Option (List RelocRule) → List (Option (List ℕ)) → List (Option (List ℕ)) → Option (List ℕ) →
+    Option (List ℕ) → Result Verdict ToolFault → Type 0
 IsMapped opt rules inputs rests old new result =
     FailsReading inputs rests old new result
     ⊎ ((files : List (List ℕ)) × AreRead inputs rests files × PrintsMap (MapSays opt rules files) old new result)
 
 -- and where the text is known to be shorter than 2^64 bytes: after a failed write exactly the first `written` bytes of it are written
-abbrev pub IsMappedExactly : Options → Option (List RelocRule) → List (Option (List ℕ)) → List (Option (List ℕ)) → Option (List ℕ) → Option (List ℕ) → Result Verdict ToolFault → Type 0
+abbrev pub IsMappedExactly : Options → Option (List RelocRule) → List (Option (List ℕ)) → List (Option (List ℕ)) → Option (List ℕ) →
+    Option (List ℕ) → Result Verdict ToolFault → Type 0
 IsMappedExactly opt rules inputs rests old new result =
     FailsReading inputs rests old new result
     ⊎ ((files : List (List ℕ)) × AreRead inputs rests files × Prints (MapSays opt rules files) old new result)

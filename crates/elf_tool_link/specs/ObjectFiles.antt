@@ -64,13 +64,15 @@ IsFileFault files OutOfMemory = Unit {0}
 
 -- the objects are those of the files, no rule of the link is broken, and this is their map
 abbrev pub IsMapOfFiles : Options → List (List ℕ) → MappedValue → Type 0
-IsMapOfFiles opt files mapped = AreObjectFiles files mapped.objects × IsLinkMap opt mapped.objects mapped.map × FirstOfLink opt mapped.objects None
+IsMapOfFiles opt files mapped =
+    AreObjectFiles files mapped.objects × IsLinkMap opt mapped.objects mapped.map × FirstOfLink opt mapped.objects None
 
 -- the first file that is refused, or of objects the first rule of the link that is broken; or an allocation failed
 abbrev pub IsUnlinked : Options → List (List ℕ) → Unlinked → Type 0
 IsUnlinked opt files (UnlinkedRefused (File file rule at)) = IsFirstRefused files file rule at
 IsUnlinked opt files (UnlinkedRefused (Link rule file index entry)) =
-    (fs : List ObjectValue) × AreObjectFiles files fs × FirstOfLink opt fs (Some (rule, record { file = file; index = index; entry = entry }))
+    (fs : List ObjectValue) × AreObjectFiles files fs ×
+    FirstOfLink opt fs (Some (rule, record { file = file; index = index; entry = entry }))
 IsUnlinked opt files (UnlinkedRefused TooLong) = ⊥
 IsUnlinked opt files UnlinkedOutOfMemory = Unit {0}
 

@@ -52,7 +52,8 @@ pub fn link_files<W: Write>(
     rules: &[RelocRule],
     writer: &mut W,
 ) -> Result<Verdict, ToolFault>
-    ensures { Prints (FilesLink options.now rules.now (map_list (λ f. f.now) files.now)) (W.contents writer.old) (W.contents writer.new) result }
+    ensures { Prints (FilesLink options.now rules.now (map_list (λ f. f.now) files.now)) (W.contents writer.old)
+        (W.contents writer.new) result }
 {
     match mapped_files(alloc, files, options) {
         Ok(mapped) => link_mapped(alloc, &mapped, rules, writer),

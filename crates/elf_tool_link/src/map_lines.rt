@@ -1,10 +1,11 @@
 //! The lines of `map`: those of a link map are passed on as they are made, and the line on what is refused is made whole. The numbers of a
-//! line are put together from the last one on, and passed on in one piece, with the name where it is short. A longer name is passed on as it
-//! is in its file.
+//! line are put together from the last one on, and passed on in one piece, with the name where it is short. A longer name is passed on as
+//! it is in its file.
 ghost use Rattle.std.specs.Prelude.{◌≡◌, ◌≤◌, ◌+◌, ◌++◌, ◌∷◌, OnOk, length};
 ghost use Rattle.elf_tool_check.specs.FileLines.{blank};
 ghost use Rattle.elf_tool_text.specs.Buffered.{IsPassed};
-ghost use Rattle.elf_tool_link.specs.Map.{binding_text, bits_text, bytes_line, common_line, discarded_line, file_refused_line, link_refused_line, member_line, name_line, output_line, refusal_line, value_text};
+ghost use Rattle.elf_tool_link.specs.Map.{binding_text, bits_text, bytes_line, common_line, discarded_line, file_refused_line};
+ghost use Rattle.elf_tool_link.specs.Map.{link_refused_line, member_line, name_line, output_line, refusal_line, value_text};
 ghost use Rattle.elf_link_outputs.specs.Placed.{common_value, output_value};
 
 use elf_image_stream::WriteFault;

@@ -2,7 +2,8 @@
 ghost use Rattle.std.specs.Prelude.{◌≡◌};
 ghost use Rattle.std.specs.List.{flat_map};
 ghost use Rattle.elf_tool_text.specs.Buffered.{IsPassed};
-ghost use Rattle.elf_tool_link.specs.Map.{bytes_lines, common_lines, discarded_lines, map_text, member_bytes, member_text, name_lines, output_lines, output_text};
+ghost use Rattle.elf_tool_link.specs.Map.{bytes_lines, common_lines, discarded_lines, map_text, member_bytes, member_text, name_lines};
+ghost use Rattle.elf_tool_link.specs.Map.{output_lines, output_text};
 ghost use Rattle.elf_link_map.specs.Standing.{size_in};
 ghost use Rattle.elf_link_outputs.specs.Placed.{output_value};
 
@@ -122,7 +123,8 @@ fn pass_output<'l, 'a, W: Write>(
     text: &mut Text,
     writer: &mut W,
 ) -> Result<(), WriteFault>
-    ensures { IsPassed (W.contents writer.old) (W.contents writer.new) text.old text.new (output_text objects.now link.now (output_value output.now)) result }
+    ensures { IsPassed (W.contents writer.old) (W.contents writer.new) text.old text.new
+        (output_text objects.now link.now (output_value output.now)) result }
 {
     pass_output_line(output, text, writer)?;
     pass_members(objects, link, &output.members, text, writer)
@@ -135,7 +137,8 @@ fn pass_members<'l, 'a, W: Write>(
     text: &mut Text,
     writer: &mut W,
 ) -> Result<(), WriteFault>
-    ensures { IsPassed (W.contents writer.old) (W.contents writer.new) text.old text.new (flat_map (member_text objects.now link.now) members.now) result }
+    ensures { IsPassed (W.contents writer.old) (W.contents writer.new) text.old text.new
+        (flat_map (member_text objects.now link.now) members.now) result }
 {
     let lines = MemberLines {
         objects,
@@ -351,7 +354,8 @@ fn pass_member_bytes<W: Write>(
     text: &mut Text,
     writer: &mut W,
 ) -> Result<(), WriteFault>
-    ensures { IsPassed (W.contents writer.old) (W.contents writer.new) text.old text.new (flat_map (member_bytes linked.now) members.now) result }
+    ensures { IsPassed (W.contents writer.old) (W.contents writer.new) text.old text.new
+        (flat_map (member_bytes linked.now) members.now) result }
 {
     pass_lines(&MemberBytes { linked, members }, text, writer)
 }

@@ -122,7 +122,8 @@ pub fn mapped_files<'a>(
     files: &[&'a [u8]],
     options: &Options<'_>,
 ) -> Result<Mapped<'a>, Unlinked>
-    ensures { MatchResult result (IsMapOfFiles options.now (map (λ f. f.now) files.now)) (IsUnlinked options.now (map (λ f. f.now) files.now)) }
+    ensures { MatchResult result (IsMapOfFiles options.now (map (λ f. f.now) files.now))
+        (IsUnlinked options.now (map (λ f. f.now) files.now)) }
 {
     let objects = objects_of(alloc, files)?;
     let hasher: BuildHasherDefault<FoldHasher> = BuildHasherDefault::new();

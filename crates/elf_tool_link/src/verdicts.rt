@@ -11,8 +11,8 @@ use elf_link_relocate::Mapped;
 use elf_tool_check::{ToolFault, Verdict};
 use std::alloc::Global;
 
-/// Whether files of these bytes link: [`Verdict::Done`]; the first file that is refused, with the first rule that it breaks, as an image or,
-/// with a number from 40 on, as an object, and its lowest offset; or the first of the link's rules that is broken, and where. Without
+/// Whether files of these bytes link: [`Verdict::Done`]; the first file that is refused, with the first rule that it breaks, as an image
+/// or, with a number from 40 on, as an object, and its lowest offset; or the first of the link's rules that is broken, and where. Without
 /// relocation rules these are rules 1 to 11, otherwise 1 to 16. Nothing else is refused: how long the executable would be is not tested.
 /// The only fault is out of memory.
 pub fn link_verdict(
@@ -21,7 +21,8 @@ pub fn link_verdict(
     options: &Options<'_>,
     rules: Option<&[RelocRule]>,
 ) -> Result<Verdict, ToolFault>
-    ensures { MatchResult result (IsLinkVerdict options.now (option_copied rules.entry) (map_list (λ f. f.now) files.now)) (λ fault. fault ≡ OutOfMemory) }
+    ensures { MatchResult result (IsLinkVerdict options.now (option_copied rules.entry) (map_list (λ f. f.now) files.now))
+        (λ fault. fault ≡ OutOfMemory) }
 {
     match mapped_files(alloc, files, options) {
         Ok(mapped) => entries_verdict(alloc, &mapped, rules),

@@ -1,5 +1,6 @@
 -- Files that are opened as sources.
-use Rattle.std.proofs.Common.{◌≡◌, ◌∙◌, ℕ, ◌+◌, ◌<◌, List, [], ◌∷◌, ◌++◌, None, Option, Some, IfSome, ap, arith, get_or, inl, inr, length, subst, sym, Result, Ok, Err, refl}
+use Rattle.std.proofs.Common.{◌≡◌, ◌∙◌, ℕ, ◌+◌, ◌<◌, List, [], ◌∷◌, ◌++◌, None, Option, Some, IfSome, ap, arith, get_or, inl, inr, length}
+use Rattle.std.proofs.Common.{subst, sym, Result, Ok, Err, refl}
 use Rattle.std.proofs.Math.Seq.{get_or-append_seam}
 use Rattle.std.proofs.lemmas.Bool.{cases_lt}
 use Rattle.std.proofs.lemmas.List.{get_or_append_left}
@@ -23,7 +24,8 @@ use Rattle.elf_tool_check.specs.declared.calls.Verdict.{Verdict}
 -- Of files that are opened one after the other.
 
 -- the next reader has the bytes of its file
-pub bytes_more : (holds : List ℕ → Option (List ℕ)) (names : List (List ℕ)) (inputs : List (Option (List ℕ))) (k : ℕ) (input : Option (List ℕ)) → length inputs ≡ k
+pub bytes_more : (holds : List ℕ → Option (List ℕ)) (names : List (List ℕ)) (inputs : List (Option (List ℕ))) (k : ℕ)
+    (input : Option (List ℕ)) → length inputs ≡ k
     → ((j : ℕ) → j < k → IfSome (holds (get_or names j [])) (λ bytes. get_or inputs j None ≡ Some bytes))
     → IfSome (holds (get_or names k [])) (λ bytes. input ≡ Some bytes)
     → (j : ℕ) → j < k + 1 → IfSome (holds (get_or names j [])) (λ bytes. get_or (inputs ++ input ∷ []) j None ≡ Some bytes)
@@ -31,7 +33,8 @@ bytes_more holds names inputs k input same before next j below = elim (cases_lt 
   | inl earlier ↦ subst (λ (o : Option (List ℕ)). IfSome (holds (get_or names j [])) (λ bytes. o ≡ Some bytes))
       (sym (get_or_append_left inputs (input ∷ []) None j (omega arith))) (before j earlier)
   | inr past ↦
-      let at : get_or (inputs ++ input ∷ []) k None ≡ input = ap (λ (n : ℕ). get_or (inputs ++ input ∷ []) n None) (sym same) ∙ get_or-append_seam inputs input [] None in
+      let at : get_or (inputs ++ input ∷ []) k None ≡ input =
+      ap (λ (n : ℕ). get_or (inputs ++ input ∷ []) n None) (sym same) ∙ get_or-append_seam inputs input [] None in
       let here : k ≡ j = omega arith in
       subst (λ (n : ℕ). IfSome (holds (get_or names n [])) (λ bytes. get_or (inputs ++ input ∷ []) n None ≡ Some bytes)) here
       (subst (λ (o : Option (List ℕ)). IfSome (holds (get_or names k [])) (λ bytes. o ≡ Some bytes)) (sym at) next)
@@ -42,19 +45,25 @@ bytes_more holds names inputs k input same before next j below = elim (cases_lt 
 -- are written.
 
 -- an image has as many sections and segments as its file says
-image_says : (b : List ℕ) (o : OutlineValue) → IsImage (image_in o b) b → CheckSays b Done (ok_line o.len (length o.sections) (length o.segments))
+image_says : (b : List ℕ) (o : OutlineValue) → IsImage (image_in o b) b →
+    CheckSays b Done (ok_line o.len (length o.sections) (length o.segments))
 image_says b o image =
     let records = image.stands.records in
     let section_count : length o.sections ≡ section_header_count o.header (sections b o.header 0) =
-    ap length records.section_headers ∙ length-map-range_with_len (sections b o.header) 0 (section_header_count o.header (sections b o.header 0)) in
+    ap length records.section_headers ∙
+    length-map-range_with_len (sections b o.header) 0 (section_header_count o.header (sections b o.header 0)) in
     let segment_count : length o.segments ≡ program_header_count o.header (sections b o.header 0) =
-    ap length records.program_headers ∙ length-map-range_with_len (segments b o.header) 0 (program_header_count o.header (sections b o.header 0)) in
-    let same_sections : length o.sections ≡ file_sections b = section_count ∙ ap (λ (h : Ehdr). section_header_count h (sections b h 0)) records.header in
-    let same_segments : length o.segments ≡ file_segments b = segment_count ∙ ap (λ (h : Ehdr). program_header_count h (sections b h 0)) records.header in
+    ap length records.program_headers ∙
+    length-map-range_with_len (segments b o.header) 0 (program_header_count o.header (sections b o.header 0)) in
+    let same_sections : length o.sections ≡ file_sections b =
+    section_count ∙ ap (λ (h : Ehdr). section_header_count h (sections b h 0)) records.header in
+    let same_segments : length o.segments ≡ file_segments b =
+    segment_count ∙ ap (λ (h : Ehdr). program_header_count h (sections b h 0)) records.header in
     let same_length : o.len ≡ length b = image.stands.len in
     (image.clean, rw (same_length, same_sections, same_segments) refl)
 
-check_says : (b : List ℕ) (validated : Result OutlineValue (Broken ℕ)) → IsScanned b validated → CheckSays b (verdict_of (fault_of validated)) (line_of_scan validated)
+check_says : (b : List ℕ) (validated : Result OutlineValue (Broken ℕ)) → IsScanned b validated →
+    CheckSays b (verdict_of (fault_of validated)) (line_of_scan validated)
 check_says b (Ok o) image = image_says b o image
 check_says b (Err broken) is = (is, refl, refl)
 
@@ -63,14 +72,17 @@ is_line (Ok o) = (o.len, length o.sections, length o.segments, refl)
 is_line (Err broken) = (refl, refl)
 
 -- the line of what was scanned, with its verdict
-source_says : (content : Option (List ℕ)) (validated : Result OutlineValue (Broken ℕ)) → ((b : List ℕ) → content ≡ Some b → IsScanned b validated)
+source_says : (content : Option (List ℕ)) (validated : Result OutlineValue (Broken ℕ)) →
+    ((b : List ℕ) → content ≡ Some b → IsScanned b validated)
     → SourceSays content (verdict_of (fault_of validated)) (line_of_scan validated)
 source_says content validated told = (is_line validated, λ b same. check_says b validated (told b same))
 
 -- what is said when the line is out, and when only its first bytes are
-module _ (content old new : Option (List ℕ)) (validated : Result OutlineValue (Broken ℕ)) (bytes : List ℕ) (is : bytes ≡ line_of_scan validated)
+module _ (content old new : Option (List ℕ)) (validated : Result OutlineValue (Broken ℕ)) (bytes : List ℕ)
+    (is : bytes ≡ line_of_scan validated)
     (told : (b : List ℕ) → content ≡ Some b → IsScanned b validated) where
-  pub said_whole : (verdict : Verdict) → verdict ≡ verdict_of (fault_of validated) → Appends old new bytes → Prints (SourceSays content) old new (Ok verdict)
+  pub said_whole : (verdict : Verdict) → verdict ≡ verdict_of (fault_of validated) → Appends old new bytes →
+      Prints (SourceSays content) old new (Ok verdict)
   said_whole verdict same out = (bytes, rw (same, is) (source_says content validated told), out)
 
   pub said_in_part : (written : ℕ) → IsCutAt old new bytes written → Prints (SourceSays content) old new (Err (Write written))

@@ -1,5 +1,6 @@
 -- How the program ends, and what was written then.
-use Rattle.std.specs.Prelude.{◌≡◌, ℕ, ◌<◌, Bool, List, [], get_or, length, None, Option, Some, IfSome, ◌⊎◌, ◌+◌, ◌≤◌, false, map, Result, option_copied}
+use Rattle.std.specs.Prelude.{◌≡◌, ℕ, ◌<◌, Bool, List, [], get_or, length, None, Option, Some, IfSome, ◌⊎◌, ◌+◌, ◌≤◌, false, map, Result}
+use Rattle.std.specs.Prelude.{option_copied}
 use Rattle.std.specs.Io.KnownBytes.{Keeps}
 use Rattle.clap.specs.Walk.{Text}
 use Rattle.elf_image_rules.specs.Rules.{MAX_LEN}
@@ -48,7 +49,8 @@ ReadsRules input rest rules = (file : List ℕ) × GivesFile input rest file × 
 
 -- a line of what was read is bad; or all lines are those of rules, but the file is longer, and the line after them is reported
 abbrev pub HasBadLine : List ℕ → ℕ → Type 0
-HasBadLine file line = IsBadLine file line ⊎ ((MAX_LEN < length file) × ((rules : List RelocRule) × AreRules file rules × (line ≡ length rules + 1)))
+HasBadLine file line =
+    IsBadLine file line ⊎ ((MAX_LEN < length file) × ((rules : List RelocRule) × AreRules file rules × (line ≡ length rules + 1)))
 
 -- or it gave none: a call failed after so many bytes, or a line is bad, or an allocation failed
 abbrev pub ReadsNoRules : Option (List ℕ) → Option (List ℕ) → NoRules → Type 0
@@ -64,7 +66,8 @@ GivesRules known rules = (input rest : Option (List ℕ)) × IfSome known (λ by
 -- or none: it has no reader, which is known to be had where `opens` says so, or its reader gives none
 abbrev pub GivesNoRules : Option (List ℕ) → Bool → NoRules → Type 0
 GivesNoRules known opens NoRulesUnopened = opens ≡ false
-GivesNoRules known opens (Unread at) = (input rest : Option (List ℕ)) × IfSome known (λ bytes. input ≡ Some bytes) × ReadsNoRules input rest (Unread at)
+GivesNoRules known opens (Unread at) =
+    (input rest : Option (List ℕ)) × IfSome known (λ bytes. input ≡ Some bytes) × ReadsNoRules input rest (Unread at)
 GivesNoRules known opens (BadLine line) =
     (input rest : Option (List ℕ)) × IfSome known (λ bytes. input ≡ Some bytes) × ReadsNoRules input rest (BadLine line)
 GivesNoRules known opens OutOfMemory = Unit {0}
@@ -74,14 +77,16 @@ abbrev pub CallOnFiles : Type 1
 CallOnFiles = List (Option (List ℕ)) → List (Option (List ℕ)) → Option (List ℕ) → Option (List ℕ) → Result Verdict ToolFault → Type 0
 
 -- files were opened, and an engine was called on their readers; or one of them gave no reader, and nothing was written
-abbrev pub EndsFiles : CallOnFiles → (Text → Option (List ℕ)) → (Text → Bool) → List Text → Option (List ℕ) → Option (List ℕ) → Status → Type 0
+abbrev pub EndsFiles : CallOnFiles → (Text → Option (List ℕ)) → (Text → Bool) → List Text → Option (List ℕ) → Option (List ℕ) → Status →
+    Type 0
 EndsFiles call holds opens names old new status =
     ((inputs rests : List (Option (List ℕ))) × (answer : Result Verdict ToolFault) × AreOpened holds names inputs
     × call inputs rests old new answer × (status ≡ ending_of answer))
     ⊎ ((unopened : Unopened) × IsUnopened opens names unopened × (status ≡ Failed) × Keeps old new)
 
 -- an engine was called so by these relocation rules
-abbrev pub EndsFilesBy : (List RelocRule → CallOnFiles) → (Text → Option (List ℕ)) → (Text → Bool) → List Text → Option (List ℕ) → Option (List ℕ) → List RelocRule → Status → Type 0
+abbrev pub EndsFilesBy : (List RelocRule → CallOnFiles) → (Text → Option (List ℕ)) → (Text → Bool) → List Text → Option (List ℕ) →
+    Option (List ℕ) → List RelocRule → Status → Type 0
 EndsFilesBy call holds opens names old new rules status = EndsFiles (call rules) holds opens names old new status
 
 -- how the program ends where the rule file gives none
@@ -98,13 +103,15 @@ EndsByRules ends known opens old new status =
     ⊎ ((fault : NoRules) × GivesNoRules known opens fault × (status ≡ unruled fault) × Keeps old new)
 
 -- `map`; with a rule file by its relocation rules
-abbrev pub EndsMap : Options → (Text → Option (List ℕ)) → (Text → Bool) → Option Text → List Text → Option (List ℕ) → Option (List ℕ) → Status → Type 0
+abbrev pub EndsMap : Options → (Text → Option (List ℕ)) → (Text → Bool) → Option Text → List Text → Option (List ℕ) → Option (List ℕ) →
+    Status → Type 0
 EndsMap opt holds opens None names old new status = EndsFiles (IsMappedExactly opt None) holds opens names old new status
 EndsMap opt holds opens (Some file) names old new status =
     EndsByRules (EndsFilesBy (λ rules. IsMappedExactly opt (Some rules)) holds opens names old new) (holds file) (opens file) old new status
 
 -- `link`, by the relocation rules of a rule file
-abbrev pub EndsLink : Options → (Text → Option (List ℕ)) → (Text → Bool) → Text → List Text → Option (List ℕ) → Option (List ℕ) → Status → Type 0
+abbrev pub EndsLink : Options → (Text → Option (List ℕ)) → (Text → Bool) → Text → List Text → Option (List ℕ) → Option (List ℕ) → Status →
+    Type 0
 EndsLink opt holds opens file names old new status =
     EndsByRules (EndsFilesBy (IsLinkCall opt) holds opens names old new) (holds file) (opens file) old new status
 
@@ -119,7 +126,8 @@ EndsRequest holds opens old new (CheckSource file) status = EndsFile IsSourceChe
 EndsRequest holds opens old new (Show file) status = EndsFile IsShown (holds file.now) (opens file.now) old new status
 EndsRequest holds opens old new (Rewrite file) status = EndsFile IsRewritten (holds file.now) (opens file.now) old new status
 EndsRequest holds opens old new (Map base page rules files) status =
-    EndsMap (record { base = base; page = page; entry = None }) holds opens (option_copied rules) (map (λ f. f.now) files.items) old new status
+    EndsMap (record { base = base; page = page; entry = None }) holds opens (option_copied rules)
+    (map (λ f. f.now) files.items) old new status
 EndsRequest holds opens old new (Link base page entry rules files) status =
     (opt : Options) × AreOptions base page entry.now opt × EndsLink opt holds opens rules.now (map (λ f. f.now) files.items) old new status
 

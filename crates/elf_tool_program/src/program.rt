@@ -168,7 +168,8 @@ fn map_files<O: Opener, W: Write, E: Write>(
     err: &mut E,
 ) -> Status
     requires { length names.now ≤ 64 }
-    ensures { EndsFiles (IsMappedExactly options.now (option_copied rules.entry)) (O.holds files.old) (O.opens files.old) (map_list (λ name. name.now) names.now)
+    ensures { EndsFiles (IsMappedExactly options.now (option_copied rules.entry)) (O.holds files.old) (O.opens files.old)
+        (map_list (λ name. name.now) names.now)
         (W.contents out.old) (W.contents out.new) result }
 {
     match open_all(alloc, names, files) {

@@ -22,7 +22,8 @@ use Rattle.elf_tool_check.specs.declared.calls.Verdict.{Verdict}
 pub of_object : (o : ObjectValue) → SaysOne (ObjectSays o)
 of_object o Done Done s t here there = (refl, one_layout o s t here.laid there.laid)
 of_object o Done (Refused TooLong) s t here (long, none) = (let more = long s here.laid in let short = here.short in absurd (omega arith))
-of_object o (Refused TooLong) Done s t (long, none) there = (let more = long t there.laid in let short = there.short in absurd (omega arith))
+of_object o (Refused TooLong) Done s t (long, none) there =
+    (let more = long t there.laid in let short = there.short in absurd (omega arith))
 of_object o (Refused TooLong) (Refused TooLong) s t here there = (refl, here.1 ∙ sym there.1)
 of_object o (Refused (File file rule at)) w s t here there = absurd here
 of_object o (Refused (Link rule file index entry)) w s t here there = absurd here
@@ -41,7 +42,8 @@ verdict_of fault = Refused (File 0 fault.0 fault.1)
 refused : (rules : List {1} (Ruled ℕ)) (v : Verdict) (s : List ℕ) → Refuses rules v s →
     (fault : ℕ × ℕ) × FirstIn rules (Some fault) × (v ≡ verdict_of fault) × (s ≡ [])
 refused rules Done s never = absurd never
-refused rules (Refused (File file rule at)) s (first, zero_is, none) = ((rule, at), first, ap (λ (n : ℕ). Refused (File n rule at)) zero_is, none)
+refused rules (Refused (File file rule at)) s (first, zero_is, none) =
+    ((rule, at), first, ap (λ (n : ℕ). Refused (File n rule at)) zero_is, none)
 refused rules (Refused (Link rule file index entry)) s never = absurd never
 refused rules (Refused TooLong) s never = absurd never
 

@@ -1,7 +1,8 @@
 //! `rewrite`: the object of a file, in canonical layout.
 ghost use Rattle.std.specs.Prelude.{◌≡◌, ℕ, List, MatchResult};
 ghost use Rattle.elf_tool_check.specs.Engine.{IsOneReport, Prints};
-ghost use Rattle.elf_tool_rewrite.specs.Rewrite.{DenotesNone, DenotesObject, HasFileOf, IsRewritten, ObjectSays, PrintsWithin, RewriteSays, unread_answer};
+ghost use Rattle.elf_tool_rewrite.specs.Rewrite.{DenotesNone, DenotesObject, HasFileOf, IsRewritten, ObjectSays, PrintsWithin, RewriteSays};
+ghost use Rattle.elf_tool_rewrite.specs.Rewrite.{unread_answer};
 ghost use Rattle.elf_tool_check.specs.declared.calls.Verdict.TheVariants.{Done};
 
 use elf_image_stream::Fault;

@@ -1,5 +1,6 @@
 -- Files of relocation rules are read word by word and line by line.
-use Rattle.std.proofs.Common.{◌≡◌, ◌∙◌, ℕ, zero, suc, List, [], ◌∷◌, ◌++◌, ap, arith, get_or, length, refl, sym, ◌≢◌, ◌-◌, ◌≤◌, Bool, true, false, Result, Ok, Err, inl, inr, nat_lt, rules, subst, ◌<◌, append_assoc, append-nil, map}
+use Rattle.std.proofs.Common.{◌≡◌, ◌∙◌, ℕ, zero, suc, List, [], ◌∷◌, ◌++◌, ap, arith, get_or, length, refl, sym, ◌≢◌, ◌-◌, ◌≤◌, Bool, true}
+use Rattle.std.proofs.Common.{false, Result, Ok, Err, inl, inr, nat_lt, rules, subst, ◌<◌, append_assoc, append-nil, map}
 use Rattle.std.proofs.Math.Seq.{get_or-append_seam}
 use Rattle.std.proofs.lemmas.List.{length-append, get_or_append_left, get_or-append_right, get_or_past, map-append}
 use Rattle.std.specs.Char.{is_ascii_digit}
@@ -18,7 +19,8 @@ use Rattle.elf_link_field.specs.declared.rule.Range.{Range}
 use Rattle.elf_link_field.specs.declared.rule.RelocRule.{RelocRule}
 use Rattle.elf_link_field.specs.declared.rule.Width.TheVariants.{W1, W2, W4, W8}
 use Rattle.elf_link_field.specs.declared.rule.Width.{Width}
-use Rattle.elf_tool_rule_file.specs.RuleFile.{AreCut, HasNo, IsKindWord, IsRuleLine, form_word, range_word, width_word, AreRuleLines, AreRules, BeginsWithRule}
+use Rattle.elf_tool_rule_file.specs.RuleFile.{AreCut, HasNo, IsKindWord, IsRuleLine, form_word, range_word, width_word, AreRuleLines}
+use Rattle.elf_tool_rule_file.specs.RuleFile.{AreRules, BeginsWithRule}
 
 -- Bytes are cut in one way.
 
@@ -62,7 +64,8 @@ pub digits_utf8 : (word : List ℕ) → AllDigits 10 word → IsUtf8 word
 digits_utf8 word are = IsUtf8-from_ascii word (ascii word are)
 
 -- and what is UTF-8 is not refused
-pub never_refused : {T E : Type 0} (r : Result T E) (U : Type 0) (P : T → Type 0) (Q : E → Type 0) → is_ok r ≡ false → MatchResult r P (λ e. (U → ⊥) × Q e) → U → ⊥
+pub never_refused : {T E : Type 0} (r : Result T E) (U : Type 0) (P : T → Type 0) (Q : E → Type 0) → is_ok r ≡ false →
+    MatchResult r P (λ e. (U → ⊥) × Q e) → U → ⊥
 never_refused (Ok x) U P Q refused cases is = cc
 never_refused (Err e) U P Q refused cases is = cases.0 is
 
@@ -77,7 +80,8 @@ none_in_cons b c cs other none (suc k) below = none k (omega arith)
 none_in_both : (b : ℕ) (xs ys : List ℕ) → HasNo b xs → HasNo b ys → HasNo b (xs ++ ys)
 none_in_both b xs ys before behind k below = elim (cases_lt k (length xs)) [
   | inl in_xs ↦ λ is. before k in_xs (sym (get_or_append_left xs ys 0 k in_xs) ∙ is)
-  | inr past ↦ λ is. behind (k - length xs) (omega (arith, length-append xs ys)) (sym (get_or-append_right xs ys (length xs) k 0 refl past) ∙ is)
+  | inr past ↦
+      λ is. behind (k - length xs) (omega (arith, length-append xs ys)) (sym (get_or-append_right xs ys (length xs) k 0 refl past) ∙ is)
 ]
 
 abbrev is_above : ℕ → Bool
@@ -117,7 +121,8 @@ no_feed line rule is =
     let last = none_in_range 10 rule.range small in
     let third = none_in_both 10 width (32 ∷ range) (none_in_width 10 rule.width small) (blank range last) in
     let second = none_in_both 10 form (32 ∷ (width ++ 32 ∷ range)) (none_in_form 10 rule.form small) (blank (width ++ 32 ∷ range) third) in
-    rw is.2 (none_in_both 10 is.0 (32 ∷ (form ++ 32 ∷ (width ++ 32 ∷ range))) (none_in_digits 10 is.0 small is.1.0.1) (blank (form ++ 32 ∷ (width ++ 32 ∷ range)) second))
+    rw is.2 (none_in_both 10 is.0 (32 ∷ (form ++ 32 ∷ (width ++ 32 ∷ range))) (none_in_digits 10 is.0 small is.1.0.1)
+    (blank (form ++ 32 ∷ (width ++ 32 ∷ range)) second))
 
 -- what is after the words of a rule's line
 abbrev pub behind_form : RelocRule → List ℕ
@@ -170,20 +175,23 @@ module _ (rule : RelocRule) where
 abbrev with_feed : List ℕ → List ℕ
 with_feed line = line ++ 10 ∷ []
 
-lines_more : (lines : List (List ℕ)) (rules : List RelocRule) (line : List ℕ) (rule : RelocRule) → AreRuleLines lines rules → IsRuleLine line rule
+lines_more : (lines : List (List ℕ)) (rules : List RelocRule) (line : List ℕ) (rule : RelocRule) → AreRuleLines lines rules →
+    IsRuleLine line rule
     → AreRuleLines (lines ++ line ∷ []) (rules ++ rule ∷ [])
 lines_more [] [] line rule are is = (is, tt)
 lines_more [] (r ∷ rules) line rule are is = absurd are
 lines_more (l ∷ lines) [] line rule are is = absurd are
 lines_more (l ∷ lines) (r ∷ rules) line rule are is = (are.0, lines_more lines rules line rule are.1 is)
 
-joined_more : (lines : List (List ℕ)) (line : List ℕ) → concat (map with_feed (lines ++ line ∷ [])) ≡ concat (map with_feed lines) ++ with_feed line
+joined_more : (lines : List (List ℕ)) (line : List ℕ) →
+    concat (map with_feed (lines ++ line ∷ [])) ≡ concat (map with_feed lines) ++ with_feed line
 joined_more lines line =
     ap concat (map-append with_feed lines (line ∷ [])) ∙ concat-append (map with_feed lines) (with_feed line ∷ [])
     ∙ ap (λ (bs : List ℕ). concat (map with_feed lines) ++ bs) (append-nil (with_feed line))
 
 -- the lines of some rules, and then the line of one more
-pub rules_more : (before line : List ℕ) (rules : List RelocRule) (rule : RelocRule) → AreRules before rules → IsRuleLine line rule → length rules < 256
+pub rules_more : (before line : List ℕ) (rules : List RelocRule) (rule : RelocRule) → AreRules before rules → IsRuleLine line rule →
+    length rules < 256
     → AreRules (before ++ (line ++ 10 ∷ [])) (rules ++ rule ∷ [])
 rules_more before line rules rule are is below =
     let lines = are.0 in
@@ -191,15 +199,18 @@ rules_more before line rules rule are is below =
     (lines ++ line ∷ [], lines_more lines rules line rule are.1 is, rw (are.2, joined_more lines line) refl, long)
 
 -- bytes whose rest begins with a line
-pub line_passed : (bytes before rest line behind : List ℕ) → bytes ≡ before ++ rest → rest ≡ line ++ 10 ∷ behind → bytes ≡ (before ++ (line ++ 10 ∷ [])) ++ behind
+pub line_passed : (bytes before rest line behind : List ℕ) → bytes ≡ before ++ rest → rest ≡ line ++ 10 ∷ behind →
+    bytes ≡ (before ++ (line ++ 10 ∷ [])) ++ behind
 line_passed bytes before rest line behind is begins = rw (is, begins) (simp append_assoc)
 
-lead_on : (lines : List (List ℕ)) (rules : List RelocRule) (rest : List ℕ) → AreRuleLines lines rules → BeginsWithRule rest → BeginsWithRule (concat (map with_feed lines) ++ rest)
+lead_on : (lines : List (List ℕ)) (rules : List RelocRule) (rest : List ℕ) → AreRuleLines lines rules → BeginsWithRule rest →
+    BeginsWithRule (concat (map with_feed lines) ++ rest)
 lead_on [] [] rest are begins = begins
 lead_on [] (r ∷ rules) rest are begins = absurd are
 lead_on (l ∷ lines) [] rest are begins = absurd are
 lead_on (l ∷ lines) (r ∷ rules) rest are begins = (r, concat (map with_feed lines) ++ rest, (l, are.0, simp append_assoc))
 
 -- bytes begin with a rule where lines of rules and the line of one more are at their front
-pub begins_with_rule : (bytes before rest : List ℕ) (rules : List RelocRule) → AreRules before rules → bytes ≡ before ++ rest → BeginsWithRule rest → BeginsWithRule bytes
+pub begins_with_rule : (bytes before rest : List ℕ) (rules : List RelocRule) → AreRules before rules → bytes ≡ before ++ rest →
+    BeginsWithRule rest → BeginsWithRule bytes
 begins_with_rule bytes before rest rules are is begins = rw (is, are.2) (lead_on are.0 rules rest are.1 begins)

@@ -2,7 +2,8 @@
 ghost use Rattle.std.specs.Prelude.{MatchOption, ◌≡◌, ◌≢◌, ℕ, IfErr, IfOk};
 ghost use Rattle.std.specs.Char.{is_ascii_digit};
 ghost use Rattle.std.specs.List.{list_all};
-ghost use Rattle.elf_tool_rule_file.specs.RuleFile.{AreCut, HasNo, IsKindWord, IsRuleLine, form_word, range_word, width_word, AreRules, BeginsWithRule, IsRuleFollowed, IsRulesFault};
+ghost use Rattle.elf_tool_rule_file.specs.RuleFile.{AreCut, HasNo, IsKindWord, IsRuleLine, form_word, range_word, width_word, AreRules};
+ghost use Rattle.elf_tool_rule_file.specs.RuleFile.{BeginsWithRule, IsRuleFollowed, IsRulesFault};
 ghost use Rattle.elf_link_field.specs.declared.rule.Form.{Form as AForm};
 ghost use Rattle.elf_link_field.specs.declared.rule.Range.{Range as ARange};
 ghost use Rattle.elf_link_field.specs.declared.rule.RelocRule.{RelocRule as ARule};

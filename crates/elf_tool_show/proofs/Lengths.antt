@@ -66,7 +66,8 @@ held_of (suc n) e = held_of n e + once_if_held n e
 
 abbrev IsHeld : ℕ → Extent → Type 0
 IsHeld n e =
-    (n ≤ e.start → held_of n e ≡ 0) × (e.start ≤ n → n ≤ e.start + e.len → e.start + held_of n e ≡ n) × (e.start + e.len ≤ n → held_of n e ≡ e.len)
+    (n ≤ e.start → held_of n e ≡ 0) × (e.start ≤ n → n ≤ e.start + e.len → e.start + held_of n e ≡ n) ×
+    (e.start + e.len ≤ n → held_of n e ≡ e.len)
 
 is_held : (n : ℕ) (e : Extent) → IsHeld n e
 is_held zero e = (λ before. refl, λ from below. omega arith, λ past. omega arith)

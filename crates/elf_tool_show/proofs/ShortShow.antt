@@ -1,7 +1,9 @@
 -- The text of `show` is shorter than 2^64 bytes. An image has at most 2^30 bytes, so each name in it is as short, and each line that ends
 -- with a name has less than 2^33 bytes. No entry of a table is without a byte of its own, and contents share none: so there are at most
 -- 2^30 entries and 2^24 sections.
-use Rattle.std.proofs.Common.{◌≡◌, ◌∙◌, ◌<◌, ◌≤◌, ◌+◌, ◌-◌, ◌*◌, ◌/◌, ◌^◌, ◌++◌, ◌==◌, ℕ, ℤ, zero, suc, pos, negsuc, Bool, true, false, List, [], ◌∷◌, None, Option, Some, FitsSigned, ap, arith, codes, drop, get_or, if◌then◌else◌, length, length-append, map, nat_lt, refl, subst, sym, take, slice_get, zero-add}
+use Rattle.std.proofs.Common.{◌≡◌, ◌∙◌, ◌<◌, ◌≤◌, ◌+◌, ◌-◌, ◌*◌, ◌/◌, ◌^◌, ◌++◌, ◌==◌, ℕ, ℤ, zero, suc, pos, negsuc, Bool, true, false}
+use Rattle.std.proofs.Common.{List, [], ◌∷◌, None, Option, Some, FitsSigned, ap, arith, codes, drop, get_or, if◌then◌else◌, length}
+use Rattle.std.proofs.Common.{length-append, map, nat_lt, refl, subst, sym, take, slice_get, zero-add}
 use Rattle.std.specs.List.{AllByRecursion, flat_map, range_with_len, sum_by}
 use Rattle.std.specs.Int.{w64}
 use Rattle.std.specs.Fmt.{decimal, signed_decimal}
@@ -19,34 +21,46 @@ use Rattle.elf_field.specs.declared.number.Order.TheVariants.{Little, Big}
 use Rattle.elf_field.specs.declared.number.Order.{Order}
 use Rattle.elf_field.specs.declared.phdr.Phdr.{Phdr}
 use Rattle.elf_field.specs.declared.shdr.Shdr.{Shdr}
-use Rattle.elf_image_outline.specs.Image.{ImageValue, IsExtentOf, IsImage, IsSoundImage, PlacedPart, Stands, no_program_header, no_section_header, program_header_of, section_header_of, value_names}
+use Rattle.elf_image_outline.specs.Image.{ImageValue, IsExtentOf, IsImage, IsSoundImage, PlacedPart, Stands, no_program_header}
+use Rattle.elf_image_outline.specs.Image.{no_section_header, program_header_of, section_header_of, value_names}
 use Rattle.elf_image_outline.specs.declared.outline.Owner.TheVariants.{Header, ProgramTable, SectionTable, Content, Gap}
 use Rattle.elf_image_outline.specs.declared.outline.Owner.{Owner}
 use Rattle.elf_image_outline.specs.declared.outline.Part.{Part}
 use Rattle.elf_image_rules.proofs.Public.{clean_records, extents_disjoint, extents_within, kept_short, sound_file}
 use Rattle.elf_image_rules.specs.Rules.{extents, rules_in}
-use Rattle.elf_image_rules.specs.Tables.{bytes_in, content_extent, header, name_table, names, order_of, program_header_count, section_header_count, sections, segments}
+use Rattle.elf_image_rules.specs.Tables.{bytes_in, content_extent, header, name_table, names, order_of, program_header_count}
+use Rattle.elf_image_rules.specs.Tables.{section_header_count, sections, segments}
 use Rattle.elf_image_type.proofs.Public.{are_parts, image_is_sound}
-use Rattle.elf_image_type.specs.ImageView.{section_name, string}
+use Rattle.elf_field.specs.Strings.{string}
+use Rattle.elf_image_type.specs.ImageView.{section_name}
 use Rattle.elf_table_all.specs.Tables.{TablesValue, dynamic_strings, signature_name}
 use Rattle.elf_table_hash.specs.HashTable.{nbucket, nchain, words_in}
-use Rattle.elf_table_lists.specs.Dynamic.{dynamic_array_of, dynamic_entries, dynamic_entry, dynamic_entry_count, is_string_tag, no_dynamic_entry}
+use Rattle.elf_table_lists.specs.Dynamic.{dynamic_array_of, dynamic_entries, dynamic_entry, dynamic_entry_count, is_string_tag}
+use Rattle.elf_table_lists.specs.Dynamic.{no_dynamic_entry}
 use Rattle.elf_table_lists.specs.Groups.{group_of, member, member_count, members_in}
 use Rattle.elf_table_lists.specs.Notes.{first_notes, note_at, notes_in, notes_of, note_end}
-use Rattle.elf_table_lists.specs.Relocations.{has_addends, no_relocation_entry, relocation_count, relocation_in, relocations_in, relocations_of}
+use Rattle.elf_table_lists.specs.Relocations.{has_addends, no_relocation_entry, relocation_count, relocation_in, relocations_in}
+use Rattle.elf_table_lists.specs.Relocations.{relocations_of}
 use Rattle.elf_table_lists.specs.declared.relocations.Relocation.{Relocation}
 use Rattle.elf_table_symbols.proofs.Public.{length_symbols}
 use Rattle.elf_table_symbols.specs.Sections.{content, kind_of, order, section, sections_of}
 use Rattle.elf_table_symbols.specs.SymbolView.{no_symbol_entry}
-use Rattle.elf_table_symbols.specs.Symbols.{SymbolEntryValue, entry, entry_count, index_words, place_of, symbol_entry_in, symbol_parts, symbols_in, symbols_of, word}
+use Rattle.elf_table_symbols.specs.Symbols.{SymbolEntryValue, entry, entry_count, index_words, place_of, symbol_entry_in, symbol_parts}
+use Rattle.elf_table_symbols.specs.Symbols.{symbols_in, symbols_of, word}
 use Rattle.elf_table_symbols.specs.declared.symbols.Place.TheVariants.{Undefined, Absolute, Common, Reserved, Section}
 use Rattle.elf_table_symbols.specs.declared.symbols.Place.{Place}
-use Rattle.elf_table_symbols.specs.declared.table_section.TableKind.TheVariants.{SymbolTable, RelocationTable, SectionGroup, NoteSection, DynamicArray, HashTable}
+use Rattle.elf_table_symbols.specs.declared.table_section.TableKind.TheVariants.{SymbolTable, RelocationTable, SectionGroup, NoteSection}
+use Rattle.elf_table_symbols.specs.declared.table_section.TableKind.TheVariants.{DynamicArray, HashTable}
 use Rattle.elf_table_symbols.specs.declared.table_section.TableKind.{TableKind}
-use Rattle.elf_tool_text.proofs.Public.{bytes_short, decimal_short, hexadecimal_short, indexed_short, line_length, lines_short, name_short, words_length}
+use Rattle.elf_tool_text.proofs.Public.{bytes_short, decimal_short, hexadecimal_short, indexed_short, line_length, lines_short, name_short}
+use Rattle.elf_tool_text.proofs.Public.{words_length}
 use Rattle.elf_tool_text.proofs.ShortText.{length-encode_lower}
 use Rattle.elf_tool_text.specs.Line.{bytes_text, hexadecimal, name_text}
-use Rattle.elf_tool_show.specs.Show.{IsVerdictShort, VerdictsFit, addend_text, all_table_lines, dynamic_line, dynamic_lines, dynamic_text, file_line, group_line, hash_line, kind_lines, note_line, note_lines, order_text, owner_words, part_line, part_lines, place_text, relocation_line, relocation_lines, relocation_text, section_line, section_lines, section_text, segment_line, segment_lines, segment_text, show_text, string_words, symbol_line, symbol_lines, symbol_text, table_lines, table_refused_line, table_text}
+use Rattle.elf_tool_show.specs.Show.{IsVerdictShort, VerdictsFit, addend_text, all_table_lines, dynamic_line, dynamic_lines, dynamic_text}
+use Rattle.elf_tool_show.specs.Show.{file_line, group_line, hash_line, kind_lines, note_line, note_lines, order_text, owner_words}
+use Rattle.elf_tool_show.specs.Show.{part_line, part_lines, place_text, relocation_line, relocation_lines, relocation_text, section_line}
+use Rattle.elf_tool_show.specs.Show.{section_lines, section_text, segment_line, segment_lines, segment_text, show_text, string_words}
+use Rattle.elf_tool_show.specs.Show.{symbol_line, symbol_lines, symbol_text, table_lines, table_refused_line, table_text}
 use Rattle.elf_tool_show.proofs.Lengths.{lengths_within}
 
 -- ---- lists, item by item
@@ -89,7 +103,8 @@ signed_short (negsuc n) fits = let few = decimal_short (suc n) (omega arith) in 
 file_line_short : (h : Ehdr) → IsEhdr h → length (file_line h) ≤ 100
 unfolding file_line
 file_line_short h fits =
-    let whole = line_length (codes "file") (order_text (order_of h.e_ident) ∷ decimal h.e_type ∷ decimal h.e_machine ∷ hexadecimal h.e_entry ∷ hexadecimal h.e_flags ∷ []) in
+    let whole = line_length (codes "file")
+    (order_text (order_of h.e_ident) ∷ decimal h.e_type ∷ decimal h.e_machine ∷ hexadecimal h.e_entry ∷ hexadecimal h.e_flags ∷ []) in
     let type_fits = fits.e_type in
     let machine_fits = fits.e_machine in
     let flags_fit = fits.e_flags in
@@ -132,10 +147,12 @@ part_line_short b p start len owner =
     let d = owner_short gap p.owner owner in
     omega arith
 
-section_line_short : (i : ℕ) (s : Shdr) (name : List ℕ) → i < 2 ^ 64 → IsShdr s → length name ≤ 2 ^ 30 → length (section_line i s name) ≤ 2 ^ 32
+section_line_short : (i : ℕ) (s : Shdr) (name : List ℕ) → i < 2 ^ 64 → IsShdr s → length name ≤ 2 ^ 30 →
+    length (section_line i s name) ≤ 2 ^ 32
 unfolding section_line
 section_line_short i s name index fits short =
-    let whole = line_length (codes "section") (decimal i ∷ decimal s.sh_type ∷ hexadecimal s.sh_flags ∷ hexadecimal s.sh_addr ∷ hexadecimal s.sh_offset ∷ hexadecimal s.sh_size
+    let whole = line_length (codes "section")
+    (decimal i ∷ decimal s.sh_type ∷ hexadecimal s.sh_flags ∷ hexadecimal s.sh_addr ∷ hexadecimal s.sh_offset ∷ hexadecimal s.sh_size
     ∷ decimal s.sh_link ∷ decimal s.sh_info ∷ hexadecimal s.sh_addralign ∷ hexadecimal s.sh_entsize ∷ name_text name ∷ []) in
     let type_fits = fits.sh_type in
     let link_fits = fits.sh_link in
@@ -156,7 +173,8 @@ section_line_short i s name index fits short =
 segment_line_short : (i : ℕ) (g : Phdr) → i < 2 ^ 64 → IsPhdr g → length (segment_line i g) ≤ 200
 unfolding segment_line
 segment_line_short i s index fits =
-    let whole = line_length (codes "segment") (decimal i ∷ decimal s.p_type ∷ hexadecimal s.p_flags ∷ hexadecimal s.p_offset ∷ hexadecimal s.p_vaddr ∷ hexadecimal s.p_paddr
+    let whole = line_length (codes "segment")
+    (decimal i ∷ decimal s.p_type ∷ hexadecimal s.p_flags ∷ hexadecimal s.p_offset ∷ hexadecimal s.p_vaddr ∷ hexadecimal s.p_paddr
     ∷ hexadecimal s.p_filesz ∷ hexadecimal s.p_memsz ∷ hexadecimal s.p_align ∷ []) in
     let type_fits = fits.p_type in
     let flags_fit = fits.p_flags in
@@ -208,7 +226,8 @@ record IsShortEntry (s : SymbolEntryValue) : Type 0 where
 symbol_line_short : (i j : ℕ) (s : SymbolEntryValue) → i < 2 ^ 64 → j < 2 ^ 64 → IsShortEntry s → length (symbol_line i j s) ≤ 2 ^ 33
 unfolding symbol_line
 symbol_line_short i j s index number short =
-    let whole = line_length (codes "symbol") (decimal i ∷ decimal j ∷ decimal s.binding ∷ decimal s.symbol_type ∷ decimal s.other ∷ place_text s.place
+    let whole = line_length (codes "symbol")
+    (decimal i ∷ decimal j ∷ decimal s.binding ∷ decimal s.symbol_type ∷ decimal s.other ∷ place_text s.place
     ∷ hexadecimal s.value ∷ hexadecimal s.size ∷ name_text s.name ∷ []) in
     let a = decimal_short i index in
     let b = decimal_short j number in
@@ -233,19 +252,32 @@ place_fits index extended fits wide = first (index == 0)
     fourth true = omega arith
     fourth false = fifth (nat_lt index 65280)
 
-    third : (common : Bool) → IsShortPlace (if common then Common else (if index == 65535 then Section extended else (if nat_lt index 65280 then Section index else Reserved index)))
+    third : (common : Bool) →
+        IsShortPlace
+        (if common then Common
+        else (if index == 65535 then Section extended else (if nat_lt index 65280 then Section index else Reserved index)))
     third true = tt
     third false = fourth (index == 65535)
 
-    second : (absolute : Bool) → IsShortPlace (if absolute then Absolute else (if index == 65522 then Common else (if index == 65535 then Section extended else (if nat_lt index 65280 then Section index else Reserved index))))
+    second : (absolute : Bool) →
+        IsShortPlace
+        (if absolute then Absolute
+        else (if index == 65522 then Common
+        else (if index == 65535 then Section extended else (if nat_lt index 65280 then Section index else Reserved index))))
     second true = tt
     second false = third (index == 65522)
 
-    first : (none : Bool) → IsShortPlace (if none then Undefined else (if index == 65521 then Absolute else (if index == 65522 then Common else (if index == 65535 then Section extended else (if nat_lt index 65280 then Section index else Reserved index)))))
+    first : (none : Bool) →
+        IsShortPlace
+        (if none then Undefined
+        else (if index == 65521 then Absolute
+        else (if index == 65522 then Common
+        else (if index == 65535 then Section extended else (if nat_lt index 65280 then Section index else Reserved index)))))
     first true = tt
     first false = second (index == 65521)
 
-entry_short : (o : Order) (table strings words : List ℕ) → IsBytes table → IsBytes words → length strings ≤ 2 ^ 30 → (j : ℕ) → IsShortEntry (symbol_entry_in o table strings words j)
+entry_short : (o : Order) (table strings words : List ℕ) → IsBytes table → IsBytes words → length strings ≤ 2 ^ 30 → (j : ℕ) →
+    IsShortEntry (symbol_entry_in o table strings words j)
 unfolding symbol_entry_in entry word
 entry_short o table strings words bytes are short j =
     let fits = sym_laws.valid o table (24 * j) bytes in
@@ -264,17 +296,30 @@ entry_short o table strings words bytes are short j =
     }
 
 no_entry_short : IsShortEntry no_symbol_entry
-no_entry_short = record { name = omega arith; binding = omega arith; symbol_type = omega arith; other = omega arith; place = tt; value = omega arith; size = omega arith }
+no_entry_short =
+    record {
+      name = omega arith;
+      binding = omega arith;
+      symbol_type = omega arith;
+      other = omega arith;
+      place = tt;
+      value =
+          omega arith;
+      size = omega arith;
+    }
 
-symbols_short : (i : ℕ) (o : Order) (table names words : List ℕ) → i < 2 ^ 64 → length table ≤ 2 ^ 30 → IsBytes table → IsBytes words → length names ≤ 2 ^ 30
+symbols_short : (i : ℕ) (o : Order) (table names words : List ℕ) → i < 2 ^ 64 → length table ≤ 2 ^ 30 → IsBytes table → IsBytes words →
+    length names ≤ 2 ^ 30
     → length (symbol_lines i (symbols_in o table names words)) ≤ length table * 2 ^ 33
 unfolding symbol_lines symbols_in
 symbols_short i o table names words index long bytes are short =
     let symbols = symbols_in o table names words in
     let count = length_symbols o table names words in
-    let all = all_mapped IsShortEntry (symbol_entry_in o table names words) (entry_short o table names words bytes are short) (range_with_len 0 (entry_count table)) in
+    let all = all_mapped IsShortEntry (symbol_entry_in o table names words) (entry_short o table names words bytes are short)
+    (range_with_len 0 (entry_count table)) in
     let each = indexed_short (symbol_text i symbols) (2 ^ 33) (length symbols) (λ j below.
-    symbol_line_short i j (get_or symbols j no_symbol_entry) index (omega arith) (at_any IsShortEntry symbols no_symbol_entry j all no_entry_short)) in
+    symbol_line_short i j (get_or symbols j no_symbol_entry) index (omega arith)
+    (at_any IsShortEntry symbols no_symbol_entry j all no_entry_short)) in
     omega arith
 
 -- ---- relocations
@@ -296,7 +341,8 @@ addend_short (Some z) fits = signed_short z fits
 relocation_line_short : (i j : ℕ) (r : Relocation) → i < 2 ^ 64 → j < 2 ^ 64 → IsShortRelocation r → length (relocation_line i j r) ≤ 2 ^ 33
 unfolding relocation_line
 relocation_line_short i j r index number short =
-    let whole = line_length (codes "reloc") (decimal i ∷ decimal j ∷ hexadecimal r.offset ∷ decimal r.symbol ∷ decimal r.relocation_type ∷ addend_text r.addend ∷ []) in
+    let whole = line_length (codes "reloc")
+    (decimal i ∷ decimal j ∷ hexadecimal r.offset ∷ decimal r.symbol ∷ decimal r.relocation_type ∷ addend_text r.addend ∷ []) in
     let a = decimal_short i index in
     let b = decimal_short j number in
     let c = hexadecimal_short r.offset short.offset in
@@ -305,7 +351,8 @@ relocation_line_short i j r index number short =
     let f = addend_short r.addend short.addend in
     omega arith
 
-relocation_short : (addends : Bool) (o : Order) (table : List ℕ) → IsBytes table → (j : ℕ) → IsShortRelocation (relocation_in addends o table j)
+relocation_short : (addends : Bool) (o : Order) (table : List ℕ) → IsBytes table → (j : ℕ) →
+    IsShortRelocation (relocation_in addends o table j)
 unfolding relocation_in
 relocation_short true o table bytes j =
     let fits = rela_laws.valid o table (24 * j) bytes in
@@ -323,10 +370,12 @@ relocations_short i addends o table index long bytes =
     let relocations = relocations_in addends o table in
     let count = length-map-range_with_len (relocation_in addends o table) 0 (relocation_count addends table) in
     let few = counted addends in
-    let all = all_mapped IsShortRelocation (relocation_in addends o table) (relocation_short addends o table bytes) (range_with_len 0 (relocation_count addends table)) in
+    let all = all_mapped IsShortRelocation (relocation_in addends o table) (relocation_short addends o table bytes)
+    (range_with_len 0 (relocation_count addends table)) in
     let each = indexed_short (relocation_text i relocations) (2 ^ 33) (length relocations) (λ j below.
     relocation_line_short i j (get_or relocations j no_relocation_entry) index (omega arith)
-    (at_any IsShortRelocation relocations no_relocation_entry j all (record { offset = omega arith; symbol = omega arith; relocation_type = omega arith; addend = tt }))) in
+    (at_any IsShortRelocation relocations no_relocation_entry j all
+    (record { offset = omega arith; symbol = omega arith; relocation_type = omega arith; addend = tt }))) in
     omega arith
   where
     counted : (with : Bool) → relocation_count with table ≤ length table
@@ -343,7 +392,8 @@ numbers_short (n ∷ ns) all =
     omega arith
 
 group_short : (i : ℕ) (name : List ℕ) (o : Order) (words : List ℕ) (signature : ℕ) → i < 2 ^ 64 → length name ≤ 2 ^ 30 → IsBytes words
-    → length (group_line i name (record { flags = word o words 0; signature = signature; members = members_in o words })) ≤ 2 ^ 33 + length words * 2 ^ 33
+    → length (group_line i name (record { flags = word o words 0; signature = signature; members = members_in o words })) ≤ 2 ^ 33 + length
+    words * 2 ^ 33
 unfolding group_line members_in word
 group_short i name o words signature index short bytes =
     let members = members_in o words in
@@ -354,13 +404,15 @@ group_short i name o words signature index short bytes =
     let b = decimal_short flags (omega arith) in
     let c = name_short name in
     let count = length-map-range_with_len (member o words) 0 (member_count words) in
-    let all = all_mapped (λ n. n < 2 ^ 64) (member o words) (λ j. (let fits = word_laws.valid o words (4 * (j + 1)) bytes in omega arith)) (range_with_len 0 (member_count words)) in
+    let all = all_mapped (λ n. n < 2 ^ 64) (member o words) (λ j. (let fits = word_laws.valid o words (4 * (j + 1)) bytes in omega arith))
+    (range_with_len 0 (member_count words)) in
     let d = numbers_short members all in
     omega arith
 
 -- ---- notes
 
-note_short : (i : ℕ) (o : Order) (table : List ℕ) (x : ℕ) → i < 2 ^ 64 → length table ≤ 2 ^ 30 → IsBytes table → length (note_line i (note_at o table x)) ≤ 2 ^ 33
+note_short : (i : ℕ) (o : Order) (table : List ℕ) (x : ℕ) → i < 2 ^ 64 → length table ≤ 2 ^ 30 → IsBytes table →
+    length (note_line i (note_at o table x)) ≤ 2 ^ 33
 unfolding note_line note_at
 note_short i o table x index long bytes =
     let n = note_at o table x in
@@ -382,7 +434,8 @@ notes_short i o table (suc n) x index long bytes =
     by_rest (nat_lt x (length table)) (notes_short i o table n (note_end o table x) index long bytes)
   where
     by_rest : (left : Bool) → length (flat_map (note_line i) (first_notes o table n (note_end o table x))) ≤ n * 2 ^ 33
-        → length (flat_map (note_line i) (if left then note_at o table x ∷ first_notes o table n (note_end o table x) else [])) ≤ suc n * 2 ^ 33
+        → length (flat_map (note_line i) (if left then note_at o table x ∷ first_notes o table n (note_end o table x) else [])) ≤ suc
+        n * 2 ^ 33
     by_rest true rest =
         let here = note_short i o table x index long bytes in
         let both = length-append (note_line i (note_at o table x)) (flat_map (note_line i) (first_notes o table n (note_end o table x))) in
@@ -408,7 +461,8 @@ strings_short strings e short = by_tag (is_string_tag e.d_tag)
         omega arith
     by_tag false = omega arith
 
-dynamic_line_short : (i : ℕ) (strings : List ℕ) (e : Dyn) → i < 2 ^ 64 → length strings ≤ 2 ^ 30 → IsShortDynamic e → length (dynamic_line i strings e) ≤ 2 ^ 33
+dynamic_line_short : (i : ℕ) (strings : List ℕ) (e : Dyn) → i < 2 ^ 64 → length strings ≤ 2 ^ 30 → IsShortDynamic e →
+    length (dynamic_line i strings e) ≤ 2 ^ 33
 unfolding dynamic_line
 dynamic_line_short i strings e index short fits =
     let whole = line_length (codes "dynamic") (decimal i ∷ signed_decimal e.d_tag ∷ hexadecimal e.d_un ∷ string_words strings e) in
@@ -418,7 +472,8 @@ dynamic_line_short i strings e index short fits =
     let d = strings_short strings e short in
     omega arith
 
-dynamic_short : (i : ℕ) (strings : List ℕ) (o : Order) (table : List ℕ) (n : ℕ) → i < 2 ^ 64 → length strings ≤ 2 ^ 30 → length table ≤ 2 ^ 30 → IsBytes table
+dynamic_short : (i : ℕ) (strings : List ℕ) (o : Order) (table : List ℕ) (n : ℕ) → i < 2 ^ 64 → length strings ≤ 2 ^ 30 →
+    length table ≤ 2 ^ 30 → IsBytes table
     → length (dynamic_lines i strings (take n (dynamic_entries o table (dynamic_entry_count table)))) ≤ length table * 2 ^ 33
 unfolding dynamic_lines dynamic_entries dynamic_entry
 dynamic_short i strings o table n index short long bytes =
@@ -426,7 +481,8 @@ dynamic_short i strings o table n index short long bytes =
     let count = length-map-range_with_len (dynamic_entry o table) 0 (dynamic_entry_count table) in
     let some = length-take n entries in
     let all = all_taken IsShortDynamic n entries
-    (all_mapped IsShortDynamic (dynamic_entry o table) (λ j. (let fits = dyn_laws.valid o table (16 * j) bytes in record { tag = fits.d_tag; value = fits.d_un }))
+    (all_mapped IsShortDynamic (dynamic_entry o table)
+    (λ j. (let fits = dyn_laws.valid o table (16 * j) bytes in record { tag = fits.d_tag; value = fits.d_un }))
     (range_with_len 0 (dynamic_entry_count table))) in
     let each = indexed_short (dynamic_text i strings (take n entries)) (2 ^ 33) (length (take n entries)) (λ j below.
     dynamic_line_short i strings (get_or (take n entries) j no_dynamic_entry) index short
@@ -447,7 +503,8 @@ hash_short i words index all =
 hash_words : (o : Order) (table : List ℕ) → IsBytes table → AllByRecursion (λ n. n < 2 ^ 64) (words_in o table)
 unfolding words_in word
 hash_words o table bytes =
-    all_mapped (λ n. n < 2 ^ 64) (word o table) (λ j. (let fits = word_laws.valid o table (4 * j) bytes in omega arith)) (range_with_len 0 (length table / 4))
+    all_mapped (λ n. n < 2 ^ 64) (word o table) (λ j. (let fits = word_laws.valid o table (4 * j) bytes in omega arith))
+    (range_with_len 0 (length table / 4))
 
 -- ---- a list of texts, each with no more bytes than a weight of its index
 
@@ -505,7 +562,8 @@ module _ (v : ImageValue) (b : List ℕ) (image : IsImage v b) where
 
   content_short : (i : ℕ) → length (content (sections_of v) i) ≤ 2 ^ 30
   content_short i =
-      let within = subst (λ (cs : List (List ℕ)). length (get_or cs i []) ≤ length b) (sym stands.contents) (contents_within b v.sections i) in
+      let within =
+      subst (λ (cs : List (List ℕ)). length (get_or cs i []) ≤ length b) (sym stands.contents) (contents_within b v.sections i) in
       let short = file_short in
       omega arith
 
@@ -522,7 +580,9 @@ module _ (v : ImageValue) (b : List ℕ) (image : IsImage v b) where
   section_name_short : (i : ℕ) → length (section_name v i) ≤ 2 ^ 30
   section_name_short i = by_type ((section_header_of v.sections i).sh_type == SHT_NULL)
     where
-      by_type : (null : Bool) → length (if null then [] else string (value_names v.header v.sections v.contents) (section_header_of v.sections i).sh_name) ≤ 2 ^ 30
+      by_type : (null : Bool) →
+          length (if null then [] else string (value_names v.header v.sections v.contents)
+          (section_header_of v.sections i).sh_name) ≤ 2 ^ 30
       by_type true = omega arith
       by_type false =
           let within = string_within (value_names v.header v.sections v.contents) (section_header_of v.sections i).sh_name in
@@ -566,7 +626,8 @@ module _ (v : ImageValue) (b : List ℕ) (image : IsImage v b) where
   unfolding segment_lines
   segments_short = indexed_short (segment_text v) 200 (length v.segments) (λ j below. (
       let few = few_segments in
-      segment_line_short j (program_header_of v.segments j) (omega arith) (at_any IsPhdr v.segments no_program_header j sound.program_headers no_segment_fits)))
+      segment_line_short j (program_header_of v.segments j) (omega arith)
+      (at_any IsPhdr v.segments no_program_header j sound.program_headers no_segment_fits)))
 
   -- ---- tables
 
@@ -576,7 +637,8 @@ module _ (v : ImageValue) (b : List ℕ) (image : IsImage v b) where
       let f = sections_of v in
       let p = symbol_parts f t in
       (at_any IsShortEntry (symbols_in p.order p.table p.names p.words) no_symbol_entry j
-      (all_mapped IsShortEntry (symbol_entry_in p.order p.table p.names p.words) (entry_short p.order p.table p.names p.words (content_bytes t) (words_bytes p.index_table) (content_short (section f t).sh_link)) _)
+      (all_mapped IsShortEntry (symbol_entry_in p.order p.table p.names p.words)
+      (entry_short p.order p.table p.names p.words (content_bytes t) (words_bytes p.index_table) (content_short (section f t).sh_link)) _)
       no_entry_short).name
     where
       words_bytes : (table : Option ℕ) → IsBytes (index_words (sections_of v) table)
@@ -587,17 +649,20 @@ module _ (v : ImageValue) (b : List ℕ) (image : IsImage v b) where
   index_words_bytes None = IsBytes-nil
   index_words_bytes (Some k) = content_bytes k
 
-  kind_short : (kind : Option TableKind) (i : ℕ) → i < 2 ^ 64 → length (kind_lines kind (sections_of v) i) ≤ 2 ^ 33 + length (content (sections_of v) i) * 2 ^ 33
+  kind_short : (kind : Option TableKind) (i : ℕ) → i < 2 ^ 64 →
+      length (kind_lines kind (sections_of v) i) ≤ 2 ^ 33 + length (content (sections_of v) i) * 2 ^ 33
   unfolding symbols_of relocations_of notes_of notes_in note_lines dynamic_array_of group_of
   kind_short None i index = omega arith
   kind_short (Some SymbolTable) i index =
       let f = sections_of v in
       let p = symbol_parts f i in
-      let short = symbols_short i p.order p.table p.names p.words index (content_short i) (content_bytes i) (index_words_bytes p.index_table) (content_short (section f i).sh_link) in
+      let short = symbols_short i p.order p.table p.names p.words index (content_short i) (content_bytes i)
+      (index_words_bytes p.index_table) (content_short (section f i).sh_link) in
       omega arith
   kind_short (Some RelocationTable) i index =
       let f = sections_of v in
-      let short = relocations_short i (has_addends (section f i).sh_type) (order f) (content f i) index (content_short i) (content_bytes i) in
+      let short = relocations_short i (has_addends (section f i).sh_type) (order f) (content f i) index (content_short i)
+      (content_bytes i) in
       omega arith
   kind_short (Some SectionGroup) i index =
       let f = sections_of v in
@@ -611,7 +676,9 @@ module _ (v : ImageValue) (b : List ℕ) (image : IsImage v b) where
       let f = sections_of v in
       let entries = dynamic_entries (order f) (content f i) (dynamic_entry_count (content f i)) in
       let first : (n : ℕ) → length (dynamic_lines i (dynamic_strings f i) (take n entries)) ≤ 2 ^ 33 + length (content f i) * 2 ^ 33 =
-      λ n. (let short = dynamic_short i (dynamic_strings f i) (order f) (content f i) n index (content_short (section f i).sh_link) (content_short i) (content_bytes i) in omega arith) in
+      λ n. (let short =
+      dynamic_short i (dynamic_strings f i) (order f) (content f i) n index (content_short (section f i).sh_link) (content_short i)
+      (content_bytes i) in omega arith) in
       first _
   kind_short (Some HashTable) i index =
       let f = sections_of v in
@@ -632,7 +699,8 @@ module _ (v : ImageValue) (b : List ℕ) (image : IsImage v b) where
     part_there : slice_get (map (λ (q : PlacedPart). q.part) v.parts) k ≡ Some p
     part_there = slice_get_map v.parts k lt
       where
-        slice_get_map : (ps : List PlacedPart) (j : ℕ) → j < length ps → slice_get (map (λ (q : PlacedPart). q.part) ps) j ≡ Some (get_or ps j (record { part = no_part; gap = [] })).part
+        slice_get_map : (ps : List PlacedPart) (j : ℕ) → j < length ps →
+            slice_get (map (λ (q : PlacedPart). q.part) ps) j ≡ Some (get_or ps j (record { part = no_part; gap = [] })).part
         slice_get_map [] j within = absurd (omega arith)
         slice_get_map (q ∷ ps) zero within = refl
         slice_get_map (q ∷ ps) (suc j) within = slice_get_map ps j (omega arith)
@@ -667,7 +735,8 @@ module _ (v : ImageValue) (b : List ℕ) (image : IsImage v b) where
       let before : k < length v.parts = omega arith in
       let rest = part_after k before in
       let some = part_some k before in
-      let after = (are_parts v sound).ascending k (suc k) (p k before) (p (suc k) lt) (omega arith) (part_there k before) (part_there (suc k) lt) in
+      let after = (are_parts v sound).ascending k (suc k) (p k before) (p (suc k) lt) (omega arith) (part_there k before)
+      (part_there (suc k) lt) in
       omega arith
 
   few_parts : length v.parts ≤ 2 ^ 30
@@ -706,11 +775,15 @@ module _ (v : ImageValue) (b : List ℕ) (image : IsImage v b) where
       let es = extents h n m (sections b h) in
       let all = lengths_within (length b) es within disjoint in
       let contents = map (λ i. content_extent (sections b h i)) (range_with_len 0 n) in
-      let first = sum_by-cons (λ (e : Extent). e.len) (record { start = 0; len = 64 }) (record { start = h.e_shoff; len = 64 * n } ∷ record { start = h.e_phoff; len = 56 * m } ∷ contents) in
-      let second = sum_by-cons (λ (e : Extent). e.len) (record { start = h.e_shoff; len = 64 * n }) (record { start = h.e_phoff; len = 56 * m } ∷ contents) in
+      let first = sum_by-cons (λ (e : Extent). e.len) (record { start = 0; len = 64 })
+      (record { start = h.e_shoff; len = 64 * n } ∷ record { start = h.e_phoff; len = 56 * m } ∷ contents) in
+      let second =
+      sum_by-cons (λ (e : Extent). e.len) (record { start = h.e_shoff; len = 64 * n })
+      (record { start = h.e_phoff; len = 56 * m } ∷ contents) in
       let third = sum_by-cons (λ (e : Extent). e.len) (record { start = h.e_phoff; len = 56 * m }) contents in
       let listed = sum_mapped (λ (e : Extent). e.len) (λ i. content_extent (sections b h i)) (range_with_len 0 n) in
-      subst (λ (k : Ehdr). sum_by (λ i. (content_extent (sections b k i)).len) (range_with_len 0 (section_header_count k (sections b k 0))) ≤ length b) (sym same)
+      subst (λ (k : Ehdr). sum_by (λ i. (content_extent (sections b k i)).len)
+      (range_with_len 0 (section_header_count k (sections b k 0))) ≤ length b) (sym same)
       (omega arith)
 
   section_is : (i : ℕ) → i < length v.sections → section_header_of v.sections i ≡ sections b v.header i
@@ -718,24 +791,28 @@ module _ (v : ImageValue) (b : List ℕ) (image : IsImage v b) where
       let n = section_header_count v.header (sections b v.header 0) in
       let same = stands.records.section_headers in
       let long = ap length same ∙ length-map-range_with_len (sections b v.header) 0 n in
-      ap (λ (ss : List Shdr). section_header_of ss i) same ∙ get_or-map-range_with_len (sections b v.header) 0 n i i no_section_header (omega arith) (zero-add i)
+      ap (λ (ss : List Shdr). section_header_of ss i) same ∙
+      get_or-map-range_with_len (sections b v.header) 0 n i i no_section_header (omega arith) (zero-add i)
 
   content_sized : (i : ℕ) → i < length v.sections → length (content (sections_of v) i) ≤ size i
   content_sized i below =
-      let is = ap (λ (cs : List (List ℕ)). get_or cs i []) stands.contents ∙ get_or-map (λ s. bytes_in b (content_extent s)) v.sections i no_section_header [] below in
+      let is = ap (λ (cs : List (List ℕ)). get_or cs i []) stands.contents ∙
+      get_or-map (λ s. bytes_in b (content_extent s)) v.sections i no_section_header [] below in
       let e = content_extent (section_header_of v.sections i) in
       let some = length-take e.len (drop e.start b) in
       let long = ap length is in
       let same = ap (λ (s : Shdr). (content_extent s).len) (section_is i below) in
       omega arith
 
-  tables_short : (verdicts : List (Option (ℕ × ℕ))) → VerdictsFit (length v.sections) verdicts → length (all_table_lines (record { image = v; verdicts = verdicts })) < 2 ^ 63 + 2 ^ 62
+  tables_short : (verdicts : List (Option (ℕ × ℕ))) → VerdictsFit (length v.sections) verdicts →
+      length (all_table_lines (record { image = v; verdicts = verdicts })) < 2 ^ 63 + 2 ^ 62
   unfolding all_table_lines
   tables_short verdicts fit =
       let few = few_sections in
       let n = section_header_count v.header (sections b v.header 0) in
       let long = ap length stands.records.section_headers ∙ length-map-range_with_len (sections b v.header) 0 n in
-      let all = weighed_short (table_text (record { image = v; verdicts = verdicts })) size 0 (length v.sections) (length v.sections) (omega arith) (λ i below. (
+      let all = weighed_short (table_text (record { image = v; verdicts = verdicts })) size 0 (length v.sections) (length v.sections)
+      (omega arith) (λ i below. (
       let one = table_short i (get_or verdicts i None) (omega arith) (fit i below) in
       let sized = content_sized i below in
       omega arith)) in
@@ -743,7 +820,8 @@ module _ (v : ImageValue) (b : List ℕ) (image : IsImage v b) where
       let short = file_short in
       omega arith
 
-  pub show_short : (verdicts : List (Option (ℕ × ℕ))) → VerdictsFit (length v.sections) verdicts → length (show_text b (record { image = v; verdicts = verdicts })) < 2 ^ 64
+  pub show_short : (verdicts : List (Option (ℕ × ℕ))) → VerdictsFit (length v.sections) verdicts →
+      length (show_text b (record { image = v; verdicts = verdicts })) < 2 ^ 64
   unfolding show_text
   show_short verdicts fit =
       let t : TablesValue = record { image = v; verdicts = verdicts } in

@@ -1,5 +1,6 @@
 -- What `show` says of a file.
-use Rattle.std.specs.Prelude.{ℕ, List, [], ◌∷◌, codes, take, drop, ℤ, Option, None, Some, get_or, if◌then◌else◌, length, map, ◌≡◌, ◌⊎◌, ◌++◌, ◌<◌, ◌^◌, Result, Err}
+use Rattle.std.specs.Prelude.{ℕ, List, [], ◌∷◌, codes, take, drop, ℤ, Option, None, Some, get_or, if◌then◌else◌, length, map, ◌≡◌, ◌⊎◌}
+use Rattle.std.specs.Prelude.{◌++◌, ◌<◌, ◌^◌, Result, Err}
 use Rattle.std.specs.Fmt.{decimal, signed_decimal}
 use Rattle.std.specs.List.{flat_map, range_with_len}
 use Rattle.std.specs.Io.KnownBytes.{Keeps}
@@ -16,7 +17,8 @@ use Rattle.elf_image_outline.specs.declared.outline.Owner.{Owner}
 use Rattle.elf_image_outline.specs.declared.outline.Part.{Part}
 use Rattle.elf_image_rules.specs.Rules.{IsFault}
 use Rattle.elf_image_rules.specs.Tables.{order_of}
-use Rattle.elf_image_type.specs.ImageView.{string, section_name}
+use Rattle.elf_field.specs.Strings.{string}
+use Rattle.elf_image_type.specs.ImageView.{section_name}
 use Rattle.elf_table_all.specs.Tables.{dynamic_strings, signature_name, TablesValue, AreVerdicts}
 use Rattle.elf_table_hash.specs.HashTable.{nbucket, nchain}
 use Rattle.elf_table_hash.specs.HashView.{hash_of_section}
@@ -30,7 +32,8 @@ use Rattle.elf_table_symbols.specs.SymbolView.{no_symbol_entry}
 use Rattle.elf_table_symbols.specs.Symbols.{SymbolEntryValue, symbols_of}
 use Rattle.elf_table_symbols.specs.declared.symbols.Place.TheVariants.{Undefined, Absolute, Common, Reserved, Section}
 use Rattle.elf_table_symbols.specs.declared.symbols.Place.{Place}
-use Rattle.elf_table_symbols.specs.declared.table_section.TableKind.TheVariants.{SymbolTable, RelocationTable, SectionGroup, NoteSection, DynamicArray, HashTable}
+use Rattle.elf_table_symbols.specs.declared.table_section.TableKind.TheVariants.{SymbolTable, RelocationTable, SectionGroup, NoteSection}
+use Rattle.elf_table_symbols.specs.declared.table_section.TableKind.TheVariants.{DynamicArray, HashTable}
 use Rattle.elf_table_symbols.specs.declared.table_section.TableKind.{TableKind}
 use Rattle.elf_tool_check.specs.Engine.{IsFileCall, WritesReport}
 use Rattle.elf_tool_check.specs.FileLines.{line, refused_line}
@@ -50,7 +53,8 @@ order_text Big = codes "big"
 -- `file little|big TYPE MACHINE ENTRY FLAGS`
 unfoldable pub file_line : Ehdr → List ℕ
 file_line h = line (
-    codes "file" ∷ order_text (order_of h.e_ident) ∷ decimal h.e_type ∷ decimal h.e_machine ∷ hexadecimal h.e_entry ∷ hexadecimal h.e_flags ∷ [])
+    codes "file" ∷ order_text
+    (order_of h.e_ident) ∷ decimal h.e_type ∷ decimal h.e_machine ∷ hexadecimal h.e_entry ∷ hexadecimal h.e_flags ∷ [])
 
 -- what a part of this owner is; of a gap its first 16 bytes at most
 abbrev pub owner_words : List ℕ → Owner → List (List ℕ)
@@ -67,13 +71,15 @@ part_line b p = line (codes "part" ∷ hexadecimal p.start ∷ hexadecimal p.len
 -- `section I TYPE FLAGS ADDRESS OFFSET SIZE LINK INFO ALIGNMENT ENTSIZE NAME`
 unfoldable pub section_line : ℕ → Shdr → List ℕ → List ℕ
 section_line i s name = line (
-    codes "section" ∷ decimal i ∷ decimal s.sh_type ∷ hexadecimal s.sh_flags ∷ hexadecimal s.sh_addr ∷ hexadecimal s.sh_offset ∷ hexadecimal s.sh_size
+    codes "section" ∷ decimal i ∷ decimal s.sh_type ∷ hexadecimal s.sh_flags ∷ hexadecimal s.sh_addr ∷ hexadecimal s.sh_offset ∷ hexadecimal
+    s.sh_size
     ∷ decimal s.sh_link ∷ decimal s.sh_info ∷ hexadecimal s.sh_addralign ∷ hexadecimal s.sh_entsize ∷ name_text name ∷ [])
 
 -- `segment J TYPE FLAGS OFFSET VADDR PADDR FILESZ MEMSZ ALIGNMENT`
 unfoldable pub segment_line : ℕ → Phdr → List ℕ
 segment_line j g = line (
-    codes "segment" ∷ decimal j ∷ decimal g.p_type ∷ hexadecimal g.p_flags ∷ hexadecimal g.p_offset ∷ hexadecimal g.p_vaddr ∷ hexadecimal g.p_paddr
+    codes "segment" ∷ decimal j ∷ decimal g.p_type ∷ hexadecimal g.p_flags ∷ hexadecimal g.p_offset ∷ hexadecimal g.p_vaddr ∷ hexadecimal
+    g.p_paddr
     ∷ hexadecimal g.p_filesz ∷ hexadecimal g.p_memsz ∷ hexadecimal g.p_align ∷ [])
 
 -- The lines of the tables that a file holds, word by word. (gABI chapter 4, Symbol Table, Relocation, Section Groups; chapter 5, Note

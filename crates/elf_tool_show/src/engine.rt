@@ -5,7 +5,8 @@ ghost use Rattle.elf_tool_check.specs.Engine.{IsOneReport, WritesText};
 ghost use Rattle.elf_tool_text.specs.Buffered.{IsBuffered, WritesPieces};
 ghost use Rattle.elf_tool_check.specs.FileLines.{refused_line as refused_line_of};
 ghost use Rattle.elf_image_rules.specs.Rows.{fault_of};
-ghost use Rattle.elf_tool_show.specs.Show.{IsShown, IsShownOf, IsVerdictShort, ShowSays, VerdictsFit, section_lines, segment_lines, show_text, part_line};
+ghost use Rattle.elf_tool_show.specs.Show.{IsShown, IsShownOf, IsVerdictShort, ShowSays, VerdictsFit, section_lines, segment_lines};
+ghost use Rattle.elf_tool_show.specs.Show.{show_text, part_line};
 
 use crate::show_lines::{push_file_line, push_part_line, push_section_line, push_segment_line};
 use crate::show_tables::show_tables;
@@ -114,7 +115,8 @@ fn show_image<W: Write>(
     writer: &mut W,
 ) -> Result<(), ToolFault>
     requires { tables.now.image ≡ image.now }
-    ensures { WritesPieces (show_text bytes.now (record { image = image.now; verdicts = tables.now.verdicts })) (W.contents writer.old) (W.contents writer.new) result }
+    ensures { WritesPieces (show_text bytes.now (record { image = image.now; verdicts = tables.now.verdicts })) (W.contents writer.old)
+        (W.contents writer.new) result }
 {
     let mut output = Output::new(alloc);
     push_file_line(&mut output.pending, &image.header())?;

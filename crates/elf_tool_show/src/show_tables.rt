@@ -3,7 +3,9 @@ ghost use Rattle.std.specs.Prelude.{◌≡◌, ◌∷◌, ◌≤◌, ◌+◌, �
 ghost use Rattle.std.specs.Fmt.{decimal};
 ghost use Rattle.elf_tool_check.specs.FileLines.{blank, further_words};
 ghost use Rattle.elf_tool_text.specs.Line.{bytes_text};
-ghost use Rattle.elf_tool_show.specs.Show.{addend_text, dynamic_line, group_line, hash_line, note_line, place_text, relocation_line, string_words, symbol_line, table_refused_line, all_table_lines, note_lines, table_text, RefusedTablesSay};
+ghost use Rattle.elf_tool_show.specs.Show.{addend_text, dynamic_line, group_line, hash_line, note_line, place_text, relocation_line};
+ghost use Rattle.elf_tool_show.specs.Show.{string_words, symbol_line, table_refused_line, all_table_lines, note_lines, table_text};
+ghost use Rattle.elf_tool_show.specs.Show.{RefusedTablesSay};
 ghost use Rattle.elf_table_symbols.specs.SymbolView.{symbol_entry_value};
 ghost use Rattle.elf_table_lists.specs.Notes.{note_value};
 ghost use Rattle.elf_tool_text.specs.Buffered.{IsBuffered};
@@ -448,7 +450,8 @@ pub fn push_refused_tables(
     bytes: &[u8],
     text: &mut Vec<u8>,
 ) -> Result<Verdict, ToolFault>
-    ensures { IfOk result (λ verdict. (said : List ℕ) × RefusedTablesSay bytes.now verdict said × (text.new.items ≡ text.old.items ++ said)) }
+    ensures { IfOk result
+        (λ verdict. (said : List ℕ) × RefusedTablesSay bytes.now verdict said × (text.new.items ≡ text.old.items ++ said)) }
 {
     match parse(alloc, bytes) {
         Ok(image) => {

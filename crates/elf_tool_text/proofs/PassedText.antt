@@ -1,6 +1,7 @@
 -- A text that is passed on piece by piece, without memory. Bytes that have no room are written after all that was pending, so what is
 -- written is a beginning of both. Pieces one after the other are their joined text, and if one of them stops, a beginning of it is written.
-use Rattle.std.proofs.Common.{◌≡◌, ◌∙◌, ℕ, List, [], ◌∷◌, ◌++◌, Option, Result, Ok, Err, ap, append_assoc, arith, codes, drop, get_or, length, length-append, refl, subst, sym, take, ◌+◌, ◌-◌, ◌≤◌, ◌<◌}
+use Rattle.std.proofs.Common.{◌≡◌, ◌∙◌, ℕ, List, [], ◌∷◌, ◌++◌, Option, Result, Ok, Err, ap, append_assoc, arith, codes, drop, get_or}
+use Rattle.std.proofs.Common.{length, length-append, refl, subst, sym, take, ◌+◌, ◌-◌, ◌≤◌, ◌<◌}
 use Rattle.std.specs.List.{flat_map, range_with_len}
 use Rattle.std.proofs.KnownBytes.{Appends-trans}
 use Rattle.std.proofs.Math.Seq.{take-add}
@@ -18,18 +19,22 @@ use Rattle.elf_tool_text.proofs.TextLines.{buffers_both, cut_later, cut_longer, 
 
 -- ---- bytes that have no room
 
-module _ (a b c : Option (List ℕ)) (o p q r : Output) (bytes : List ℕ) (pending : p.pending.items ≡ o.pending.items) (written : p.written ≡ o.written)
-    (flushed : Buffers a b p q []) (empty : q.pending.items ≡ []) (held : r.pending.items ≡ q.pending.items) (as_many : r.written ≡ q.written) where
+module _ (a b c : Option (List ℕ)) (o p q r : Output) (bytes : List ℕ) (pending : p.pending.items ≡ o.pending.items)
+    (written : p.written ≡ o.written)
+    (flushed : Buffers a b p q []) (empty : q.pending.items ≡ []) (held : r.pending.items ≡ q.pending.items)
+    (as_many : r.written ≡ q.written) where
   -- what was pending is written
   flushed_all : flushed.out ≡ o.pending.items
-  flushed_all = sym (append-nil flushed.out) ∙ ap (λ (s : List ℕ). flushed.out ++ s) (sym empty) ∙ flushed.rest ∙ append-nil p.pending.items ∙ pending
+  flushed_all =
+      sym (append-nil flushed.out) ∙ ap (λ (s : List ℕ). flushed.out ++ s) (sym empty) ∙ flushed.rest ∙ append-nil p.pending.items ∙ pending
 
   -- and the bytes after it
   pub long_passed : (all : ℕ) → WentOut b c r.written bytes all → Buffers a c o (record { pending = r.pending; written = all }) bytes
   long_passed all went = record {
     out = flushed.out ++ bytes;
     went = Appends-trans a b c flushed.out bytes flushed.went went.1;
-    rest = ap (λ (s : List ℕ). (flushed.out ++ bytes) ++ s) (held ∙ empty) ∙ append-nil (flushed.out ++ bytes) ∙ ap (λ (s : List ℕ). s ++ bytes) flushed_all;
+    rest = ap (λ (s : List ℕ). (flushed.out ++ bytes) ++ s) (held ∙ empty) ∙ append-nil (flushed.out ++ bytes) ∙
+        ap (λ (s : List ℕ). s ++ bytes) flushed_all;
     count =
         let whole = length-append flushed.out bytes in
         let before = flushed.count in
@@ -49,7 +54,8 @@ module _ (a b c : Option (List ℕ)) (o p q r : Output) (bytes : List ℕ) (pend
 
 -- ---- one piece after the other
 
-pub passed_behind : {T : Type 0} (a b c : Option (List ℕ)) (o p q : Output) (s t : List ℕ) (result : Result T WriteFault) → Buffers a b o p s
+pub passed_behind : {T : Type 0} (a b c : Option (List ℕ)) (o p q : Output) (s t : List ℕ) (result : Result T WriteFault) →
+    Buffers a b o p s
     → IsPassed b c p q t result → IsPassed a c o q (s ++ t) result
 passed_behind a b c o p q s t (Ok done) first second = buffers_both a b c o p q s t first second
 passed_behind a b c o p q s t (Err fault) first second = cut_later a b c o p s t (Write fault.written) first second
@@ -57,7 +63,8 @@ passed_behind a b c o p q s t (Err fault) first second = cut_later a b c o p s t
 -- what stops with others before it and after it
 pub stopped_between : (a b c : Option (List ℕ)) (o p : Output) (s t u : List ℕ) (written : ℕ) → Buffers a b o p s
     → IsCutShort b c p t (Write written) → IsCutShort a c o (s ++ (t ++ u)) (Write written)
-stopped_between a b c o p s t u written first stop = cut_later a b c o p s (t ++ u) (Write written) first (cut_longer b c p t u (Write written) stop)
+stopped_between a b c o p s t u written first stop =
+    cut_later a b c o p s (t ++ u) (Write written) first (cut_longer b c p t u (Write written) stop)
 
 -- ---- lines by their indexes
 
@@ -70,7 +77,8 @@ module _ (f : ℕ → List ℕ) (j end n : ℕ) (below : j < end) (count : end �
   line_passed q passed =
       lines_buffered f (range_with_len 0 n) j 0 (is_index j end n below count) a b c o p q before (subst (Buffers b c p q) here passed)
 
-  pub line_stopped : (written : ℕ) → IsCutShort b c p (f j) (Write written) → IsCutShort a c o (flat_map f (range_with_len 0 n)) (Write written)
+  pub line_stopped : (written : ℕ) → IsCutShort b c p (f j) (Write written) →
+      IsCutShort a c o (flat_map f (range_with_len 0 n)) (Write written)
   line_stopped written stop =
       lines_cut f (range_with_len 0 n) j 0 (is_index j end n below count) a b c o p (Write written) before
       (subst (λ (s : List ℕ). IsCutShort b c p s (Write written)) here stop)
@@ -82,7 +90,8 @@ unfolding encode_with
 encode-append [] ys = refl
 encode-append (x ∷ xs) ys = ap (λ (s : List ℕ). encode_with lower_digits (x ∷ []) ++ s) (encode-append xs ys)
 
-module _ (bytes : List ℕ) (next end : ℕ) (a b c : Option (List ℕ)) (o p : Output) (order : next ≤ end) (before : Buffers a b o p (encode_lower (take next bytes))) where
+module _ (bytes : List ℕ) (next end : ℕ) (a b c : Option (List ℕ)) (o p : Output) (order : next ≤ end)
+    (before : Buffers a b o p (encode_lower (take next bytes))) where
   block : List ℕ
   block = encode_lower (take (end - next) (drop next bytes))
 
@@ -93,11 +102,14 @@ module _ (bytes : List ℕ) (next end : ℕ) (a b c : Option (List ℕ)) (o p : 
       ap (λ (k : ℕ). encode_lower (take k bytes)) (sym same) ∙ ap (λ (s : List ℕ). encode_lower s) (take-add next (end - next) bytes)
       ∙ encode-append (take next bytes) (take (end - next) (drop next bytes))
 
-  pub block_passed : (q : Output) → Buffers b c p q (encode_lower (take (end - next) (drop next bytes))) → Buffers a c o q (encode_lower (take end bytes))
+  pub block_passed : (q : Output) → Buffers b c p q (encode_lower (take (end - next) (drop next bytes))) →
+      Buffers a c o q (encode_lower (take end bytes))
   unfolding block
-  block_passed q passed = subst (Buffers a c o q) (sym block_more) (buffers_both a b c o p q (encode_lower (take next bytes)) block before passed)
+  block_passed q passed =
+      subst (Buffers a c o q) (sym block_more) (buffers_both a b c o p q (encode_lower (take next bytes)) block before passed)
 
-  pub block_cut : (written : ℕ) → IsCutShort b c p (encode_lower (take (end - next) (drop next bytes))) (Write written) → IsCutShort a c o (encode_lower bytes) (Write written)
+  pub block_cut : (written : ℕ) → IsCutShort b c p (encode_lower (take (end - next) (drop next bytes))) (Write written) →
+      IsCutShort a c o (encode_lower bytes) (Write written)
   unfolding block
   block_cut written stop =
       let all : encode_lower bytes ≡ encode_lower (take end bytes) ++ encode_lower (drop end bytes) =
@@ -117,8 +129,10 @@ last_word (w ∷ ws) v =
     ∙ ap (λ (s : List ℕ). blank ∷ (w ++ s)) (sym (append_assoc (further_words ws) (blank ∷ []) (v ++ codes "\n")) ∙ last_word ws v)
 
 -- its first words, which end with a blank, and its last one are the line
-pub line_of_last : {T : Type 0} (a c : Option (List ℕ)) (o q : Output) (front w : List ℕ) (ws : List (List ℕ)) (v : List ℕ) (result : Result T WriteFault)
-    → front ≡ w ++ (further_words ws ++ blank ∷ []) → IsPassed a c o q (front ++ (v ++ codes "\n")) result → IsPassed a c o q (line (w ∷ (ws ++ v ∷ []))) result
+pub line_of_last : {T : Type 0} (a c : Option (List ℕ)) (o q : Output) (front w : List ℕ) (ws : List (List ℕ)) (v : List ℕ)
+    (result : Result T WriteFault)
+    → front ≡ w ++ (further_words ws ++ blank ∷ []) → IsPassed a c o q (front ++ (v ++ codes "\n")) result →
+    IsPassed a c o q (line (w ∷ (ws ++ v ∷ []))) result
 line_of_last a c o q front w ws v result is passed =
     subst (λ (s : List ℕ). IsPassed a c o q s result) (
     ap (λ (s : List ℕ). s ++ (v ++ codes "\n")) is ∙ append_assoc w (further_words ws ++ blank ∷ []) (v ++ codes "\n")

@@ -1,5 +1,6 @@
 -- How long a text is at most: word by word, and line by line. A number below 2^64 has at most 20 digits, and at most 16 in hexadecimal.
-use Rattle.std.proofs.Common.{◌≡◌, ◌∙◌, ℕ, ◌+◌, ◌*◌, ◌^◌, ◌<◌, ◌≤◌, Bool, true, false, List, [], ◌∷◌, ◌++◌, ap, arith, codes, get_or, if◌then◌else◌, length, length-append, refl, subst, sym, zero-add}
+use Rattle.std.proofs.Common.{◌≡◌, ◌∙◌, ℕ, ◌+◌, ◌*◌, ◌^◌, ◌<◌, ◌≤◌, Bool, true, false, List, [], ◌∷◌, ◌++◌, ap, arith, codes, get_or}
+use Rattle.std.proofs.Common.{if◌then◌else◌, length, length-append, refl, subst, sym, zero-add}
 use Rattle.std.specs.List.{flat_map, range_with_len}
 use Rattle.std.specs.Fmt.{decimal, digits}
 use Rattle.std.proofs.lemmas.Fmt.{length-decimal-le}
@@ -65,13 +66,15 @@ line_length w ws =
 
 -- ---- lines one after the other, each with no more than so many bytes
 
-pub lines_short : {X : Type 0} (f : X → List ℕ) (most : ℕ) (d : X) (xs : List X) → ((k : ℕ) → k < length xs → length (f (get_or xs k d)) ≤ most)
+pub lines_short : {X : Type 0} (f : X → List ℕ) (most : ℕ) (d : X) (xs : List X) →
+    ((k : ℕ) → k < length xs → length (f (get_or xs k d)) ≤ most)
     → length (flat_map f xs) ≤ length xs * most
 lines_short f most d xs each =
     subst (λ (n : ℕ). n ≤ length xs * most) (sym (length-flat_map f xs))
     (sum_by-le (λ x. length (f x)) most xs (All-from_get_or (λ x. length (f x) ≤ most) xs d each))
 
-pub indexed_short : (f : ℕ → List ℕ) (most n : ℕ) → ((k : ℕ) → k < n → length (f k) ≤ most) → length (flat_map f (range_with_len 0 n)) ≤ n * most
+pub indexed_short : (f : ℕ → List ℕ) (most n : ℕ) → ((k : ℕ) → k < n → length (f k) ≤ most) →
+    length (flat_map f (range_with_len 0 n)) ≤ n * most
 indexed_short f most n each =
     let long = length-range_with_len 0 n in
     subst (λ (m : ℕ). length (flat_map f (range_with_len 0 n)) ≤ m * most) long

@@ -1,5 +1,7 @@
 -- Text that is made digit by digit, word by word and line by line.
-use Rattle.std.proofs.Common.{◌≡◌, ◌∙◌, ℕ, List, [], ◌∷◌, ◌++◌, Result, Ok, Err, OnOk, codes, ap, refl, sym, append_assoc, ◌+◌, ◌-◌, ◌≤◌, Option, take, drop, subst, arith, zero, suc, ◌*◌, ◌/◌, ◌%◌, ◌^◌, ◌<◌, Bool, true, false, length, set, get_or, take_all, length-append}
+use Rattle.std.proofs.Common.{◌≡◌, ◌∙◌, ℕ, List, [], ◌∷◌, ◌++◌, Result, Ok, Err, OnOk, codes, ap, refl, sym, append_assoc, ◌+◌, ◌-◌, ◌≤◌}
+use Rattle.std.proofs.Common.{Option, take, drop, subst, arith, zero, suc, ◌*◌, ◌/◌, ◌%◌, ◌^◌, ◌<◌, Bool, true, false, length, set, get_or}
+use Rattle.std.proofs.Common.{take_all, length-append}
 use Rattle.std.specs.List.{flat_map, range_with_len}
 use Rattle.std.proofs.lemmas.List.{append-nil, take-append-drop, drop-set, length-append, length-drop, take_more, take-append-le}
 use Rattle.std.proofs.lemmas.List.Concat.{flat_map-append}
@@ -42,7 +44,8 @@ whole_line text w ws =
     ∙ ap (λ (s : List ℕ). text ++ (s ++ codes "\n")) (sym (joined_words w ws))
 
 -- the same of the answer of its last call
-pub line_ended : {T E : Type 0} (result : Result T E) (text last new w : List ℕ) (ws : List (List ℕ)) → OnOk result (new ≡ last ++ codes "\n")
+pub line_ended : {T E : Type 0} (result : Result T E) (text last new w : List ℕ) (ws : List (List ℕ)) →
+    OnOk result (new ≡ last ++ codes "\n")
     → last ≡ words_on (text ++ w) ws → OnOk result (new ≡ text ++ line (w ∷ ws))
 line_ended (Ok done) text last new w ws ended same = ended ∙ ap (λ (s : List ℕ). s ++ codes "\n") same ∙ whole_line text w ws
 line_ended (Err fault) text last new w ws ended same = tt
@@ -56,9 +59,11 @@ further_behind text ws vs =
     ∙ sym (words_behind text (ws ++ vs))
 
 -- a line whose last words come as a list
-pub line_ended_by : {T E : Type 0} (result : Result T E) (text last new w : List ℕ) (ws vs : List (List ℕ)) → OnOk result (new ≡ last ++ codes "\n")
+pub line_ended_by : {T E : Type 0} (result : Result T E) (text last new w : List ℕ) (ws vs : List (List ℕ)) →
+    OnOk result (new ≡ last ++ codes "\n")
     → last ≡ words_on (text ++ w) ws ++ further_words vs → OnOk result (new ≡ text ++ line (w ∷ (ws ++ vs)))
-line_ended_by result text last new w ws vs ended same = line_ended result text last new w (ws ++ vs) ended (same ∙ further_behind (text ++ w) ws vs)
+line_ended_by result text last new w ws vs ended same =
+    line_ended result text last new w (ws ++ vs) ended (same ∙ further_behind (text ++ w) ws vs)
 
 -- ---- a line as one text
 
@@ -75,7 +80,8 @@ word_more text [] v = refl
 word_more text (w ∷ ws) v = word_more (text ++ blank ∷ w) ws v
 
 -- the last word is after them
-pub line_ended_behind : {T E : Type 0} (result : Result T E) (text put last new w : List ℕ) (ws : List (List ℕ)) (v : List ℕ) → OnOk result (new ≡ last ++ codes "\n")
+pub line_ended_behind : {T E : Type 0} (result : Result T E) (text put last new w : List ℕ) (ws : List (List ℕ)) (v : List ℕ) →
+    OnOk result (new ≡ last ++ codes "\n")
     → last ≡ (text ++ put) ++ blank ∷ v → put ≡ w ++ further_words ws → OnOk result (new ≡ text ++ line (w ∷ (ws ++ v ∷ [])))
 line_ended_behind result text put last new w ws v ended same is =
     line_ended result text last new w (ws ++ v ∷ []) ended (
@@ -104,7 +110,8 @@ module _ (base n : ℕ) (acc : List ℕ) where
   last_digit (suc k) some none = one_digit k true (eq-eqb (n / base) 0 none)
 
   -- others are before it
-  pub more_digits : (k : ℕ) → 0 < k → (n / base ≡ 0 → ⊥) → digits_onto k base false n acc ≡ digits_onto (k - 1) base false (n / base) (with_last base n acc)
+  pub more_digits : (k : ℕ) → 0 < k → (n / base ≡ 0 → ⊥) →
+      digits_onto k base false n acc ≡ digits_onto (k - 1) base false (n / base) (with_last base n acc)
   more_digits zero some rest = absurd (omega arith)
   more_digits (suc k) some rest =
       one_digit k false (ne_eqb (n / base) 0 rest)
@@ -121,7 +128,8 @@ module _ (base : ℕ) where
   abbrev IsBehind : ℕ → ℕ → List ℕ → Type 0
   IsBehind k n acc = digits_onto k base false n acc ≡ digits_onto k base false n [] ++ acc
 
-  next_behind : (k n : ℕ) (acc : List ℕ) → ((acc : List ℕ) → IsBehind k (n / base) acc) → (none : Bool) → eqb (n / base) 0 ≡ none → IsBehind (suc k) n acc
+  next_behind : (k n : ℕ) (acc : List ℕ) → ((acc : List ℕ) → IsBehind k (n / base) acc) → (none : Bool) → eqb (n / base) 0 ≡ none →
+      IsBehind (suc k) n acc
   next_behind k n acc before true is =
       one_digit base n acc k true is ∙ ap (λ (s : List ℕ). s ++ acc) (sym (one_digit base n [] k true is))
   next_behind k n acc before false is =
@@ -141,14 +149,20 @@ module _ (base : ℕ) where
   some_digit : (k n : ℕ) (none : Bool) → eqb (n / base) 0 ≡ none → 0 < length (digits_onto (suc k) base false n [])
   some_digit k n true is = rw (one_digit base n [] k true is) (omega arith)
   some_digit k n false is =
-      rw (one_digit base n [] k false is, digits_behind k (n / base) (with_last base n []), length-append (digits_onto k base false (n / base) []) (with_last base n []))
+      rw (
+        one_digit base n [] k false is,
+        digits_behind k (n / base) (with_last base n []),
+        length-append (digits_onto k base false (n / base) []) (with_last base n []),
+      )
       (omega arith)
 
-  pub place_before : (k n : ℕ) (put all tail : List ℕ) → 0 < k → digits_onto k base false n put ≡ all ++ tail → length put < length all + length tail
+  pub place_before : (k n : ℕ) (put all tail : List ℕ) → 0 < k → digits_onto k base false n put ≡ all ++ tail →
+      length put < length all + length tail
   place_before zero n put all tail some is = absurd (omega arith)
   place_before (suc k) n put all tail some is =
       let counts : length (digits_onto (suc k) base false n []) + length put ≡ length all + length tail =
-      sym (length-append (digits_onto (suc k) base false n []) put) ∙ ap length (sym (digits_behind (suc k) n put) ∙ is) ∙ length-append all tail in
+      sym (length-append (digits_onto (suc k) base false n []) put) ∙ ap length (sym (digits_behind (suc k) n put) ∙ is) ∙
+      length-append all tail in
       omega (arith, counts, some_digit k n (eqb (n / base) 0) refl)
 
 -- so there is one where all digits have room
@@ -191,12 +205,17 @@ module _ (base : ℕ) (some : 0 < base) where
   abbrev HasFew : ℕ → ℕ → ℕ → Type 0
   HasFew k j n = length (digits_onto j base false n []) ≤ k
 
-  few_by : (k j n : ℕ) → 0 < k → n < base ^ k → ((m : ℕ) → 0 < k - 1 → m < base ^ (k - 1) → HasFew (k - 1) j m) → (none : Bool) → eqb (n / base) 0 ≡ none → HasFew k (suc j) n
+  few_by : (k j n : ℕ) → 0 < k → n < base ^ k → ((m : ℕ) → 0 < k - 1 → m < base ^ (k - 1) → HasFew (k - 1) j m) → (none : Bool) →
+      eqb (n / base) 0 ≡ none → HasFew k (suc j) n
   few_by k j n least small fewer true is = rw (one_digit base n [] j true is) (omega arith)
   few_by k j n least small fewer false is =
       let fits = rest_fits base n k some least small in
       let left = some_place base (n / base) (k - 1) (eqb-false (n / base) 0 is) fits in
-      rw (one_digit base n [] j false is, digits_behind base j (n / base) (with_last base n []), length-append (digits_onto j base false (n / base) []) (with_last base n []))
+      rw (
+        one_digit base n [] j false is,
+        digits_behind base j (n / base) (with_last base n []),
+        length-append (digits_onto j base false (n / base) []) (with_last base n []),
+      )
       (omega (arith, fewer (n / base) left fits))
 
   few_onto : (j k n : ℕ) → 0 < k → n < base ^ k → HasFew k j n
@@ -219,10 +238,12 @@ line_more f text old new j end n below same pushed before =
     let more : flat_map f (take (j + 1) xs) ≡ flat_map f (take j xs) ++ f j =
     ap (flat_map f) (take_more xs j 0 within) ∙ flat_map-append f (take j xs) (get_or xs j 0 ∷ [])
     ∙ ap (λ (s : List ℕ). flat_map f (take j xs) ++ s) (append-nil (f (get_or xs j 0)) ∙ sym is) in
-    pushed ∙ ap (λ (s : List ℕ). s ++ f j) before ∙ append_assoc text (flat_map f (take j xs)) (f j) ∙ ap (λ (s : List ℕ). text ++ s) (sym more)
+    pushed ∙ ap (λ (s : List ℕ). s ++ f j) before ∙ append_assoc text (flat_map f (take j xs)) (f j) ∙
+    ap (λ (s : List ℕ). text ++ s) (sym more)
 
 -- all of them
-pub all_lines : (f : ℕ → List ℕ) (text new : List ℕ) (j end n : ℕ) → end ≤ j → end ≡ n → new ≡ text ++ flat_map f (take j (range_with_len 0 n))
+pub all_lines : (f : ℕ → List ℕ) (text new : List ℕ) (j end n : ℕ) → end ≤ j → end ≡ n →
+    new ≡ text ++ flat_map f (take j (range_with_len 0 n))
     → new ≡ text ++ flat_map f (range_with_len 0 n)
 all_lines f text new j end n past same before =
     before ∙ ap (λ (xs : List ℕ). text ++ flat_map f xs) (take_all j (range_with_len 0 n) (no_index j end n past same))
@@ -241,21 +262,25 @@ pub buffers_line : (a b : Option (List ℕ)) (o p q : Output) (text line : List 
 buffers_line a b o p q text line sent pushed same = record {
   out = sent.out;
   went = sent.went;
-  rest = ap (λ (s : List ℕ). sent.out ++ s) pushed ∙ sym (append_assoc sent.out p.pending.items line) ∙ ap (λ (s : List ℕ). s ++ line) sent.rest
+  rest = ap (λ (s : List ℕ). sent.out ++ s) pushed ∙ sym (append_assoc sent.out p.pending.items line) ∙
+      ap (λ (s : List ℕ). s ++ line) sent.rest
       ∙ append_assoc o.pending.items text line;
   count = ap u64_saturate same ∙ sent.count;
 }
 
 -- what was pending and what is sent later is after what was sent first
-later_text : (a b : Option (List ℕ)) (o p : Output) (s t : List ℕ) (sent : Buffers a b o p s) → o.pending.items ++ (s ++ t) ≡ sent.out ++ (p.pending.items ++ t)
+later_text : (a b : Option (List ℕ)) (o p : Output) (s t : List ℕ) (sent : Buffers a b o p s) →
+    o.pending.items ++ (s ++ t) ≡ sent.out ++ (p.pending.items ++ t)
 later_text a b o p s t sent =
     sym (append_assoc o.pending.items s t) ∙ ap (λ (r : List ℕ). r ++ t) (sym sent.rest) ∙ append_assoc sent.out p.pending.items t
 
-pub buffers_both : (a b c : Option (List ℕ)) (o p q : Output) (s t : List ℕ) → Buffers a b o p s → Buffers b c p q t → Buffers a c o q (s ++ t)
+pub buffers_both : (a b c : Option (List ℕ)) (o p q : Output) (s t : List ℕ) → Buffers a b o p s → Buffers b c p q t →
+    Buffers a c o q (s ++ t)
 buffers_both a b c o p q s t first second = record {
   out = first.out ++ second.out;
   went = Appends-trans a b c first.out second.out first.went second.went;
-  rest = append_assoc first.out second.out q.pending.items ∙ ap (λ (r : List ℕ). first.out ++ r) second.rest ∙ sym (later_text a b o p s t first);
+  rest = append_assoc first.out second.out q.pending.items ∙ ap (λ (r : List ℕ). first.out ++ r) second.rest ∙
+      sym (later_text a b o p s t first);
   count =
       let whole = length-append first.out second.out in
       let before = first.count in
@@ -267,16 +292,19 @@ pub buffers_flushed : (a b c : Option (List ℕ)) (o p q : Output) (s : List ℕ
 buffers_flushed a b c o p q s first second = subst (Buffers a c o q) (append-nil s) (buffers_both a b c o p q s [] first second)
 
 -- the first bytes of what is after are the first bytes of all
-pub more_out : (a b c : Option (List ℕ)) (out rest all : List ℕ) (n : ℕ) → all ≡ out ++ rest → n ≤ length rest → Appends a b out → Appends b c (take n rest)
+pub more_out : (a b c : Option (List ℕ)) (out rest all : List ℕ) (n : ℕ) → all ≡ out ++ rest → n ≤ length rest → Appends a b out →
+    Appends b c (take n rest)
     → (length out + n ≤ length all) × Appends a c (take (length out + n) all)
 more_out a b c out rest all n split within first second =
     let long = length-append out rest in (
       rw split (omega arith),
-      subst (Appends a c) (sym (ap (take (length out + n)) split ∙ take-append-add out rest n)) (Appends-trans a b c out (take n rest) first second),
+      subst (Appends a c) (sym (ap (take (length out + n)) split ∙ take-append-add out rest n))
+          (Appends-trans a b c out (take n rest) first second),
     )
 
 -- what stops after some was sent, in both
-pub cut_later : (a b c : Option (List ℕ)) (o p : Output) (s t : List ℕ) (fault : ToolFault) → Buffers a b o p s → IsCutShort b c p t fault → IsCutShort a c o (s ++ t) fault
+pub cut_later : (a b c : Option (List ℕ)) (o p : Output) (s t : List ℕ) (fault : ToolFault) → Buffers a b o p s → IsCutShort b c p t fault →
+    IsCutShort a c o (s ++ t) fault
 cut_later a b c o p s t (Write written) sent (n, count, below, went) =
     let split = later_text a b o p s t sent in
     let more = more_out a b c sent.out (p.pending.items ++ t) (o.pending.items ++ (s ++ t)) n split (omega arith) sent.went went in
@@ -285,12 +313,14 @@ cut_later a b c o p s t (Write written) sent (n, count, below, went) =
     let before = sent.count in
     (length sent.out + n, omega arith, omega arith, more.1)
 cut_later a b c o p s t OutOfMemory sent (n, within, went) =
-    let more = more_out a b c sent.out (p.pending.items ++ t) (o.pending.items ++ (s ++ t)) n (later_text a b o p s t sent) within sent.went went in
+    let more = more_out a b c sent.out (p.pending.items ++ t) (o.pending.items ++ (s ++ t)) n
+    (later_text a b o p s t sent) within sent.went went in
     (length sent.out + n, more.0, more.1)
 cut_later a b c o p s t (Read at) sent stop = absurd stop
 
 -- what stops in a text stops in a longer one
-pub cut_longer : (a c : Option (List ℕ)) (o : Output) (s t : List ℕ) (fault : ToolFault) → IsCutShort a c o s fault → IsCutShort a c o (s ++ t) fault
+pub cut_longer : (a c : Option (List ℕ)) (o : Output) (s t : List ℕ) (fault : ToolFault) → IsCutShort a c o s fault →
+    IsCutShort a c o (s ++ t) fault
 cut_longer a c o s t (Write written) (n, count, below, went) =
     let split = sym (append_assoc o.pending.items s t) in
     let first = ap (take n) split ∙ take-append-le n (o.pending.items ++ s) t (omega arith) in
@@ -305,8 +335,10 @@ cut_longer a c o s t OutOfMemory (n, within, went) =
     (n, omega arith, subst (Appends a c) (sym first) went)
 cut_longer a c o s t (Read at) stop = absurd stop
 
-pub cut_flushed : (a b c : Option (List ℕ)) (o p : Output) (s : List ℕ) (fault : ToolFault) → Buffers a b o p s → IsCutShort b c p [] fault → IsCutShort a c o s fault
-cut_flushed a b c o p s fault sent stop = subst (λ (r : List ℕ). IsCutShort a c o r fault) (append-nil s) (cut_later a b c o p s [] fault sent stop)
+pub cut_flushed : (a b c : Option (List ℕ)) (o p : Output) (s : List ℕ) (fault : ToolFault) → Buffers a b o p s →
+    IsCutShort b c p [] fault → IsCutShort a c o s fault
+cut_flushed a b c o p s fault sent stop =
+    subst (λ (r : List ℕ). IsCutShort a c o r fault) (append-nil s) (cut_later a b c o p s [] fault sent stop)
 
 -- an allocation fails with nothing more out
 pub cut_here : (a : Option (List ℕ)) (o : Output) (text : List ℕ) → IsCutShort a a o text OutOfMemory
@@ -314,12 +346,15 @@ cut_here a o text = (0, omega arith, Appends-nil a)
 
 -- ---- a whole text
 
-pub all_written : (a c : Option (List ℕ)) (o q : Output) (text : List ℕ) → o.pending.items ≡ [] → q.pending.items ≡ [] → Buffers a c o q text → Appends a c text
+pub all_written : (a c : Option (List ℕ)) (o q : Output) (text : List ℕ) → o.pending.items ≡ [] → q.pending.items ≡ [] →
+    Buffers a c o q text → Appends a c text
 all_written a c o q text empty done sent =
-    let out : sent.out ≡ text = sym (append-nil sent.out) ∙ ap (λ (s : List ℕ). sent.out ++ s) (sym done) ∙ sent.rest ∙ ap (λ (s : List ℕ). s ++ text) empty in
+    let out : sent.out ≡ text =
+    sym (append-nil sent.out) ∙ ap (λ (s : List ℕ). sent.out ++ s) (sym done) ∙ sent.rest ∙ ap (λ (s : List ℕ). s ++ text) empty in
     subst (Appends a c) out sent.went
 
-pub all_cut : (a c : Option (List ℕ)) (o : Output) (text : List ℕ) (fault : ToolFault) → o.pending.items ≡ [] → o.written ≡ 0 → IsCutShort a c o text fault
+pub all_cut : (a c : Option (List ℕ)) (o : Output) (text : List ℕ) (fault : ToolFault) → o.pending.items ≡ [] → o.written ≡ 0 →
+    IsCutShort a c o text fault
     → IsBeginning text a c fault
 all_cut a c o text (Write written) empty none (n, count, below, went) =
     let whole : o.pending.items ++ text ≡ text = ap (λ (s : List ℕ). s ++ text) empty in
@@ -330,9 +365,11 @@ all_cut a c o text OutOfMemory empty none (n, within, went) =
 all_cut a c o text (Read at) empty none stop = absurd stop
 
 -- a last flush lets all of it out, or only its first bytes
-pub all_out : {T : Type 0} (a b c : Option (List ℕ)) (o p q : Output) (text : List ℕ) (result : Result T ToolFault) → o.pending.items ≡ [] → o.written ≡ 0
+pub all_out : {T : Type 0} (a b c : Option (List ℕ)) (o p q : Output) (text : List ℕ) (result : Result T ToolFault) → o.pending.items ≡ [] →
+    o.written ≡ 0
     → Buffers a b o p text → IsBuffered b c p q [] result → OnOk result (q.pending.items ≡ []) → WritesPieces text a c result
-all_out a b c o p q text (Ok done) empty none sent flushed gone = all_written a c o q text empty gone (buffers_flushed a b c o p q text sent flushed)
+all_out a b c o p q text (Ok done) empty none sent flushed gone =
+    all_written a c o q text empty gone (buffers_flushed a b c o p q text sent flushed)
 all_out a b c o p q text (Err fault) empty none sent flushed gone =
     all_cut a c o text fault empty none (cut_flushed a b c o p text fault sent flushed)
 
@@ -340,23 +377,30 @@ all_out a b c o p q text (Err fault) empty none sent flushed gone =
 
 module _ {X : Type 0} (f : X → List ℕ) (xs : List X) (i : ℕ) (d : X) (within : i < length xs) where
   one_more_piece : flat_map f (take (i + 1) xs) ≡ flat_map f (take i xs) ++ f (get_or xs i d)
-  one_more_piece = ap (flat_map f) (take_more xs i d within) ∙ flat_map-append f (take i xs) (get_or xs i d ∷ []) ∙ ap (λ (s : List ℕ). flat_map f (take i xs) ++ s) (append-nil (f (get_or xs i d)))
+  one_more_piece =
+      ap (flat_map f) (take_more xs i d within) ∙ flat_map-append f (take i xs) (get_or xs i d ∷ []) ∙
+      ap (λ (s : List ℕ). flat_map f (take i xs) ++ s) (append-nil (f (get_or xs i d)))
 
   all_in_two : flat_map f xs ≡ flat_map f (take (i + 1) xs) ++ flat_map f (drop (i + 1) xs)
   all_in_two = ap (flat_map f) (sym (take-append-drop (i + 1) xs)) ∙ flat_map-append f (take (i + 1) xs) (drop (i + 1) xs)
 
-  module _ (a b : Option (List ℕ)) (o p : Output) (line : List ℕ) (sent : Buffers a b o p (flat_map f (take i xs))) (is : line ≡ f (get_or xs i d)) where
-    pushed_line : (q : Output) → q.pending.items ≡ p.pending.items ++ line → q.written ≡ p.written → Buffers a b o q (flat_map f (take (i + 1) xs))
+  module _ (a b : Option (List ℕ)) (o p : Output) (line : List ℕ) (sent : Buffers a b o p (flat_map f (take i xs)))
+      (is : line ≡ f (get_or xs i d)) where
+    pushed_line : (q : Output) → q.pending.items ≡ p.pending.items ++ line → q.written ≡ p.written →
+        Buffers a b o q (flat_map f (take (i + 1) xs))
     pushed_line q pushed same =
-        subst (Buffers a b o q) (ap (λ (s : List ℕ). flat_map f (take i xs) ++ s) is ∙ sym one_more_piece) (buffers_line a b o p q (flat_map f (take i xs)) line sent pushed same)
+        subst (Buffers a b o q) (ap (λ (s : List ℕ). flat_map f (take i xs) ++ s) is ∙ sym one_more_piece)
+        (buffers_line a b o p q (flat_map f (take i xs)) line sent pushed same)
 
     -- the line of one more element is pushed, and a piece goes out where it is large
-    pub line_buffered : (c : Option (List ℕ)) (q r : Output) → q.pending.items ≡ p.pending.items ++ line → q.written ≡ p.written → Buffers b c q r []
+    pub line_buffered : (c : Option (List ℕ)) (q r : Output) → q.pending.items ≡ p.pending.items ++ line → q.written ≡ p.written →
+        Buffers b c q r []
         → Buffers a c o r (flat_map f (take (i + 1) xs))
     line_buffered c q r pushed same flushed = buffers_flushed a b c o q r (flat_map f (take (i + 1) xs)) (pushed_line q pushed same) flushed
 
     -- or no more of it goes out than of all lines
-    pub line_cut : (c : Option (List ℕ)) (q : Output) (fault : ToolFault) → q.pending.items ≡ p.pending.items ++ line → q.written ≡ p.written → IsCutShort b c q [] fault
+    pub line_cut : (c : Option (List ℕ)) (q : Output) (fault : ToolFault) → q.pending.items ≡ p.pending.items ++ line →
+        q.written ≡ p.written → IsCutShort b c q [] fault
         → IsCutShort a c o (flat_map f xs) fault
     line_cut c q fault pushed same stop =
         subst (λ (s : List ℕ). IsCutShort a c o s fault) (sym all_in_two)
@@ -364,13 +408,15 @@ module _ {X : Type 0} (f : X → List ℕ) (xs : List X) (i : ℕ) (d : X) (with
         (cut_flushed a b c o q (flat_map f (take (i + 1) xs)) fault (pushed_line q pushed same) stop))
 
   -- the lines of one more element are sent by themselves
-  pub lines_buffered : (a b c : Option (List ℕ)) (o p r : Output) → Buffers a b o p (flat_map f (take i xs)) → Buffers b c p r (f (get_or xs i d))
+  pub lines_buffered : (a b c : Option (List ℕ)) (o p r : Output) → Buffers a b o p (flat_map f (take i xs)) →
+      Buffers b c p r (f (get_or xs i d))
       → Buffers a c o r (flat_map f (take (i + 1) xs))
   lines_buffered a b c o p r sent next =
       subst (Buffers a c o r) (sym one_more_piece) (buffers_both a b c o p r (flat_map f (take i xs)) (f (get_or xs i d)) sent next)
 
   -- or no more of them goes out than of all lines
-  pub lines_cut : (a b c : Option (List ℕ)) (o p : Output) (fault : ToolFault) → Buffers a b o p (flat_map f (take i xs)) → IsCutShort b c p (f (get_or xs i d)) fault
+  pub lines_cut : (a b c : Option (List ℕ)) (o p : Output) (fault : ToolFault) → Buffers a b o p (flat_map f (take i xs)) →
+      IsCutShort b c p (f (get_or xs i d)) fault
       → IsCutShort a c o (flat_map f xs) fault
   lines_cut a b c o p fault sent stop =
       subst (λ (s : List ℕ). IsCutShort a c o s fault) (sym all_in_two)
@@ -379,7 +425,8 @@ module _ {X : Type 0} (f : X → List ℕ) (xs : List X) (i : ℕ) (d : X) (with
       (cut_later a b c o p (flat_map f (take i xs)) (f (get_or xs i d)) fault sent stop)))
 
   -- the line of one more element is not allocated
-  pub line_refused : (a b : Option (List ℕ)) (o p : Output) → Buffers a b o p (flat_map f (take i xs)) → IsCutShort a b o (flat_map f xs) OutOfMemory
+  pub line_refused : (a b : Option (List ℕ)) (o p : Output) → Buffers a b o p (flat_map f (take i xs)) →
+      IsCutShort a b o (flat_map f xs) OutOfMemory
   line_refused a b o p sent =
       let all : flat_map f xs ≡ flat_map f (take i xs) ++ flat_map f (drop i xs) =
       ap (flat_map f) (sym (take-append-drop i xs)) ∙ flat_map-append f (take i xs) (drop i xs) in

@@ -13,7 +13,8 @@ use Rattle.elf_tool_check.specs.declared.calls.Verdict.{Verdict}
 -- a writer that held `old` holds `new`, with a beginning of a text after it, but not all; `written` is its length, if the text is shorter
 -- than 2^64 bytes
 abbrev pub IsCutIn : Option (List ℕ) → Option (List ℕ) → List ℕ → ℕ → Type 0
-IsCutIn old new text written = (count : ℕ) × (count < length text) × Appends old new (take count text) × (length text < 2 ^ 64 → written ≡ count)
+IsCutIn old new text written =
+    (count : ℕ) × (count < length text) × Appends old new (take count text) × (length text < 2 ^ 64 → written ≡ count)
 
 -- what is found is written in pieces; of the line on what is refused exactly the first `written` bytes are written
 abbrev pub IsCutBy : Verdict → Option (List ℕ) → Option (List ℕ) → List ℕ → ℕ → Type 0

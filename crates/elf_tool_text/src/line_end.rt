@@ -128,8 +128,8 @@ impl LineEnd {
         self.put(b" 0x");
     }
 
-    /// Puts a name and a line feed where nothing is, if the name is plain and both are at most [`NAME_ROOM`] bytes. Returns whether it is so;
-    /// else nothing is put.
+    /// Puts a name and a line feed where nothing is, if the name is plain and both are at most [`NAME_ROOM`] bytes. Returns whether it is
+    /// so; else nothing is put.
     pub fn put_name(&mut self, name: &[u8]) -> bool
         requires empty { self.old ≡ [] }
         ensures bytes { self.new ≡ name_tail result name.now }

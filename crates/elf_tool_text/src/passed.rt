@@ -76,7 +76,8 @@ pub fn pass_with_name<W: Write>(
     output: &mut Output,
     writer: &mut W,
 ) -> Result<(), WriteFault>
-    ensures { IsPassed (W.contents writer.old) (W.contents writer.new) output.old output.new (ended_by_name line.now is_whole name.now) result }
+    ensures { IsPassed (W.contents writer.old) (W.contents writer.new) output.old output.new
+        (ended_by_name line.now is_whole name.now) result }
 {
     if is_whole {
         return output.pass(writer, line.as_bytes());

@@ -1,5 +1,6 @@
 -- Words of the command line, and numbers in them.
-use Rattle.std.proofs.Common.{◌≡◌, ◌∙◌, inl, inr, ap, refl, sym, Bool, true, false, not, cond, ◌&&◌, List, [], ◌∷◌, Option, Some, None, is_some, ℕ, ◌^◌, ◌<◌, subst, arith, length, nat_lt, Result, Ok, Err, lt-ltb, if◌then◌else◌}
+use Rattle.std.proofs.Common.{◌≡◌, ◌∙◌, inl, inr, ap, refl, sym, Bool, true, false, not, cond, ◌&&◌, List, [], ◌∷◌, Option, Some, None}
+use Rattle.std.proofs.Common.{is_some, ℕ, ◌^◌, ◌<◌, subst, arith, length, nat_lt, Result, Ok, Err, lt-ltb, if◌then◌else◌}
 use Rattle.std.specs.Box.{box_value}
 use Rattle.std.specs.Prelude.{Box, IfOk, IsOkAnd, find, option_map}
 use Rattle.std.specs.List.{list_all}
@@ -11,7 +12,8 @@ use Rattle.std.proofs.lemmas.Bool.{cases_lt, le-ltb}
 use Rattle.std.proofs.lemmas.Bool.Decides.{nat_tests}
 use Rattle.clap.specs.Faults.{check_fault, defaults_fault, entered_fault, fault_of, settle_fault, walk_fault}
 use Rattle.clap.specs.Kinds.{Kinds, check_kinds, or_else}
-use Rattle.clap.specs.Simple.{App, Shape, argument_words, built, entered, label_of, names_of, rows_at, shape_of, subcommand_of, subcommand_rows, subcommand_rows_of, with_subcommand}
+use Rattle.clap.specs.Simple.{App, Shape, argument_words, built, entered, label_of, names_of, rows_at, shape_of, subcommand_of}
+use Rattle.clap.specs.Simple.{subcommand_rows, subcommand_rows_of, with_subcommand}
 use Rattle.clap.specs.Matches.{subcommand_name_of}
 use Rattle.clap.specs.Walk.{Row, Text, answers_to, finished, nothing_held, settled, stop_after, walk, walk_from}
 use Rattle.clap.specs.declared.builder.command.Command.{Command}
@@ -44,7 +46,8 @@ given_of_check false true wants_argument e = cc
 given_of_check false false wants_argument e = cc
 
 -- words that are taken enter a subcommand, where one is required
-pub enters : (a : App) (words : List Text) → (built a).top.subcommand_required ≡ true → fault_of a words ≡ [] → is_some (subcommand_of a words) ≡ true
+pub enters : (a : App) (words : List Text) → (built a).top.subcommand_required ≡ true → fault_of a words ≡ [] →
+    is_some (subcommand_of a words) ≡ true
 enters a words required taken =
     let b = built a in
     let ws = argument_words a words in
@@ -57,7 +60,8 @@ enters a words required taken =
     let defaults = defaults_fault (settled s.rules end).rows s.rules in
     let settles = settle_fault s.rules s.args_override_self end in
     let below = entered_fault b stop in
-    let step_1 : or_else below (or_else settles (or_else defaults checks)) ≡ [] = or_else_nil (walk_fault s names (walk_from nothing_held) ws) _ taken in
+    let step_1 : or_else below (or_else settles (or_else defaults checks)) ≡ [] =
+    or_else_nil (walk_fault s names (walk_from nothing_held) ws) _ taken in
     let step_2 : or_else settles (or_else defaults checks) ≡ [] = or_else_nil below _ step_1 in
     let step_3 : or_else defaults checks ≡ [] = or_else_nil settles _ step_2 in
     let step_4 : checks ≡ [] = or_else_nil defaults _ step_3 in
@@ -69,7 +73,8 @@ name_or None name = name
 name_or (Some p) name = p.0
 
 -- the shape that a search finds is one of those searched
-found_name : (test : Shape → Bool) (subs : List Shape) (words : List Text) (p : Text × List Row) → option_map (λ s. rows_at s words) (find test subs) ≡ Some p → IsNameIn p.0 subs
+found_name : (test : Shape → Bool) (subs : List Shape) (words : List Text) (p : Text × List Row) →
+    option_map (λ s. rows_at s words) (find test subs) ≡ Some p → IsNameIn p.0 subs
 found_name test [] words p e = cc
 found_name test (s ∷ rest) words p e = go (test s) e (found_name test rest words p)
   where
@@ -85,14 +90,16 @@ entered_name a (Some q) p e = found_name (λ s. answers_to q.0 (label_of s)) a.s
 
 module _ {Z : Type 0} where
   -- the name and the rows of a subcommand, from each of them
-  both_parts : (o : Option (Box SubCommand Z)) (name : Text) (rows : List Row) → Some name ≡ option_map (λ b. (out-SubCommand (box_value b)).name.now) o
+  both_parts : (o : Option (Box SubCommand Z)) (name : Text) (rows : List Row) →
+      Some name ≡ option_map (λ b. (out-SubCommand (box_value b)).name.now) o
       → Some rows ≡ option_map (λ p. p.1) (subcommand_rows o) → subcommand_rows o ≡ Some (name, rows)
   both_parts None name rows e f = cc
   both_parts (Some b) name rows e f = cc
 
 -- the subcommand that a parse reports is the one that the definition enters
 pub entered_is : (words : List Text) (m : ArgMatches) (name : Text) (rows : List Row) → subcommand_rows_of m ≡ subcommand_of elfmap words
-    → Some name ≡ subcommand_name_of m → Some rows ≡ option_map (λ p. p.1) (subcommand_rows_of m) → subcommand_of elfmap words ≡ Some (name, rows)
+    → Some name ≡ subcommand_name_of m → Some rows ≡ option_map (λ p. p.1) (subcommand_rows_of m) →
+    subcommand_of elfmap words ≡ Some (name, rows)
 entered_is words m name rows same named rowed = sym same ∙ both_parts (out-ArgMatches m).subcommand name rows named rowed
 
 -- and its name is one of the program's commands
@@ -107,7 +114,8 @@ some_of_rows : (o : Option (Text × List Row)) → None ≡ option_map (λ p. p.
 some_of_rows None e some = cc
 some_of_rows (Some p) e some = cc
 
-pub never_none : (words : List Text) (m : ArgMatches) → subcommand_rows_of m ≡ subcommand_of elfmap words → None ≡ option_map (λ p. p.1) (subcommand_rows_of m)
+pub never_none : (words : List Text) (m : ArgMatches) → subcommand_rows_of m ≡ subcommand_of elfmap words →
+    None ≡ option_map (λ p. p.1) (subcommand_rows_of m)
     → fault_of elfmap words ≡ [] → ⊥
 unfolding elfmap
 never_none words m same none taken = some_of_rows (subcommand_of elfmap words) (rw same at none) (enters elfmap words refl taken)
@@ -139,12 +147,16 @@ module _ (radix : ℕ) (is_digit : ℕ → Bool) (are : AreDigitsOf radix is_dig
 
   module _ {E : Type 0} where
     -- a text of digits is read as the number that they write
-    pub parsed : (text : List ℕ) (r : Result ℕ E) → list_all is_digit text ≡ true → ParsesUnsigned 64 radix text r → result_ok r ≡ numeral radix is_digit text
+    pub parsed : (text : List ℕ) (r : Result ℕ E) → list_all is_digit text ≡ true → ParsesUnsigned 64 radix text r →
+        result_ok r ≡ numeral radix is_digit text
     parsed text r all parses =
-        rw all (read r (subst (λ t. OkIff r (IsNumeral radix t × (digits_value radix t < 2 ^ 64)) (digits_value radix t)) (no_leading_plus text all) parses))
+        rw all (read r
+        (subst (λ t. OkIff r (IsNumeral radix t × (digits_value radix t < 2 ^ 64)) (digits_value radix t))
+        (no_leading_plus text all) parses))
       where
         read : (r : Result ℕ E) → OkIff r (IsNumeral radix text × (digits_value radix text < 2 ^ 64)) (digits_value radix text)
-            → result_ok r ≡ (if true && (nat_lt 0 (length text) && nat_lt (digits_value radix text) (2 ^ 64)) then Some (digits_value radix text) else None)
+            → result_ok r ≡
+            (if true && (nat_lt 0 (length text) && nat_lt (digits_value radix text) (2 ^ 64)) then Some (digits_value radix text) else None)
         read (Ok n) is = rw (lt-ltb 0 (length text) is.0.0.0, lt-ltb (digits_value radix text) (2 ^ 64) is.0.1) (ap Some is.1)
         read (Err e) none = elim (cases_lt 0 (length text)) [
           | inr past ↦ rw (le-ltb 0 (length text) past) refl

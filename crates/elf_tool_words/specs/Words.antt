@@ -1,5 +1,6 @@
 -- What the words of a command line ask for: clap's definition of their matches, read.
-use Rattle.std.specs.Prelude.{ℕ, ◌^◌, Bool, ◌&&◌, ◌||◌, List, codes, drop, length, nat_eq, nat_le, nat_lt, Option, None, Some, if◌then◌else◌, ◌≡◌, ◌≢◌, ◌⊎◌, ◌<◌, ◌≤◌, true, false, [], map, option_copied, unwrap_or}
+use Rattle.std.specs.Prelude.{ℕ, ◌^◌, Bool, ◌&&◌, ◌||◌, List, codes, drop, length, nat_eq, nat_le, nat_lt, Option, None, Some}
+use Rattle.std.specs.Prelude.{if◌then◌else◌, ◌≡◌, ◌≢◌, ◌⊎◌, ◌<◌, ◌≤◌, true, false, [], map, option_copied, unwrap_or}
 use Rattle.std.specs.List.{list_all, starts_with}
 use Rattle.std.specs.Str.Parse.{digits_value}
 use Rattle.std.specs.Str.{bytes_eq}
@@ -29,7 +30,8 @@ is_hexadecimal_digit b = is_decimal_digit b || (nat_le 97 b && nat_le b 102)
 -- the number that one digit or more write, where it is below 2^64
 abbrev pub numeral : ℕ → (ℕ → Bool) → List ℕ → Option ℕ
 numeral radix is_digit text =
-    if list_all is_digit text && (nat_lt 0 (length text) && nat_lt (digits_value radix text) (2 ^ 64)) then Some (digits_value radix text) else None
+    if list_all is_digit text && (nat_lt 0 (length text) && nat_lt (digits_value radix text) (2 ^ 64)) then Some
+    (digits_value radix text) else None
 
 abbrev pub decimal_number : List ℕ → Option ℕ
 decimal_number text = numeral 10 is_decimal_digit text

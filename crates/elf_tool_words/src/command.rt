@@ -5,7 +5,11 @@ ghost use Rattle.clap.specs.Simple.{with_subcommand};
 ghost use Rattle.clap.specs.Words.{app_of, shape_of};
 ghost use Rattle.clap.specs.declared.builder.command.Command.TheViews.{out-Command as fields_of};
 ghost use Rattle.clap.specs.Walk.{rule_of};
-ghost use Rattle.elf_tool_words.specs.Command.{base as base_rule, check as check_shape, elfmap as elfmap_app, entry_word as entry_rule, file_command as file_shape, files as files_rule, link_command as link_shape, map_command as map_shape, needed_rules_file as needed_rules_rule, page as page_rule, placing_command as placing_shape, with_file_commands, rewrite as rewrite_shape, rules_file as rules_rule, seek as seek_rule, show as show_shape};
+ghost use Rattle.elf_tool_words.specs.Command.{base as base_rule, check as check_shape, elfmap as elfmap_app, entry_word as entry_rule};
+ghost use Rattle.elf_tool_words.specs.Command.{file_command as file_shape, files as files_rule, link_command as link_shape};
+ghost use Rattle.elf_tool_words.specs.Command.{map_command as map_shape, needed_rules_file as needed_rules_rule, page as page_rule};
+ghost use Rattle.elf_tool_words.specs.Command.{placing_command as placing_shape, with_file_commands, rewrite as rewrite_shape};
+ghost use Rattle.elf_tool_words.specs.Command.{rules_file as rules_rule, seek as seek_rule, show as show_shape};
 
 use clap::{Arg, ArgAction, Command};
 use std::alloc::{AllocError, Global};

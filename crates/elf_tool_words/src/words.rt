@@ -3,7 +3,9 @@ ghost use Rattle.std.specs.Prelude.{◌≡◌, ◌<◌, ◌≤◌, [], IfErr, If
 ghost use Rattle.std.specs.List.{list_all};
 ghost use Rattle.clap.specs.Walk.{first_of};
 ghost use Rattle.clap.specs.Words.{fault_of, found_of, rows_of, subcommand_of, subcommand_rows_of};
-ghost use Rattle.elf_tool_words.specs.Words.{decimal_number, hexadecimal_number, is_decimal_digit, is_hexadecimal_digit as is_hexadecimal, number_of as number_in, AreLinkWords, Asks, CommandRefuses, IsAskedBy, IsRefusedBy, RefusesLinkWords, is_set as is_set_in, text_of, texts_of};
+ghost use Rattle.elf_tool_words.specs.Words.{decimal_number, hexadecimal_number, is_decimal_digit, is_hexadecimal_digit as is_hexadecimal};
+ghost use Rattle.elf_tool_words.specs.Words.{number_of as number_in, AreLinkWords, Asks, CommandRefuses, IsAskedBy, IsRefusedBy};
+ghost use Rattle.elf_tool_words.specs.Words.{RefusesLinkWords, is_set as is_set_in, text_of, texts_of};
 ghost use Rattle.elf_tool_words.specs.Command.{IsNameIn, elfmap as elfmap_app};
 ghost use Rattle.elf_tool_words.specs.declared.words.WordsFault.TheVariants.{TooManyFiles};
 
@@ -247,7 +249,8 @@ fn validate_count(files: &[&str]) -> Result<(), WordsFault>
 }
 
 fn link_words<'a>(alloc: Global, matches: &ArgMatches<'a>) -> Result<LinkWords<'a>, WordsFault>
-    ensures ok { IfOk result (λ words. AreLinkWords (rows_of (found_of matches.now)) words.base words.page (map (λ f. f.now) words.files.items)) }
+    ensures ok { IfOk result
+        (λ words. AreLinkWords (rows_of (found_of matches.now)) words.base words.page (map (λ f. f.now) words.files.items)) }
     ensures err { IfErr result (RefusesLinkWords (rows_of (found_of matches.now))) }
 {
     let files = texts_at(alloc, matches, "FILE")?;

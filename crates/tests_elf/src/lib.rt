@@ -1,9 +1,5 @@
-//! What the library shows: each item of each public crate, named through `elf`; the texts of faults; the object without sections and symbols,
-//! made, written, validated and read; and the tables that a file holds, as code asks them. Files that break the rules of tables are in
-//! `cases/tables.txt`.
-//!
-//! And the program and its commands, over openers that fail and writers that count their calls, and over files of many sections and
-//! segments. What a command answers of a file is in `cases/`. Where one call of the machine fails, `tools/test failing-calls` shows it.
+//! Tests of what the library shows: each item of each public crate, named through `elf`; the texts of faults; and the object without
+//! sections and symbols, made, written, validated and read.
 #![tactic(auto)]
 
 /// Records.
@@ -71,28 +67,8 @@ pub mod tool {
 #[cfg(test)]
 mod asserts;
 #[cfg(test)]
-mod check_alone;
-#[cfg(test)]
-mod dynamic;
-#[cfg(test)]
 mod empty_object;
 #[cfg(test)]
 mod fault_texts;
 #[cfg(test)]
-mod flushes;
-#[cfg(test)]
-mod groups;
-#[cfg(test)]
-mod hashes;
-#[cfg(test)]
-mod known_files;
-#[cfg(test)]
-mod many_parts;
-#[cfg(test)]
-mod notes;
-#[cfg(test)]
 mod own;
-#[cfg(test)]
-mod program;
-#[cfg(test)]
-mod symbols;

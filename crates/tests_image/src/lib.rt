@@ -1,11 +1,13 @@
 //! Tests of images: read, edited, written, loaded, scanned from a source and copied; and readers, sources and writers that give or take
-//! little, or fail at one call where `tools/test failing-calls` makes none fail.
+//! little, or fail at one call where `tools/test failing-calls` makes none fail. And of the verdict on a file.
 #![tactic(auto)]
 
 #[cfg(test)]
 mod asserts;
 #[cfg(test)]
 mod copies;
+#[cfg(test)]
+mod image_rules;
 #[cfg(test)]
 mod images;
 #[cfg(test)]

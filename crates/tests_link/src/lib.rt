@@ -23,4 +23,6 @@ mod many_fields;
 #[cfg(test)]
 mod parts;
 #[cfg(test)]
+mod relocations;
+#[cfg(test)]
 mod standing;

@@ -15,4 +15,6 @@ mod layouts;
 #[cfg(test)]
 mod parts;
 #[cfg(test)]
+mod string_tables;
+#[cfg(test)]
 mod written;

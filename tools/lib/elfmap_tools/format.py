@@ -1,7 +1,8 @@
 """`tools/test format`: the layout of all Python. black decides it. What black leaves open is
 decided here: no line is longer than black's, an `import` names one module, a module is named by one
 `from` .. `import`, and an assignment has one idea: `a, b = c, d` is two lines, if two lines do the
-same."""
+same. `rt ci` decides the layout of Rattle. It breaks no line of a proof or of a contract: how long
+these may be is decided here."""
 
 import ast
 import re
@@ -9,7 +10,11 @@ from collections.abc import Iterator
 
 from .python_sources import SETTINGS, own_files, package_files
 from .suite import Tally, Test, flag
-from .tree import TOP, Options, read_text, said
+from .tree import LIBRARIES_OF, TOP, Options, read_text, said, texts_of
+
+# How long the lines of Rattle are. `rt fmt` puts an attribute into one line, however long it is.
+COLUMNS_OF_RATTLE = 140
+ATTRIBUTE = "#["
 
 
 def columns() -> int:
@@ -64,6 +69,17 @@ def left_open(path: str) -> Iterator[str]:
         yield f"{path[len(TOP) + 1:]}:{line}: {what}"
 
 
+def long_in_crate(crate: str) -> Iterator[str]:
+    """The lines of a crate that are too long."""
+    for path in texts_of(crate):
+        if path.endswith((".rt", ".antt")):
+            text = read_text(path)
+            lines = text.splitlines()
+            for number, what in long_lines(text, COLUMNS_OF_RATTLE):
+                if not lines[number - 1].lstrip().startswith(ATTRIBUTE):
+                    yield f"{path[len(TOP) + 1:]}:{number}: {what}"
+
+
 def by_black(files: list[str], *words: str) -> bool:
     """Whether black finds nothing to do, or did it."""
     return said("black", "--config", SETTINGS, "--quiet", *words, *files).returncode == 0
@@ -71,7 +87,8 @@ def by_black(files: list[str], *words: str) -> bool:
 
 @Test(
     "format",
-    "black over tools/, bench/, reference/ and the Python package with its tests",
+    "black over tools/, bench/, reference/ and the Python package with its tests, and the "
+    "lines of the crates",
     commands="black",
     options=(flag("write", "format it"),),
 )
@@ -82,3 +99,6 @@ def try_format(tally: Tally, options: Options) -> None:
     for path in files:
         wrong = list(left_open(path))
         tally.check(not wrong, "\n".join(wrong))
+    for crate in LIBRARIES_OF:
+        long = list(long_in_crate(crate))
+        tally.check(not long, "\n".join(long))

@@ -1,6 +1,9 @@
 """`tools/test make-cases`: generates the files cases/generated-*.txt, or compares them with what it
 generates, byte for byte. Generated files are sound ones, and files with a few fields changed; the
-answers are the reference implementation's."""
+answers are the reference implementation's.
+
+Cases are generated, and not kept as they were found: the gate makes them again, so they stay equal
+to the reference implementation."""
 
 import filecmp
 import os

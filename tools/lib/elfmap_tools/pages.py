@@ -10,9 +10,9 @@ has its two commands in the first screen. A proof file of more than PROOF_LINES 
 comment, its idea."""
 
 import glob
-import os
 import re
 import statistics
+from collections import Counter
 
 from .page_texts import CODE, all_pages, sentences
 from .suite import TESTS, Tally, Test, families
@@ -37,9 +37,8 @@ GENERATED = re.compile(
     r"# .*\n\n`((?:tools|bench)/\w+)[^`]*`.* the tables of this page\. "
     r"Do not edit them by hand[.:]"
 )
-# A number of a decision; and the part of docs/INTERNALS.md on a crate.
+# A number of a decision.
 DECISION = re.compile(r"^- \((\d+)\) ", re.M)
-OF_CRATE = re.compile(r"^## `(\w+)`.*\n((?:(?!## ).*\n)*)", re.M)
 QUOTES = re.compile(r"^```\w+ (\S+)\n(.*?)^```", re.M | re.S)
 
 
@@ -65,17 +64,10 @@ def try_proofs(tally: Tally) -> None:
 
 
 def try_decisions(tally: Tally) -> None:
-    """Each number of a decision is on one of the two pages. What a crate's decision is about is
-    there."""
-    internals = read_text("docs/INTERNALS.md")
-    numbers = [int(it) for it in DECISION.findall(read_text("docs/DECISIONS.md") + internals)]
-    right = [*range(1, len(numbers) + 1)]
-    tally.same("the numbers of decisions", sorted(numbers), right)
-    for crate, part in OF_CRATE.findall(internals):
-        places = re.findall(r"`((?:src|specs|proofs)/[\w./]*)`", part)
-        named = [f"crates/{crate}", *(f"crates/{crate}/{it}" for it in places)]
-        gone = [it for it in named if not os.path.exists(f"{TOP}/{it}")]
-        tally.check(not gone, f"docs/INTERNALS.md names what is not there: {gone}")
+    """No two decisions have one number."""
+    numbers = DECISION.findall(read_text("docs/DECISIONS.md"))
+    twice = [it for it, count in Counter(numbers).items() if count > 1]
+    tally.same("the numbers of decisions that two have", twice, [])
 
 
 def try_words(tally: Tally, path: str, text: str) -> None:

@@ -35,10 +35,10 @@ WHEEL = "tools/test packages installs the wheel"
 SKIPPED = {
     "rt ci": LONG,
     "tools/dev prove elf_image_rules": LONG,
-    "tools/dev prove tests_base": LONG,
+    "tools/dev prove tests_extent": LONG,
     "tools/dev check elf_extent  # a crate": LONG,
     PLANTED: "a bug",
-    "tools/dev check tests_base --test finds_the_next_place": LONG,
+    "tools/dev check tests_extent --test finds_the_next_place": LONG,
     "man -l elfmap-VERSION-x86_64-linux/share/man/man1/elfmap.1": MANUAL,
     "python3 -m venv venv && venv/bin/pip install elfmap-*.whl": WHEEL,
     "venv/bin/elfmap-gaps --most 20 /usr/lib": WHEEL,

@@ -7,4 +7,5 @@ returns-clause-read c = filled_as _ _ (λ j r entry. search rules) _ _ _ _ c.fil
 
 pub returns-clause-listed : goal.returns-clause-listed
 returns-clause-listed c i is =
-    filled_as _ _ (λ j r entry. symbol_listed_as c.args.table.now c.args.bytes.now i j r is (search rules) (search rules)) _ _ _ _ c.fill.ensures
+    filled_as _ _
+    (λ j r entry. symbol_listed_as c.args.table.now c.args.bytes.now i j r is (search rules) (search rules)) _ _ _ _ c.fill.ensures

@@ -7,7 +7,8 @@ returns-clause-there c i is =
 
 pub returns-clause-value : goal.returns-clause-value
 returns-clause-value c i is =
-    put_value _ _ _ _ _ (dynamic_listed_as c.args.table.now c.args.bytes.now i c.args.index _ is c.dynamic_of.ensures) c.put.ensures.there c.put.ensures.value
+    put_value _ _ _ _ _
+    (dynamic_listed_as c.args.table.now c.args.bytes.now i c.args.index _ is c.dynamic_of.ensures) c.put.ensures.there c.put.ensures.value
 
 pub returns-clause-lies : goal.returns-clause-lies
 returns-clause-lies c = put_there _ _ _ _ c.dynamic_of.ensures c.put.ensures.there

@@ -32,7 +32,8 @@ returns-clause-record c i is =
     let b = c.args.bytes.now in
     let own = ap (λ (o : Order). entry o (slot_bytes b t.content) c.args.index) (table_order SymbolTable t b i is)
     ∙ ap (λ (s : List ℕ). entry (order (sections_in b)) s c.args.index) (table_content SymbolTable t b i is) in
-    OnTrue_from _ _ (λ yes. ap symbol_record (OnTrue_at yes (put_value _ _ _ _ _ c.symbol_of.ensures.read c.put.ensures.there c.put.ensures.value)) ∙ own)
+    OnTrue_from _ _
+    (λ yes. ap symbol_record (OnTrue_at yes (put_value _ _ _ _ _ c.symbol_of.ensures.read c.put.ensures.there c.put.ensures.value)) ∙ own)
 
 pub returns-clause-lies : goal.returns-clause-lies
 returns-clause-lies c = put_there _ _ _ _ c.symbol_of.ensures.read c.put.ensures.there

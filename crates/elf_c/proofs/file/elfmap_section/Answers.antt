@@ -7,7 +7,8 @@ returns-clause-there c is =
 
 pub returns-clause-value : goal.returns-clause-value
 returns-clause-value c is =
-    put_value _ _ _ _ _ (section_listed_as c.args.file.now c.args.bytes.now c.args.index _ is c.section_in.ensures) c.put.ensures.there c.put.ensures.value
+    put_value _ _ _ _ _
+    (section_listed_as c.args.file.now c.args.bytes.now c.args.index _ is c.section_in.ensures) c.put.ensures.there c.put.ensures.value
 
 pub returns-clause-lies : goal.returns-clause-lies
 returns-clause-lies c = put_there _ _ _ _ c.section_in.ensures c.put.ensures.there

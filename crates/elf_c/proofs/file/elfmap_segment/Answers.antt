@@ -11,5 +11,7 @@ returns-in-Some-clause-value c is =
     c.new.ensures ∙ ap segment_shape (c.in-Some.ensures.1 ∙ at.read)
 
 pub returns-in-None-clause-there : goal.returns-in-None-clause-there
-returns-in-None-clause-there c is =
-    (λ (wrong : IsTrue false). cc, λ below. absurd (c.in-None.ensures (segment_at c.args.file.now c.args.bytes.now c.args.index is below).there))
+returns-in-None-clause-there c is = (
+  λ (wrong : IsTrue false). cc,
+  λ below. absurd (c.in-None.ensures (segment_at c.args.file.now c.args.bytes.now c.args.index is below).there),
+)

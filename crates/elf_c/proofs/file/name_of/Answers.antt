@@ -5,10 +5,12 @@ use Rattle.std.proofs.Common.{◌≢◌, ap, subst, sym, ◌∙◌}
 use Rattle.elf_extent.specs.declared.extent.Extent.{Extent}
 use Rattle.elf_field.specs.declared.shdr.Shdr.{Shdr}
 use Rattle.elf_image_rules.specs.Tables.{bytes_in}
-use Rattle.elf_image_type.specs.ImageView.{string}
+use Rattle.elf_field.specs.Strings.{string}
 use Rattle.elf_c.specs.Tables.{string_place}
-use Rattle.elf_c.proofs.ReadFiles.{none_there, section_at, section_below, name_in_table, name_of_null, name_without_table, place_in_table, place_of_null, place_without_table, table_below}
-use Rattle.elf_c.proofs.file.name_of.Goals.{then-section-eq-SHT_NULL-via-then-section-eq-SHT_NULL, then-section-eq-SHT_NULL-via-else-section-eq-SHT_NULL+then-file-eq0}
+use Rattle.elf_c.proofs.ReadFiles.{none_there, section_at, section_below, name_in_table, name_of_null, name_without_table, place_in_table}
+use Rattle.elf_c.proofs.ReadFiles.{place_of_null, place_without_table, table_below}
+use Rattle.elf_c.proofs.file.name_of.Goals.{then-section-eq-SHT_NULL-via-then-section-eq-SHT_NULL}
+use Rattle.elf_c.proofs.file.name_of.Goals.{then-section-eq-SHT_NULL-via-else-section-eq-SHT_NULL+then-file-eq0}
 use Rattle.elf_c.proofs.file.name_of.Goals as goal
 
 pub returns-in_err-section-clause-there : goal.returns-in_err-section-clause-there
@@ -24,7 +26,8 @@ returns-then-section-eq-SHT_NULL-clause-value c is =
     let below = section_below f b i _ is c.in_ok-section.ensures.read.0 in
     elim c.then-section-eq-SHT_NULL.branch [
       | then-section-eq-SHT_NULL-via-then-section-eq-SHT_NULL w ↦
-          name_of_null b i c.in_ok-section.section (c.in_ok-section.ensures.read.1 ∙ (section_at f b i is below).read) w.if-section-eq-SHT_NULL.true
+          name_of_null b i c.in_ok-section.section
+          (c.in_ok-section.ensures.read.1 ∙ (section_at f b i is below).read) w.if-section-eq-SHT_NULL.true
       | then-section-eq-SHT_NULL-via-else-section-eq-SHT_NULL+then-file-eq0 w ↦ name_without_table f b i is w.if-file-eq0.true
     ]
 
@@ -36,7 +39,8 @@ returns-then-section-eq-SHT_NULL-clause-stands c is =
     let below = section_below f b i _ is c.in_ok-section.ensures.read.0 in
     elim c.then-section-eq-SHT_NULL.branch [
       | then-section-eq-SHT_NULL-via-then-section-eq-SHT_NULL w ↦
-          place_of_null b i c.in_ok-section.section (c.in_ok-section.ensures.read.1 ∙ (section_at f b i is below).read) w.if-section-eq-SHT_NULL.true
+          place_of_null b i c.in_ok-section.section
+          (c.in_ok-section.ensures.read.1 ∙ (section_at f b i is below).read) w.if-section-eq-SHT_NULL.true
       | then-section-eq-SHT_NULL-via-else-section-eq-SHT_NULL+then-file-eq0 w ↦ place_without_table f b i is w.if-file-eq0.true
     ]
 
@@ -67,7 +71,8 @@ returns-clause-stands c is =
     let table = section_at f b f.name_table is (table_below f b is c.if-file-eq0.false) in
     c.place_of_string.ensures.stands
     ∙ ap (λ (e : Extent). string_place b e c.in_ok-section.section.sh_name) c.place_of_content.ensures
-    ∙ place_in_table f b i c.in_ok-section.section c.in_ok-table.table is (c.in_ok-section.ensures.read.1 ∙ (section_at f b i is below).read)
+    ∙ place_in_table f b i c.in_ok-section.section c.in_ok-table.table is
+    (c.in_ok-section.ensures.read.1 ∙ (section_at f b i is below).read)
     (c.in_ok-table.ensures.read.1 ∙ table.read) c.if-section-eq-SHT_NULL.false c.if-file-eq0.false
 
 -- ---- of any bytes and numbers

@@ -7,7 +7,8 @@ pub loop-index-preserved : goal.loop-index-preserved
 loop-index-preserved c = λ k has.
     let below = c.loop-index.invariant k has in
     let other : k ≡ c.loop-index.index → ⊥ =
-    λ same. (let true_test = c.is_named.ensures.1 (subst (λ (m : ℕ). IsNamed c.args.file.now c.args.bytes.now c.args.name.now m) same has) in
+    λ same. (let true_test =
+    c.is_named.ensures.1 (subst (λ (m : ℕ). IsNamed c.args.file.now c.args.bytes.now c.args.name.now m) same has) in
     let false_test = c.if-is_named.false in cc) in
     omega (arith, below, other)
 

@@ -5,7 +5,7 @@ use Rattle.std.specs.Prelude.{◌==◌}
 use Rattle.std.proofs.lemmas.Bool.{eqb-true}
 use Rattle.std.proofs.lemmas.List.{get_or-drop, length-drop, length-take}
 use Rattle.std.proofs.lemmas.List.Sums.{passes_at_first}
-use Rattle.elf_image_type.specs.ImageView.{string}
+use Rattle.elf_field.specs.Strings.{string}
 use Rattle.elf_c.proofs.names.is_string_at.Goals as goal
 
 string_ends : (t : List ℕ) (x : ℕ) (text : List ℕ) → string t x ≡ text → x + length text < length t → get_or t (x + length text) 0 ≡ 0

@@ -1,6 +1,7 @@
 use Rattle.std.proofs.Common.{arith}
 use Rattle.elf_c.proofs.ReadEntries.{note_end_above}
-use Rattle.elf_c.proofs.notes.end_of_note.Goals.{then-offset-len-via-then-offset-len, then-offset-len-via-else-offset-len+then-len-offset-lt-NHDR_SIZE}
+use Rattle.elf_c.proofs.notes.end_of_note.Goals.{then-offset-len-via-then-offset-len}
+use Rattle.elf_c.proofs.notes.end_of_note.Goals.{then-offset-len-via-else-offset-len+then-len-offset-lt-NHDR_SIZE}
 use Rattle.elf_c.proofs.notes.end_of_note.Goals as goal
 
 pub returns-then-offset-len : goal.returns-then-offset-len

@@ -17,7 +17,8 @@ use Rattle.elf_c.proofs.notes.note_of_index.Goals as goal
 
 -- an offset by the bytes that were read is the one by the numbers of the table
 same_offset : (o p : Order) (s t : List ℕ) (x k : ℕ) → x ≡ note_offset o s 0 k → o ≡ p → s ≡ t → x ≡ note_offset p t 0 k
-same_offset o p s t x k is ordered read = is ∙ ap (λ (q : Order). note_offset q s 0 k) ordered ∙ ap (λ (u : List ℕ). note_offset p u 0 k) read
+same_offset o p s t x k is ordered read =
+    is ∙ ap (λ (q : Order). note_offset q s 0 k) ordered ∙ ap (λ (u : List ℕ). note_offset p u 0 k) read
 
 -- some note before note j is cut
 abbrev IsCutBefore : ℕ → Order → List ℕ → Type 0
@@ -30,7 +31,8 @@ pub returns-in_err-offset-clause-there : goal.returns-in_err-offset-clause-there
 returns-in_err-offset-clause-there c i is =
     let t = c.args.table.now in
     let b = c.args.bytes.now in
-    let cut = cut_by_numbers c.args.index _ (order_named t.ei_data) _ (slot_bytes b t.content) c.order_of.ensures c.bytes_of-content.ensures.content
+    let cut = cut_by_numbers c.args.index _ (order_named t.ei_data) _
+    (slot_bytes b t.content) c.order_of.ensures c.bytes_of-content.ensures.content
     c.in_err-offset.ensures.cut in
     none_there _ _ c.from_residual.ensures (none_behind t b i cut.0 c.args.index is cut.1 cut.2)
 
@@ -48,11 +50,14 @@ returns-clause-there c i is =
     let b = c.args.bytes.now in
     let o = order_named t.ei_data in
     let s = slot_bytes b t.content in
-    let place = same_offset c.order_of.result o c.bytes_of-content.result.now s c.in_ok-offset.offset c.args.index c.in_ok-offset.ensures.found
+    let place = same_offset c.order_of.result o c.bytes_of-content.result.now s c.in_ok-offset.offset c.args.index
+    c.in_ok-offset.ensures.found
     c.order_of.ensures c.bytes_of-content.ensures.content in
     let there = subst (λ (x : ℕ). note_end o s x ≤ length s ↔ (c.args.index < length (notes_of (sections_in b) i))) (sym place)
-    (note_there t b i c.args.index is) in
-    (λ some. there.0 (c.note_of.ensures.there.0 some).1, λ below. c.note_of.ensures.there.1 (table_kind NoteSection t b i is, there.1 below))
+    (note_there t b i c.args.index is) in (
+      λ some. there.0 (c.note_of.ensures.there.0 some).1,
+      λ below. c.note_of.ensures.there.1 (table_kind NoteSection t b i is, there.1 below),
+    )
 
 pub returns-clause-value : goal.returns-clause-value
 returns-clause-value c i is =
@@ -60,7 +65,8 @@ returns-clause-value c i is =
     let b = c.args.bytes.now in
     let o = order_named t.ei_data in
     let s = slot_bytes b t.content in
-    let place = same_offset c.order_of.result o c.bytes_of-content.result.now s c.in_ok-offset.offset c.args.index c.in_ok-offset.ensures.found
+    let place = same_offset c.order_of.result o c.bytes_of-content.result.now s c.in_ok-offset.offset c.args.index
+    c.in_ok-offset.ensures.found
     c.order_of.ensures c.bytes_of-content.ensures.content in
     some_same (note_told b) _ _ c.note_of.result c.note_of.ensures.value
     (λ some. ap (note_at o s) place
@@ -77,7 +83,8 @@ returns-clause-next c i is =
     let place = same_offset c.order_of.result o c.bytes_of-content.result.now s c.in_ok-offset.offset j c.in_ok-offset.ensures.found
     c.order_of.ensures c.bytes_of-content.ensures.content in
     some_same (λ (n : Note). n.next) _ _ c.note_of.result c.note_of.ensures.next
-    (λ _. same_offset o (order f) s (content f i) (note_end o s c.in_ok-offset.offset) (j + 1) (note_offset_after o s c.in_ok-offset.offset j place)
+    (λ _. same_offset o (order f) s (content f i) (note_end o s c.in_ok-offset.offset) (j + 1)
+    (note_offset_after o s c.in_ok-offset.offset j place)
     (table_order NoteSection t b i is) (table_content NoteSection t b i is))
 
 pub returns-clause-stands : goal.returns-clause-stands
@@ -85,7 +92,8 @@ returns-clause-stands c =
     let t = c.args.table.now in
     let o = order_named t.ei_data in
     let s = slot_bytes c.args.bytes.now t.content in
-    let place = same_offset c.order_of.result o c.bytes_of-content.result.now s c.in_ok-offset.offset c.args.index c.in_ok-offset.ensures.found
+    let place = same_offset c.order_of.result o c.bytes_of-content.result.now s c.in_ok-offset.offset c.args.index
+    c.in_ok-offset.ensures.found
     c.order_of.ensures c.bytes_of-content.ensures.content in
     rw (← place) c.note_of.ensures.stands
 
@@ -94,9 +102,11 @@ returns-clause-lies c =
     let t = c.args.table.now in
     let o = order_named t.ei_data in
     let s = slot_bytes c.args.bytes.now t.content in
-    let place = same_offset c.order_of.result o c.bytes_of-content.result.now s c.in_ok-offset.offset c.args.index c.in_ok-offset.ensures.found
+    let place = same_offset c.order_of.result o c.bytes_of-content.result.now s c.in_ok-offset.offset c.args.index
+    c.in_ok-offset.ensures.found
     c.order_of.ensures c.bytes_of-content.ensures.content in
-    let there = subst (λ (x : ℕ). note_end o s x ≤ length s ↔ (c.args.index < whole_notes o s)) (sym place) (whole_there o s c.args.index) in (
+    let there = subst (λ (x : ℕ). note_end o s x ≤ length s ↔ (c.args.index < whole_notes o s)) (sym place)
+    (whole_there o s c.args.index) in (
       λ some. (let has = c.note_of.ensures.there.0 some in (has.0, there.0 has.1)),
       λ has. c.note_of.ensures.there.1 (has.0, there.1 has.1),
     )

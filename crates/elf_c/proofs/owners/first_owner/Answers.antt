@@ -7,7 +7,8 @@ pub loop-owner-preserved : goal.loop-owner-preserved
 loop-owner-preserved c = λ k has.
     let below = c.loop-owner.invariant k has in
     let other : k ≡ c.loop-owner.owner → ⊥ =
-    λ same. (let true_test = c.has_offset.ensures.1 (subst (λ (m : ℕ). OwnsOffset c.args.file.now c.args.bytes.now c.args.offset m) same has.1) in
+    λ same. (let true_test =
+    c.has_offset.ensures.1 (subst (λ (m : ℕ). OwnsOffset c.args.file.now c.args.bytes.now c.args.offset m) same has.1) in
     let false_test = c.if-has_offset.false in cc) in
     omega (arith, below, other)
 

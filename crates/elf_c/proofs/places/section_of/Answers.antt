@@ -7,7 +7,8 @@ use Rattle.elf_c.proofs.places.section_of.Goals as goal
 
 pub returns-then-index-file-clause-listed : goal.returns-then-index-file-clause-listed
 returns-then-index-file-clause-listed c is =
-    found_listed c.args.file.now c.args.bytes.now c.args.index None is (λ has. (let below = has.0 in let past = c.if-index-file.true in absurd (omega arith)))
+    found_listed c.args.file.now c.args.bytes.now c.args.index None is
+    (λ has. (let below = has.0 in let past = c.if-index-file.true in absurd (omega arith)))
 
 pub returns-in_err-offset-clause-listed : goal.returns-in_err-offset-clause-listed
 returns-in_err-offset-clause-listed c is =

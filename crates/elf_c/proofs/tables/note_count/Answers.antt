@@ -39,4 +39,5 @@ returns c =
     let o = c.args.order in
     let t = c.args.content.now in
     let cut : length t < note_end o t c.loop-end.at = (let past = c.in_default.ensures in omega arith) in
-    whole_counted o t c.loop-end.count c.loop-end.invariant.whole (subst (λ (x : ℕ). length t < note_end o t x) c.loop-end.invariant.place cut)
+    whole_counted o t c.loop-end.count c.loop-end.invariant.whole
+    (subst (λ (x : ℕ). length t < note_end o t x) c.loop-end.invariant.place cut)

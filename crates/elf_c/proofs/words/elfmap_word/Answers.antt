@@ -8,7 +8,8 @@ returns-clause-there c i are =
 
 pub returns-clause-value : goal.returns-clause-value
 returns-clause-value c i are =
-    put_value _ _ _ _ _ (word_listed_as c.args.table.now c.args.bytes.now i c.args.index _ are c.word_of.ensures) c.put.ensures.there c.put.ensures.value
+    put_value _ _ _ _ _
+    (word_listed_as c.args.table.now c.args.bytes.now i c.args.index _ are c.word_of.ensures) c.put.ensures.there c.put.ensures.value
 
 pub returns-clause-group : goal.returns-clause-group
 returns-clause-group c i is = group_words_listed c.args.table.now c.args.bytes.now i is

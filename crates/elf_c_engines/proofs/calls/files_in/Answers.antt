@@ -1,6 +1,7 @@
 -- Files in one block of bytes, as extents that are tested in order. If all earlier files lie inside the block, a file that does not is the
 -- first outside (`first_outside`). A file inside keeps that, and adds its bytes to the list (`more_within`, `more_bytes`).
-use Rattle.std.proofs.Common.{◌≡◌, ℕ, ◌+◌, ◌<◌, List, [], ◌∷◌, ◌++◌, ap, arith, drop, get_or, length, map, subst, sym, take, take-append-drop, ◌∙◌, Bor}
+use Rattle.std.proofs.Common.{◌≡◌, ℕ, ◌+◌, ◌<◌, List, [], ◌∷◌, ◌++◌, ap, arith, drop, get_or, length, map, subst, sym, take}
+use Rattle.std.proofs.Common.{take-append-drop, ◌∙◌, Bor}
 use Rattle.std.specs.List.{All}
 use Rattle.std.proofs.lemmas.List.{drop_more, length-take-le, map-append, take_more}
 use Rattle.std.proofs.lemmas.List.Elements.{All-append, All-cons, All-nil}
@@ -43,7 +44,8 @@ module _ (places : List Slot) (i : ℕ) (d : Slot) (below : i < length places) w
 
 pub returns-in_default : goal.returns-in_default
 returns-in_default c =
-    first_outside c.args.places.now c.loop-file.file _ (omega arith) (length c.args.bytes.now) c.loop-file.invariant.within c.in_default.ensures
+    first_outside c.args.places.now c.loop-file.file _ (omega arith)
+    (length c.args.bytes.now) c.loop-file.invariant.within c.in_default.ensures
 
 pub loop-file-preserved : goal.loop-file-preserved
 loop-file-preserved c =
@@ -52,6 +54,7 @@ loop-file-preserved c =
     let l = c.loop-file in
     record {
       within = more_within places l.file _ (omega arith) (length b) l.invariant.within c.in-Some.ensures.0;
-      bytes = rw c.in-Ok.ensures.items (more_bytes places l.file _ (omega arith) (λ (f : Bor (List ℕ)). f.now) (λ (place : Slot). bytes_in b (extent_in place))
+      bytes = rw c.in-Ok.ensures.items
+          (more_bytes places l.file _ (omega arith) (λ (f : Bor (List ℕ)). f.now) (λ (place : Slot). bytes_in b (extent_in place))
           l.files.items c.in-Some.content l.invariant.bytes c.in-Some.ensures.1);
     }

@@ -6,7 +6,8 @@ use Rattle.elf_tool_check.specs.declared.calls.Verdict.{Verdict}
 use Rattle.elf_c_engines.proofs.exports.link_by.Goals as goal
 
 -- what is said into an empty text is all that this holds
-said_text : (Says : Verdict → List ℕ → Type 0) (old new : List ℕ) (verdict : Verdict) → old ≡ [] → Prints Says (Some old) (Some new) (Ok verdict) → Says verdict new
+said_text : (Says : Verdict → List ℕ → Type 0) (old new : List ℕ) (verdict : Verdict) → old ≡ [] →
+    Prints Says (Some old) (Some new) (Ok verdict) → Says verdict new
 said_text Says old new verdict empty (text, says, all) = rw (all, empty) says
 
 pub returns-in-Ok : goal.returns-in-Ok

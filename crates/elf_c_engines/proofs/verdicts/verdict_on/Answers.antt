@@ -1,3 +1,4 @@
+-- The verdict by the rules of a text is one by the table that the text gives.
 use Rattle.std.proofs.Common.{◌≢◌, ℕ, List, Some, Result, Ok, Err, MatchResult, inr, refl}
 use Rattle.elf_c_parts.specs.declared.room.Slot.{Slot}
 use Rattle.elf_link_field.specs.declared.rule.RelocRule.{RelocRule}
@@ -12,7 +13,8 @@ use Rattle.elf_c_engines.specs.Calls.{AreFilesIn, AreVerdictOptions, LacksFile, 
 use Rattle.elf_c_engines.proofs.verdicts.verdict_on.Goals as goal
 
 -- a verdict by a table of rules is one by the text that gives it
-by_table : (b : List ℕ) (places : List Slot) (options : LinkOptions) (entry text : List ℕ) (table : List RelocRule) (result : Result Verdict CallFault)
+by_table : (b : List ℕ) (places : List Slot) (options : LinkOptions) (entry text : List ℕ) (table : List RelocRule)
+    (result : Result Verdict CallFault)
     → options.uses_rules ≢ 0 → AreRules text table
     → MatchResult result (λ verdict. (opt : Options) × AreVerdictOptions options entry opt
     × ((files : List (List ℕ)) × AreFilesIn b places files × IsLinkVerdict opt (Some table) files verdict)) (LacksFile b places)
@@ -20,9 +22,11 @@ by_table : (b : List ℕ) (places : List Slot) (options : LinkOptions) (entry te
 by_table b places options entry text table (Ok verdict) used rules says = (Some table, inr (used, (table, rules, refl)), says)
 by_table b places options entry text table (Err OutOfMemory) used rules none = tt
 by_table b places options entry text table (Err (BadRules line)) used rules none = absurd none
-by_table b places options entry text table (Err (BadFiles file)) used rules outside = ((Some table, inr (used, (table, rules, refl))), outside)
+by_table b places options entry text table (Err (BadFiles file)) used rules outside =
+    ((Some table, inr (used, (table, rules, refl))), outside)
 
 pub returns : goal.returns
 returns c =
-    by_table c.args.bytes.now c.args.files.now c.args.options.now c.args.entry.now c.args.rules.now c.as_slice.result.now c.verdict_by-2.result
+    by_table c.args.bytes.now c.args.files.now c.args.options.now c.args.entry.now c.args.rules.now c.as_slice.result.now
+    c.verdict_by-2.result
     c.if-options-eq0.false (rw c.as_slice.ensures.value c.in_ok-table.ensures) c.verdict_by-2.ensures

@@ -41,10 +41,15 @@ loop-member-preserved c =
     let m = get_or members i no_part in
     let room : k < length parts = omega arith in
     let pushed = map piece_of_part (take (k + 1) (slice_set parts k m)) in
-    let walked = walk_pushed es (length b) ms i c.loop-member.at _ gapped pushed no_member c.requires.disjoint (inside_file b c.requires.kept) c.requires.members
+    let walked =
+    walk_pushed es (length b) ms i c.loop-member.at _ gapped pushed no_member c.requires.disjoint
+    (inside_file b c.requires.kept) c.requires.members
     (ascending_members members c.requires.ascending) at.within c.loop-member.invariant.walk
-    (c.put_gap-count.ensures.gap ∙ ap (λ (m : Member). map piece_of_part (take c.loop-member.count c.loop-member.parts) ++ gap_between c.loop-member.at (member_start m)) (sym at.read))
-    (map_more piece_of_part parts k m room ∙ ap (λ (p : Piece). gapped ++ p ∷ []) (owned_piece m (omega (arith, at.below)) ∙ ap member_piece (sym at.read))) in
+    (c.put_gap-count.ensures.gap ∙
+    ap (λ (m : Member). map piece_of_part (take c.loop-member.count c.loop-member.parts) ++ gap_between c.loop-member.at (member_start m))
+    (sym at.read))
+    (map_more piece_of_part parts k m room ∙
+    ap (λ (p : Piece). gapped ++ p ∷ []) (owned_piece m (omega (arith, at.below)) ∙ ap member_piece (sym at.read))) in
     record {
       few = omega arith;
       walk = subst (λ (m : Member). AccountsBelow es (length b) ms (i + 1) (member_end m) pushed) at.read walked;
@@ -55,7 +60,9 @@ returns-clause-account c =
     let b = file_of c.args.records.now in
     let es = extents_of_file b in
     let so_far = map piece_of_part (take c.loop-member.count c.loop-member.parts) in
-    let end : length (map member_of_part c.args.members.now) ≤ c.loop-member.member-index = omega (arith, length-map c.args.members.now member_of_part) in
-    let whole = walk_ends es (length b) _ c.loop-member.member-index c.loop-member.at so_far c.requires.members end c.loop-member.invariant.walk in
+    let end : length (map member_of_part c.args.members.now) ≤ c.loop-member.member-index =
+    omega (arith, length-map c.args.members.now member_of_part) in
+    let whole = walk_ends es
+    (length b) _ c.loop-member.member-index c.loop-member.at so_far c.requires.members end c.loop-member.invariant.walk in
     subst (Accounts es (length b) 0)
     (sym (c.put_gap.ensures.gap ∙ ap (λ (bytes : List ℕ). so_far ++ gap_between c.loop-member.at (length bytes)) c.bytes.ensures)) whole

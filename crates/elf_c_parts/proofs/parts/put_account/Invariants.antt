@@ -10,5 +10,6 @@ abbrev pub invariant-loop-member : goal.invariant-loop-member
 invariant-loop-member l =
     let b = file_of l.records in record {
       few : l.count ≤ 2 * l.member-index;
-      walk : AccountsBelow (extents_of_file b) (length b) (map member_of_part l.members) l.member-index l.at (map piece_of_part (take l.count l.parts));
+      walk : AccountsBelow (extents_of_file b) (length b) (map member_of_part l.members) l.member-index l.at
+          (map piece_of_part (take l.count l.parts));
     }

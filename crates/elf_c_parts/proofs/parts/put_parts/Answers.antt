@@ -17,18 +17,24 @@ lowest_double-requires-clause-ascending c =
 pub lowest_double-requires-clause-nonempty : goal.lowest_double-requires-clause-nonempty
 lowest_double-requires-clause-nonempty c =
     nonempty_sorted (extents_of_file (file_of c.args.records.now)) _
-    (held_moved (extents_of_file (file_of c.args.records.now)) _ _ _ _ (rw c.new-extents.ensures at c.put_members-count.ensures.held) c.split_at_mut-members.ensures.front c.sort_unstable_by_key.ensures.permutation)
+    (held_moved (extents_of_file (file_of c.args.records.now)) _ _ _ _
+    (rw c.new-extents.ensures at c.put_members-count.ensures.held) c.split_at_mut-members.ensures.front
+    c.sort_unstable_by_key.ensures.permutation)
 
 pub put_account-requires-clause-disjoint : goal.put_account-requires-clause-disjoint
 put_account-requires-clause-disjoint c =
     let es = extents_of_file (file_of c.args.records.now) in
     disjoint_from_never es (lowest_sorted es _ None
-    (held_moved (extents_of_file (file_of c.args.records.now)) _ _ _ _ (rw c.new-extents.ensures at c.put_members-count.ensures.held) c.split_at_mut-members.ensures.front c.sort_unstable_by_key.ensures.permutation)
+    (held_moved (extents_of_file (file_of c.args.records.now)) _ _ _ _
+    (rw c.new-extents.ensures at c.put_members-count.ensures.held) c.split_at_mut-members.ensures.front
+    c.sort_unstable_by_key.ensures.permutation)
     c.in-None.ensures)
 
 pub put_account-requires-clause-members : goal.put_account-requires-clause-members
 put_account-requires-clause-members c =
-    members_moved _ _ _ _ _ (rw c.new-extents.ensures at c.put_members-count.ensures.members) c.split_at_mut-members.ensures.front c.sort_unstable_by_key.ensures.permutation
+    members_moved _ _ _ _ _
+    (rw c.new-extents.ensures at c.put_members-count.ensures.members) c.split_at_mut-members.ensures.front
+    c.sort_unstable_by_key.ensures.permutation
 
 pub put_account-requires-clause-ascending : goal.put_account-requires-clause-ascending
 put_account-requires-clause-ascending c =
@@ -39,7 +45,9 @@ returns-in-Some-clause-fault c =
     let b = file_of c.args.records.now in
     let fault = fault_of_extents b (Some c.in-Some.at) c.requires.kept
     (lowest_sorted (extents_of_file b) _ (Some c.in-Some.at)
-    (held_moved (extents_of_file (file_of c.args.records.now)) _ _ _ _ (rw c.new-extents.ensures at c.put_members-count.ensures.held) c.split_at_mut-members.ensures.front c.sort_unstable_by_key.ensures.permutation)
+    (held_moved (extents_of_file (file_of c.args.records.now)) _ _ _ _
+    (rw c.new-extents.ensures at c.put_members-count.ensures.held) c.split_at_mut-members.ensures.front
+    c.sort_unstable_by_key.ensures.permutation)
     c.in-Some.ensures) in
     (fault, λ kept. c.requires.room)
 
@@ -48,5 +56,7 @@ returns-in-None-clause-kept c =
     let b = file_of c.args.records.now in
     fault_of_extents b None c.requires.kept
     (lowest_sorted (extents_of_file b) _ None
-    (held_moved (extents_of_file (file_of c.args.records.now)) _ _ _ _ (rw c.new-extents.ensures at c.put_members-count.ensures.held) c.split_at_mut-members.ensures.front c.sort_unstable_by_key.ensures.permutation)
+    (held_moved (extents_of_file (file_of c.args.records.now)) _ _ _ _
+    (rw c.new-extents.ensures at c.put_members-count.ensures.held) c.split_at_mut-members.ensures.front
+    c.sort_unstable_by_key.ensures.permutation)
     c.in-None.ensures)

@@ -22,7 +22,8 @@ loop-index-preserved c =
         few = omega (arith, w.count-is);
         held =
             let slot : Slot = record { start = e.start; len = e.len } in
-            let next = gathered_one es c.loop-index.room i c.loop-index.count e slot c.at-extent.ensures within w.if-extent-gt0.true refl (omega arith) held in
+            let next = gathered_one es c.loop-index.room i c.loop-index.count e slot c.at-extent.ensures within w.if-extent-gt0.true refl
+            (omega arith) held in
             rw (w.room-is, w.count-is) next;
       }
       | else-extent-gt0 w ↦ record {

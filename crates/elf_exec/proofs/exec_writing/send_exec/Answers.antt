@@ -9,7 +9,8 @@ pub returns : goal.returns
 returns g c =
     let p = c.args.placed.now in
     let long = length-header p.linked.objects p.linked.map in
-    sends_behind _ _ _ _ _ (placed_header p) (placed_table p ++ loads_text p) c.send_behind_header.result (omega arith, c.in_ok-write_header.ensures) c.send_behind_header.ensures
+    sends_behind _ _ _ _ _ (placed_header p) (placed_table p ++ loads_text p) c.send_behind_header.result
+    (omega arith, c.in_ok-write_header.ensures) c.send_behind_header.ensures
 
 pub returns-in_err-write_header : goal.returns-in_err-write_header
 returns-in_err-write_header g c =

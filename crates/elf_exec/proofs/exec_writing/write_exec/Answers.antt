@@ -27,5 +27,7 @@ returns g c =
     let objects = c.prove_objects.ensures in
     let link = sound_link c.args.linked.now c.requires objects.kept objects.fit objects.page in
     let is = c.in_ok-placed.ensures.ok in
-    subst (λ (l : LinkedValue). WritesExec l (g.W.Write.contents c.args.writer.now) (g.W.Write.contents c.send_exec.new.writer) (Err (record { written = c.in-Err.fault.written }))) is
-    (exec_cut c.in_ok-placed.placed c.in_ok-placed.ensures.placed (subst HasSoundLink (sym is) link) _ _ c.in-Err.fault.written c.in-Err.ensures)
+    subst (λ (l : LinkedValue). WritesExec l (g.W.Write.contents c.args.writer.now) (g.W.Write.contents c.send_exec.new.writer)
+    (Err (record { written = c.in-Err.fault.written }))) is
+    (exec_cut c.in_ok-placed.placed c.in_ok-placed.ensures.placed
+    (subst HasSoundLink (sym is) link) _ _ c.in-Err.fault.written c.in-Err.ensures)

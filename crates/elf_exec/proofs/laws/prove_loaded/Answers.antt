@@ -8,5 +8,6 @@ returns c =
     let image = c.requires.image in
     let (m, of, executable) = c.requires.executable in
     let (b, same, loads) = c.requires.found in
-    let here = subst (λ (bytes : List ℕ). LoadsFirst bytes c.args.image.now.segments c.args.address c.args.found) (one_list c.args.image.now b c.args.file.now same image.stands) loads in
+    let here = subst (λ (bytes : List ℕ). LoadsFirst bytes c.args.image.now.segments c.args.address c.args.found)
+    (one_list c.args.image.now b c.args.file.now same image.stands) loads in
     (m, of, executable.load c.args.image.now image.stands c.args.address c.args.found here)

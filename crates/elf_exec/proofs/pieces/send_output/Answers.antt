@@ -6,5 +6,6 @@ use Rattle.elf_exec.proofs.pieces.send_output.Goals as goal
 
 pub returns : goal.returns
 returns g c =
-    subst (λ (t : List ℕ). Sends (g.W.Write.contents c.args.writer.now) (g.W.Write.contents c.send_all.new.writer) c.args.out t c.send_all.result)
+    subst (λ (t : List ℕ). Sends (g.W.Write.contents c.args.writer.now)
+    (g.W.Write.contents c.send_all.new.writer) c.args.out t c.send_all.result)
     (sym (output_text c.args.linked.now (output_value c.args.output.now))) c.send_all.ensures

@@ -15,7 +15,8 @@ returns-clause-least c =
     let page = c.page.ensures ∙ ap (λ (n : LinkMapValue). n.page) c.map.ensures in
     let same = c.deref.ensures.value ∙ c.in_ok-parts.ensures ∙ parts_are m c.page.result c.args.loads.now page c.requires.are in
     subst (λ (ps : List (ℕ × ℕ)). IfOk c.place_parts.result (λ places. Least ps (bytes_from m) places.items)) same
-    (subst (λ (n : ℕ). IfOk c.place_parts.result (λ places. Least c.deref.result.now n places.items)) (c.table_end-from.ensures ∙ from_is m c.args.loads.now (length c.args.loads.now) c.requires.are refl)
+    (subst (λ (n : ℕ). IfOk c.place_parts.result (λ places. Least c.deref.result.now n places.items))
+    (c.table_end-from.ensures ∙ from_is m c.args.loads.now (length c.args.loads.now) c.requires.are refl)
     c.place_parts.ensures.least)
 
 pub returns-clause-short : goal.returns-clause-short
@@ -24,7 +25,8 @@ returns-clause-short c =
     let page = c.page.ensures ∙ ap (λ (n : LinkMapValue). n.page) c.map.ensures in
     let same = c.deref.ensures.value ∙ c.in_ok-parts.ensures ∙ parts_are m c.page.result c.args.loads.now page c.requires.are in
     subst (λ (ps : List (ℕ × ℕ)). IfOk c.place_parts.result (λ places. file_end ps (bytes_from m) places.items ≤ MAX_LEN)) same
-    (subst (λ (n : ℕ). IfOk c.place_parts.result (λ places. file_end c.deref.result.now n places.items ≤ MAX_LEN)) (c.table_end-from.ensures ∙ from_is m c.args.loads.now (length c.args.loads.now) c.requires.are refl)
+    (subst (λ (n : ℕ). IfOk c.place_parts.result (λ places. file_end c.deref.result.now n places.items ≤ MAX_LEN))
+    (c.table_end-from.ensures ∙ from_is m c.args.loads.now (length c.args.loads.now) c.requires.are refl)
     c.place_parts.ensures.short)
 
 pub returns-clause-err : goal.returns-clause-err
@@ -34,5 +36,6 @@ returns-clause-err c =
     let same = c.deref.ensures.value ∙ c.in_ok-parts.ensures ∙ parts_are m c.page.result c.args.loads.now page c.requires.are in
     if_fault c.args.linked.now c.place_parts.result c.requires.ready
     (subst (λ (ps : List (ℕ × ℕ)). IfErr c.place_parts.result (IsPartsFault ps (bytes_from m))) same
-    (subst (λ (n : ℕ). IfErr c.place_parts.result (IsPartsFault c.deref.result.now n)) (c.table_end-from.ensures ∙ from_is m c.args.loads.now (length c.args.loads.now) c.requires.are refl)
+    (subst (λ (n : ℕ). IfErr c.place_parts.result (IsPartsFault c.deref.result.now n))
+    (c.table_end-from.ensures ∙ from_is m c.args.loads.now (length c.args.loads.now) c.requires.are refl)
     c.place_parts.ensures.err))

@@ -9,7 +9,9 @@ use Rattle.elf_image_outline.proofs.copying.copy_image.Goals as goal
 pub returns-in-Err-clause-copies : goal.returns-in-Err-clause-copies
 returns-in-Err-clause-copies g c =
     let before = c.loop-part.invariant in
-    rw c.after.ensures (parts_failed c.args.outline.now c.parts-part-items.result.now c.loop-part.part-index _ _ _ _ _ _ c.in-Err.fault c.prove_stands.ensures c.parts-part-items.ensures.value
+    rw c.after.ensures
+    (parts_failed c.args.outline.now c.parts-part-items.result.now c.loop-part.part-index _ _ _ _ _ _ c.in-Err.fault c.prove_stands.ensures
+    c.parts-part-items.ensures.value
     c.loop-part-test.true before.kept before.out c.in-Err.ensures.copies)
 
 pub returns-in-Err-clause-image : goal.returns-in-Err-clause-image
@@ -22,7 +24,8 @@ loop-part-preserved g c =
     record {
       kept = went.kept ∙ before.kept;
       failures = went.failures ∙ before.failures;
-      out = parts_more c.args.outline.now c.parts-part-items.result.now c.loop-part.part-index _ _ _ _ _ _ c.prove_stands.ensures c.parts-part-items.ensures.value
+      out = parts_more c.args.outline.now c.parts-part-items.result.now c.loop-part.part-index _ _ _ _ _ _ c.prove_stands.ensures
+          c.parts-part-items.ensures.value
           c.loop-part-test.true before.kept before.out went.copies;
     }
 
@@ -31,20 +34,25 @@ returns-clause-image g c b told = joined_is_image _ (c.requires.of b told)
 
 pub after-requires : goal.after-requires
 after-requires g c =
-    failed_fits c.args.outline.now c.parts-part-items.result.now c.loop-part.part-index _ _ _ _ _ c.in-Err.fault c.prove_stands.ensures c.parts-part-items.ensures.value
+    failed_fits c.args.outline.now c.parts-part-items.result.now c.loop-part.part-index _ _ _ _ _ c.in-Err.fault c.prove_stands.ensures
+    c.parts-part-items.ensures.value
     c.loop-part-test.true c.in-Err.ensures.copies
 
 pub returns-in-Err-clause-behind : goal.returns-in-Err-clause-behind
 returns-in-Err-clause-behind g c =
-    rw c.after.ensures (parts_behind _ c.args.outline.now c.parts-part-items.result.now c.loop-part.part-index _ c.in-Err.fault c.prove_stands.ensures c.parts-part-items.ensures.value
+    rw c.after.ensures
+    (parts_behind _ c.args.outline.now c.parts-part-items.result.now c.loop-part.part-index _ c.in-Err.fault c.prove_stands.ensures
+    c.parts-part-items.ensures.value
     c.loop-part-test.true c.in-Err.ensures.behind)
 
 pub returns-clause-copies : goal.returns-clause-copies
 returns-clause-copies g c =
-    parts_all c.args.outline.now c.parts-part-items.result.now c.loop-part.part-index _ _ _ c.prove_stands.ensures c.parts-part-items.ensures.value
+    parts_all c.args.outline.now c.parts-part-items.result.now c.loop-part.part-index _ _ _ c.prove_stands.ensures
+    c.parts-part-items.ensures.value
     c.loop-part-test.false c.loop-part.invariant.out
 
 pub returns-in-Err-clause-reads : goal.returns-in-Err-clause-reads
 returns-in-Err-clause-reads g c =
-    rw c.after.ensures (parts_read _ c.args.outline.now c.parts-part-items.result.now c.loop-part.part-index _ c.in-Err.fault c.parts-part-items.ensures.value
+    rw c.after.ensures
+    (parts_read _ c.args.outline.now c.parts-part-items.result.now c.loop-part.part-index _ c.in-Err.fault c.parts-part-items.ensures.value
     c.loop-part-test.true c.in-Err.ensures.behind c.in-Err.ensures.reads)

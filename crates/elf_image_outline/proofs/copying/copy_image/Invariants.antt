@@ -10,5 +10,6 @@ invariant-loop-part g l = record {
   kept : g.S.Source.content l.source ≡ g.S.Source.content l.initial.source;
   failures : g.S.Source.failures l.source ≡ g.S.Source.failures l.initial.source;
   out : CopiedOut (g.S.Source.content l.initial.source) (g.W.Write.contents l.initial.writer) (g.W.Write.contents l.writer)
-      (length (flat_map (blank_bytes l.outline) (take l.part-index l.part-items))) (λ b. flat_map (told_bytes l.outline b) (take l.part-index l.part-items));
+      (length (flat_map (blank_bytes l.outline) (take l.part-index l.part-items)))
+      (λ b. flat_map (told_bytes l.outline b) (take l.part-index l.part-items));
 }

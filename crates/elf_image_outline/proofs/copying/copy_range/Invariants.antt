@@ -8,7 +8,8 @@ invariant-loop-done g l = record {
   within : l.done ≤ l.len;
   kept : g.S.Source.content l.source ≡ g.S.Source.content l.initial.source;
   failures : g.S.Source.failures l.source ≡ g.S.Source.failures l.initial.source;
-  out : CopiedOut (g.S.Source.content l.initial.source) (g.W.Write.contents l.initial.writer) (g.W.Write.contents l.writer) l.done (λ b. take l.done (drop l.start b));
+  out : CopiedOut (g.S.Source.content l.initial.source) (g.W.Write.contents l.initial.writer) (g.W.Write.contents l.writer) l.done
+      (λ b. take l.done (drop l.start b));
 }
 
 abbrev pub decreases-loop-done : goal.decreases-loop-done

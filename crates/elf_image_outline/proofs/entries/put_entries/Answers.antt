@@ -15,5 +15,6 @@ loop-i-preserved g c =
     rw (c.SIZE.ensures, c.SIZE-in-loop-i.ensures) (record {
       long = length-put_mid _ _ _ _ (omega arith) (ap (λ (s : List ℕ). length s) put ∙ omega arith) ∙ room;
       front = record_put (g.E.Entry.Record.bytes c.args.order) here size c.loop-i.i _ c.loop-i.bytes c.put.new.b c.entry.result
-          (omega arith) (several_at c.args.from c.args.several c.loop-i.i all c.entry.result c.loop-i-test.true c.entry.ensures) long (omega arith) c.loop-i.invariant.front put;
+          (omega arith) (several_at c.args.from c.args.several c.loop-i.i all c.entry.result c.loop-i-test.true c.entry.ensures) long
+          (omega arith) c.loop-i.invariant.front put;
     })

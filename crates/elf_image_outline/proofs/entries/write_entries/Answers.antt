@@ -14,7 +14,8 @@ after-requires g c =
     let whole = length-table g.met.E.Entry.Record.laws c.args.order all in
     let out = length-table g.met.E.Entry.Record.laws c.args.order (take c.loop-next.next all) in
     let count = length-take-le c.loop-next.next all c.loop-next.invariant.within in
-    let failed = flat_err (g.E.Entry.Record.bytes c.args.order) all c.loop-next.next _ _ c.in-Err.fault.written _ _ _ c.put_entries.new.bytes
+    let failed =
+    flat_err (g.E.Entry.Record.bytes c.args.order) all c.loop-next.next _ _ c.in-Err.fault.written _ _ _ c.put_entries.new.bytes
     (out ∙ ap (λ n. size * n) count) c.put_entries.ensures c.loop-next.invariant.out c.in-Err.ensures in
     let below = failed.0 in
     let short = c.requires.short in
@@ -26,13 +27,15 @@ returns-in-Err g c =
     let size = g.E.Entry.Record.SIZE in
     let out = length-table g.met.E.Entry.Record.laws c.args.order (take c.loop-next.next all) in
     let count = length-take-le c.loop-next.next all c.loop-next.invariant.within in
-    rw (c.after.ensures, c.SIZE-in-Err.ensures) (flat_err (g.E.Entry.Record.bytes c.args.order) all c.loop-next.next _ _ c.in-Err.fault.written _ _ _ c.put_entries.new.bytes
+    rw (c.after.ensures, c.SIZE-in-Err.ensures)
+    (flat_err (g.E.Entry.Record.bytes c.args.order) all c.loop-next.next _ _ c.in-Err.fault.written _ _ _ c.put_entries.new.bytes
     (out ∙ ap (λ n. size * n) count) c.put_entries.ensures c.loop-next.invariant.out c.in-Err.ensures)
 
 pub loop-next-preserved : goal.loop-next-preserved
 loop-next-preserved g c =
     record {
       within = omega arith;
-      out = flat_ok (g.E.Entry.Record.bytes c.args.order) (g.E.Entries.entries c.args.entries.now) c.loop-next.next c.min-several.result _ _ _ c.put_entries.new.bytes
+      out = flat_ok (g.E.Entry.Record.bytes c.args.order)
+          (g.E.Entries.entries c.args.entries.now) c.loop-next.next c.min-several.result _ _ _ c.put_entries.new.bytes
           c.put_entries.ensures c.loop-next.invariant.out c.in-Ok.ensures;
     }

@@ -14,7 +14,8 @@ returns-then-len-eq1-clause-reads g c =
     let small : byte < 256 = search rules in
     let here : c.args.start ≡ c.args.start + (c.args.len - 1) = omega arith in (
       read.0,
-      subst (λ (n : ℕ). (table : List ℕ) × AreEnds (record { len = n; first = byte; last = byte }) table × IsBytes table) (sym one) (one_byte_table byte small),
+      subst (λ (n : ℕ). (table : List ℕ) × AreEnds (record { len = n; first = byte; last = byte }) table × IsBytes table) (sym one)
+          (one_byte_table byte small),
       refl,
       λ b told within. ends_in b c.args.start c.args.len byte byte (omega arith) within (read.1 b told)
           (read.1 b told ∙ ap (λ (n : ℕ). take 1 (drop n b)) here),

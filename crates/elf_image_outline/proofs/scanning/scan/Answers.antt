@@ -29,7 +29,8 @@ returns-clause-told g c b told =
     let records = c.in_ok-tables.ensures.told b (c.in_ok-head.ensures.kept ∙ told) says is in
     let ends = c.in_ok-ends.ensures.told b (c.in_ok-tables.ensures.kept ∙ c.in_ok-head.ensures.kept ∙ told) says has records in
     subst (λ (o : OutlineValue). IsImage (image_in o b) b) (sym c.new.ensures)
-    (image_of_tables c.in_ok-head.head.len b t.header t.counts t.sections.items t.segments.items c.in_ok-parts.parts.items says are has records
+    (image_of_tables c.in_ok-head.head.len b t.header t.counts t.sections.items t.segments.items c.in_ok-parts.parts.items says are has
+    records
     (c.in_ok-parts.ensures.ok _ ends))
 
 pub returns-clause-of : goal.returns-clause-of

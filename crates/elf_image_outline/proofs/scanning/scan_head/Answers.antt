@@ -9,31 +9,37 @@ pub returns-in_err-validate_length-clause-told : goal.returns-in_err-validate_le
 returns-in_err-validate_length-clause-told g c b told =
     let says = told_length _ b c.in-Ok.len told c.in-Ok.ensures.length in
     let broken = c.in_err-validate_length.field-0.0 in
-    scans_rule b _ broken _ (length_broken b c.in-Ok.len (broken.rule, broken.at) says c.in_err-validate_length.ensures.fault) c.from_residual.ensures.1
+    scans_rule b _ broken _
+    (length_broken b c.in-Ok.len (broken.rule, broken.at) says c.in_err-validate_length.ensures.fault) c.from_residual.ensures.1
 
 pub returns-in_err-validate_ident-clause-told : goal.returns-in_err-validate_ident-clause-told
 returns-in_err-validate_ident-clause-told g c b told =
     let says = told_length _ b c.in-Ok.len told c.in-Ok.ensures.length in
     let is : c.header_of-header.result ≡ header b =
-    c.header_of-header.ensures ∙ header_of_block b _ c.in_ok-read_exactly.ensures.same (c.in_ok-read_exactly.ensures.reads.1 b (c.in-Ok.ensures.kept ∙ told)) in
+    c.header_of-header.ensures ∙
+    header_of_block b _ c.in_ok-read_exactly.ensures.same (c.in_ok-read_exactly.ensures.reads.1 b (c.in-Ok.ensures.kept ∙ told)) in
     let broken = c.in_err-validate_ident.field-0.0 in
     scans_rule b _ broken _
-    (ident_broken b c.in-Ok.len c.header_of-header.result (broken.rule, broken.at) says is c.in_ok-validate_length.ensures.fault c.in_err-validate_ident.ensures)
+    (ident_broken b c.in-Ok.len c.header_of-header.result
+    (broken.rule, broken.at) says is c.in_ok-validate_length.ensures.fault c.in_err-validate_ident.ensures)
     c.from_residual-in_err-validate_ident.ensures.1
 
 pub returns-in_err-validate_header-clause-told : goal.returns-in_err-validate_header-clause-told
 returns-in_err-validate_header-clause-told g c b told =
     let says = told_length _ b c.in-Ok.len told c.in-Ok.ensures.length in
     let is : c.header_of-header.result ≡ header b =
-    c.header_of-header.ensures ∙ header_of_block b _ c.in_ok-read_exactly.ensures.same (c.in_ok-read_exactly.ensures.reads.1 b (c.in-Ok.ensures.kept ∙ told)) in
+    c.header_of-header.ensures ∙
+    header_of_block b _ c.in_ok-read_exactly.ensures.same (c.in_ok-read_exactly.ensures.reads.1 b (c.in-Ok.ensures.kept ∙ told)) in
     let broken = c.in_err-validate_header.field-0.0 in
     scans_rule b _ broken _
-    (header_broken b c.in-Ok.len c.header_of-header.result (broken.rule, broken.at) says is c.in_ok-validate_length.ensures.fault c.in_ok-validate_ident.ensures
+    (header_broken b c.in-Ok.len c.header_of-header.result
+    (broken.rule, broken.at) says is c.in_ok-validate_length.ensures.fault c.in_ok-validate_ident.ensures
     c.in_err-validate_header.ensures.fault)
     c.from_residual-in_err-validate_header.ensures.1
 
 pub returns-clause-told : goal.returns-clause-told
 returns-clause-told g c b told = (
   told_length _ b c.in-Ok.len told c.in-Ok.ensures.length,
-  c.header_of-header.ensures ∙ header_of_block b _ c.in_ok-read_exactly.ensures.same (c.in_ok-read_exactly.ensures.reads.1 b (c.in-Ok.ensures.kept ∙ told)),
+  c.header_of-header.ensures ∙
+      header_of_block b _ c.in_ok-read_exactly.ensures.same (c.in_ok-read_exactly.ensures.reads.1 b (c.in-Ok.ensures.kept ∙ told)),
 )

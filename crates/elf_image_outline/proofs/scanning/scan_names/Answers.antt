@@ -19,7 +19,8 @@ returns-clause-told g c b told says has records =
     let named = names_are c.args.len b t.header t.counts t.sections.items t.segments.items has records
     ∙ ap (bytes_in b) (sym c.extent_of_names-extent.ensures) in
     subst (AreEnds ends) (sym named)
-    (ends_there b ends extent c.args.len c.min-there.result says there c.in_ok-read_ends.ensures.reads.2 (c.in_ok-read_ends.ensures.reads.3 b told))
+    (ends_there b ends extent c.args.len c.min-there.result says there c.in_ok-read_ends.ensures.reads.2
+    (c.in_ok-read_ends.ensures.reads.3 b told))
 
 pub returns-in_err-read_ends-clause-told : goal.returns-in_err-read_ends-clause-told
 returns-in_err-read_ends-clause-told g c b told says has records =

@@ -4,7 +4,8 @@
 use Rattle.std.proofs.Common.{◌≡◌, ◌≤◌, ◌∙◌, length, ap}
 use Rattle.elf_image_rules.specs.declared.tables.Counts.{Counts}
 use Rattle.elf_image_rules.specs.Tables.{sections, shdr_offset}
-use Rattle.elf_image_outline.proofs.Scanned.{counts_are, first_at, program_table_broken, scans_fault, scans_rule, section_table_broken, table_rules_kept, tables_read}
+use Rattle.elf_image_outline.proofs.Scanned.{counts_are, first_at, program_table_broken, scans_fault, scans_rule, section_table_broken}
+use Rattle.elf_image_outline.proofs.Scanned.{table_rules_kept, tables_read}
 use Rattle.elf_image_outline.proofs.scanning.scan_tables.Goals as goal
 
 pub returns-in_err-validate_section_table-clause-told : goal.returns-in_err-validate_section_table-clause-told
@@ -14,7 +15,8 @@ returns-in_err-validate_section_table-clause-told g c b told says is =
     let read : first ≡ sections b h 0 = c.in_ok-first.ensures.told b told is in
     let broken = c.in_err-validate_section_table.field-0.0 in
     scans_rule b _ broken _
-    (section_table_broken b c.args.head.now.len h first (broken.rule, broken.at) says is c.requires.kept read c.in_err-validate_section_table.ensures.fault)
+    (section_table_broken b c.args.head.now.len h first
+    (broken.rule, broken.at) says is c.requires.kept read c.in_err-validate_section_table.ensures.fault)
     c.from_residual-in_err-validate_section_table.ensures.1
 
 pub returns-in_err-validate_program_table-clause-told : goal.returns-in_err-validate_program_table-clause-told
@@ -24,7 +26,8 @@ returns-in_err-validate_program_table-clause-told g c b told says is =
     let read : first ≡ sections b h 0 = c.in_ok-first.ensures.told b told is in
     let broken = c.in_err-validate_program_table.field-0.0 in
     scans_rule b _ broken _
-    (program_table_broken b c.args.head.now.len h first (broken.rule, broken.at) says is c.requires.kept read c.in_ok-validate_section_table.ensures.fault
+    (program_table_broken b c.args.head.now.len h first
+    (broken.rule, broken.at) says is c.requires.kept read c.in_ok-validate_section_table.ensures.fault
     c.in_err-validate_program_table.ensures.fault)
     c.from_residual-in_err-validate_program_table.ensures.1
 
@@ -38,8 +41,10 @@ returns-in_err-sections-clause-told g c b told says is =
     let inside : shdr_offset h count ≤ length b = rw counted (rw says at c.in_ok-validate_section_table.ensures.inside) in
     scans_fault b _ c.in_err-sections.field-0.0 _
     (c.in_err-sections.ensures.told b (c.in_ok-first.ensures.kept ∙ told)
-    (table_rules_kept b c.args.head.now.len h first says is c.requires.kept read c.in_ok-validate_section_table.ensures.fault c.in_ok-validate_program_table.ensures.fault)
-    is (ap (λ (k : Counts). k.sections) (counts_are b h first _ is read c.counts_of-counts.ensures.value)) (λ some. first_at b h first count read counted some))
+    (table_rules_kept b c.args.head.now.len h first says is c.requires.kept read c.in_ok-validate_section_table.ensures.fault
+    c.in_ok-validate_program_table.ensures.fault)
+    is (ap (λ (k : Counts). k.sections) (counts_are b h first _ is read c.counts_of-counts.ensures.value))
+    (λ some. first_at b h first count read counted some))
     c.from_residual-in_err-sections.ensures.1
 
 pub returns-clause-told : goal.returns-clause-told
@@ -52,6 +57,9 @@ returns-clause-told g c b told says is =
     let inside : shdr_offset h counts.sections ≤ length b = rw counted (rw says at c.in_ok-validate_section_table.ensures.inside) in
     tables_read b h first counts c.in_ok-sections.sections.items c.in_ok-segments.segments.items is read c.counts_of-counts.ensures.value
     (c.in_ok-sections.ensures.told b (c.in_ok-first.ensures.kept ∙ told)
-    (table_rules_kept b c.args.head.now.len h first says is c.requires.kept read c.in_ok-validate_section_table.ensures.fault c.in_ok-validate_program_table.ensures.fault)
-    is (ap (λ (k : Counts). k.sections) (counts_are b h first _ is read c.counts_of-counts.ensures.value)) (λ some. first_at b h first counts.sections read counted some))
-    (rw c.order_in-order.ensures at (c.in_ok-segments.ensures.ok.told b (c.in_ok-sections.ensures.kept ∙ c.in_ok-first.ensures.kept ∙ told)))
+    (table_rules_kept b c.args.head.now.len h first says is c.requires.kept read c.in_ok-validate_section_table.ensures.fault
+    c.in_ok-validate_program_table.ensures.fault)
+    is (ap (λ (k : Counts). k.sections) (counts_are b h first _ is read c.counts_of-counts.ensures.value))
+    (λ some. first_at b h first counts.sections read counted some))
+    (rw c.order_in-order.ensures at
+    (c.in_ok-segments.ensures.ok.told b (c.in_ok-sections.ensures.kept ∙ c.in_ok-first.ensures.kept ∙ told)))

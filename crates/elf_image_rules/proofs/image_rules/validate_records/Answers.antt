@@ -1,7 +1,8 @@
 -- The runs of rules are tested in their order. If a run finds a broken rule after runs that found none, it is the file's fault, and rules 1
 -- to 32 are not all kept. If no run finds one, they are all kept.
 use Rattle.std.proofs.Common.{arith, refl}
-use Rattle.elf_image_rules.proofs.ImageRules.{FirstIn-handed, FirstIn-stop, validated_broken, validated_unkept, from_length, from_ident, from_header, from_tables}
+use Rattle.elf_image_rules.proofs.ImageRules.{FirstIn-handed, FirstIn-stop, validated_broken, validated_unkept, from_length, from_ident}
+use Rattle.elf_image_rules.proofs.ImageRules.{from_header, from_tables}
 use Rattle.elf_image_rules.proofs.image_rules.validate_records.Goals as goal
 
 pub returns-in_err-validate_length-clause-broken : goal.returns-in_err-validate_length-clause-broken

@@ -19,7 +19,8 @@ pub returns-in_err-validate_entries-clause-fault : goal.returns-in_err-validate_
 returns-in_err-validate_entries-clause-fault c =
     from_entries c.args.bytes.now c.args.header.now _ _ _ c.section_at-first.ensures c.counts_of-counts.ensures.value
     c.in_ok-validate_section_table.ensures.fault c.in_ok-validate_program_table.ensures.fault
-    (FirstIn-handed _ _ _ (c.in_err-validate_entries.ensures _ (subst (AreEnds c.ends_of-ends.result) c.names_of.ensures.names c.ends_of-ends.ensures))
+    (FirstIn-handed _ _ _
+    (c.in_err-validate_entries.ensures _ (subst (AreEnds c.ends_of-ends.result) c.names_of.ensures.names c.ends_of-ends.ensures))
     c.from_residual-in_err-validate_entries.ensures.1)
 
 pub returns-clause-fault : goal.returns-clause-fault

@@ -22,7 +22,8 @@ returns-in-Some-lowest_section g c = λ names are.
     let typed : Never (wrong_name_table_type c.args.header.now c.args.table s) = search rules in
     let closed = subst (λ (entry : Shdr). Never (UnclosedAt names entry.sh_offset))
     c.section-entry.ensures (c.in_default.ensures names are) in
-    let found = subst (λ (size : ℕ). IsLeast (SomeSectionHeader c.args.header.now c.args.count s (IsNamePastEnd size) 0) c.in-Some-lowest_section.at)
+    let found = subst
+    (λ (size : ℕ). IsLeast (SomeSectionHeader c.args.header.now c.args.count s (IsNamePastEnd size) 0) c.in-Some-lowest_section.at)
     are.len c.in-Some-lowest_section.ensures in
     rw c.new-in-Some-lowest_section.ensures (inr (typed, inr (closed, inl (refl, found))))
 

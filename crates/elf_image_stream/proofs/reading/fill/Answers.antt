@@ -11,7 +11,8 @@ loop-filled-preserved g c =
       within = read.fits;
       limit = search rules;
       room = search rules;
-      taken = read_more _ _ _ _ _ _ _ c.loop-filled.filled c.in-Ok-read_at.count c.in-Ok.ensures.front read.front c.loop-filled.invariant.taken read.ok;
+      taken = read_more _ _ _ _ _ _ _ c.loop-filled.filled c.in-Ok-read_at.count c.in-Ok.ensures.front read.front
+          c.loop-filled.invariant.taken read.ok;
     }
 
 pub loop-filled-init : goal.loop-filled-init

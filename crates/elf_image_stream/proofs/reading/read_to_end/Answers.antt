@@ -5,9 +5,12 @@ use Rattle.elf_image_stream.proofs.reading.read_to_end.Goals as goal
 
 pub returns-clause-taken : goal.returns-clause-taken
 returns-clause-taken g c =
-    let read : IsReadBehind (g.R.Read.remaining c.args.reader.now) (g.R.Read.remaining c.resume.new.reader) [] c.resume.new.buf.items = rw (← c.requires) c.resume.ensures.taken in
+    let read : IsReadBehind (g.R.Read.remaining c.args.reader.now) (g.R.Read.remaining c.resume.new.reader) [] c.resume.new.buf.items =
+    rw (← c.requires) c.resume.ensures.taken in
     rw read.behind read.taken
 
 pub returns-clause-whole : goal.returns-clause-whole
 returns-clause-whole g c =
-    behind_nothing (g.R.Read.remaining c.args.reader.now) c.resume.result c.args.buf.now.items c.resume.new.buf.items 1073741825 c.requires c.resume.ensures.whole
+    behind_nothing
+    (g.R.Read.remaining c.args.reader.now) c.resume.result c.args.buf.now.items c.resume.new.buf.items 1073741825 c.requires
+    c.resume.ensures.whole

@@ -14,4 +14,6 @@ loop-entry-preserved c =
 
 pub returns : goal.returns
 returns c =
-    c.loop-entry.invariant ∙ ap (map (λ (s : Shdr). bytes_in c.args.bytes.now (content_extent s))) (take_all c.loop-entry.entry-index c.args.entries.now c.loop-entry-test.false)
+    c.loop-entry.invariant ∙
+    ap (map (λ (s : Shdr). bytes_in c.args.bytes.now (content_extent s)))
+    (take_all c.loop-entry.entry-index c.args.entries.now c.loop-entry-test.false)

@@ -15,7 +15,8 @@ pub returns-in_err-outline-clause-err : goal.returns-in_err-outline-clause-err
 returns-in_err-outline-clause-err c =
     let b = c.args.bytes.now in
     stopped (IsParseFault b) _ _
-    (stops_parse OutlineValue b _ c.in_ok-validate_records.ensures.kept c.in_err-outline.ensures.failures (c.in_err-outline.ensures.told b refl))
+    (stops_parse OutlineValue b _ c.in_ok-validate_records.ensures.kept c.in_err-outline.ensures.failures
+    (c.in_err-outline.ensures.told b refl))
     c.from_residual-in_err-outline.ensures.1
 
 pub new-requires : goal.new-requires

@@ -9,28 +9,34 @@ use Rattle.elf_image_type.proofs.loading.byte_at.Goals as goal
 
 pub overflow_sub-k : goal.overflow_sub-k
 overflow_sub-k c =
-    let start = (part_at c.args.outline.now _ c.args.file.now c.parts-part-items.result.now c.loop-part.part-index c.requires.sound c.parts-part-items.ensures.value
+    let start = (part_at c.args.outline.now _ c.args.file.now c.parts-part-items.result.now c.loop-part.part-index c.requires.sound
+    c.parts-part-items.ensures.value
     c.loop-part-test.true).start in
     omega arith
 
 pub part_byte-requires-clause-whole : goal.part_byte-requires-clause-whole
 part_byte-requires-clause-whole c =
-    (part_at c.args.outline.now _ c.args.file.now c.parts-part-items.result.now c.loop-part.part-index c.requires.sound c.parts-part-items.ensures.value
+    (part_at c.args.outline.now _ c.args.file.now c.parts-part-items.result.now c.loop-part.part-index c.requires.sound
+    c.parts-part-items.ensures.value
     c.loop-part-test.true).whole
 
 pub returns-then-k-part : goal.returns-then-k-part
 returns-then-k-part c =
-    let start = (part_at c.args.outline.now _ c.args.file.now c.parts-part-items.result.now c.loop-part.part-index c.requires.sound c.parts-part-items.ensures.value
+    let start = (part_at c.args.outline.now _ c.args.file.now c.parts-part-items.result.now c.loop-part.part-index c.requires.sound
+    c.parts-part-items.ensures.value
     c.loop-part-test.true).start in
     c.part_byte.ensures
-    ∙ in_part c.args.outline.now _ c.args.file.now c.parts-part-items.result.now c.loop-part.part-index c.args.offset c.requires.sound c.parts-part-items.ensures.value
+    ∙ in_part c.args.outline.now _ c.args.file.now c.parts-part-items.result.now c.loop-part.part-index c.args.offset c.requires.sound
+    c.parts-part-items.ensures.value
     c.loop-part-test.true (omega arith) c.if-k-part.true
 
 pub loop-part-preserved : goal.loop-part-preserved
 loop-part-preserved c =
-    let start = (part_at c.args.outline.now _ c.args.file.now c.parts-part-items.result.now c.loop-part.part-index c.requires.sound c.parts-part-items.ensures.value
+    let start = (part_at c.args.outline.now _ c.args.file.now c.parts-part-items.result.now c.loop-part.part-index c.requires.sound
+    c.parts-part-items.ensures.value
     c.loop-part-test.true).start in
-    let end = parts_end c.args.outline.now _ c.args.file.now c.parts-part-items.result.now c.loop-part.part-index c.requires.sound c.parts-part-items.ensures.value
+    let end = parts_end c.args.outline.now _ c.args.file.now c.parts-part-items.result.now c.loop-part.part-index c.requires.sound
+    c.parts-part-items.ensures.value
     c.loop-part-test.true in
     omega arith
 

@@ -9,7 +9,8 @@ use Rattle.elf_object_type.specs.Object.{ObjectValue}
 use Rattle.elf_link_files.proofs.discarded.first_of_signatures.Goals as goal
 
 -- the names of the signature symbols are the signatures
-names_of_signatures : (fs : List ObjectValue) (groups : List Site) → site_names fs Symbol (map (signature_site fs) groups) ≡ signatures_of fs groups
+names_of_signatures : (fs : List ObjectValue) (groups : List Site) →
+    site_names fs Symbol (map (signature_site fs) groups) ≡ signatures_of fs groups
 names_of_signatures fs [] = refl
 names_of_signatures fs (p ∷ ps) = ap (λ rest. signature fs p.file p.index ∷ rest) (names_of_signatures fs ps)
 

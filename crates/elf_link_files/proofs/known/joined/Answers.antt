@@ -13,7 +13,8 @@ returns-in-Some c =
     let name = (symbol_in fs s.id.file s.id.index).name in
     block_more fs name s.id.file s.id.index b _ s.there.0 s.there.1 c.requires.common refl
     (subst (λ (n : ℕ). IsLargerOf b.size n c.larger.result) (ap (λ (s : SymbolValue). s.size) c.symbol-own.ensures) c.larger.ensures)
-    (subst (λ (n : ℕ). IsLargerOf b.align n c.larger-in-Some.result) (ap (λ (s : SymbolValue). s.value) c.symbol-own.ensures) c.larger-in-Some.ensures)
+    (subst (λ (n : ℕ). IsLargerOf b.align n c.larger-in-Some.result)
+    (ap (λ (s : SymbolValue). s.value) c.symbol-own.ensures) c.larger-in-Some.ensures)
     (subst (IsCommonBest fs name s.id.file s.id.index) c.in-Some.is c.requires.before)
 
 pub returns-in-None : goal.returns-in-None

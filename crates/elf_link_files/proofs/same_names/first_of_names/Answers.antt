@@ -15,7 +15,8 @@ loop-start-preserved c =
     let is : start + (end - start) ≡ end = omega arith in
     record {
       within = c.end_of_file-end.ensures.within;
-      names = c.in_ok-names.ensures ∙ ap (λ xs. xs ++ site_names fs named (take (end - start) (drop start sites))) c.loop-start.invariant.names
+      names = c.in_ok-names.ensures ∙
+          ap (λ xs. xs ++ site_names fs named (take (end - start) (drop start sites))) c.loop-start.invariant.names
           ∙ sym (map-append (site_name fs named) (take start sites) (take (end - start) (drop start sites)))
           ∙ ap (site_names fs named) (sym (take-add start (end - start) sites) ∙ ap (λ n. take n sites) is);
     }

@@ -24,10 +24,12 @@ loop-k-preserved c =
     let there = All-get_or (IsNamedIn fs named) sites k (site 0 0) lt c.requires.there in
     let name : c.name_of.result.now ≡ site_name fs named p = c.name_of.ensures in
     let among : c.name_of.result.now ≡ get_or others p.index [] =
-    name ∙ name_there fs named p there ∙ ap (λ f. get_or (names_of_object (object_at fs f) named) p.index []) (c.requires.file k (omega arith) lt) in
+    name ∙ name_there fs named p there ∙
+    ap (λ f. get_or (names_of_object (object_at fs f) named) p.index []) (c.requires.file k (omega arith) lt) in
     let more = ap texts c.in_ok-push.ensures.items ∙ map-append (λ n. n.now) c.loop-k.own.items (c.name_of.result ∷ []) in
     record {
-      names = more ∙ ap₂ (λ (xs : List (List ℕ)) (x : List ℕ). xs ++ x ∷ []) c.loop-k.invariant.names name ∙ sym (map_more (site_name fs named) sites k (site 0 0) lt);
+      names = more ∙ ap₂ (λ (xs : List (List ℕ)) (x : List ℕ). xs ++ x ∷ []) c.loop-k.invariant.names name ∙
+          sym (map_more (site_name fs named) sites k (site 0 0) lt);
       from = rw (more, among, c.in_ok-push-2.ensures.items, c.end_at.ensures)
           (from_more others c.ends_of-ends.result.now own c.loop-k.own_ends.items p.index c.loop-k.invariant.from);
     }
@@ -43,8 +45,10 @@ with_file-requires-clause-tails c =
     let tails : AreTails (names_of_object (object_at fs file) named) c.ends_of-ends.result.now =
     subst (λ (o : ObjectValue). AreTails (names_of_object o named) c.ends_of-ends.result.now) (sym is) c.ends_of-ends.ensures in
     rw (c.deref.ensures.value, c.deref-2.ensures.value)
-    (tails_from (names_of_object (object_at fs file) named) c.ends_of-ends.result.now (texts c.loop-k.own.items) c.loop-k.own_ends.items tails c.loop-k.invariant.from)
+    (tails_from (names_of_object (object_at fs file) named) c.ends_of-ends.result.now
+    (texts c.loop-k.own.items) c.loop-k.own_ends.items tails c.loop-k.invariant.from)
 
 pub with_file-requires-clause-all : goal.with_file-requires-clause-all
 with_file-requires-clause-all c =
-    ap length c.deref-2.ensures.value ∙ c.loop-k.invariant.from.all ∙ length-map c.loop-k.own.items (λ n. n.now) ∙ sym (ap length c.deref.ensures.value)
+    ap length c.deref-2.ensures.value ∙ c.loop-k.invariant.from.all ∙ length-map c.loop-k.own.items (λ n. n.now) ∙
+    sym (ap length c.deref.ensures.value)

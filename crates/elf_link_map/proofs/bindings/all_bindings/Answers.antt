@@ -10,7 +10,8 @@ pub new-requires : goal.new-requires
 new-requires c =
     let r = c.args.resolution in
     let parts = c.into_parts-parts in
-    positions_are r.objects (map common_value c.args.commons.now) r.firsts (map named_value c.in_ok-list.list.items) (name_position parts.result.positions)
+    positions_are r.objects (map common_value c.args.commons.now) r.firsts (map named_value c.in_ok-list.list.items)
+    (name_position parts.result.positions)
     parts.ensures.firsts c.in_ok-list.ensures parts.ensures.positions
 
 pub returns-clause-bindings : goal.returns-clause-bindings
@@ -33,5 +34,6 @@ pub returns-clause-indexes : goal.returns-clause-indexes
 returns-clause-indexes c =
     let r = c.args.resolution in
     let parts = c.into_parts-parts in
-    indexes_in r.objects (map common_value c.args.commons.now) r.firsts (map named_value c.in_ok-list.list.items) _ (name_position parts.result.positions) _
+    indexes_in r.objects (map common_value c.args.commons.now) r.firsts (map named_value c.in_ok-list.list.items) _
+    (name_position parts.result.positions) _
     parts.ensures.firsts c.in_ok-list.ensures parts.ensures.positions parts.ensures.indexes c.new.ensures

@@ -12,5 +12,6 @@ returns c = λ not_local.
     let bindings = c.args.map.now.bindings in
     let found = subst (λ (n : List ℕ). MatchOption c.position.result (bound_in bindings n ≡ None) (IsBindingAt bindings n))
     (ap (λ (s : SymbolValue). s.name) c.symbol_of-symbol.ensures) c.position.ensures in
-    rw c.unwrap_or.ensures (entry_index c.args.objects.now c.args.map.now id.file id.index c.position.result c.requires.map c.requires.symbol.0
+    rw c.unwrap_or.ensures
+    (entry_index c.args.objects.now c.args.map.now id.file id.index c.position.result c.requires.map c.requires.symbol.0
     c.requires.symbol.1 not_local found)

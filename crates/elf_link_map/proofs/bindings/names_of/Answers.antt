@@ -12,4 +12,5 @@ loop-k-preserved c =
     let r = c.args.resolution.now in
     let cs = map common_value c.args.commons.now in
     rw (c.in_ok-push.ensures.items, map-append)
-    (each_more no_name (λ j. IsNamedAt r.objects cs (site_at r.firsts j)) c.loop-k.k _ _ (c.name.ensures, c.binding_at.ensures) c.loop-k.invariant)
+    (each_more no_name (λ j. IsNamedAt r.objects cs (site_at r.firsts j)) c.loop-k.k _ _
+    (c.name.ensures, c.binding_at.ensures) c.loop-k.invariant)

@@ -11,7 +11,8 @@ pub returns-clause-apart : goal.returns-clause-apart
 returns-clause-apart g c = parts_apart c.args.options.now c.args.objects.now c.in_ok-map_indexed.field-0.map c.in_ok-map_indexed.ensures.map
 
 pub returns-clause-outputs : goal.returns-clause-outputs
-returns-clause-outputs g c = outputs_stand c.args.options.now c.args.objects.now c.in_ok-map_indexed.field-0.map c.in_ok-map_indexed.ensures.map
+returns-clause-outputs g c =
+    outputs_stand c.args.options.now c.args.objects.now c.in_ok-map_indexed.field-0.map c.in_ok-map_indexed.ensures.map
 
 pub returns-clause-paged : goal.returns-clause-paged
 returns-clause-paged g c =

@@ -24,8 +24,10 @@ all_bindings-requires g c =
     let a = c.in_ok-placed.placed in
     let fs = c.in_ok-resolution.resolution.objects in
     let (t, is) = c.in_ok-placed.ensures.ok in
-    rw (← c.in_ok-placed.ensures.commons) (subst (λ (xs : List Common). AreCommonNames fs a.plan.plan.commons (map common_value xs)) (sym c.deref.ensures.value)
-    (common_names fs a.plan.plan.commons a.places _ (map common_value c.in_ok-parts.parts.commons.items) (rw is.objects at c.in_ok-parts.ensures.commons)))
+    rw (← c.in_ok-placed.ensures.commons)
+    (subst (λ (xs : List Common). AreCommonNames fs a.plan.plan.commons (map common_value xs)) (sym c.deref.ensures.value)
+    (common_names fs a.plan.plan.commons a.places _ (map common_value c.in_ok-parts.parts.commons.items)
+    (rw is.objects at c.in_ok-parts.ensures.commons)))
 
 pub returns-clause-sound : goal.returns-clause-sound
 returns-clause-sound g c =

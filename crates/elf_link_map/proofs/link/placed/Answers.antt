@@ -45,4 +45,5 @@ returns-clause-err g c =
     let target = rw (c.sites.ensures, ← c.commons.ensures.commons, c.in_ok-plan.ensures) at c.entry_target-target.ensures.target in
     let plan : Plan = record { outputs = c.in_ok-outputs.outputs.groups; commons = c.commons.result.now } in
     let fault = rw (c.in_ok-plan.ensures, c.in_ok-outputs.ensures.objects, c.objects.ensures) at c.new-3.ensures.err in
-    if_err_map _ (IsAddressingFault opt fs) c.new-3.result (λ f is. placing_fault opt fs plan t f outputs c.commons.ensures.chosen target is) fault
+    if_err_map _ (IsAddressingFault opt fs) c.new-3.result
+    (λ f is. placing_fault opt fs plan t f outputs c.commons.ensures.chosen target is) fault

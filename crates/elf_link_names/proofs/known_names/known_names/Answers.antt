@@ -27,4 +27,5 @@ pub returns-clause-names : goal.returns-clause-names
 returns-clause-names c =
     let fs = c.args.inputs.now in
     let end : c.loop-file.file ≡ length fs = omega arith in
-    subst (λ (n : ℕ). AreKnownBefore fs n 0 (name_position c.loop-file.names.positions) c.loop-file.names.known) end c.loop-file.invariant.names
+    subst (λ (n : ℕ). AreKnownBefore fs n 0 (name_position c.loop-file.names.positions) c.loop-file.names.known) end
+    c.loop-file.invariant.names

@@ -30,7 +30,8 @@ loop-names-preserved c =
       within = passed.within;
       names = passed.names;
       indexes = passed.indexes;
-      kept = keeps_on (name_position c.args.names.now.positions) (name_position c.loop-names.names.positions) (name_position c.pass_block.new.names.positions)
+      kept = keeps_on (name_position c.args.names.now.positions) (name_position c.loop-names.names.positions)
+          (name_position c.pass_block.new.names.positions)
           c.loop-names.invariant.kept passed.kept;
     }
 
@@ -41,7 +42,8 @@ returns-clause-names c =
     let within = c.loop-names.invariant.within in
     let past = c.loop-names-test.false in
     let end : length c.loop-names.row.items ≡ length (object_at fs c.args.file).symbols = omega arith in
-    subst (λ (n : ℕ). AreKnownBefore fs c.args.file n (name_position c.loop-names.names.positions) c.loop-names.names.known) end c.loop-names.invariant.names
+    subst (λ (n : ℕ). AreKnownBefore fs c.args.file n (name_position c.loop-names.names.positions) c.loop-names.names.known) end
+    c.loop-names.invariant.names
 
 pub returns-clause-indexes : goal.returns-clause-indexes
 returns-clause-indexes c =
@@ -50,4 +52,5 @@ returns-clause-indexes c =
     let within = c.loop-names.invariant.within in
     let past = c.loop-names-test.false in
     let end : length c.loop-names.row.items ≡ length (object_at fs c.args.file).symbols = omega arith in
-    subst (λ (n : ℕ). IsIndexRow fs (name_position c.loop-names.names.positions) c.args.file n c.loop-names.row.items) end c.loop-names.invariant.indexes
+    subst (λ (n : ℕ). IsIndexRow fs (name_position c.loop-names.names.positions) c.args.file n c.loop-names.row.items) end
+    c.loop-names.invariant.indexes

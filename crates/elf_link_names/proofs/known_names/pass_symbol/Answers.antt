@@ -25,16 +25,19 @@ returns-then-is_local-clause-index c = λ not_local.
 
 pub place_looked_up-requires : goal.place_looked_up-requires
 place_looked_up-requires c =
-    subst (λ (n : List ℕ). IsLookup (name_position c.args.names.now.positions) n c.args.lookup) (sym (ap (λ (s : SymbolValue). s.name) c.symbol-own.ensures))
+    subst (λ (n : List ℕ). IsLookup (name_position c.args.names.now.positions) n c.args.lookup)
+    (sym (ap (λ (s : SymbolValue). s.name) c.symbol-own.ensures))
     (c.requires.lookup (λ local. (
-    let never : false ≡ true = c.if-is_local.ensures.1 (subst (λ (s : SymbolValue). binding s ≡ STB_LOCAL) (sym c.symbol-own.ensures) local) in
+    let never : false ≡ true =
+    c.if-is_local.ensures.1 (subst (λ (s : SymbolValue). binding s ≡ STB_LOCAL) (sym c.symbol-own.ensures) local) in
     absurd (cc))))
 
 pub note_again-requires-clause-within : goal.note_again-requires-clause-within
 note_again-requires-clause-within c =
     let s = c.args.symbol.now in
     let old = name_position c.args.names.now.positions in
-    let at = subst (λ (n : List ℕ). old n ≡ Some c.in-Some.k) (ap (λ (s : SymbolValue). s.name) c.symbol-own.ensures) (sym c.in_ok-place.ensures.old ∙ c.in-Some.is) in
+    let at = subst (λ (n : List ℕ). old n ≡ Some c.in-Some.k) (ap (λ (s : SymbolValue). s.name) c.symbol-own.ensures)
+    (sym c.in_ok-place.ensures.old ∙ c.in-Some.is) in
     (placed_at s.inputs.now s.id.file s.id.index old c.args.names.now.known _ c.in-Some.k at c.requires.before).0
 
 pub returns-in_ok-note_again-in-Some-clause-index : goal.returns-in_ok-note_again-in-Some-clause-index
@@ -43,7 +46,8 @@ returns-in_ok-note_again-in-Some-clause-index c = λ not_local.
     let old = name_position c.args.names.now.positions in
     let name = (symbol_in s.inputs.now s.id.file s.id.index).name in
     rw c.in-Some.is at (c.in_ok-place.ensures.placed name) ∙
-    subst (λ (n : List ℕ). old n ≡ Some c.in-Some.k) (ap (λ (s : SymbolValue). s.name) c.symbol-own.ensures) (sym c.in_ok-place.ensures.old ∙ c.in-Some.is)
+    subst (λ (n : List ℕ). old n ≡ Some c.in-Some.k) (ap (λ (s : SymbolValue). s.name) c.symbol-own.ensures)
+    (sym c.in_ok-place.ensures.old ∙ c.in-Some.is)
 
 pub returns-in_ok-note_again-in-Some-clause-kept : goal.returns-in_ok-note_again-in-Some-clause-kept
 returns-in_ok-note_again-in-Some-clause-kept c = λ q j at. rw c.in-Some.is at (c.in_ok-place.ensures.placed q) ∙ at
@@ -86,7 +90,8 @@ returns-in_ok-push-in-None-clause-names c =
     let now = name_position c.place_looked_up.new.self in
     rw c.in_ok-push-in-None.ensures
     (names_new fs s.id.file s.id.index old now ks c.note.new.self s.there.0 s.there.1
-    (λ local. (let never : false ≡ true = c.if-is_local.ensures.1 (subst (λ (s : SymbolValue). binding s ≡ STB_LOCAL) (sym c.symbol-own.ensures) local) in cc))
+    (λ local. (let never : false ≡ true =
+    c.if-is_local.ensures.1 (subst (λ (s : SymbolValue). binding s ≡ STB_LOCAL) (sym c.symbol-own.ensures) local) in cc))
     (subst (λ (n : List ℕ). (q : List ℕ) → now q ≡ cond (bytes_eq n q) (Some (length ks)) (old q)) same
     (subst (λ (m : ℕ). (q : List ℕ) → now q ≡ cond (bytes_eq name q) (Some m) (old q)) c.len-next.ensures
     (λ q. rw c.in-None.is at (c.in_ok-place.ensures.placed q))))
@@ -96,5 +101,6 @@ returns-in_ok-push-in-None-clause-names c =
 
 pub returns-in_ok-push-in-None-clause-kept : goal.returns-in_ok-push-in-None-clause-kept
 returns-in_ok-push-in-None-clause-kept c =
-    keeps_new (name_position c.args.names.now.positions) (name_position c.place_looked_up.new.self) c.symbol-own.result.name.now c.len-next.result
+    keeps_new (name_position c.args.names.now.positions)
+    (name_position c.place_looked_up.new.self) c.symbol-own.result.name.now c.len-next.result
     (sym c.in_ok-place.ensures.old ∙ c.in-None.is) (λ q. rw c.in-None.is at (c.in_ok-place.ensures.placed q))

@@ -12,6 +12,7 @@ loop-index-preserved c =
     record {
       behind = (let behind = before.behind in omega arith);
       room = length-set c.loop-index.hashes step c.symbol_hash.result ∙ before.room;
-      hashes = block_next 0 (IsSymbolHash c.args.inputs.now c.args.file) c.args.start c.loop-index.index c.loop-index.hashes c.symbol_hash.result
+      hashes = block_next 0
+          (IsSymbolHash c.args.inputs.now c.args.file) c.args.start c.loop-index.index c.loop-index.hashes c.symbol_hash.result
           before.behind within c.symbol_hash.ensures before.hashes;
     }

@@ -33,7 +33,8 @@ same_key n q =
     rw (one_number (length n) (length q), is_eq-slice_cmp n q)
     (second_alone (length n == length q) (bytes_eq n q) (λ is. eq-eqb (length n) (length q) (ap length ((bytes_eq-Decides n q).0 is))))
 
-as_looked : (r s : Option ℕ) (n q : List ℕ) (x : ℕ) → r ≡ cond (is_eq (name_key_cmp n (length q, record { ref_ptr = (0, 0); now = q }))) (Some x) s →
+as_looked : (r s : Option ℕ) (n q : List ℕ) (x : ℕ) →
+    r ≡ cond (is_eq (name_key_cmp n (length q, record { ref_ptr = (0, 0); now = q }))) (Some x) s →
     r ≡ cond (bytes_eq n q) (Some x) s
 as_looked r s n q x is = is ∙ ap (λ (e : Bool). cond e (Some x) s) (same_key n q)
 

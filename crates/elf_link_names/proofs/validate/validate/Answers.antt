@@ -21,12 +21,17 @@ pub returns-in_err-validate_names-clause-err : goal.returns-in_err-validate_name
 returns-in_err-validate_names-clause-err c =
     let broken = c.in_err-validate_names.field-0.0 in
     let p = err_from_is_err_and c.from_residual-in_err-validate_names.result c.from_residual-in_err-validate_names.ensures.1 in
-    let named = subst (λ (fs : List ObjectValue). FirstAmong (link_name_rules fs) (Some (broken.rule, broken.at))) (c.in_ok-table.ensures ∙ c.in_ok-inputs.ensures.inputs)
+    let named = subst (λ (fs : List ObjectValue). FirstAmong (link_name_rules fs) (Some (broken.rule, broken.at)))
+    (c.in_ok-table.ensures ∙ c.in_ok-inputs.ensures.inputs)
     c.in_err-validate_names.ensures in
     let options = c.in_ok-inputs.ensures.options in
     let sections = c.in_ok-inputs.ensures.sections in
     let symbols = c.in_ok-inputs.ensures.symbols in
-    rw (p.1, p.2) (inr (options.0, inr (options.1.0, inr (sections.0, inr (sections.1.0, inr (sections.1.1.0, inr (symbols.0, inr (symbols.1.0, named))))))))
+    rw (p.1, p.2)
+    (inr (
+      options.0,
+      inr (options.1.0, inr (sections.0, inr (sections.1.0, inr (sections.1.1.0, inr (symbols.0, inr (symbols.1.0, named)))))),
+    ))
 
 pub returns-clause-sound : goal.returns-clause-sound
 returns-clause-sound c =

@@ -37,7 +37,8 @@ loop-i-preserved c =
     let below : i < length parts = omega arith in
     let sum : c.in-Some-checked_add.end ≡ c.in-Some.start + p.0 = c.in-Some-checked_add.ensures.1 in
     subst (λ (n : ℕ). IsCursor parts c.args.from (i + 1) n) (sym sum)
-    (cursor_more parts c.args.from i c.loop-i.cursor c.in-Some.start p below (get_or_default parts i (0, 0) p below) c.in-Some.ensures c.loop-i.invariant)
+    (cursor_more parts c.args.from i c.loop-i.cursor c.in-Some.start p below
+    (get_or_default parts i (0, 0) p below) c.in-Some.ensures c.loop-i.invariant)
 
 pub returns : goal.returns
 returns c =

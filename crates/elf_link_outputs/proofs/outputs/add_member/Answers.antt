@@ -15,6 +15,7 @@ pub returns : goal.returns
 returns g c =
     let es = c.args.groups.now.entries in
     let absent : get nat_eq c.args.groups.now c.args.number ≡ None = search rules in
-    subst (λ now. IsMemberAdded (keys_of es) (map (λ ms. ms.items) (values_of es)) c.args.number c.args.site (keys_of now) (map (λ ms. ms.items) (values_of now)))
+    subst (λ now. IsMemberAdded (keys_of es) (map (λ ms. ms.items) (values_of es)) c.args.number c.args.site (keys_of now)
+    (map (λ ms. ms.items) (values_of now)))
     (sym (c.in_ok-insert.ensures.entries ∙ insert_entry-new nat_eq c.args.groups.now c.args.number c.in_ok-vec.field-0 absent))
     (entry_opened es c.args.number c.in_ok-vec.field-0 c.args.site absent (search rules))

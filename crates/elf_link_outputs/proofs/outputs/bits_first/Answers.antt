@@ -12,7 +12,12 @@ pub loop-members-init : goal.loop-members-init
 loop-members-init g c = (
   tt,
   tt,
-  rw (c.into_iter-members-iterator.ensures.into_iter_gives, c.into_values-members-items.ensures.rest, c.new-outputs.ensures.items, c.new-behind.ensures.items)
+  rw (
+    c.into_iter-members-iterator.ensures.into_iter_gives,
+    c.into_values-members-items.ensures.rest,
+    c.new-outputs.ensures.items,
+    c.new-behind.ensures.items,
+  )
       (split_none c.args.objects.now (map (λ ms. ms.items) (values c.args.groups)) c.requires),
 )
 
@@ -23,7 +28,8 @@ index-opener-requires g c =
     let outputs = map (λ ms. ms.items) c.loop-members.outputs.items in
     let behind = map (λ ms. ms.items) c.loop-members.behind.items in
     let split : AreSplit c.args.objects.now (ms ∷ rest) outputs behind =
-    subst (λ its. AreSplit c.args.objects.now (map (λ ms. ms.items) its) outputs behind) c.in-Some.ensures.steps c.loop-members.invariant.2 in
+    subst (λ its. AreSplit c.args.objects.now (map (λ ms. ms.items) its) outputs behind) c.in-Some.ensures.steps
+    c.loop-members.invariant.2 in
     let first = split_first c.args.objects.now ms rest outputs behind split in
     let some = first.0 in
     search rules
@@ -35,7 +41,8 @@ section_of-requires-clause-file g c =
     let outputs = map (λ ms. ms.items) c.loop-members.outputs.items in
     let behind = map (λ ms. ms.items) c.loop-members.behind.items in
     let split : AreSplit c.args.objects.now (ms ∷ rest) outputs behind =
-    subst (λ its. AreSplit c.args.objects.now (map (λ ms. ms.items) its) outputs behind) c.in-Some.ensures.steps c.loop-members.invariant.2 in
+    subst (λ its. AreSplit c.args.objects.now (map (λ ms. ms.items) its) outputs behind) c.in-Some.ensures.steps
+    c.loop-members.invariant.2 in
     let first = split_first c.args.objects.now ms rest outputs behind split in
     let opener : c.index-opener.result.now ≡ site_at ms 0 = get_or_read ms _ _ first.0 c.index-opener.ensures (site 0 0) in
     rw opener first.1.0
@@ -47,7 +54,8 @@ section_of-requires-clause-index g c =
     let outputs = map (λ ms. ms.items) c.loop-members.outputs.items in
     let behind = map (λ ms. ms.items) c.loop-members.behind.items in
     let split : AreSplit c.args.objects.now (ms ∷ rest) outputs behind =
-    subst (λ its. AreSplit c.args.objects.now (map (λ ms. ms.items) its) outputs behind) c.in-Some.ensures.steps c.loop-members.invariant.2 in
+    subst (λ its. AreSplit c.args.objects.now (map (λ ms. ms.items) its) outputs behind) c.in-Some.ensures.steps
+    c.loop-members.invariant.2 in
     let first = split_first c.args.objects.now ms rest outputs behind split in
     let opener : c.index-opener.result.now ≡ site_at ms 0 = get_or_read ms _ _ first.0 c.index-opener.ensures (site 0 0) in
     rw opener first.1.1
@@ -59,11 +67,16 @@ loop-members-preserved-in-Continue-1 g c =
     let outputs = map (λ ms. ms.items) c.loop-members.outputs.items in
     let behind = map (λ ms. ms.items) c.loop-members.behind.items in
     let split : AreSplit c.args.objects.now (ms ∷ rest) outputs behind =
-    subst (λ its. AreSplit c.args.objects.now (map (λ ms. ms.items) its) outputs behind) c.in-Some.ensures.steps c.loop-members.invariant.2 in
+    subst (λ its. AreSplit c.args.objects.now (map (λ ms. ms.items) its) outputs behind) c.in-Some.ensures.steps
+    c.loop-members.invariant.2 in
     let first = split_first c.args.objects.now ms rest outputs behind split in
     let opener : c.index-opener.result.now ≡ site_at ms 0 = get_or_read ms _ _ first.0 c.index-opener.ensures (site 0 0) in
-    let kind : is_no_bits (section_at_site c.args.objects.now c.index-opener.result.now).body ≡ true = search rules in
-    (tt, tt, rw (c.in_ok-push.ensures.items, map-append) (split_no_bits c.args.objects.now ms rest outputs behind (rw opener at kind) split))
+    let kind : is_no_bits (section_at_site c.args.objects.now c.index-opener.result.now).body ≡ true = search rules in (
+      tt,
+      tt,
+      rw (c.in_ok-push.ensures.items, map-append)
+          (split_no_bits c.args.objects.now ms rest outputs behind (rw opener at kind) split),
+    )
 
 pub loop-members-preserved : goal.loop-members-preserved
 loop-members-preserved g c =
@@ -72,7 +85,8 @@ loop-members-preserved g c =
     let outputs = map (λ ms. ms.items) c.loop-members.outputs.items in
     let behind = map (λ ms. ms.items) c.loop-members.behind.items in
     let split : AreSplit c.args.objects.now (ms ∷ rest) outputs behind =
-    subst (λ its. AreSplit c.args.objects.now (map (λ ms. ms.items) its) outputs behind) c.in-Some.ensures.steps c.loop-members.invariant.2 in
+    subst (λ its. AreSplit c.args.objects.now (map (λ ms. ms.items) its) outputs behind) c.in-Some.ensures.steps
+    c.loop-members.invariant.2 in
     let first = split_first c.args.objects.now ms rest outputs behind split in
     let opener : c.index-opener.result.now ≡ site_at ms 0 = get_or_read ms _ _ first.0 c.index-opener.ensures (site 0 0) in
     let kind : is_no_bits (section_at_site c.args.objects.now c.index-opener.result.now).body ≡ false = search rules in
@@ -83,5 +97,6 @@ returns g c =
     let end : c.loop-members.members-iterator ≡ _ = c.in-None.ensures.steps.0 in
     rw (c.in_ok-append.ensures.items, map-append)
     (split_all c.args.objects.now (map (λ ms. ms.items) c.loop-members.outputs.items) (map (λ ms. ms.items) c.loop-members.behind.items)
-    (subst (λ its. AreSplit c.args.objects.now (map (λ ms. ms.items) its) (map (λ ms. ms.items) c.loop-members.outputs.items) (map (λ ms. ms.items) c.loop-members.behind.items))
+    (subst (λ its. AreSplit c.args.objects.now (map (λ ms. ms.items) its) (map (λ ms. ms.items) c.loop-members.outputs.items)
+    (map (λ ms. ms.items) c.loop-members.behind.items))
     end c.loop-members.invariant.2))

@@ -17,17 +17,20 @@ bounds-places-first c =
     omega arith
 
 pub overflow_sub-result : goal.overflow_sub-result
-overflow_sub-result c = place_order c.args.parts.now c.args.places.now c.args.first c.args.last c.requires.placed c.requires.order c.requires.last
+overflow_sub-result c =
+    place_order c.args.parts.now c.args.places.now c.args.first c.args.last c.requires.placed c.requires.order c.requires.last
 
 pub overflow_add-result : goal.overflow_add-result
 overflow_add-result c =
-    let order = place_order c.args.parts.now c.args.places.now c.args.first c.args.last c.requires.placed c.requires.order c.requires.last in
+    let order = place_order c.args.parts.now c.args.places.now c.args.first c.args.last c.requires.placed c.requires.order
+    c.requires.last in
     let end = end_fits c.args.parts.now c.args.places.now c.args.last c.requires.placed c.requires.last in
     let size = size_is c.args.parts.now c.args.last c.requires.last in
     omega arith
 
 pub returns : goal.returns
 returns c =
-    let order = place_order c.args.parts.now c.args.places.now c.args.first c.args.last c.requires.placed c.requires.order c.requires.last in
+    let order = place_order c.args.parts.now c.args.places.now c.args.first c.args.last c.requires.placed c.requires.order
+    c.requires.last in
     let size = size_is c.args.parts.now c.args.last c.requires.last in
     omega arith

@@ -68,7 +68,9 @@ loop-members-preserved c =
           let len = c.len.ensures in
           omega arith);
       placed = rw (c.in_ok-push.ensures.items, map-append)
-          (each_more no_output (λ k. IsOutput fs (members_at oss k) parts places (start_of oss k)) i (map output_value c.loop-members.placed.items) o
+          (each_more no_output (λ k. IsOutput fs (members_at oss k) parts places (start_of oss k)) i
+          (map output_value c.loop-members.placed.items) o
           (subst (λ (ms : List Site). IsOutput fs ms parts places (start_of oss i) o) (sym at)
-          (subst (λ (n : ℕ). IsOutput fs c.deref.result.now parts places n o) start c.in_ok-placed_output.ensures)) c.loop-members.invariant.placed);
+          (subst (λ (n : ℕ). IsOutput fs c.deref.result.now parts places n o) start c.in_ok-placed_output.ensures))
+          c.loop-members.invariant.placed);
     }

@@ -17,7 +17,8 @@ number_in None is = absurd (cc)
 number_in (Some a) is = (a, refl)
 
 -- a section is live where its cell has an address
-live_by_cell : (fs : List ObjectValue) (m : LinkMapValue) (f s : ℕ) (o : Option ℕ) → StandApart fs m → f < length fs → o ≡ cell m.addresses f s →
+live_by_cell : (fs : List ObjectValue) (m : LinkMapValue) (f s : ℕ) (o : Option ℕ) → StandApart fs m → f < length fs →
+    o ≡ cell m.addresses f s →
     IsTrue (is_some o) ↔ Live fs f s
 live_by_cell fs m f s o stand file same = (
   (λ is. (let (a, at) = number_in o is in ((stand.addressed f s).1 (a, sym same ∙ at)).2)),
@@ -31,4 +32,5 @@ returns c =
     let fs = c.args.linking.now.objects in
     let objects : c.linking.inside.objects.now ≡ fs = ap (λ (l : LinkingValue). l.objects) c.linking.view_is in
     subst (λ (b : Bool). IsTrue b ↔ Live fs c.args.file c.args.section) (sym c.is_some.ensures)
-    (live_by_cell fs c.linking.inside.map.now c.args.file c.args.section c.address.result (rw objects at c.linking.invariant.places) c.requires.0 c.address.ensures)
+    (live_by_cell fs c.linking.inside.map.now c.args.file c.args.section c.address.result
+    (rw objects at c.linking.invariant.places) c.requires.0 c.address.ensures)

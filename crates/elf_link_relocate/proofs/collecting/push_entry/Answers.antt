@@ -8,7 +8,8 @@ use Rattle.elf_link_relocate.proofs.collecting.push_entry.Goals as goal
 
 pub returns-in_default-clause-err : goal.returns-in_default-clause-err
 returns-in_default-clause-err c =
-    let same_rules : c.linking.inside.rules.now ≡ c.args.values.now.rules = ap (λ (l : LinkingValue). l.rules) (c.linking.view_is ∙ c.linking-linking.ensures) in
+    let same_rules : c.linking.inside.rules.now ≡ c.args.values.now.rules =
+    ap (λ (l : LinkingValue). l.rules) (c.linking.view_is ∙ c.linking-linking.ensures) in
     let l = c.args.values.now in
     let p = c.args.entry.site in
     let none = rw same_rules at (rw c.requires.entry.relocation at c.in_default.ensures) in
@@ -17,7 +18,8 @@ returns-in_default-clause-err c =
 
 pub returns-then-eq-clause-ok : goal.returns-then-eq-clause-ok
 returns-then-eq-clause-ok c =
-    let same_rules : c.linking.inside.rules.now ≡ c.args.values.now.rules = ap (λ (l : LinkingValue). l.rules) (c.linking.view_is ∙ c.linking-linking.ensures) in
+    let same_rules : c.linking.inside.rules.now ≡ c.args.values.now.rules =
+    ap (λ (l : LinkingValue). l.rules) (c.linking.view_is ∙ c.linking-linking.ensures) in
     let l = c.args.values.now in
     let p = c.args.entry.site in
     let first = rw same_rules at (rw c.requires.entry.relocation at c.in-Some.ensures) in
@@ -28,7 +30,8 @@ returns-then-eq-clause-ok c =
 
 pub invariant_of-field_of : goal.invariant_of-field_of
 invariant_of-field_of c =
-    let same_rules : c.linking.inside.rules.now ≡ c.args.values.now.rules = ap (λ (l : LinkingValue). l.rules) (c.linking.view_is ∙ c.linking-linking.ensures) in
+    let same_rules : c.linking.inside.rules.now ≡ c.args.values.now.rules =
+    ap (λ (l : LinkingValue). l.rules) (c.linking.view_is ∙ c.linking-linking.ensures) in
     let first = rw same_rules at (rw c.requires.entry.relocation at c.in-Some.ensures) in
     record {
       site = refl;

@@ -12,10 +12,12 @@ use Rattle.elf_link_relocate.proofs.Patches.{target_there}
 use Rattle.elf_link_relocate.proofs.collecting.push_section.Goals as goal
 
 -- the body of a section, as read by the link that the values have
-body_read : (l m : LinkingValue) (f s : ℕ) (read : Section) (b : Body) → l ≡ m → section_value read ≡ section_in l.objects f s → read.body ≡ b →
+body_read : (l m : LinkingValue) (f s : ℕ) (read : Section) (b : Body) → l ≡ m → section_value read ≡ section_in l.objects f s →
+    read.body ≡ b →
     (section_in m.objects f s).body ≡ body_value b
 body_read l m f s read b same is has =
-    sym (ap (λ (t : SectionValue). t.body) (subst (λ (k : LinkingValue). section_value read ≡ section_in k.objects f s) same is)) ∙ ap (λ (c : Body). body_value c) has
+    sym (ap (λ (t : SectionValue). t.body) (subst (λ (k : LinkingValue). section_value read ≡ section_in k.objects f s) same is)) ∙
+    ap (λ (c : Body). body_value c) has
 
 pub returns-in_default : goal.returns-in_default
 returns-in_default c =
@@ -37,7 +39,10 @@ are_applied-requires-clause-target c =
     let linking = c.linking.view_is ∙ c.linking-linking.ensures in
     let objects = ap (λ (l : LinkingValue). l.objects) linking in
     let same = body_read _ _ c.args.file c.args.index c.section_of.result.now _ linking c.section_of.ensures c.in-Relocs.is in
-    rw c.linking-linking.ensures (c.requires.section.0, target_there (object_at fs c.args.file) c.args.index _ _ _ (rw objects at c.prove_rules.ensures) c.requires.section.1 same)
+    rw c.linking-linking.ensures (
+      c.requires.section.0,
+      target_there (object_at fs c.args.file) c.args.index _ _ _ (rw objects at c.prove_rules.ensures) c.requires.section.1 same,
+    )
 
 pub returns-then-not-are_applied-clause-ok : goal.returns-then-not-are_applied-clause-ok
 returns-then-not-are_applied-clause-ok c =
@@ -77,7 +82,10 @@ push_entry-requires-clause-entry c =
     let applied = (rw c.linking-linking.ensures at c.if-not-are_applied.ensures).0 (search rules) in
     let e = c.loop-entry.entry in
     record {
-      applied = (record { file = c.requires.section.0; section = c.requires.section.1; entry = omega arith }, (applied.0, rw same applied.1));
+      applied = (
+        record { file = c.requires.section.0; section = c.requires.section.1; entry = omega arith },
+        (applied.0, rw same applied.1),
+      );
       rela = sym (ap (λ (b : BodyValue). is_rela b) same);
       target = sym (ap (λ (b : BodyValue). target_of b) same);
       relocation = sym (ap (λ (b : BodyValue). get_or (entries_of b) e no_relocation) same ∙ sym c.entry.ensures);

@@ -35,7 +35,8 @@ patch_in-requires-clause-room c =
     let d = c.args.validated.field in
     let live = target_live fs c.args.linking.now.rules d.site d.rule c.requires.validated.has (rw objects at c.prove_rules.ensures) in
     let (copy, at, long) = c.requires.copies.each _ _ live in
-    let within : IsWithin fs d.site d.rule = within_unless c.args.validated.out_of_range _ _ c.requires.validated.out_of_range c.if-validated-2.false in
+    let within : IsWithin fs d.site d.rule =
+    within_unless c.args.validated.out_of_range _ _ c.requires.validated.out_of_range c.if-validated-2.false in
     rw (c.requires.validated.read.place.target, c.requires.validated.read.place.offset) (copy, at, omega arith)
 
 pub returns : goal.returns
@@ -45,13 +46,16 @@ returns c =
     let d = c.args.validated.field in
     let read = c.requires.validated.read in
     let live = target_live fs c.args.linking.now.rules d.site d.rule c.requires.validated.has (rw objects at c.prove_rules.ensures) in
-    let object = sym (object_is fs d.site.file c.index-objects-field.result c.requires.validated.has.applied.0.file (rw objects at c.index-objects-field.is)) in
+    let object =
+    sym (object_is fs d.site.file c.index-objects-field.result c.requires.validated.has.applied.0.file
+    (rw objects at c.index-objects-field.is)) in
     let order = c.order.ensures ∙ ap (λ (o : ObjectValue). o.order) object in
     let fits : FitsSigned w128 d.number = search rules in
     let (copy, at, new) = simp (read.place.target, read.place.offset, order, to_z-of_z, fits) at c.patch_in.ensures in
     let (its, its_at, its_long) = c.requires.copies.each _ _ live in
     let long = ap (λ (b : List ℕ). length b) (same_bytes copy its (sym at ∙ its_at)) ∙ its_long in
-    let within : IsWithin fs d.site d.rule = within_unless c.args.validated.out_of_range _ _ c.requires.validated.out_of_range c.if-validated-2.false in
+    let within : IsWithin fs d.site d.rule =
+    within_unless c.args.validated.out_of_range _ _ c.requires.validated.out_of_range c.if-validated-2.false in
     let o = (object_at fs d.site.file).order in
     let put = c.patched_field.ensures o copy (field_start fs d.site) (size_of d.rule.width) d.number (omega arith) in
     inl (record { copy = copy; after = _; live = live; at = at; patched = put; new_is = new })

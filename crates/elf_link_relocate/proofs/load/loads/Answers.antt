@@ -1,3 +1,4 @@
+-- Output by output: one that takes memory adds a segment, and any other none. The commons come last.
 use Rattle.std.proofs.Common.{◌≡◌, ◌+◌, ◌∙◌, ℕ, List, map, length, ap, arith}
 use Rattle.std.specs.List.{filter, range_with_len}
 use Rattle.std.proofs.lemmas.List.{length-map}
@@ -12,8 +13,11 @@ loop-position-preserved c =
     let m = c.args.map.now in
     let n = c.loop-position.position in
     elim c.if-load-gt0.branch [
-      | then-load-gt0+in_ok-push w ↦ rw w.all-is (load_kept m n _ _ c.load_at-load.result c.loop-position.invariant c.load_at-load.ensures w.if-load-gt0.true w.in_ok-push.ensures.items)
-      | else-load-gt0 w ↦ rw w.all-is (load_passed m n _ c.load_at-load.result c.loop-position.invariant c.load_at-load.ensures w.if-load-gt0.false)
+      | then-load-gt0+in_ok-push w ↦
+          rw w.all-is (load_kept m n _ _ c.load_at-load.result c.loop-position.invariant c.load_at-load.ensures w.if-load-gt0.true
+          w.in_ok-push.ensures.items)
+      | else-load-gt0 w ↦
+          rw w.all-is (load_passed m n _ c.load_at-load.result c.loop-position.invariant c.load_at-load.ensures w.if-load-gt0.false)
     ]
 
 pub returns : goal.returns

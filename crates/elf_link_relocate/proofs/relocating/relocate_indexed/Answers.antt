@@ -18,6 +18,8 @@ returns-clause-linked c =
     let rows = copies_view c.in_ok-copies.copies.items in
     let sound = sound_of fs m c.requires.map in
     let values = c.new-values.ensures in
-    let (ds, validated, are) = subst (λ (v : LinkingValue). AreRelocatedCopies v.objects v.map v.rules rows) values c.in_ok-copies.ensures.copies in
-    let none = subst (λ (v : LinkingValue). FirstAmong (applied_entry_rules v.objects v.map v.rules) None) values c.in_ok-copies.ensures.sound in
+    let (ds, validated, are) =
+    subst (λ (v : LinkingValue). AreRelocatedCopies v.objects v.map v.rules rows) values c.in_ok-copies.ensures.copies in
+    let none = subst
+    (λ (v : LinkingValue). FirstAmong (applied_entry_rules v.objects v.map v.rules) None) values c.in_ok-copies.ensures.sound in
     linked_of fs m rules ds validated sound.places rows are none

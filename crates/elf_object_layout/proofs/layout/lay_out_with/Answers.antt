@@ -7,8 +7,12 @@ place_parts-requires c = some_part c.args.object.now c.deref.result.now (c.deref
 
 pub returns-clause-ok : goal.returns-clause-ok
 returns-clause-ok c =
-    if_ok c.place_parts.result _ _ (λ layout. layout_ok c.args.object.now c.deref.result.now layout (c.deref.ensures.value ∙ c.in_ok-parts.ensures)) c.place_parts.ensures.ok
+    if_ok c.place_parts.result _ _
+    (λ layout. layout_ok c.args.object.now c.deref.result.now layout (c.deref.ensures.value ∙ c.in_ok-parts.ensures))
+    c.place_parts.ensures.ok
 
 pub returns-clause-err : goal.returns-clause-err
 returns-clause-err c =
-    if_err c.place_parts.result _ _ (λ fault. layout_err c.args.object.now c.deref.result.now fault (c.deref.ensures.value ∙ c.in_ok-parts.ensures)) c.place_parts.ensures.err
+    if_err c.place_parts.result _ _
+    (λ fault. layout_err c.args.object.now c.deref.result.now fault (c.deref.ensures.value ∙ c.in_ok-parts.ensures))
+    c.place_parts.ensures.err

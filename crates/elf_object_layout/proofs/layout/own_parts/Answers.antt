@@ -14,15 +14,18 @@ pub content_part-requires : goal.content_part-requires
 content_part-requires c = λ wrong.
     let o = c.args.object.now in
     let read =
-    section_read o c.sections-section-items.result.now c.loop-section.section-index c.section-item.result c.sections-section-items.ensures c.loop-section-test.true c.section-item.is in
-    no_wrong_bits_type o c.prove_rules.ensures.kept c.loop-section.section-index read.1 (subst (λ (s : SectionValue). IsWrongBitsType s.body) read.0 wrong)
+    section_read o c.sections-section-items.result.now c.loop-section.section-index c.section-item.result c.sections-section-items.ensures
+    c.loop-section-test.true c.section-item.is in
+    no_wrong_bits_type o c.prove_rules.ensures.kept c.loop-section.section-index read.1
+    (subst (λ (s : SectionValue). IsWrongBitsType s.body) read.0 wrong)
 
 pub returns : goal.returns
 returns c =
     let o = c.args.object.now in
     let items = c.sections-section-items.result.now in
     c.loop-section.invariant
-    ∙ ap (map (λ (s : Section). saturated (content_part (own_section o (section_value s))))) (take_all c.loop-section.section-index items c.loop-section-test.false)
+    ∙ ap (map (λ (s : Section). saturated (content_part (own_section o (section_value s)))))
+    (take_all c.loop-section.section-index items c.loop-section-test.false)
     ∙ own_parts_are o items
     ∙ ap (λ (ss : List SectionValue). map saturated (map content_part (map (own_section o) ss))) c.sections-section-items.ensures
 
@@ -32,5 +35,6 @@ loop-section-preserved c =
     let part : Section → ℕ × ℕ = λ s. saturated (content_part (own_section o (section_value s))) in
     let item = c.section-item.result in
     c.in_ok-push.ensures.items
-    ∙ ap₂ (λ (parts : List (ℕ × ℕ)) (last : ℕ × ℕ). parts ++ (last ∷ [])) c.loop-section.invariant (c.content_part.ensures o ∙ ap part c.section-item.is)
+    ∙ ap₂ (λ (parts : List (ℕ × ℕ)) (last : ℕ × ℕ). parts ++ (last ∷ [])) c.loop-section.invariant
+    (c.content_part.ensures o ∙ ap part c.section-item.is)
     ∙ sym (map_more part c.sections-section-items.result.now c.loop-section.section-index item c.loop-section-test.true)

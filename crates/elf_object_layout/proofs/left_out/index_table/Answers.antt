@@ -16,7 +16,8 @@ returns-then-section-t c =
     let typed = rw c.section-section.ensures.value at c.if-section-eq-SHT_SYMTAB_SHNDX.true in
     let linked = rw c.section-section.ensures.value at c.if-section-t.true in
     first_found (λ (s : Shdr). (s.sh_type == SHT_SYMTAB_SHNDX) && (s.sh_link == c.args.t)) f (IsIndexTable f c.args.t) c.loop-i.i
-    (λ k is. both_true (eq-eqb _ _ is.0) (eq-eqb _ _ is.1)) (λ k test. (let parts = and_true _ _ test in (eqb-true _ _ parts.0, eqb-true _ _ parts.1)))
+    (λ k is. both_true (eq-eqb _ _ is.0) (eq-eqb _ _ is.1))
+    (λ k test. (let parts = and_true _ _ test in (eqb-true _ _ parts.0, eqb-true _ _ parts.1)))
     (omega arith) c.loop-i.invariant (typed, linked)
 
 pub returns : goal.returns
@@ -24,5 +25,6 @@ unfolding index_table
 returns c =
     let f = sections_of c.args.image.now in
     first_missing (λ (s : Shdr). (s.sh_type == SHT_SYMTAB_SHNDX) && (s.sh_link == c.args.t)) f (IsIndexTable f c.args.t)
-    (λ k is. both_true (eq-eqb _ _ is.0) (eq-eqb _ _ is.1)) (λ k test. (let parts = and_true _ _ test in (eqb-true _ _ parts.0, eqb-true _ _ parts.1)))
+    (λ k is. both_true (eq-eqb _ _ is.0) (eq-eqb _ _ is.1))
+    (λ k test. (let parts = and_true _ _ test in (eqb-true _ _ parts.0, eqb-true _ _ parts.1)))
     (λ k there is. c.loop-i.invariant k (omega arith) is)

@@ -10,11 +10,14 @@ use Rattle.elf_object_layout.proofs.PlainSections.{none_far, far_symbols}
 use Rattle.elf_object_layout.proofs.name_tables.has_index_table.Goals as goal
 
 pub returns-then-sections : goal.returns-then-sections
-returns-then-sections c = c.has_far_symbol.ensures ∙ far_symbols c.symbols.result.now ∙ ap (λ (ss : List SymbolValue). list_any (λ s. is_far s.place) ss) c.symbols.ensures
+returns-then-sections c =
+    c.has_far_symbol.ensures ∙ far_symbols c.symbols.result.now ∙
+    ap (λ (ss : List SymbolValue). list_any (λ s. is_far s.place) ss) c.symbols.ensures
 
 pub returns-else-sections : goal.returns-else-sections
 returns-else-sections c =
     let o = c.args.object.now in
-    let many : length c.sections.result.now ≡ length o.sections = sym (length-map c.sections.result.now section_value) ∙ ap (λ (ss : List SectionValue). length ss) c.sections.ensures in
+    let many : length c.sections.result.now ≡ length o.sections =
+    sym (length-map c.sections.result.now section_value) ∙ ap (λ (ss : List SectionValue). length ss) c.sections.ensures in
     let few : length o.sections < SHN_LORESERVE = (let below = c.if-sections.false in omega arith) in
     lt-leb SHN_LORESERVE (length c.sections.result.now) c.if-sections.false ∙ sym (none_far o c.prove_rules.ensures.kept few)

@@ -16,9 +16,11 @@ returns-clause-some c = some_object
 
 pub returns-clause-no_sections : goal.returns-clause-no_sections
 returns-clause-no_sections c = λ f o none denotes.
-    (denotes.sections ∙ ap (λ (hs : List Shdr). map (section_denoted (left_out f) f) (filter (is_kept (left_out f) f) (range_with_len 0 (length hs)))) none)
+    (denotes.sections ∙
+    ap (λ (hs : List Shdr). map (section_denoted (left_out f) f) (filter (is_kept (left_out f) f) (range_with_len 0 (length hs)))) none)
 
 pub returns-clause-no_symbols : goal.returns-clause-no_symbols
 unfolding symbol_table
 returns-clause-no_symbols c = λ f o none denotes.
-    (denotes.symbols ∙ ap (symbols_denoted (left_out f) f) (ap (λ (hs : List Shdr). position (λ (s : Shdr). s.sh_type == SHT_SYMTAB) hs) none))
+    (denotes.symbols ∙
+    ap (symbols_denoted (left_out f) f) (ap (λ (hs : List Shdr). position (λ (s : Shdr). s.sh_type == SHT_SYMTAB) hs) none))

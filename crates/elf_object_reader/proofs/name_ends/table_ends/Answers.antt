@@ -26,7 +26,8 @@ overflow_mul-j c =
     let f = sections_of c.args.image.now in
     let there = next_there (left_out f) f c.args.t c.loop-j.j c.args.symbols.now c.requires.read c.loop-j-test.true in
     let within = symbol_within f c.args.t (c.loop-j.j + 1) there in
-    let long : length c.content-table.result.now ≡ length (content f c.args.t) = ap (λ (b : List ℕ). length b) c.content-table.ensures.bytes in
+    let long : length c.content-table.result.now ≡ length (content f c.args.t) =
+    ap (λ (b : List ℕ). length b) c.content-table.ensures.bytes in
     let inside = c.content-table.ensures.inside in
     let short = c.content-table.ensures.short in
     omega arith

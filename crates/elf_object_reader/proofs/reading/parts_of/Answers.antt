@@ -24,7 +24,8 @@ returns-in_err-validate c =
 
 pub read_parts-requires : goal.read_parts-requires
 read_parts-requires c =
-    found_behind (sections_of c.args.image.now) c.of-left.result None c.of-left.ensures c.in_ok-validate_front.ensures c.in_ok-validate.ensures.0
+    found_behind
+    (sections_of c.args.image.now) c.of-left.result None c.of-left.ensures c.in_ok-validate_front.ensures c.in_ok-validate.ensures.0
 
 pub returns : goal.returns
 returns c =

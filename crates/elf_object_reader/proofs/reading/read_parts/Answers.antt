@@ -24,7 +24,8 @@ returns-clause-ok c =
     let symbol_ends : c.in_ok-useful_symbol_ends.field-0.items ≡ useful_symbol_ends symbols f =
     c.in_ok-useful_symbol_ends.ensures ∙ ap (λ (ss : List Symbol). useful_symbol_ends (map symbol_value ss) f) c.deref.ensures.value in
     let section_ends : c.in_ok-useful_section_ends.field-0.items ≡ useful_section_ends sections file.left f =
-    c.in_ok-useful_section_ends.ensures ∙ ap (λ (ss : List Section). useful_section_ends (map section_value ss) file.left f) c.deref-2.ensures.value in (
+    c.in_ok-useful_section_ends.ensures ∙
+    ap (λ (ss : List Section). useful_section_ends (map section_value ss) file.left f) c.deref-2.ensures.value in (
       search rules,
       record {
         symbols = subst (λ (ends : List ℕ). AreTails (names_of symbols) ends) (sym symbol_ends) (useful_tails f symbols symbols_are);

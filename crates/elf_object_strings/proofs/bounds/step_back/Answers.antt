@@ -11,7 +11,8 @@ use Rattle.elf_object_strings.proofs.bounds.step_back.Goals as goal
 
 pub returns : goal.returns
 returns c = elim c.if-position-leaders.branch [
-  | then-position-leaders+in_ok-cut_at w ↦ (let next : get_or all (p + 1) [] ≡ w.name-next.result.now = name_at names leaders (p + 1) (omega arith) ∙ sym w.name-next.ensures in
+  | then-position-leaders+in_ok-cut_at w ↦
+      (let next : get_or all (p + 1) [] ≡ w.name-next.result.now = name_at names leaders (p + 1) (omega arith) ∙ sym w.name-next.ensures in
       let lt : p + 1 < length all = omega (arith, many) in
       let both : IsCommonEnd (get_or all p []) (get_or all (p + 1) []) w.common_end.result = rw (here, next) w.common_end.ensures in
       rw (c.in_ok-push.ensures.items, w.bounds-is, sym here)

@@ -28,7 +28,8 @@ loop-position-init c =
 pub index-requires : goal.index-requires
 index-requires c =
     let all = c.loop-position.invariant.all in
-    let fits = below c.args.list.now c.args.sorted.now (c.loop-position.position - 1) c.requires.numbered (let lt = c.loop-position-test.true in omega arith) in
+    let fits = below c.args.list.now c.args.sorted.now (c.loop-position.position - 1) c.requires.numbered
+    (let lt = c.loop-position-test.true in omega arith) in
     omega arith
 
 pub index_mut-requires : goal.index_mut-requires
@@ -44,15 +45,19 @@ passed_same : (names : List (List ℕ)) (sorted : List Numbered) (firsts : List 
     get_or names (get_or sorted (position - 1) no_name).index [] ≡ get_or names (get_or sorted position no_name).index [] →
     value ≡ get_or firsts (get_or sorted (position - 1) no_name).index 0 →
     HaveFirsts names (names_by_ends names sorted) (indexes_in sorted) firsts position →
-    HaveFirsts names (names_by_ends names sorted) (indexes_in sorted) (set firsts (get_or sorted position no_name).index value) (position + 1)
+    HaveFirsts names (names_by_ends names sorted) (indexes_in sorted) (set firsts (get_or sorted position no_name).index value)
+    (position + 1)
 passed_same names sorted firsts position value numbered ordered some lt same is have =
     let all = names_by_ends names sorted in
     let indexes = indexes_in sorted in
     let many = length-names_by_ends names sorted in
     let back : position - 1 + 1 ≡ position = omega arith in
     let equal : get_or all (position - 1) [] ≡ get_or all (position - 1 + 1) [] =
-    name_at names sorted (position - 1) (omega arith) ∙ same ∙ sym (name_at names sorted position lt) ∙ ap (λ k. get_or all k []) (sym back) in
-    let passed = firsts_same names all indexes firsts (position - 1) numbered ordered (omega arith) equal (subst (HaveFirsts names all indexes firsts) (sym back) have) in
+    name_at names sorted (position - 1) (omega arith) ∙ same ∙ sym (name_at names sorted position lt) ∙
+    ap (λ k. get_or all k []) (sym back) in
+    let passed =
+    firsts_same names all indexes firsts (position - 1) numbered ordered (omega arith) equal
+    (subst (HaveFirsts names all indexes firsts) (sym back) have) in
     subst (HaveFirsts names all indexes (set firsts (get_or sorted position no_name).index value)) (ap (λ k. k + 1) back)
     (subst (λ fs. HaveFirsts names all indexes fs (position - 1 + 1 + 1))
     (ap (λ k. set firsts (get_or indexes k 0) (get_or firsts (get_or indexes (position - 1) 0) 0)) back
@@ -74,7 +79,8 @@ passed_other names sorted firsts position numbered ordered some lt differs have 
     let back : position - 1 + 1 ≡ position = omega arith in
     subst (HaveFirsts names all indexes firsts) (ap (λ k. k + 1) back)
     (firsts_other names all indexes firsts (position - 1) numbered ordered (omega arith)
-    (λ same. differs (sym (name_at names sorted (position - 1) (omega arith)) ∙ same ∙ ap (λ k. get_or all k []) back ∙ name_at names sorted position lt))
+    (λ same. differs
+    (sym (name_at names sorted (position - 1) (omega arith)) ∙ same ∙ ap (λ k. get_or all k []) back ∙ name_at names sorted position lt))
     (subst (HaveFirsts names all indexes firsts) (sym back) have))
 
 pub loop-position-preserved : goal.loop-position-preserved
@@ -88,11 +94,16 @@ loop-position-preserved c =
     elim c.if-is_equal.branch [
       | then-is_equal w ↦ (let all = c.loop-position.invariant.all in
           let fits = below names sorted (position - 1) c.requires.numbered (omega arith) in
-          let value = w.index.ensures ∙ get_or_default firsts (get_or sorted (position - 1) no_name).index w.index.result.now 0 (omega arith) in
-          subst (λ fs. HaveFirsts names (names_by_ends names sorted) (indexes_in sorted) fs (position + 1)) (sym (ap (λ v. v.items) w.firsts-is))
-          (passed_same names sorted firsts position w.index.result.now c.requires.numbered c.requires.order some lt (c.is_equal.ensures.0 w.if-is_equal.true) value
+          let value = w.index.ensures ∙
+          get_or_default firsts (get_or sorted (position - 1) no_name).index w.index.result.now 0 (omega arith) in
+          subst (λ fs. HaveFirsts names (names_by_ends names sorted) (indexes_in sorted) fs (position + 1))
+          (sym (ap (λ v. v.items) w.firsts-is))
+          (passed_same names sorted firsts position w.index.result.now c.requires.numbered c.requires.order some lt
+          (c.is_equal.ensures.0 w.if-is_equal.true) value
           c.loop-position.invariant))
-      | else-is_equal w ↦ subst (λ fs. HaveFirsts names (names_by_ends names sorted) (indexes_in sorted) fs (position + 1)) (sym (ap (λ v. v.items) w.firsts-is))
+      | else-is_equal w ↦
+          subst (λ fs. HaveFirsts names (names_by_ends names sorted) (indexes_in sorted) fs (position + 1))
+          (sym (ap (λ v. v.items) w.firsts-is))
           (passed_other names sorted firsts position c.requires.numbered c.requires.order some lt
           (λ same. absurd (true≢false (sym (c.is_equal.ensures.1 same) ∙ w.if-is_equal.false))) c.loop-position.invariant)
     ]
@@ -103,5 +114,6 @@ returns c =
     let sorted = c.args.sorted.now in
     let many = length-names_by_ends names sorted in
     let end = c.loop-position-test.false in
-    firsts_all names (names_by_ends names sorted) (indexes_in sorted) c.loop-position.firsts.items c.loop-position.position c.requires.numbered
+    firsts_all names (names_by_ends names sorted)
+    (indexes_in sorted) c.loop-position.firsts.items c.loop-position.position c.requires.numbered
     (omega arith) c.loop-position.invariant

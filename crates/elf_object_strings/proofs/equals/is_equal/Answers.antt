@@ -21,7 +21,8 @@ pub returns-in_default : goal.returns-in_default
 returns-in_default c =
     let a = get_or c.args.list.now c.args.a [] in (
       λ never. absurd (true≢false (sym never)),
-      λ same. absurd (c.in_default.not-Equal (c.compare.ensures ∙ ap (λ (s : List ℕ). slice_cmp nat_cmp (reverse a) (reverse s)) (sym same) ∙
+      λ same. absurd (c.in_default.not-Equal
+          (c.compare.ensures ∙ ap (λ (s : List ℕ). slice_cmp nat_cmp (reverse a) (reverse s)) (sym same) ∙
           tied_itself nat_list_cmp_total (reverse a))),
     )
 

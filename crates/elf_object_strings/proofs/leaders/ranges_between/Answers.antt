@@ -14,6 +14,7 @@ loop-i-preserved c =
       all = ap length c.in_ok-push.ensures.items ∙ length_push c.loop-i.ranges.items _ ∙ ap (λ (n : ℕ). n + 1) all;
       each = rw c.in_ok-push.ensures.items
           (ranges_more c.args.firsts.now c.args.lasts.now c.args.count c.loop-i.ranges.items c.range_between.result c.loop-i.invariant.each
-          (λ some. subst (λ (k : ℕ). IsBetween (get_or c.args.firsts.now k 0) (get_or c.args.lasts.now k 0) c.args.count c.range_between.result) (sym all)
+          (λ some. subst
+          (λ (k : ℕ). IsBetween (get_or c.args.firsts.now k 0) (get_or c.args.lasts.now k 0) c.args.count c.range_between.result) (sym all)
           (c.range_between.ensures some)));
     }

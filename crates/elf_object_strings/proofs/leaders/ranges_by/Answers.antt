@@ -1,4 +1,5 @@
--- The last leaders are found from both sides (`turned_names`, `together_turned`), and each range goes from one to the other (`ranges_found`).
+-- The last leaders are found from both sides (`turned_names`, `together_turned`), and each range goes from one to the other
+-- (`ranges_found`).
 use Rattle.std.proofs.Common.{◌≡◌, length, ap, reverse, sym, ◌∙◌, arith}
 use Rattle.std.proofs.lemmas.List.{length-reverse}
 use Rattle.std.proofs.lemmas.Result.{IfOk-weaker}
@@ -17,7 +18,8 @@ lasts_of-requires-2 c =
     let names = c.args.read.now in
     let sorted = c.args.sorted.items in
     rw (c.deref-2.ensures.value, c.reverse.ensures.items)
-    (together_turned (names_by_ends names sorted) _ (turned_names names sorted) (together (names_by_ends names sorted) (indexes_in sorted) c.requires))
+    (together_turned (names_by_ends names sorted) _ (turned_names names sorted)
+    (together (names_by_ends names sorted) (indexes_in sorted) c.requires))
 
 pub ranges_between-requires-clause-all : goal.ranges_between-requires-clause-all
 ranges_between-requires-clause-all c =
@@ -42,7 +44,8 @@ returns c =
     let sorted = c.args.sorted.items in
     let first : AreLasts (names_by_ends names (reverse sorted)) names c.in_ok-firsts.firsts.items =
     rw (c.deref-2.ensures.value, c.reverse.ensures.items) at c.in_ok-firsts.ensures.lasts in
-    let last : AreLasts (names_by_ends names sorted) names c.in_ok-lasts.lasts.items = rw c.deref.ensures.value at c.in_ok-lasts.ensures.lasts in
+    let last : AreLasts (names_by_ends names sorted) names c.in_ok-lasts.lasts.items =
+    rw c.deref.ensures.value at c.in_ok-lasts.ensures.lasts in
     let count : c.len.result ≡ length sorted =
     c.len.ensures ∙ c.reverse.ensures.len ∙ sym c.deref.ensures.len ∙ ap length c.deref.ensures.value in
     IfOk-weaker c.ranges_between.result _ _

@@ -11,14 +11,16 @@ use Rattle.elf_object_strings.proofs.leaders.set_lasts.Goals as goal
 
 pub loop-i-preserved : goal.loop-i-preserved
 loop-i-preserved c = elim c.if-index-lasts.branch [
-  | then-index-lasts+then-is_tail w ↦ (let own : IsSuffix name (get_or all p []) = subst (λ (s : List ℕ). IsSuffix name s) (sym here) w.if-is_tail.ensures in
+  | then-index-lasts+then-is_tail w ↦
+      (let own : IsSuffix name (get_or all p []) = subst (λ (s : List ℕ). IsSuffix name s) (sym here) w.if-is_tail.ensures in
       let (k, at, is) = w.last_with.ensures in
       let found = subst (λ (s : List ℕ). IsBoundOf c.args.bounds.now (length s) k) w.name.ensures at in
       let last = c.requires.bounds.last k name own found in
       record {
         lasts = rw w.lasts-is
             (lasts_set all names c.loop-i.lasts index w.number_of.result c.loop-i.invariant.lasts
-            (λ some. numbered w.number_of.result w.last_with.result (w.number_of.ensures some) (subst (IsLastWith all name) (sym is) last)));
+            (λ some. numbered w.number_of.result w.last_with.result (w.number_of.ensures some)
+            (subst (IsLastWith all name) (sym is) last)));
       })
   | else-index-lasts w ↦ record { lasts = rw w.lasts-is c.loop-i.invariant.lasts }
 ] where

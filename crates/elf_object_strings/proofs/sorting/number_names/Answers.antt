@@ -16,7 +16,8 @@ loop-index-preserved c =
     let i = c.loop-index.index in
     let name = get_or-map (λ name. name.now) names i (record { ref_ptr = (0, 0); now = [] }) [] c.loop-index-test.true in
     rw c.in_ok-push.ensures.items
-    (numbered_more (texts names) i c.loop-index.numbered.items _ c.new.ensures.index (c.new.ensures.end (texts names) name) c.loop-index.invariant)
+    (numbered_more (texts names) i c.loop-index.numbered.items _ c.new.ensures.index
+    (c.new.ensures.end (texts names) name) c.loop-index.invariant)
 
 pub returns-clause-ends : goal.returns-clause-ends
 returns-clause-ends c = c.loop-index.invariant.ends

@@ -60,4 +60,5 @@ returns c =
     let same = c.loop-i.invariant.all in
     let as_many = c.requires.all in
     let end = c.loop-i.auto.i-end in
-    sym (take_all i c.loop-i.offsets.items (omega arith)) ∙ c.loop-i.invariant.done ∙ ap (map (name_offset all)) (take_all i all (omega arith))
+    sym (take_all i c.loop-i.offsets.items (omega arith)) ∙ c.loop-i.invariant.done ∙
+    ap (map (name_offset all)) (take_all i all (omega arith))

@@ -11,7 +11,9 @@ returns-else-may_be_tail c =
     let other = get_or names c.args.other.now.index [] in
     c.if-may_be_tail.false ∙ sym (by (is_suffix name other) refl)
   where
-    by : (b : Bool) → is_suffix (get_or c.args.list.now c.args.name.now.index []) (get_or c.args.list.now c.args.other.now.index []) ≡ b → b ≡ false
+    by : (b : Bool) → is_suffix (get_or c.args.list.now c.args.name.now.index []) (get_or c.args.list.now c.args.other.now.index []) ≡ b →
+        b ≡ false
     by false is = refl
     by true is =
-        absurd (true≢false (sym (c.may_be_tail.ensures c.args.list.now c.requires.name c.requires.other (suffix_from _ _ is)) ∙ c.if-may_be_tail.false))
+        absurd (true≢false
+        (sym (c.may_be_tail.ensures c.args.list.now c.requires.name c.requires.other (suffix_from _ _ is)) ∙ c.if-may_be_tail.false))

@@ -16,4 +16,5 @@ begin_names-requires c =
     let names = c.args.names.now in
     let many : length (texts names) ≡ length names = length-map names now_of in
     let has = subst (λ k. HasEnds (texts names) k c.args.zeros.items) (sym many) c.requires.zeros in
-    subst (HaveZeros (texts names)) (sym c.share_ends.ensures) (ends_of_owners (texts names) c.args.owners.now c.args.zeros.items c.requires.owners has)
+    subst (HaveZeros (texts names)) (sym c.share_ends.ensures)
+    (ends_of_owners (texts names) c.args.owners.now c.args.zeros.items c.requires.owners has)

@@ -50,14 +50,16 @@ loop-position-preserved c =
     let names = c.args.list.now in
     let owners = c.loop-position.owners.items in
     let (start, owner) = c.run_of-start.result in
-    let within : position < length (names_by_ends c.args.list.now sorted) = subst (λ n. position < n) (sym (length-names_by_ends c.args.list.now sorted)) c.loop-position-test.true in
+    let within : position < length (names_by_ends c.args.list.now sorted) =
+    subst (λ n. position < n) (sym (length-names_by_ends c.args.list.now sorted)) c.loop-position-test.true in
     let runs = c.loop-position.invariant.runs in
     let owned = c.loop-position.invariant.owned in
     let owns = c.run_of-start.ensures.owner names c.requires.numbered
     (subst (λ os. HaveOwners names (names_by_ends c.args.list.now sorted) (indexes_in sorted) os position)
     (sym c.deref-in-loop-position.ensures.value) owned) in
     let index = (get_or sorted position no_name).index in
-    let new : c.set_owner.new.owners ≡ set owners index owner = c.set_owner.ensures ∙ ap (λ os. set os index owner) c.deref_mut.ensures.value in
+    let new : c.set_owner.new.owners ≡ set owners index owner =
+    c.set_owner.ensures ∙ ap (λ os. set os index owner) c.deref_mut.ensures.value in
     let kept : length c.set_owner.new.owners ≡ c.loop-position.owners.len = c.set_owner.auto.owners ∙ c.deref_mut.ensures.len in
     record {
       runs = subst (λ starts. AreRuns (names_by_ends c.args.list.now sorted) starts (position + 1)) (sym c.in_ok-push.ensures.items)
@@ -65,13 +67,16 @@ loop-position-preserved c =
       owned = subst (λ os. HaveOwners names (names_by_ends c.args.list.now sorted) (indexes_in sorted) os (position + 1))
           (ap (λ i. set owners i owner) (index_at sorted position c.loop-position-test.true) ∙ sym new
           ∙ sym (with_items_is c.loop-position.owners c.set_owner.new.owners kept))
-          (owners_more names (names_by_ends c.args.list.now sorted) (indexes_in sorted) owners position owner c.requires.numbered within owned owns);
+          (owners_more names (names_by_ends c.args.list.now sorted)
+          (indexes_in sorted) owners position owner c.requires.numbered within owned owns);
     }
 
 pub returns : goal.returns
 returns c =
     let sorted = c.args.sorted.now in
     let position = c.loop-position.position in
-    let all : length (names_by_ends c.args.list.now sorted) ≤ position = subst (λ n. n ≤ position) (sym (length-names_by_ends c.args.list.now sorted)) (omega arith) in
-    owners_all c.args.list.now (names_by_ends c.args.list.now sorted) (indexes_in sorted) c.loop-position.owners.items position c.requires.numbered all
+    let all : length (names_by_ends c.args.list.now sorted) ≤ position =
+    subst (λ n. n ≤ position) (sym (length-names_by_ends c.args.list.now sorted)) (omega arith) in
+    owners_all c.args.list.now (names_by_ends c.args.list.now sorted)
+    (indexes_in sorted) c.loop-position.owners.items position c.requires.numbered all
     c.loop-position.invariant.owned

@@ -5,7 +5,8 @@ use Rattle.std.specs.Prelude.{◌==◌, if◌then◌else◌}
 use Rattle.elf_object_strings.specs.declared.sorting.Numbered.{Numbered}
 use Rattle.elf_object_strings.specs.StringTable.{IsSuffix}
 use Rattle.elf_object_strings.specs.Sorting.{AreBelow, IsLeastOwner, IsRun, indexes_in, names_by_ends}
-use Rattle.elf_object_strings.proofs.EndsOrder.{index_at, length-indexes_in, length-names_by_ends, no_name, no_suffix_at, suffix_at, follow_one, none_before, owner_found, run_more}
+use Rattle.elf_object_strings.proofs.EndsOrder.{index_at, length-indexes_in, length-names_by_ends, no_name, no_suffix_at, suffix_at}
+use Rattle.elf_object_strings.proofs.EndsOrder.{follow_one, none_before, owner_found, run_more}
 use Rattle.elf_object_strings.proofs.table.run_of.Goals as goal
 
 index_below : (sorted : List Numbered) (count : ℕ) → AreBelow (indexes_in sorted) count → (q : ℕ) → q < length sorted →
@@ -61,13 +62,15 @@ returns-else-is_tail-clause-run c =
     let start = c.loop-start.start in
     let position = c.args.position in
     let within = subst (λ n. position < n) (sym (length-names_by_ends c.args.list.now sorted)) c.requires.within in
-    let differs : ¬ IsSuffix (get_or (names_by_ends c.args.list.now sorted) position []) (get_or (names_by_ends c.args.list.now sorted) (start - 1) []) =
+    let differs : ¬ IsSuffix (get_or (names_by_ends c.args.list.now sorted) position [])
+    (get_or (names_by_ends c.args.list.now sorted) (start - 1) []) =
     no_suffix_at c.args.list.now sorted position (start - 1) c.requires.within (omega arith) (sym c.is_tail.ensures ∙ c.if-is_tail.false) in
     let low = c.loop-start.invariant.low in
     record {
       low = low;
       ends = c.loop-start.invariant.ends;
-      none = none_before (names_by_ends c.args.list.now sorted) (indexes_in sorted) c.requires.order position start low within (λ some. differs);
+      none = none_before (names_by_ends c.args.list.now sorted) (indexes_in sorted) c.requires.order position start low within
+          (λ some. differs);
     }
 
 pub returns-else-is_tail-clause-owner : goal.returns-else-is_tail-clause-owner
@@ -75,7 +78,8 @@ returns-else-is_tail-clause-owner c names numbered owned =
     let sorted = c.args.sorted.now in
     let position = c.args.position in
     let within = subst (λ n. position < n) (sym (length-names_by_ends c.args.list.now sorted)) c.requires.within in
-    owner_found names (names_by_ends c.args.list.now sorted) (indexes_in sorted) numbered c.requires.order position c.loop-start.start c.loop-start.owner
+    owner_found names (names_by_ends c.args.list.now sorted)
+    (indexes_in sorted) numbered c.requires.order position c.loop-start.start c.loop-start.owner
     within (returns-else-is_tail-clause-run c) c.loop-start.invariant.own (c.loop-start.invariant.met names numbered owned)
 
 pub returns-after-loop-start-clause-owner : goal.returns-after-loop-start-clause-owner
@@ -85,5 +89,6 @@ returns-after-loop-start-clause-owner c names numbered owned =
     let within = subst (λ n. position < n) (sym (length-names_by_ends c.args.list.now sorted)) c.requires.within in
     let run : IsRun (names_by_ends c.args.list.now sorted) position c.loop-start.start =
     record { low = c.loop-start.invariant.low; ends = c.loop-start.invariant.ends; none = λ r lt. absurd (omega arith) } in
-    owner_found names (names_by_ends c.args.list.now sorted) (indexes_in sorted) numbered c.requires.order position c.loop-start.start c.loop-start.owner
+    owner_found names (names_by_ends c.args.list.now sorted)
+    (indexes_in sorted) numbered c.requires.order position c.loop-start.start c.loop-start.owner
     within run c.loop-start.invariant.own (c.loop-start.invariant.met names numbered owned)

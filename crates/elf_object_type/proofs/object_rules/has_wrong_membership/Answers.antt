@@ -18,8 +18,15 @@ returns-then-is_wrong_membership-clause-wrong c =
     let section = ap (λ (s : SectionValue). members_of s.body) c.section_at.ensures in
     let same : members ≡ members_of (section_at o c.args.i).body = c.deref-member-items.ensures.value ∙ sym body ∙ section in
     let wrong : IsWrongMembership o c.args.i members j =
-    wrong_member_found o c.args.i members j c.loop-member.marks.items c.loop-member.invariant.marked (c.is_wrong_membership.ensures.wrong.0 c.if-is_wrong_membership.true) in
-    ((λ is. (j, subst (λ (ms : List _). j < length ms) same c.loop-member-test.true, subst (λ (ms : List _). IsWrongMembership o c.args.i ms j) same wrong)), (λ has. refl))
+    wrong_member_found o c.args.i members j c.loop-member.marks.items c.loop-member.invariant.marked
+    (c.is_wrong_membership.ensures.wrong.0 c.if-is_wrong_membership.true) in (
+      (λ is. (
+        j,
+        subst (λ (ms : List _). j < length ms) same c.loop-member-test.true,
+        subst (λ (ms : List _). IsWrongMembership o c.args.i ms j) same wrong,
+      )),
+      (λ has. refl),
+    )
 
 pub loop-member-init : goal.loop-member-init
 loop-member-init c = record {

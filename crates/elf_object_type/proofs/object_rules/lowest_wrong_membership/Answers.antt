@@ -12,7 +12,12 @@ returns-then-has_wrong_membership c =
     let items = c.args.parts.now.sections.items in
     let wide : length items ≡ vec_len c.args.parts.now.sections = search rules in
     record {
-      holds = (c.loop-i.i, omega (arith, length-map items section_value), c.has_wrong_membership.ensures.wrong.0 c.if-has_wrong_membership.true, refl);
+      holds = (
+        c.loop-i.i,
+        omega (arith, length-map items section_value),
+        c.has_wrong_membership.ensures.wrong.0 c.if-has_wrong_membership.true,
+        refl,
+      );
       lowest = λ y (i, within, broken, here). elim (cases_lt i c.loop-i.i) [
         | inl below ↦ absurd (c.loop-i.invariant.never i below broken)
         | inr above ↦ omega arith

@@ -15,8 +15,10 @@ returns-in-Some-clause-err c =
 
 pub returns-in-Err-validate_symbols-clause-err : goal.returns-in-Err-validate_symbols-clause-err
 returns-in-Err-validate_symbols-clause-err c =
-    let never = rw c.in_default-2.is at c.in_ok-position.ensures in
-    (c.in-Err-validate_symbols.ensures.number, found_in_symbols (value_of c.args.parts.now) _ c.in_default.ensures.fault never c.in-Err-validate_symbols.ensures.fault)
+    let never = rw c.in_default-2.is at c.in_ok-position.ensures in (
+      c.in-Err-validate_symbols.ensures.number,
+      found_in_symbols (value_of c.args.parts.now) _ c.in_default.ensures.fault never c.in-Err-validate_symbols.ensures.fault,
+    )
 
 pub returns-clause-ok : goal.returns-clause-ok
 returns-clause-ok c =

@@ -8,4 +8,5 @@ use Rattle.elf_object_writer.proofs.headers.local_info.Goals as goal
 pub returns : goal.returns
 returns c =
     ap (λ n. 1 + n) (c.local_count.ensures.value ∙ local_symbols c.symbols.result.now
-    ∙ ap (λ (ss : List SymbolValue). length (filter is_local ss)) (c.symbols.ensures ∙ ap (λ (o : ObjectValue). o.symbols) c.object.ensures))
+    ∙ ap (λ (ss : List SymbolValue). length (filter is_local ss))
+    (c.symbols.ensures ∙ ap (λ (o : ObjectValue). o.symbols) c.object.ensures))

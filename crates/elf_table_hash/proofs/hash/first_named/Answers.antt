@@ -14,7 +14,8 @@ returns-then-s-eq0-clause-found c chained =
 
 pub returns-then-s-eq0-clause-few : goal.returns-then-s-eq0-clause-few
 returns-then-s-eq0-clause-few c chained =
-    walk_short c.args.words.now c.args.names.now c.args.name.now c.args.start c.loop-steps.steps c.loop-steps.s chained (c.loop-steps.invariant chained)
+    walk_short c.args.words.now c.args.names.now c.args.name.now c.args.start c.loop-steps.steps c.loop-steps.s chained
+    (c.loop-steps.invariant chained)
 
 pub returns-then-has-clause-found : goal.returns-then-has-clause-found
 returns-then-has-clause-found c chained =
@@ -23,7 +24,8 @@ returns-then-has-clause-found c chained =
 
 pub returns-then-has-clause-few : goal.returns-then-has-clause-few
 returns-then-has-clause-few c chained =
-    walk_shorter c.args.words.now c.args.names.now c.args.name.now c.args.start c.loop-steps.steps c.loop-steps.s chained (c.loop-steps.invariant chained) c.if-s-eq0.false
+    walk_shorter c.args.words.now c.args.names.now c.args.name.now c.args.start c.loop-steps.steps c.loop-steps.s chained
+    (c.loop-steps.invariant chained) c.if-s-eq0.false
 
 pub loop-steps-preserved : goal.loop-steps-preserved
 loop-steps-preserved c chained =
@@ -36,10 +38,12 @@ loop-steps-preserved c chained =
 
 pub returns-clause-found : goal.returns-clause-found
 returns-clause-found c chained =
-    let short = walk_short c.args.words.now c.args.names.now c.args.name.now c.args.start c.loop-steps.steps c.loop-steps.s chained (c.loop-steps.invariant chained) in
+    let short = walk_short c.args.words.now c.args.names.now c.args.name.now c.args.start c.loop-steps.steps c.loop-steps.s chained
+    (c.loop-steps.invariant chained) in
     absurd (omega arith)
 
 pub returns-clause-few : goal.returns-clause-few
 returns-clause-few c chained =
-    let short = walk_short c.args.words.now c.args.names.now c.args.name.now c.args.start c.loop-steps.steps c.loop-steps.s chained (c.loop-steps.invariant chained) in
+    let short = walk_short c.args.words.now c.args.names.now c.args.name.now c.args.start c.loop-steps.steps c.loop-steps.s chained
+    (c.loop-steps.invariant chained) in
     absurd (omega arith)

@@ -15,7 +15,8 @@ returns-clause-found c valid =
     let words = c.args.words.now in
     let names = c.args.names.now in
     let name = c.args.name.now in
-    let start = start_is words name c.word_or_zero-start.result c.elf_hash.result c.word_or_zero-nbucket.result c.word_or_zero-start.ensures c.elf_hash.ensures c.word_or_zero-nbucket.ensures in
+    let start = start_is words name c.word_or_zero-start.result c.elf_hash.result c.word_or_zero-nbucket.result c.word_or_zero-start.ensures
+    c.elf_hash.ensures c.word_or_zero-nbucket.ensures in
     rw start (c.first_named.ensures.found (subst (IsEndingChain words names) start (bucket_chain words names name valid)))
 
 pub returns-clause-few : goal.returns-clause-few
@@ -23,5 +24,6 @@ returns-clause-few c valid =
     let words = c.args.words.now in
     let names = c.args.names.now in
     let name = c.args.name.now in
-    let start = start_is words name c.word_or_zero-start.result c.elf_hash.result c.word_or_zero-nbucket.result c.word_or_zero-start.ensures c.elf_hash.ensures c.word_or_zero-nbucket.ensures in
+    let start = start_is words name c.word_or_zero-start.result c.elf_hash.result c.word_or_zero-nbucket.result c.word_or_zero-start.ensures
+    c.elf_hash.ensures c.word_or_zero-nbucket.ensures in
     c.first_named.ensures.few (subst (IsEndingChain words names) start (bucket_chain words names name valid))

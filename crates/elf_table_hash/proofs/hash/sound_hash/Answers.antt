@@ -7,7 +7,8 @@ use Rattle.elf_table_symbols.specs.declared.table_section.TableKind.TheVariants.
 use Rattle.elf_table_symbols.specs.Sections.{own_rules, section, sections_of}
 use Rattle.elf_table_symbols.proofs.Public.{link_there}
 use Rattle.elf_table_symbols.specs.Symbols.{symbol_table_rules}
-use Rattle.elf_table_hash.specs.HashRules.{HashPartsValue, hash_parts, hash_parts_value, chain_rules, hash_rules, hash_table_rules, word_rules}
+use Rattle.elf_table_hash.specs.HashRules.{HashPartsValue, hash_parts, hash_parts_value, chain_rules, hash_rules, hash_table_rules}
+use Rattle.elf_table_hash.specs.HashRules.{word_rules}
 use Rattle.elf_table_hash.proofs.HashSound.{valid_when}
 use Rattle.elf_table_hash.proofs.hash.sound_hash.Goals as goal
 
@@ -31,7 +32,8 @@ pub invariant_of-result : goal.invariant_of-result
 unfolding hash_table_rules hash_rules
 invariant_of-result c =
     let f = sections_of c.args.image.now in
-    let rest = FirstIn-behind (symbol_table_rules f (section f c.args.i).sh_link) _ (FirstIn-behind (own_rules HashTable f c.args.i) _ c.requires.sound) in
+    let rest = FirstIn-behind (symbol_table_rules f (section f c.args.i).sh_link) _
+    (FirstIn-behind (own_rules HashTable f c.args.i) _ c.requires.sound) in
     let words = FirstIn-front (word_rules (hash_parts f c.args.i)) _ rest in
     let chains = FirstIn-behind (word_rules (hash_parts f c.args.i)) _ rest in
     let same = sym c.new-parts.ensures.value in

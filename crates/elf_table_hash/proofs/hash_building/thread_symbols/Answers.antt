@@ -1,6 +1,7 @@
 -- A table of zeros has no symbol threaded (`none_threaded`). Each step puts the next lower symbol first on its bucket's chain (`are_put`,
 -- `put_threaded`). When the loop ends, all symbols from 1 on are threaded, so the table is built for its names (`all_threaded`).
-use Rattle.std.proofs.Common.{◌≡◌, ◌≢◌, ℕ, ◌+◌, ◌<◌, ◌≤◌, ◌⊎◌, zero, suc, List, [], ◌∷◌, inl, inr, refl, sym, ap, subst, ◌∙◌, arith, ◌%◌, length, get_or, set, get_or-set_other, get_or-set_same, ◌-◌, map, Bor}
+use Rattle.std.proofs.Common.{◌≡◌, ◌≢◌, ℕ, ◌+◌, ◌<◌, ◌≤◌, ◌⊎◌, zero, suc, List, [], ◌∷◌, inl, inr, refl, sym, ap, subst, ◌∙◌, arith, ◌%◌}
+use Rattle.std.proofs.Common.{length, get_or, set, get_or-set_other, get_or-set_same, ◌-◌, map, Bor}
 use Rattle.std.proofs.lemmas.Bool.{cases_eq}
 use Rattle.std.proofs.Math.Nat.{mod-lt}
 use Rattle.std.proofs.lemmas.List.{length-set, get_or-map, length-map}
@@ -17,7 +18,8 @@ use Rattle.elf_table_hash.proofs.hash_building.thread_symbols.Goals as goal
 
 -- where chain words ascend, a path above a symbol does not see that symbol's chain word
 path_kept : (next after : ℕ → ℕ) (m s start t : ℕ) (xs : List ℕ) → ((k : ℕ) → k < m → k ≢ s → after k ≡ next k) →
-    ((k : ℕ) → k < m → (next k ≡ 0) ⊎ ((k < next k) × (next k < m))) → (start ≡ 0) ⊎ ((s < start) × (start < m)) → IsPath next start xs t → IsPath after start xs t
+    ((k : ℕ) → k < m → (next k ≡ 0) ⊎ ((k < next k) × (next k < m))) → (start ≡ 0) ⊎ ((s < start) × (start < m)) → IsPath next start xs t →
+    IsPath after start xs t
 path_kept next after m s start t [] same ascending above path = path
 path_kept next after m s start t (x ∷ xs) same ascending (inl none) path = absurd (path.0 none)
 path_kept next after m s start t (x ∷ xs) same ascending (inr (lt, within)) path =
@@ -96,18 +98,21 @@ threaded_none next head home n m links heads = record {
 }
 
 -- chains that ascend end
-ends_by : (next : ℕ → ℕ) (m n start : ℕ) → ((k : ℕ) → k < m → (next k ≡ 0) ⊎ ((k < next k) × (next k < m))) → m ≤ start + n → start < m → Ends next start
+ends_by : (next : ℕ → ℕ) (m n start : ℕ) → ((k : ℕ) → k < m → (next k ≡ 0) ⊎ ((k < next k) × (next k < m))) → m ≤ start + n → start < m →
+    Ends next start
 ends_by next m zero start ascending far within = absurd (omega arith)
 ends_by next m (suc n) start ascending far within =
     elim (cases_eq start 0) [
       | inl none ↦ ([], none)
       | inr some ↦ elim (ascending start within) [
         | inl end ↦ (start ∷ [], (some, refl, end))
-        | inr up ↦ (let low = up.0 in let (xs, chain) = ends_by next m n (next start) ascending (omega arith) up.1 in (start ∷ xs, (some, refl, chain)))
+        | inr up ↦ (let low = up.0 in let (xs, chain) = ends_by next m n (next start) ascending (omega arith) up.1 in
+            (start ∷ xs, (some, refl, chain)))
       ]
     ]
 
-ascending_ends : (next : ℕ → ℕ) (m start : ℕ) → ((k : ℕ) → k < m → (next k ≡ 0) ⊎ ((k < next k) × (next k < m))) → start < m → Ends next start
+ascending_ends : (next : ℕ → ℕ) (m start : ℕ) → ((k : ℕ) → k < m → (next k ≡ 0) ⊎ ((k < next k) × (next k < m))) → start < m →
+    Ends next start
 ascending_ends next m start ascending within = ends_by next m m start ascending (omega arith) within
 
 threaded_on : (next head home : ℕ → ℕ) (n m s : ℕ) → AreThreaded next head home n m 1 → 0 < s → s < m → IsOn next (head (home s)) s
@@ -122,7 +127,8 @@ home_along next home m b start s [] links below within first path some = ap home
 home_along next home m b start s (x ∷ xs) links below within first path some =
     let is = path.1 in
     let inside : x < m = omega arith in
-    home_along next home m b (next x) s xs links below (below x inside) (λ more. links x inside more ∙ (ap home is ∙ first path.0)) path.2 some
+    home_along next home m b (next x) s xs links below (below x inside)
+    (λ more. links x inside more ∙ (ap home is ∙ first path.0)) path.2 some
 
 threaded_own : (next head home : ℕ → ℕ) (n m b s : ℕ) → AreThreaded next head home n m 1 → 0 < m → b < n → IsOn next (head b) s → home s ≡ b
 threaded_own next head home n m b s are more there (before, after, chain) =
@@ -184,7 +190,8 @@ are_put words s b long within there =
 put_threaded : (words put : List ℕ) (names : List (List ℕ)) (s : ℕ) → nbucket words ≢ 0 → 0 < s → s < nchain words →
     ArePut words put s (home_of words names s) → IsThreaded words names (s + 1) → IsThreaded put names s
 put_threaded words put names s some above within are was =
-    let more = threaded_more (chain words) (chain put) (bucket words) (bucket put) (home_of words names) (nbucket words) (nchain words) s was above within
+    let more = threaded_more (chain words) (chain put) (bucket words) (bucket put) (home_of words names) (nbucket words)
+    (nchain words) s was above within
     (λ k lt. home_there k) are.chains are.linked are.heads are.here in
     subst (λ m. AreThreaded (chain put) (bucket put) (home_of put names) (nbucket put) m s) (sym are.symbols)
     (subst (λ n. AreThreaded (chain put) (bucket put) (λ k. hash_of (name_of names k) % n) n (nchain words) s) (sym are.buckets) more) where
@@ -193,7 +200,8 @@ put_threaded words put names s some above within are was =
 
 -- once all are, the table is one for its names
 all_threaded : (words : List ℕ) (names : List (List ℕ)) → nbucket words ≢ 0 → nchain words ≡ length names → 0 < length names →
-    length words ≡ 2 + nbucket words + nchain words → length names ≤ MAX_HASH → nbucket words ≤ MAX_HASH → IsThreaded words names 1 → IsBuilt words names (nbucket words)
+    length words ≡ 2 + nbucket words + nchain words → length names ≤ MAX_HASH → nbucket words ≤ MAX_HASH → IsThreaded words names 1 →
+    IsBuilt words names (nbucket words)
 all_threaded words names some counted named long few_names few_buckets are = record {
   valid = record {
     some_bucket = some;
@@ -203,7 +211,8 @@ all_threaded words names some counted named long few_names few_buckets are = rec
     found = λ s above lt. threaded_on (chain words) (bucket words) (home_of words names) (nbucket words) (nchain words) s are above lt;
   };
   buckets = refl;
-  own = λ b s lt on. threaded_own (chain words) (bucket words) (home_of words names) (nbucket words) (nchain words) b s are (omega arith) lt on;
+  own = λ b s lt on. threaded_own (chain words) (bucket words) (home_of words names) (nbucket words) (nchain words) b s are
+      (omega arith) lt on;
   ascending = λ s lt more. elim (are.ascending s lt) [ inl end ↦ absurd (more end) | inr up ↦ up.0 ];
   first = are.unset 0 (omega arith);
   few_names = few_names;
@@ -215,7 +224,8 @@ all_threaded words names some counted named long few_names few_buckets are = rec
   chains : (s : ℕ) → s < nchain words → chain words s < nchain words
   chains s lt = elim (are.ascending s lt) [ inl end ↦ (let e = end in omega arith) | inr up ↦ up.1 ]
 
-named : (names : List (Bor (List ℕ))) (k : ℕ) (d : Bor (List ℕ)) → k < length names → get_or (map (λ name. name.now) names) k [] ≡ (get_or names k d).now
+named : (names : List (Bor (List ℕ))) (k : ℕ) (d : Bor (List ℕ)) → k < length names →
+    get_or (map (λ name. name.now) names) k [] ≡ (get_or names k d).now
 named names k d within = get_or-map (λ (name : Bor (List ℕ)). name.now) names k d [] within
 
 length_names : (names : List (Bor (List ℕ))) → length (map (λ name. name.now) names) ≡ length names
@@ -247,7 +257,8 @@ symbols-preserved c =
     let some : nbucket c.symbols.words ≢ 0 = λ none. c.requires.some_bucket (sym buckets ∙ none) in
     let within : s < length c.args.names.now = omega arith in
     let hash : c.elf_hash.result ≡ hash_of (name_of names s) = c.elf_hash.ensures ∙ ap hash_of (sym (named c.args.names.now s _ within)) in
-    let put = are_put c.symbols.words s (home_of c.symbols.words names s) (omega arith) (omega arith) (home_there c.symbols.words names s some) in
+    let put = are_put c.symbols.words s (home_of c.symbols.words names s) (omega arith) (omega arith)
+    (home_there c.symbols.words names s some) in
     let same : c.symbols.s ≡ s + 1 = omega arith in
     let now = subst (IsThreaded c.symbols.words names) same was.threaded in
     rw (c.thread_symbol.ensures, hash) (record {

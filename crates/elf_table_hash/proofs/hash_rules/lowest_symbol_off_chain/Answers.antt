@@ -12,6 +12,7 @@ loop-s-preserved c = record {
         | inl below ↦ c.loop-s.invariant.on k some below
         | inr above ↦ (
             let same : c.loop-s.s ≡ k = omega arith in
-            subst (λ j. IsOn (chain c.args.parts.now.words) (bucket_of c.args.parts.now.words (name_of c.args.parts.now.names j)) j) same here)
+            subst (λ j. IsOn (chain c.args.parts.now.words) (bucket_of c.args.parts.now.words (name_of c.args.parts.now.names j)) j) same
+            here)
       ]);
 }

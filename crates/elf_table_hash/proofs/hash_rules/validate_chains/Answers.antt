@@ -15,7 +15,8 @@ endless_at p b least = record {
   lowest = λ x here. (let (k, lt, endless, at) = here in let le = least.lowest k (lt, endless) in omega arith);
 }
 
-no_endless_chain : (p : HashPartsValue) → Never (Below (nbucket p.words) (λ b. ¬ Ends (chain p.words) (bucket p.words b))) → Never (endless_chain p)
+no_endless_chain : (p : HashPartsValue) → Never (Below (nbucket p.words) (λ b. ¬ Ends (chain p.words) (bucket p.words b))) →
+    Never (endless_chain p)
 no_endless_chain p never x here = never here.0 (here.1, here.2)
 
 pub returns-in-Some-clause-verdict : goal.returns-in-Some-clause-verdict

@@ -4,14 +4,17 @@ use Rattle.elf_table_hash.proofs.hash_rules.validate_hash_table.Goals as goal
 
 pub returns-in_err-validate_own_rules-clause-validated : goal.returns-in_err-validate_own_rules-clause-validated
 unfolding hash_table_front hash_table_rules
-returns-in_err-validate_own_rules-clause-validated c = validated_stop _ _ _ _ _ _ c.in_err-validate_own_rules.ensures.fault c.from_residual.ensures.1
+returns-in_err-validate_own_rules-clause-validated c =
+    validated_stop _ _ _ _ _ _ c.in_err-validate_own_rules.ensures.fault c.from_residual.ensures.1
 
 pub returns-in_err-of-clause-validated : goal.returns-in_err-of-clause-validated
 unfolding hash_table_front hash_table_rules
 returns-in_err-of-clause-validated c =
-    validated_later _ _ _ _ _ c.in_ok-validate_own_rules.ensures.fault (validated_stop _ _ _ _ _ _ c.in_err-of.ensures c.from_residual-in_err-of.ensures.1)
+    validated_later _ _ _ _ _ c.in_ok-validate_own_rules.ensures.fault
+    (validated_stop _ _ _ _ _ _ c.in_err-of.ensures c.from_residual-in_err-of.ensures.1)
 
 pub returns-clause-validated : goal.returns-clause-validated
 unfolding hash_table_front hash_table_rules
 returns-clause-validated c =
-    validated_later _ _ _ _ _ c.in_ok-validate_own_rules.ensures.fault (validated_later _ _ _ _ _ c.in_ok-of.ensures c.validate_hash.ensures.validated)
+    validated_later _ _ _ _ _ c.in_ok-validate_own_rules.ensures.fault
+    (validated_later _ _ _ _ _ c.in_ok-of.ensures c.validate_hash.ensures.validated)

@@ -8,7 +8,8 @@ pub returns : goal.returns
 returns c =
     let table = c.args.table.now in
     let name = c.args.name.now in
-    let rest : take (length table - c.min.result) (drop c.min.result table) ≡ drop c.args.offset table = rw c.min.ensures (rest_from table c.args.offset) in
+    let rest : take (length table - c.min.result) (drop c.min.result table) ≡ drop c.args.offset table =
+    rw c.min.ensures (rest_from table c.args.offset) in
     let read = rw rest at c.string_at.ensures in
     let long = length-drop c.args.offset table in
     let near : c.min-2.result ≡ min (length (drop c.args.offset table)) (length name + 1) = omega arith in

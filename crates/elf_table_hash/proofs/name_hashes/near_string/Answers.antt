@@ -6,7 +6,8 @@ use Rattle.elf_table_hash.proofs.name_hashes.near_string.Goals as goal
 pub returns : goal.returns
 returns c = λ short. (
     let table = c.args.table.now in
-    let rest : take (length table - c.min.result) (drop c.min.result table) ≡ drop c.args.offset table = rw c.min.ensures (rest_from table c.args.offset) in
+    let rest : take (length table - c.min.result) (drop c.min.result table) ≡ drop c.args.offset table =
+    rw c.min.ensures (rest_from table c.args.offset) in
     let read = rw rest at c.string_at.ensures in
     let long = length-drop c.args.offset table in
     let near : c.min-2.result ≡ min (length (drop c.args.offset table)) (64 + 1) = omega arith in

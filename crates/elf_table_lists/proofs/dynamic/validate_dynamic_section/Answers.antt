@@ -10,7 +10,8 @@ pub returns-in_err-validate_linked_strings : goal.returns-in_err-validate_linked
 unfolding dynamic_section_rules
 returns-in_err-validate_linked_strings c =
     let run = rw (c.linked_content.ensures.bytes, c.linked_header.ensures) at c.in_err-validate_linked_strings.ensures in
-    FirstIn-later _ _ _ c.in_ok-validate_own_rules.ensures.fault (FirstIn-stop _ _ _ _ run c.from_residual-in_err-validate_linked_strings.ensures.1)
+    FirstIn-later _ _ _ c.in_ok-validate_own_rules.ensures.fault
+    (FirstIn-stop _ _ _ _ run c.from_residual-in_err-validate_linked_strings.ensures.1)
 
 pub returns : goal.returns
 unfolding dynamic_section_rules

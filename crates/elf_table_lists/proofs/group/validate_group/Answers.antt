@@ -16,7 +16,8 @@ unfolding group_rules group_member_rules
 returns-in-Some-clause-validated c =
     let f = sections_of c.args.linked.table.image.now in
     let least = wrong_member_row f c.args.linked.table.index c.in-Some.j (rw c.in-Some.is at c.in_ok-wrong.ensures.found) in
-    rw (c.from.ensures, c.new.ensures, c.member_offset.ensures) (FirstIn-later _ _ _ c.in_ok-validate_group_front.ensures (inl (refl, least)))
+    rw (c.from.ensures, c.new.ensures, c.member_offset.ensures)
+    (FirstIn-later _ _ _ c.in_ok-validate_group_front.ensures (inl (refl, least)))
 
 pub returns-in-None-clause-validated : goal.returns-in-None-clause-validated
 unfolding group_rules group_member_rules

@@ -17,4 +17,5 @@ returns-in_err-of-clause-validated c =
 pub returns-clause-validated : goal.returns-clause-validated
 unfolding group_section_front group_section_rules
 returns-clause-validated c =
-    validated_later _ _ _ _ _ c.in_ok-validate_own_rules.ensures.fault (validated_later _ _ _ _ _ c.in_ok-of.ensures c.validate_group.ensures.validated)
+    validated_later _ _ _ _ _ c.in_ok-validate_own_rules.ensures.fault
+    (validated_later _ _ _ _ _ c.in_ok-of.ensures c.validate_group.ensures.validated)

@@ -9,7 +9,8 @@ returns-in_err-validate_own_rules c = FirstIn-stop _ _ _ _ c.in_err-validate_own
 pub returns-in_err-of : goal.returns-in_err-of
 unfolding relocation_section_rules
 returns-in_err-of c =
-    FirstIn-later _ _ _ c.in_ok-validate_own_rules.ensures.fault (FirstIn-stop _ _ _ _ c.in_err-of.ensures c.from_residual-in_err-of.ensures.1)
+    FirstIn-later _ _ _ c.in_ok-validate_own_rules.ensures.fault
+    (FirstIn-stop _ _ _ _ c.in_err-of.ensures c.from_residual-in_err-of.ensures.1)
 
 pub returns : goal.returns
 unfolding relocation_section_rules

@@ -14,7 +14,8 @@ found : (f : Sections) (i : ℕ) (tables : IndexTables) (p : SymbolPartsValue) �
 found f i tables p are same = first_index_table f i tables are ∙ sym (ap (λ (q : SymbolPartsValue). q.index_table) same)
 
 -- the parts' words are its content
-words : (f : Sections) (i j : ℕ) (p : SymbolPartsValue) → p ≡ symbol_parts f i → p.index_table ≡ Some j → length p.words ≡ length (content f j)
+words : (f : Sections) (i j : ℕ) (p : SymbolPartsValue) → p ≡ symbol_parts f i → p.index_table ≡ Some j →
+    length p.words ≡ length (content f j)
 words f i j p same is =
     let here : index_table f i ≡ Some j = sym (ap (λ (q : SymbolPartsValue). q.index_table) same) ∙ is in
     ap (λ (q : SymbolPartsValue). length q.words) same ∙ ap (λ (t : Option ℕ). length (index_words f t)) here

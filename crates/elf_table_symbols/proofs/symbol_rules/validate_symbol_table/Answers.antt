@@ -12,6 +12,8 @@ returns-in_err-validate_own_rules c = FirstIn-stop _ _ _ _ c.in_err-validate_own
 pub returns : goal.returns
 unfolding symbol_table_rules
 returns c =
-    let run = subst (λ (p : SymbolPartsValue). FirstIn (rest_rules (sections_of c.args.table.image.now) c.args.table.index p) (fault_of c.validate_rest.result))
+    let run = subst
+    (λ (p : SymbolPartsValue). FirstIn (rest_rules (sections_of c.args.table.image.now) c.args.table.index p)
+    (fault_of c.validate_rest.result))
     c.new-parts.ensures.value c.validate_rest.ensures in
     FirstIn-later _ _ _ c.in_ok-validate_own_rules.ensures.fault run

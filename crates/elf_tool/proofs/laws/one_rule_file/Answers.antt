@@ -1,6 +1,7 @@
 -- Bytes are the lines of at most one list of relocation rules, or have at most one bad line, and never both. No byte of a word is a blank
 -- and none of a line is a line feed. So two lists of lines at the beginning of the same bytes agree, by induction on both (`meet`).
-use Rattle.std.proofs.Common.{◌≡◌, ◌∙◌, ◌+◌, ◌<◌, ◌⊎◌, ℕ, List, [], ◌∷◌, ◌++◌, ap, append_assoc, append-nil, arith, inl, inr, length, length-append, map, refl, subst, sym}
+use Rattle.std.proofs.Common.{◌≡◌, ◌∙◌, ◌+◌, ◌<◌, ◌⊎◌, ℕ, List, [], ◌∷◌, ◌++◌, ap, append_assoc, append-nil, arith, inl, inr, length}
+use Rattle.std.proofs.Common.{length-append, map, refl, subst, sym}
 use Rattle.std.specs.List.{AllByRecursion, concat}
 use Rattle.std.specs.Prelude.{◌==◌, if◌then◌else◌}
 use Rattle.std.specs.Str.Parse.{AllDigits, digits_value}
@@ -12,7 +13,8 @@ use Rattle.elf_link_field.specs.declared.rule.Range.{Range}
 use Rattle.elf_link_field.specs.declared.rule.RelocRule.{RelocRule}
 use Rattle.elf_link_field.specs.declared.rule.Width.TheVariants.{W1, W2, W4, W8}
 use Rattle.elf_link_field.specs.declared.rule.Width.{Width}
-use Rattle.elf_tool_rule_file.specs.RuleFile.{AreRuleLines, AreRules, BeginsWithRule, IsBadLine, IsRuleLine, form_word, range_word, width_word}
+use Rattle.elf_tool_rule_file.specs.RuleFile.{AreRuleLines, AreRules, BeginsWithRule, IsBadLine, IsRuleLine, form_word, range_word}
+use Rattle.elf_tool_rule_file.specs.RuleFile.{width_word}
 use Rattle.elf_tool.proofs.laws.one_rule_file.Goals as goal
 
 -- ---- bytes in front of a byte that is below all of them
@@ -106,21 +108,30 @@ behind_kind p = form_word p.form ++ 32 ∷ behind_form p
 
 one_line : (line : List ℕ) (p q : RelocRule) → IsRuleLine line p → IsRuleLine line q → p ≡ q
 one_line line p q (word, kind, is) (other, number, are) =
-    let (same_kind, forms) = same_ends 32 word other (behind_kind p) (behind_kind q) (digits_above word kind.0.1) (digits_above other number.0.1) (sym is ∙ are) in
-    let (same_form, widths) = same_ends 32 (form_word p.form) (form_word q.form) (behind_form p) (behind_form q) (form_above p.form) (form_above q.form) forms in
+    let (same_kind, forms) =
+    same_ends 32 word other (behind_kind p) (behind_kind q) (digits_above word kind.0.1) (digits_above other number.0.1) (sym is ∙ are) in
+    let (same_form, widths) =
+    same_ends 32 (form_word p.form) (form_word q.form) (behind_form p) (behind_form q) (form_above p.form) (form_above q.form) forms in
     let (same_width, same_range) =
-    same_ends 32 (width_word p.width) (width_word q.width) (range_word p.range) (range_word q.range) (width_above p.width) (width_above q.width) widths in
-    same_rule p q (sym kind.1 ∙ ap (digits_value 10) same_kind ∙ number.1) (sym (form_again p.form) ∙ ap form_of same_form ∙ form_again q.form)
-    (sym (width_again p.width) ∙ ap width_of same_width ∙ width_again q.width) (sym (range_again p.range) ∙ ap range_of same_range ∙ range_again q.range)
+    same_ends 32 (width_word p.width) (width_word q.width) (range_word p.range) (range_word q.range) (width_above p.width)
+    (width_above q.width) widths in
+    same_rule p q (sym kind.1 ∙ ap (digits_value 10) same_kind ∙ number.1)
+    (sym (form_again p.form) ∙ ap form_of same_form ∙ form_again q.form)
+    (sym (width_again p.width) ∙ ap width_of same_width ∙ width_again q.width)
+    (sym (range_again p.range) ∙ ap range_of same_range ∙ range_again q.range)
 
 -- no byte of a line is a line feed
 no_feed : (line : List ℕ) (p : RelocRule) → IsRuleLine line p → Above 10 line
 no_feed line p (word, kind, is) =
     let low : 10 < 32 = omega arith in
     let last = above_lower 10 32 (range_word p.range) low (range_above p.range) in
-    let widths = above_both 10 (width_word p.width) (32 ∷ range_word p.range) (above_lower 10 32 (width_word p.width) low (width_above p.width)) (low, last) in
-    let forms = above_both 10 (form_word p.form) (32 ∷ behind_form p) (above_lower 10 32 (form_word p.form) low (form_above p.form)) (low, widths) in
-    subst (Above 10) (sym is) (above_both 10 word (32 ∷ behind_kind p) (above_lower 10 32 word low (digits_above word kind.0.1)) (low, forms))
+    let widths =
+    above_both 10 (width_word p.width) (32 ∷ range_word p.range) (above_lower 10 32 (width_word p.width) low (width_above p.width))
+    (low, last) in
+    let forms = above_both 10 (form_word p.form) (32 ∷ behind_form p) (above_lower 10 32 (form_word p.form) low (form_above p.form))
+    (low, widths) in
+    subst (Above 10) (sym is)
+    (above_both 10 word (32 ∷ behind_kind p) (above_lower 10 32 word low (digits_above word kind.0.1)) (low, forms))
 
 -- ---- two lists of lines at the beginning of the same bytes
 
@@ -136,7 +147,8 @@ Meet ps rest qs behind =
     ((ps ≡ qs) × (rest ≡ behind))
     ⊎ ((BeginsWithRule rest × (length ps < length qs)) ⊎ (BeginsWithRule behind × (length qs < length ps)))
 
-meet_more : (p q : RelocRule) (ps qs : List RelocRule) (rest behind : List ℕ) → p ≡ q → Meet ps rest qs behind → Meet (p ∷ ps) rest (q ∷ qs) behind
+meet_more : (p q : RelocRule) (ps qs : List RelocRule) (rest behind : List ℕ) → p ≡ q → Meet ps rest qs behind →
+    Meet (p ∷ ps) rest (q ∷ qs) behind
 meet_more p q ps qs rest behind same (inl (rules, e)) = inl (cc, e)
 meet_more p q ps qs rest behind same (inr (inl (begins, fewer))) = inr (inl (begins, omega arith))
 meet_more p q ps qs rest behind same (inr (inr (begins, fewer))) = inr (inr (begins, omega arith))
@@ -167,7 +179,8 @@ meet (l ∷ lines) (o ∷ others) (p ∷ ps) (q ∷ qs) rest behind are also e =
     (meet lines others ps qs rest behind are.1 also.1 later)
 
 -- rules at the beginning of the same bytes
-both : (bytes before rest front behind : List ℕ) (ps qs : List RelocRule) → bytes ≡ before ++ rest → AreRules before ps → bytes ≡ front ++ behind →
+both : (bytes before rest front behind : List ℕ) (ps qs : List RelocRule) → bytes ≡ before ++ rest → AreRules before ps →
+    bytes ≡ front ++ behind →
     AreRules front qs → Meet ps rest qs behind
 both bytes before rest front behind ps qs is (lines, are, joined_is, few) also (others, further, joined_also, short) =
     meet lines others ps qs rest behind are further
@@ -186,17 +199,19 @@ one_rules bytes ps qs are also = elim (both bytes bytes [] bytes [] ps qs (sym (
 ]
 
 -- a line that is bad, where more rules are at the beginning of the bytes
-not_bad : (rest : List ℕ) (ps qs : List RelocRule) (n : ℕ) → BeginsWithRule rest → length ps < length qs → length qs < 257 → n ≡ length ps + 1 →
+not_bad : (rest : List ℕ) (ps qs : List RelocRule) (n : ℕ) → BeginsWithRule rest → length ps < length qs → length qs < 257 →
+    n ≡ length ps + 1 →
     (n ≡ 257) ⊎ (BeginsWithRule rest → ⊥) → ⊥
 not_bad rest ps qs n begins fewer few is (inl last) = omega arith
 not_bad rest ps qs n begins fewer few is (inr never) = never begins
 
 rules_not_bad : (bytes : List ℕ) (ps : List RelocRule) (n : ℕ) → AreRules bytes ps → IsBadLine bytes n → ⊥
-rules_not_bad bytes ps n are (before, rest, qs, is, also, number, some, bad) = elim (both bytes bytes [] before rest ps qs (sym (append-nil bytes)) are is also) [
-  | inl same ↦ omega (arith, ap length same.1)
-  | inr (inl further) ↦ none_begin further.0
-  | inr (inr further) ↦ not_bad rest qs ps n further.0 further.1 (let few = are.2 in omega arith) number bad
-]
+rules_not_bad bytes ps n are (before, rest, qs, is, also, number, some, bad) =
+    elim (both bytes bytes [] before rest ps qs (sym (append-nil bytes)) are is also) [
+      | inl same ↦ omega (arith, ap length same.1)
+      | inr (inl further) ↦ none_begin further.0
+      | inr (inr further) ↦ not_bad rest qs ps n further.0 further.1 (let few = are.2 in omega arith) number bad
+    ]
 
 one_bad_line : (bytes : List ℕ) (m n : ℕ) → IsBadLine bytes m → IsBadLine bytes n → m ≡ n
 one_bad_line bytes m n (before, rest, ps, is, are, number, some, bad) (front, behind, qs, also, further, count, any, wrong) =

@@ -9,6 +9,7 @@ pub returns : goal.returns
 unfolding ok_line
 returns c =
     let a = c.args in
-    let text : IfOk c.format.result (λ s. string_bytes s ≡ codes "ok" ++ to_the_end (decimal a.length ∷ decimal a.sections ∷ decimal a.segments ∷ [])) =
+    let text : IfOk c.format.result
+    (λ s. string_bytes s ≡ codes "ok" ++ to_the_end (decimal a.length ∷ decimal a.sections ∷ decimal a.segments ∷ [])) =
     search rules in
     IfOk-weaker c.format.result _ _ (λ s is. is ∙ line_in_a_row (codes "ok") _) text

@@ -8,5 +8,6 @@ use Rattle.elf_tool_check.proofs.engine.refused_line.Goals as goal
 pub returns : goal.returns
 unfolding refused_line
 returns c =
-    let text : IfOk c.format.result (λ s. string_bytes s ≡ codes "refused" ++ to_the_end (decimal c.args.rule ∷ decimal c.args.at ∷ [])) = search rules in
+    let text : IfOk c.format.result (λ s. string_bytes s ≡ codes "refused" ++ to_the_end (decimal c.args.rule ∷ decimal c.args.at ∷ [])) =
+    search rules in
     IfOk-weaker c.format.result _ _ (λ s is. is ∙ line_in_a_row (codes "refused") _) text

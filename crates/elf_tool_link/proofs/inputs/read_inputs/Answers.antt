@@ -18,10 +18,12 @@ returns-in_err-read_input-clause-fault g c =
     let long : vec_len c.read_input.new.buf ≡ length bytes = search rules in
     let e = c.in_err-read_input.ensures in
     let count : length (map items l.files.items) ≡ l.i = length-map l.files.items items ∙ l.invariant.count in
-    let stop = next_stops given c.args.readers.now l.readers (map items l.files.items) c.index-readers-i.result c.read_input.new.reader l.invariant.read l.i bytes
+    let stop = next_stops given c.args.readers.now l.readers
+    (map items l.files.items) c.index-readers-i.result c.read_input.new.reader l.invariant.read l.i bytes
     count (search rules) (record { taken = e.taken; limit = rw (← long) e.limit }) in
     let p = err_from_is_err_and c.from_residual.result c.from_residual.ensures.1 in
-    rw (p.1, p.2) (reading_stopped _ _ bytes c.in_err-read_input.field-0.0 stop (subst (IsReadFaultAfter c.in_err-read_input.field-0.0) long e.fault))
+    rw (p.1, p.2)
+    (reading_stopped _ _ bytes c.in_err-read_input.field-0.0 stop (subst (IsReadFaultAfter c.in_err-read_input.field-0.0) long e.fault))
 
 pub returns-in_default-clause-fault : goal.returns-in_default-clause-fault
 returns-in_default-clause-fault g c =
@@ -32,7 +34,8 @@ returns-in_default-clause-fault g c =
     let e = c.in_ok-read_input.ensures in
     let count : length (map items l.files.items) ≡ l.i = length-map l.files.items items ∙ l.invariant.count in (
       bytes,
-      next_stops given c.args.readers.now l.readers (map items l.files.items) c.index-readers-i.result c.read_input.new.reader l.invariant.read l.i bytes
+      next_stops given c.args.readers.now l.readers
+          (map items l.files.items) c.index-readers-i.result c.read_input.new.reader l.invariant.read l.i bytes
           count (search rules) (record { taken = e.taken; limit = rw (← long) e.limit }),
     )
 
@@ -44,7 +47,8 @@ loop-i-preserved g c =
     let long : vec_len c.read_input.new.buf ≡ length file = search rules in
     let e = c.in_ok-read_input.ensures in
     let count : length (map items l.files.items) ≡ l.i = length-map l.files.items items ∙ l.invariant.count in
-    let read = next_read given c.args.readers.now l.readers (map items l.files.items) c.index-readers-i.result c.read_input.new.reader l.invariant.read l.i file
+    let read = next_read given c.args.readers.now l.readers
+    (map items l.files.items) c.index-readers-i.result c.read_input.new.reader l.invariant.read l.i file
     count (search rules) (record { bytes = record { taken = e.taken; limit = rw (← long) e.limit }; whole = rw (← long) e.ok }) in
     let pushed : map items c.push.new.self.items ≡ map items l.files.items ++ file ∷ [] =
     ap (map items) c.in-Ok.ensures.items ∙ map-append items l.files.items (c.read_input.new.buf ∷ []) in

@@ -7,7 +7,8 @@ pub returns-in-Ok : goal.returns-in-Ok
 returns-in-Ok g c =
     let (objects, map, sound) = c.in-Ok.ensures in
     let mapped = c.in-Ok.mapped in
-    said_as _ _ _ _ c.link_mapped.result (λ v text says. inl (mapped.objects, objects, inl (sound, (mapped.map, map, says)))) c.link_mapped.ensures
+    said_as _ _ _ _ c.link_mapped.result
+    (λ v text says. inl (mapped.objects, objects, inl (sound, (mapped.map, map, says)))) c.link_mapped.ensures
 
 pub returns-in-Err : goal.returns-in-Err
 returns-in-Err g c =

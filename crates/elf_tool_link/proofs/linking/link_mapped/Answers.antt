@@ -29,4 +29,5 @@ pub returns-in-Err : goal.returns-in-Err
 returns-in-Err g c =
     let mapped = c.args.mapped.now in
     rw (c.verdict_of.ensures, c.into.ensures)
-    (relocation_refused c.args.rules.now mapped.objects mapped.map c.in-Err.fault (g.W.Write.contents c.args.writer.now) c.in-Err.ensures.err)
+    (relocation_refused c.args.rules.now mapped.objects mapped.map c.in-Err.fault
+    (g.W.Write.contents c.args.writer.now) c.in-Err.ensures.err)

@@ -8,5 +8,6 @@ pub returns : goal.returns
 unfolding common_line
 returns g c =
     let o = c.args.common.now in
-    line_named _ _ _ _ c.put-2.new.self (codes "common") (hexadecimal o.address ∷ hexadecimal o.size ∷ []) c.put_name-is_whole.result o.name.now
+    line_named _ _ _ _ c.put-2.new.self (codes "common")
+    (hexadecimal o.address ∷ hexadecimal o.size ∷ []) c.put_name-is_whole.result o.name.now
     c.pass_with_name.result (search rules) c.pass_with_name.ensures

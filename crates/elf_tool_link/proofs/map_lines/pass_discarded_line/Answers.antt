@@ -7,4 +7,5 @@ use Rattle.elf_tool_link.proofs.map_lines.pass_discarded_line.Goals as goal
 pub returns : goal.returns
 unfolding discarded_line
 returns g c =
-    line_at_once _ _ _ _ c.as_bytes.result.now (codes "discarded") (decimal c.args.file ∷ decimal c.args.section ∷ []) c.pass.result (search rules) c.pass.ensures
+    line_at_once _ _ _ _ c.as_bytes.result.now (codes "discarded") (decimal c.args.file ∷ decimal c.args.section ∷ []) c.pass.result
+    (search rules) c.pass.ensures

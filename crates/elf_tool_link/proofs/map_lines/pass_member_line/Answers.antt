@@ -9,5 +9,6 @@ pub returns : goal.returns
 unfolding member_line
 returns g c =
     let m = c.args.member in
-    line_at_once _ _ _ _ c.as_bytes.result.now (codes "member") (hexadecimal c.args.address ∷ hexadecimal c.args.size ∷ decimal m.file ∷ decimal m.section ∷ [])
+    line_at_once _ _ _ _ c.as_bytes.result.now (codes "member")
+    (hexadecimal c.args.address ∷ hexadecimal c.args.size ∷ decimal m.file ∷ decimal m.section ∷ [])
     c.pass.result (search rules) c.pass.ensures

@@ -7,5 +7,6 @@ pub returns : goal.returns
 unfolding name_line
 returns g c =
     let n = c.args.named in
-    line_named _ _ _ _ c.put-2.new.self (codes "name") (value_text c.args.value ∷ binding_text n.binding ∷ []) c.put_name-is_whole.result n.name.now
+    line_named _ _ _ _ c.put-2.new.self (codes "name")
+    (value_text c.args.value ∷ binding_text n.binding ∷ []) c.put_name-is_whole.result n.name.now
     c.pass_with_name.result (search rules) c.pass_with_name.ensures

@@ -8,5 +8,6 @@ pub returns : goal.returns
 unfolding output_line
 returns g c =
     let o = c.args.output.now in
-    line_named _ _ _ _ c.put-2.new.self (codes "output") (hexadecimal o.address ∷ hexadecimal o.length ∷ bits_text o.no_bits ∷ hexadecimal o.flags ∷ [])
+    line_named _ _ _ _ c.put-2.new.self (codes "output")
+    (hexadecimal o.address ∷ hexadecimal o.length ∷ bits_text o.no_bits ∷ hexadecimal o.flags ∷ [])
     c.put_name-is_whole.result o.name.now c.pass_with_name.result (search rules) c.pass_with_name.ensures

@@ -8,5 +8,6 @@ use Rattle.elf_tool_link.proofs.map_text.pass_commons.Goals as goal
 pub returns : goal.returns
 unfolding common_lines
 returns g c =
-    subst (λ (t : List ℕ). IsPassed (g.W.Write.contents c.args.writer.now) (g.W.Write.contents c.pass_lines.new.writer) c.args.text.now c.pass_lines.new.output t c.pass_lines.result)
+    subst (λ (t : List ℕ). IsPassed (g.W.Write.contents c.args.writer.now)
+    (g.W.Write.contents c.pass_lines.new.writer) c.args.text.now c.pass_lines.new.output t c.pass_lines.result)
     (by_position common_line no_placed c.args.link.now.commons) c.pass_lines.ensures

@@ -16,7 +16,8 @@ returns-in-Err-Rule c =
 pub loop-file-preserved : goal.loop-file-preserved
 loop-file-preserved c =
     let l = c.loop-file in
-    let next = next_object bytes c.args.files.now l.objects.items _ l.invariant.begin l.file _ c.in-Ok.object l.invariant.count (search rules) refl c.in-Ok.ensures in
+    let next = next_object bytes c.args.files.now l.objects.items _ l.invariant.begin l.file _ c.in-Ok.object l.invariant.count
+    (search rules) refl c.in-Ok.ensures in
     record { count = search rules; begin = rw c.in-Ok-push.ensures.items next }
 
 pub returns : goal.returns

@@ -12,4 +12,5 @@ returns-in-Err g c =
 pub returns-in-Ok : goal.returns-in-Ok
 returns-in-Ok g c =
     let m = c.args.mapped.now in
-    mapped_as _ _ _ _ c.tell_relocated.result (λ v text said. rw said.0 (c.in-Ok.linked, c.in-Ok.ensures.linked, said.1)) c.tell_relocated.ensures
+    mapped_as _ _ _ _ c.tell_relocated.result
+    (λ v text said. rw said.0 (c.in-Ok.linked, c.in-Ok.ensures.linked, said.1)) c.tell_relocated.ensures

@@ -1,3 +1,4 @@
+-- The files that were read are those of the report. If reading fails, nothing is reported.
 use Rattle.std.proofs.Common.{ℕ, Vec, Global, arith, inr, map as map_list}
 use Rattle.std.proofs.lemmas.List.{length-map}
 use Rattle.elf_tool_link.proofs.FewFiles.{few_files_short}
@@ -18,7 +19,11 @@ returns-clause-few g c few =
     let read = as_many_read _ _ files c.in_ok-files.ensures.ok in
     let readers = length-map c.args.readers.now g.R.Read.remaining in
     let says = rw (c.deref-2.ensures.value, c.in_ok-contents.ensures, c.deref.ensures.value) at c.map_files.ensures.any in
-    inr (files, c.in_ok-files.ensures.ok, exactly _ _ _ c.map_files.result (λ text is. few_files_short _ _ files text (omega arith) is) says)
+    inr (
+      files,
+      c.in_ok-files.ensures.ok,
+      exactly _ _ _ c.map_files.result (λ text is. few_files_short _ _ files text (omega arith) is) says,
+    )
 
 pub returns-in_err-files-clause-only : goal.returns-in_err-files-clause-only
 returns-in_err-files-clause-only g c = one_map _ _

@@ -12,7 +12,9 @@ returns-in_err-pass_map g c =
     let text = map_text c.objects.result.now c.map.result.now in
     let is = ap₂ map_text c.objects.ensures c.map.ensures in
     let p = err_from_is_err_and c.from_residual-in_err-pass_map.result c.from_residual-in_err-pass_map.ensures.1 in
-    rw (p.1, p.2) (lines_stopped (RelocationSays None m.objects m.map) _ c.in_ok-text.text text is c.in_ok-text.ensures.pending c.in_ok-text.ensures.written
+    rw (p.1, p.2)
+    (lines_stopped
+    (RelocationSays None m.objects m.map) _ c.in_ok-text.text text is c.in_ok-text.ensures.pending c.in_ok-text.ensures.written
     _ c.in_err-pass_map.field-0.0.written c.in_err-pass_map.ensures)
 
 pub returns-in_err-write_pending : goal.returns-in_err-write_pending
@@ -21,7 +23,9 @@ returns-in_err-write_pending g c =
     let text = map_text c.objects.result.now c.map.result.now in
     let is = ap₂ map_text c.objects.ensures c.map.ensures in
     let p = err_from_is_err_and c.from_residual-in_err-write_pending.result c.from_residual-in_err-write_pending.ensures.1 in
-    rw (p.1, p.2) (last_stopped (RelocationSays None m.objects m.map) _ c.in_ok-text.text text is c.in_ok-text.ensures.pending c.in_ok-text.ensures.written
+    rw (p.1, p.2)
+    (last_stopped
+    (RelocationSays None m.objects m.map) _ c.in_ok-text.text text is c.in_ok-text.ensures.pending c.in_ok-text.ensures.written
     _ _ c.pass_map.new.text c.in_err-write_pending.field-0.0.written c.in_ok-pass_map.ensures c.in_err-write_pending.ensures.passed)
 
 pub returns : goal.returns
@@ -29,5 +33,7 @@ returns g c =
     let m = c.args.mapped.now in
     let text = map_text c.objects.result.now c.map.result.now in
     let is = ap₂ map_text c.objects.ensures c.map.ensures in
-    lines_written (RelocationSays None m.objects m.map) _ c.in_ok-text.text text is c.in_ok-text.ensures.pending c.in_ok-text.ensures.written
-    _ _ c.pass_map.new.text c.write_pending.new.self c.in_ok-pass_map.ensures c.in_ok-write_pending.ensures.passed c.in_ok-write_pending.ensures.empty
+    lines_written
+    (RelocationSays None m.objects m.map) _ c.in_ok-text.text text is c.in_ok-text.ensures.pending c.in_ok-text.ensures.written
+    _ _ c.pass_map.new.text c.write_pending.new.self c.in_ok-pass_map.ensures c.in_ok-write_pending.ensures.passed
+    c.in_ok-write_pending.ensures.empty

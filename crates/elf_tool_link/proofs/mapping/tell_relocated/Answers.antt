@@ -43,7 +43,8 @@ returns-in_err-write_pending g c =
     let p = err_from_is_err_and c.from_residual-in_err-write_pending.result c.from_residual-in_err-write_pending.ensures.1 in
     rw (p.1, p.2) (last_stopped (IsThis Done said) _ o (m ++ b) is c.in_ok-text.ensures.pending c.in_ok-text.ensures.written
     _ _ c.pass_relocated.new.text c.in_err-write_pending.field-0.0.written
-    (buffers_both _ _ _ o c.pass_map.new.text c.pass_relocated.new.text m b c.in_ok-pass_map.ensures c.in_ok-pass_relocated.ensures) c.in_err-write_pending.ensures.passed)
+    (buffers_both _ _ _ o c.pass_map.new.text c.pass_relocated.new.text m b c.in_ok-pass_map.ensures c.in_ok-pass_relocated.ensures)
+    c.in_err-write_pending.ensures.passed)
 
 pub returns : goal.returns
 returns g c =

@@ -11,7 +11,8 @@ use Rattle.elf_tool_link.specs.declared.mapped.Unlinked.{Unlinked}
 use Rattle.elf_tool_link.proofs.verdicts.link_verdict.Goals as goal
 
 -- what is refused before any entry is looked at is the verdict
-unlinked_is : (opt : Options) (rules : Option (List RelocRule)) (files : List (List ℕ)) (unlinked : Unlinked) → IsUnlinked opt files unlinked
+unlinked_is : (opt : Options) (rules : Option (List RelocRule)) (files : List (List ℕ)) (unlinked : Unlinked) →
+    IsUnlinked opt files unlinked
     → MatchResult (unlinked_verdict unlinked) (IsLinkVerdict opt rules files) (λ out. out ≡ fault.OutOfMemory)
 unlinked_is opt rules files (Refused (File file rule at)) is = is
 unlinked_is opt rules files (Refused (Link rule file index entry)) (fs, are, stands) =
@@ -21,4 +22,6 @@ unlinked_is opt rules files OutOfMemory is = refl
 
 pub returns-in-Err : goal.returns-in-Err
 returns-in-Err c =
-    rw c.verdict_of.ensures (unlinked_is c.args.options.now (option_copied c.args.rules) (map_list (λ f. f.now) c.args.files.now) c.in-Err.unlinked c.in-Err.ensures)
+    rw c.verdict_of.ensures
+    (unlinked_is c.args.options.now (option_copied c.args.rules)
+    (map_list (λ f. f.now) c.args.files.now) c.in-Err.unlinked c.in-Err.ensures)

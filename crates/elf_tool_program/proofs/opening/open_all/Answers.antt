@@ -1,6 +1,7 @@
 -- One pass of the loop adds the reader of the next file to those of the files so far, in order. After the last name, the readers are those
 -- of all files.
-use Rattle.std.proofs.Common.{◌≡◌, ◌∙◌, ◌≤◌, ◌++◌, [], ◌∷◌, Bor, List, ℕ, Option, Some, IfSome, ap, arith, get_or, length, map, rules, subst, sym}
+use Rattle.std.proofs.Common.{◌≡◌, ◌∙◌, ◌≤◌, ◌++◌, [], ◌∷◌, Bor, List, ℕ, Option, Some, IfSome, ap, arith, get_or, length, map, rules}
+use Rattle.std.proofs.Common.{subst, sym}
 use Rattle.std.proofs.lemmas.List.{get_or-map, length-map, map-append}
 use Rattle.elf_tool_program.proofs.Sources.{bytes_more}
 use Rattle.elf_tool_program.proofs.opening.open_all.Goals as goal
@@ -21,9 +22,13 @@ loop-k-preserved g c =
       count = search rules;
       held = c.in-Ok.ensures.kept ∙ l.invariant.held;
       known = c.in-Ok.ensures.still ∙ l.invariant.known;
-      bytes = rw pushed (bytes_more (g.O.Opener.holds c.args.files.now) names (map remaining l.inputs.items) l.k (remaining c.in-Ok.input) count l.invariant.bytes
-          (subst (λ (held : List ℕ → Option (List ℕ)). IfSome (held (get_or names l.k [])) (λ bytes. remaining c.in-Ok.input ≡ Some bytes)) l.invariant.held
-          (subst (λ (n : List ℕ). IfSome (g.O.Opener.holds l.files n) (λ bytes. remaining c.in-Ok.input ≡ Some bytes)) (sym at) c.in-Ok.ensures.bytes)));
+      bytes = rw pushed
+          (bytes_more (g.O.Opener.holds c.args.files.now) names (map remaining l.inputs.items) l.k
+          (remaining c.in-Ok.input) count l.invariant.bytes
+          (subst (λ (held : List ℕ → Option (List ℕ)). IfSome (held (get_or names l.k [])) (λ bytes. remaining c.in-Ok.input ≡ Some bytes))
+          l.invariant.held
+          (subst (λ (n : List ℕ). IfSome (g.O.Opener.holds l.files n) (λ bytes. remaining c.in-Ok.input ≡ Some bytes))
+          (sym at) c.in-Ok.ensures.bytes)));
     }
 
 pub returns-clause-ok : goal.returns-clause-ok

@@ -1,3 +1,4 @@
+-- The rules that were read are those of the request, so the engine's report is the one that is asked for.
 use Rattle.std.proofs.Common.{Some, ap, arith, inl, length, refl}
 use Rattle.std.proofs.lemmas.List.{length-map}
 use Rattle.elf_tool_words.specs.declared.words.Request.TheVariants.{Link, Map}
@@ -25,4 +26,8 @@ returns-in-Ok-Link g c =
     let asked = rw r.field-0-is at r.ensures.ok in
     let ends = rw (r.base-is, r.page-is, c.deref-in-Ok-Link.ensures.value) at c.link_by_rules.ensures in
     let entry = ap Some c.as_bytes.ensures.value in
-    inl (Link r.base r.page r.entry r.rules r.names, asked, (record { base = r.base; page = r.page; entry = Some c.as_bytes.result }, (refl, refl, entry), ends))
+    inl (
+      Link r.base r.page r.entry r.rules r.names,
+      asked,
+      (record { base = r.base; page = r.page; entry = Some c.as_bytes.result }, (refl, refl, entry), ends),
+    )

@@ -9,7 +9,8 @@ object_of_length-requires g c =
     let is = c.in-Ok.ensures.ok in
     let long = is.file_len in
     let short = is.short in
-    let laid : Laid o (layout_bytes o c.in-Ok.layout.places) = record { places = c.in-Ok.layout.places; least = is.least; bytes = refl } in (
+    let laid : Laid o (layout_bytes o c.in-Ok.layout.places) =
+    record { places = c.in-Ok.layout.places; least = is.least; bytes = refl } in (
       layout_bytes o c.in-Ok.layout.places,
       file_of o c.prove_rules.ensures.kept c.prove_rules.ensures.fits _ laid (omega arith),
       c.length.ensures ∙ long,

@@ -7,7 +7,8 @@ use Rattle.elf_tool_rewrite.proofs.engine.rewrite.Goals as goal
 
 pub returns-clause-written : goal.returns-clause-written
 returns-clause-written g c =
-    said RewriteSays (g.R.Read.remaining c.args.reader.now) (g.R.Read.remaining c.read_input.new.reader) (g.W.Write.contents c.args.writer.now)
+    said RewriteSays (g.R.Read.remaining c.args.reader.now) (g.R.Read.remaining c.read_input.new.reader)
+    (g.W.Write.contents c.args.writer.now)
     (g.W.Write.contents c.rewrite_bytes.new.writer) c.as_slice.result.now c.read_input.new.buf.items (vec_len c.read_input.new.buf)
     c.as_slice.ensures.value (omega (arith, c.as_slice.ensures.len)) c.in_ok-read_input.ensures.taken c.in_ok-read_input.ensures.limit
     c.in_ok-read_input.ensures.ok c.rewrite_bytes.result c.rewrite_bytes.ensures.written

@@ -14,4 +14,5 @@ returns-then-not-are_digits c kind is =
 pub returns-in_err-digits : goal.returns-in_err-digits
 returns-in_err-digits c =
     rw c.from_residual.ensures (λ kind is.
-    never_refused c.from_utf8.result (IsUtf8 c.args.word.now) _ _ (sym c.in_err-digits.ensures.variant) c.from_utf8.ensures.cases (digits_utf8 c.args.word.now is.0.1))
+    never_refused c.from_utf8.result (IsUtf8 c.args.word.now) _ _ (sym c.in_err-digits.ensures.variant) c.from_utf8.ensures.cases
+    (digits_utf8 c.args.word.now is.0.1))

@@ -16,8 +16,10 @@ use Rattle.elf_tool_check.specs.declared.calls.Verdict.TheVariants.{Done, Refuse
 use Rattle.elf_tool_show.proofs.engine.show_bytes.Goals as goal
 
 -- the count of a beginning of a short text is exact
-exactly : (text : List ℕ) (old new : Option (List ℕ)) (fault : ToolFault) → length text < 2 ^ 64 → IsBeginning text old new fault → WritesPrefix text old new fault
-exactly text old new (Write written) short (count, below, out, same) = subst (λ (n : ℕ). IsCutAt old new text n) (sym (same short)) (below, out)
+exactly : (text : List ℕ) (old new : Option (List ℕ)) (fault : ToolFault) → length text < 2 ^ 64 → IsBeginning text old new fault →
+    WritesPrefix text old new fault
+exactly text old new (Write written) short (count, below, out, same) =
+    subst (λ (n : ℕ). IsCutAt old new text n) (sym (same short)) (below, out)
 exactly text old new OutOfMemory short begun = begun
 exactly text old new (Read at) short begun = begun
 
@@ -25,7 +27,8 @@ pub returns-in_err-show_image-in-Ok : goal.returns-in_err-show_image-in-Ok
 returns-in_err-show_image-in-Ok g c =
     let q = err_from_is_err_and c.from_residual-in_err-show_image-in-Ok.result c.from_residual-in_err-show_image-in-Ok.ensures.1 in
     let t : TablesValue = record { image = c.in-Ok.image; verdicts = c.in_ok-tables-in-Ok.tables.verdicts } in
-    let fit = subst (λ (v : ImageValue). VerdictsFit (length v.sections) t.verdicts) c.in_ok-tables-in-Ok.ensures.image c.prove_verdicts.ensures in
+    let fit = subst
+    (λ (v : ImageValue). VerdictsFit (length v.sections) t.verdicts) c.in_ok-tables-in-Ok.ensures.image c.prove_verdicts.ensures in
     let short = show_short c.in-Ok.image c.args.bytes.now c.in-Ok.ensures.ok t.verdicts fit in
     rw (q.1, q.2) (inr (record {
       verdict = Done;
@@ -37,7 +40,8 @@ returns-in_err-show_image-in-Ok g c =
 
 pub returns-in_err-show_refusal-in-Err-Rule : goal.returns-in_err-show_refusal-in-Err-Rule
 returns-in_err-show_refusal-in-Err-Rule g c =
-    let q = err_from_is_err_and c.from_residual-in_err-show_refusal-in-Err-Rule.result c.from_residual-in_err-show_refusal-in-Err-Rule.ensures.1 in
+    let q = err_from_is_err_and c.from_residual-in_err-show_refusal-in-Err-Rule.result
+    c.from_residual-in_err-show_refusal-in-Err-Rule.ensures.1 in
     let rule = c.in-Err-Rule.rule in
     let at = c.in-Err-Rule.at in
     rw (q.1, q.2) (inr (record {

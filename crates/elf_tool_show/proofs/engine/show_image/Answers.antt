@@ -16,18 +16,21 @@ use Rattle.elf_tool_text.proofs.Public.{all_out, all_cut, buffers_both, buffers_
 use Rattle.elf_tool_show.proofs.engine.show_image.Goals as goal
 
 -- the lines of the parts alone are those of the value's
-parts_text : (b : List ℕ) (v : ImageValue) (ps : List Part) → ps ≡ map (λ (p : PlacedPart). p.part) v.parts → flat_map (part_line b) ps ≡ part_lines b v
+parts_text : (b : List ℕ) (v : ImageValue) (ps : List Part) → ps ≡ map (λ (p : PlacedPart). p.part) v.parts →
+    flat_map (part_line b) ps ≡ part_lines b v
 unfolding part_lines
 parts_text b v ps same = ap (flat_map (part_line b)) same ∙ flat_map-map (part_line b) (λ (p : PlacedPart). p.part) v.parts
 
 -- the first line is pushed
-file_buffered : (a : Option (List ℕ)) (o p : Output) (h header : Ehdr) → h ≡ header → p.pending.items ≡ o.pending.items ++ file_line h → p.written ≡ o.written
+file_buffered : (a : Option (List ℕ)) (o p : Output) (h header : Ehdr) → h ≡ header → p.pending.items ≡ o.pending.items ++ file_line h →
+    p.written ≡ o.written
     → Buffers a a o p (file_line header)
 file_buffered a o p h header same pushed count =
     subst (λ (x : Ehdr). Buffers a a o p (file_line x)) same (buffers_line a a o o p [] (file_line h) (buffers_none a o) pushed count)
 
 -- the first line and the parts are sent; what stops behind them stops in the whole text
-parts_cut : (a x y : Option (List ℕ)) (o p q : Output) (b : List ℕ) (v : ImageValue) (h : Ehdr) (ps : List Part) (rest : List ℕ) (fault : ToolFault)
+parts_cut : (a x y : Option (List ℕ)) (o p q : Output) (b : List ℕ) (v : ImageValue) (h : Ehdr) (ps : List Part) (rest : List ℕ)
+    (fault : ToolFault)
     → o.pending.items ≡ [] → o.written ≡ 0 → h ≡ v.header → p.pending.items ≡ o.pending.items ++ file_line h → p.written ≡ o.written
     → ps ≡ map (λ (l : PlacedPart). l.part) v.parts → Buffers a x p q (flat_map (part_line b) ps) → IsCutShort x y q rest fault
     → IsBeginning (file_line v.header ++ (part_lines b v ++ rest)) a y fault
@@ -51,7 +54,8 @@ returns-in_err-show_parts g c =
     rw (q.1, q.2) (all_cut a _ o (show_text b t) fault c.new-output.ensures.pending c.new-output.ensures.written
     (cut_later a a _ o p (file_line v.header) (part_lines b v ++ (section_lines v ++ (segment_lines v ++ all_table_lines t))) fault first
     (cut_longer a _ p (part_lines b v) (section_lines v ++ (segment_lines v ++ all_table_lines t)) fault
-    (subst (λ (s : List ℕ). IsCutShort a (g.W.Write.contents c.show_parts.new.writer) p s fault) (parts_text b v c.parts.result.now c.parts.ensures.value) c.in_err-show_parts.ensures))))
+    (subst (λ (s : List ℕ). IsCutShort a (g.W.Write.contents c.show_parts.new.writer) p s fault)
+    (parts_text b v c.parts.result.now c.parts.ensures.value) c.in_err-show_parts.ensures))))
 
 pub returns-in_err-show_sections : goal.returns-in_err-show_sections
 unfolding show_text
@@ -62,8 +66,11 @@ returns-in_err-show_sections g c =
     let p : Output = record { pending = c.push_file_line.new.text; written = o.written } in
     let q = err_from_is_err_and c.from_residual-in_err-show_sections.result c.from_residual-in_err-show_sections.ensures.1 in
     let fault = c.in_err-show_sections.field-0.0 in
-    rw (q.1, q.2) (parts_cut (g.W.Write.contents c.args.writer.now) _ _ o p c.show_parts.new.output c.args.bytes.now v c.header.result c.parts.result.now _ fault
-    c.new-output.ensures.pending c.new-output.ensures.written c.header.ensures c.in_ok-push_file_line.ensures refl c.parts.ensures.value c.in_ok-show_parts.ensures
+    rw (q.1, q.2)
+    (parts_cut (g.W.Write.contents c.args.writer.now) _ _ o p c.show_parts.new.output c.args.bytes.now v c.header.result c.parts.result.now
+    _ fault
+    c.new-output.ensures.pending c.new-output.ensures.written c.header.ensures c.in_ok-push_file_line.ensures refl c.parts.ensures.value
+    c.in_ok-show_parts.ensures
     (cut_longer _ _ c.show_parts.new.output (section_lines v) (segment_lines v ++ all_table_lines t) fault c.in_err-show_sections.ensures))
 
 pub returns-in_err-show_segments : goal.returns-in_err-show_segments
@@ -75,9 +82,13 @@ returns-in_err-show_segments g c =
     let p : Output = record { pending = c.push_file_line.new.text; written = o.written } in
     let q = err_from_is_err_and c.from_residual-in_err-show_segments.result c.from_residual-in_err-show_segments.ensures.1 in
     let fault = c.in_err-show_segments.field-0.0 in
-    rw (q.1, q.2) (parts_cut (g.W.Write.contents c.args.writer.now) _ _ o p c.show_parts.new.output c.args.bytes.now v c.header.result c.parts.result.now _ fault
-    c.new-output.ensures.pending c.new-output.ensures.written c.header.ensures c.in_ok-push_file_line.ensures refl c.parts.ensures.value c.in_ok-show_parts.ensures
-    (cut_later _ _ _ c.show_parts.new.output c.show_sections.new.output (section_lines v) (segment_lines v ++ all_table_lines t) fault c.in_ok-show_sections.ensures
+    rw (q.1, q.2)
+    (parts_cut (g.W.Write.contents c.args.writer.now) _ _ o p c.show_parts.new.output c.args.bytes.now v c.header.result c.parts.result.now
+    _ fault
+    c.new-output.ensures.pending c.new-output.ensures.written c.header.ensures c.in_ok-push_file_line.ensures refl c.parts.ensures.value
+    c.in_ok-show_parts.ensures
+    (cut_later _ _ _ c.show_parts.new.output c.show_sections.new.output (section_lines v)
+    (segment_lines v ++ all_table_lines t) fault c.in_ok-show_sections.ensures
     (cut_longer _ _ c.show_sections.new.output (segment_lines v) (all_table_lines t) fault c.in_err-show_segments.ensures)))
 
 -- the tables by the image that they are of
@@ -93,12 +104,19 @@ returns-in_err-show_tables g c =
     let p : Output = record { pending = c.push_file_line.new.text; written = o.written } in
     let q = err_from_is_err_and c.from_residual-in_err-show_tables.result c.from_residual-in_err-show_tables.ensures.1 in
     let fault = c.in_err-show_tables.field-0.0 in
-    let last = subst (λ (s : TablesValue). IsCutShort (g.W.Write.contents c.show_segments.new.writer) (g.W.Write.contents c.show_tables.new.writer) c.show_segments.new.output (all_table_lines s) fault)
+    let last = subst
+    (λ (s : TablesValue). IsCutShort (g.W.Write.contents c.show_segments.new.writer)
+    (g.W.Write.contents c.show_tables.new.writer) c.show_segments.new.output (all_table_lines s) fault)
     (same_tables c.args.tables.now v c.requires) c.in_err-show_tables.ensures in
-    rw (q.1, q.2) (parts_cut (g.W.Write.contents c.args.writer.now) _ _ o p c.show_parts.new.output c.args.bytes.now v c.header.result c.parts.result.now _ fault
-    c.new-output.ensures.pending c.new-output.ensures.written c.header.ensures c.in_ok-push_file_line.ensures refl c.parts.ensures.value c.in_ok-show_parts.ensures
-    (cut_later _ _ _ c.show_parts.new.output c.show_sections.new.output (section_lines v) (segment_lines v ++ all_table_lines t) fault c.in_ok-show_sections.ensures
-    (cut_later _ _ _ c.show_sections.new.output c.show_segments.new.output (segment_lines v) (all_table_lines t) fault c.in_ok-show_segments.ensures last)))
+    rw (q.1, q.2)
+    (parts_cut (g.W.Write.contents c.args.writer.now) _ _ o p c.show_parts.new.output c.args.bytes.now v c.header.result c.parts.result.now
+    _ fault
+    c.new-output.ensures.pending c.new-output.ensures.written c.header.ensures c.in_ok-push_file_line.ensures refl c.parts.ensures.value
+    c.in_ok-show_parts.ensures
+    (cut_later _ _ _ c.show_parts.new.output c.show_sections.new.output (section_lines v)
+    (segment_lines v ++ all_table_lines t) fault c.in_ok-show_sections.ensures
+    (cut_later _ _ _ c.show_sections.new.output c.show_segments.new.output (segment_lines v)
+    (all_table_lines t) fault c.in_ok-show_segments.ensures last)))
 
 pub returns : goal.returns
 unfolding show_text
@@ -111,12 +129,19 @@ returns g c =
     let q = c.show_tables.new.output in
     let p : Output = record { pending = c.push_file_line.new.text; written = c.new-output.result.written } in
     let first = file_buffered a o p c.header.result v.header c.header.ensures c.in_ok-push_file_line.ensures refl in
-    let second = subst (λ (s : List ℕ). Buffers a (g.W.Write.contents c.show_parts.new.writer) p c.show_parts.new.output s) (parts_text b v c.parts.result.now c.parts.ensures.value) c.in_ok-show_parts.ensures in
-    let last = subst (λ (s : TablesValue). Buffers (g.W.Write.contents c.show_segments.new.writer) (g.W.Write.contents c.show_tables.new.writer) c.show_segments.new.output q (all_table_lines s))
+    let second =
+    subst (λ (s : List ℕ). Buffers a (g.W.Write.contents c.show_parts.new.writer) p c.show_parts.new.output s)
+    (parts_text b v c.parts.result.now c.parts.ensures.value) c.in_ok-show_parts.ensures in
+    let last = subst
+    (λ (s : TablesValue). Buffers (g.W.Write.contents c.show_segments.new.writer)
+    (g.W.Write.contents c.show_tables.new.writer) c.show_segments.new.output q (all_table_lines s))
     (same_tables c.args.tables.now v c.requires) c.in_ok-show_tables.ensures in
-    let whole = buffers_both a a _ o p q (file_line v.header) (part_lines b v ++ (section_lines v ++ (segment_lines v ++ all_table_lines t))) first
+    let whole = buffers_both a a _ o p q (file_line v.header)
+    (part_lines b v ++ (section_lines v ++ (segment_lines v ++ all_table_lines t))) first
     (buffers_both a _ _ p c.show_parts.new.output q (part_lines b v) (section_lines v ++ (segment_lines v ++ all_table_lines t)) second
-    (buffers_both _ _ _ c.show_parts.new.output c.show_sections.new.output q (section_lines v) (segment_lines v ++ all_table_lines t) c.in_ok-show_sections.ensures
-    (buffers_both _ _ _ c.show_sections.new.output c.show_segments.new.output q (segment_lines v) (all_table_lines t) c.in_ok-show_segments.ensures last))) in
+    (buffers_both _ _ _ c.show_parts.new.output c.show_sections.new.output q (section_lines v)
+    (segment_lines v ++ all_table_lines t) c.in_ok-show_sections.ensures
+    (buffers_both _ _ _ c.show_sections.new.output c.show_segments.new.output q (segment_lines v)
+    (all_table_lines t) c.in_ok-show_segments.ensures last))) in
     all_out a _ _ o q c.flush.new.self (show_text b t) c.flush.result c.new-output.ensures.pending c.new-output.ensures.written
     whole c.flush.ensures.buffered c.flush.ensures.empty

@@ -10,6 +10,7 @@ unfolding section_line
 returns c =
     let s = c.args.section.now in
     line_ended_behind c.end_line.result _ c.as_bytes.result.now _ _ _ (
-    decimal c.args.index ∷ decimal s.sh_type ∷ hexadecimal s.sh_flags ∷ hexadecimal s.sh_addr ∷ hexadecimal s.sh_offset ∷ hexadecimal s.sh_size
+    decimal c.args.index ∷ decimal s.sh_type ∷ hexadecimal s.sh_flags ∷ hexadecimal s.sh_addr ∷ hexadecimal s.sh_offset ∷ hexadecimal
+    s.sh_size
     ∷ decimal s.sh_link ∷ decimal s.sh_info ∷ hexadecimal s.sh_addralign ∷ hexadecimal s.sh_entsize ∷ []
     ) (name_text c.args.name.now) c.end_line.ensures (search rules) (search rules)

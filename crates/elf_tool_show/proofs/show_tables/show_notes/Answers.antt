@@ -45,7 +45,8 @@ loop-note-preserved g c =
     let is = ap (note_line c.args.i) (first_left c.args.notes.now n x c.next.new.self split) in (
       n + 1,
       line_buffered (note_line c.args.i) c.args.notes.now n x within _ _ _ _ (note_line c.args.i x) sent is
-          _ (record { pending = c.push_note_line.new.text; written = c.loop-note.output.written }) _ c.in_ok-push_note_line.ensures refl c.in_ok-flush_piece.ensures.buffered,
+          _ (record { pending = c.push_note_line.new.text; written = c.loop-note.output.written }) _ c.in_ok-push_note_line.ensures refl
+          c.in_ok-flush_piece.ensures.buffered,
       still_left c.args.notes.now n x c.next.new.self split,
     )
 
@@ -59,10 +60,12 @@ returns-in_err-flush_piece g c =
     let is = ap (note_line c.args.i) (first_left c.args.notes.now n x c.next.new.self split) in
     let p = err_from_is_err_and c.from_residual-in_err-flush_piece.result c.from_residual-in_err-flush_piece.ensures.1 in
     rw (p.1, p.2) (line_cut (note_line c.args.i) c.args.notes.now n x within _ _ _ _ (note_line c.args.i x) sent is
-    _ (record { pending = c.push_note_line.new.text; written = c.loop-note.output.written }) c.in_err-flush_piece.field-0.0 c.in_ok-push_note_line.ensures refl c.in_err-flush_piece.ensures.buffered)
+    _ (record { pending = c.push_note_line.new.text; written = c.loop-note.output.written }) c.in_err-flush_piece.field-0.0
+    c.in_ok-push_note_line.ensures refl c.in_err-flush_piece.ensures.buffered)
 
 pub returns : goal.returns
 unfolding note_lines
 returns g c =
     let (n, sent, left) = c.loop-note.invariant in
-    all_lines_buffered (note_line c.args.i) c.args.notes.now n _ _ _ _ (none_left c.args.notes.now n (sym c.in-None.ensures.steps.0 ∙ left)) sent
+    all_lines_buffered (note_line c.args.i) c.args.notes.now n _ _ _ _
+    (none_left c.args.notes.now n (sym c.in-None.ensures.steps.0 ∙ left)) sent

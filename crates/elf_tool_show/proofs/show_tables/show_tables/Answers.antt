@@ -17,8 +17,11 @@ returns-in_err-show_table g c =
     let within = is_index c.loop-i.i c.section_count-i-end.result n c.loop-i-test.true end in
     let is = line_at (table_text c.args.tables.now) c.loop-i.i c.section_count-i-end.result n _ c.loop-i-test.true end refl in
     let p = err_from_is_err_and c.from_residual.result c.from_residual.ensures.1 in
-    rw (p.1, p.2) (lines_cut (table_text c.args.tables.now) (range_with_len 0 n) c.loop-i.i 0 within _ _ _ _ c.loop-i.output c.in_err-show_table.field-0.0 c.loop-i.invariant
-    (subst (λ (s : List ℕ). IsCutShort (g.W.Write.contents c.loop-i.writer) (g.W.Write.contents c.show_table.new.writer) c.loop-i.output s c.in_err-show_table.field-0.0) is
+    rw (p.1, p.2)
+    (lines_cut (table_text c.args.tables.now)
+    (range_with_len 0 n) c.loop-i.i 0 within _ _ _ _ c.loop-i.output c.in_err-show_table.field-0.0 c.loop-i.invariant
+    (subst (λ (s : List ℕ). IsCutShort (g.W.Write.contents c.loop-i.writer)
+    (g.W.Write.contents c.show_table.new.writer) c.loop-i.output s c.in_err-show_table.field-0.0) is
     c.in_err-show_table.ensures))
 
 pub loop-i-preserved : goal.loop-i-preserved
@@ -28,7 +31,8 @@ loop-i-preserved g c =
     let within = is_index c.loop-i.i c.section_count-i-end.result n c.loop-i-test.true end in
     let is = line_at (table_text c.args.tables.now) c.loop-i.i c.section_count-i-end.result n _ c.loop-i-test.true end refl in
     lines_buffered (table_text c.args.tables.now) (range_with_len 0 n) c.loop-i.i 0 within _ _ _ _ c.loop-i.output _ c.loop-i.invariant
-    (subst (Buffers (g.W.Write.contents c.loop-i.writer) (g.W.Write.contents c.show_table.new.writer) c.loop-i.output c.show_table.new.output) is
+    (subst (Buffers (g.W.Write.contents c.loop-i.writer)
+    (g.W.Write.contents c.show_table.new.writer) c.loop-i.output c.show_table.new.output) is
     c.in_ok-show_table.ensures)
 
 pub returns : goal.returns

@@ -7,4 +7,5 @@ use Rattle.elf_tool_show.proofs.show_tables.show_tables.Given as goal
 -- the lines of the tables in the first sections are sent
 abbrev pub invariant-loop-i : goal.invariant-loop-i
 invariant-loop-i g l =
-    Buffers (g.W.Write.contents l.initial.writer) (g.W.Write.contents l.writer) l.initial.output l.output (flat_map (table_text l.tables) (take l.i (range_with_len 0 (length l.tables.image.sections))))
+    Buffers (g.W.Write.contents l.initial.writer) (g.W.Write.contents l.writer) l.initial.output l.output
+    (flat_map (table_text l.tables) (take l.i (range_with_len 0 (length l.tables.image.sections))))

@@ -8,4 +8,8 @@ put_digits-requires-clause-room c =
 
 pub returns-clause-start : goal.returns-clause-start
 returns-clause-start c =
-    omega (arith, few_digits 10 (omega arith) 20 c.args.number (omega arith) (omega (arith, c.ranges.number.fits)), c.put_digits.ensures.start)
+    omega (
+      arith,
+      few_digits 10 (omega arith) 20 c.args.number (omega arith) (omega (arith, c.ranges.number.fits)),
+      c.put_digits.ensures.start,
+    )

@@ -15,7 +15,8 @@ loop-rest-init c =
       kept = refl;
       places = omega arith;
       small = subst (λ (k : ℕ). a.number < 2 ^ k) (sym all) c.ranges.number.fits;
-      put = ap (λ (k : ℕ). digits_onto k a.base false a.number (drop a.end a.out.now)) all ∙ digits_behind_all a.base a.number (drop a.end a.out.now);
+      put = ap (λ (k : ℕ). digits_onto k a.base false a.number (drop a.end a.out.now)) all ∙
+          digits_behind_all a.base a.number (drop a.end a.out.now);
     }
 
 pub overflow_sub-start : goal.overflow_sub-start
@@ -23,14 +24,16 @@ overflow_sub-start c =
     let l = c.loop-rest in
     let a = c.args in
     let i = l.invariant in
-    place_left a.base (64 + l.start - a.end) l.rest l.start a.end l.out a.out.now (digits a.base false a.number) (omega (arith, i.places)) i.put i.kept c.requires.inside c.requires.room i.before
+    place_left a.base (64 + l.start - a.end) l.rest l.start a.end l.out a.out.now (digits a.base false a.number)
+    (omega (arith, i.places)) i.put i.kept c.requires.inside c.requires.room i.before
 
 pub bounds-out-start : goal.bounds-out-start
 bounds-out-start c =
     let l = c.loop-rest in
     let a = c.args in
     let i = l.invariant in
-    let left = place_left a.base (64 + l.start - a.end) l.rest l.start a.end l.out a.out.now (digits a.base false a.number) (omega (arith, i.places)) i.put i.kept c.requires.inside c.requires.room i.before in
+    let left = place_left a.base (64 + l.start - a.end) l.rest l.start a.end l.out a.out.now (digits a.base false a.number)
+    (omega (arith, i.places)) i.put i.kept c.requires.inside c.requires.room i.before in
     omega (arith, left, i.before, i.kept, c.requires.inside)
 
 pub returns-then-rest-eq0-clause-digits : goal.returns-then-rest-eq0-clause-digits
@@ -38,7 +41,8 @@ returns-then-rest-eq0-clause-digits c =
     let l = c.loop-rest in
     let a = c.args in
     let i = l.invariant in
-    let left = place_left a.base (64 + l.start - a.end) l.rest l.start a.end l.out a.out.now (digits a.base false a.number) (omega (arith, i.places)) i.put i.kept c.requires.inside c.requires.room i.before in
+    let left = place_left a.base (64 + l.start - a.end) l.rest l.start a.end l.out a.out.now (digits a.base false a.number)
+    (omega (arith, i.places)) i.put i.kept c.requires.inside c.requires.room i.before in
     put_before l.out l.start c.glyph.result left (omega (arith, i.before, i.kept, c.requires.inside))
     ∙ ap (λ (d : ℕ). d ∷ drop l.start l.out) c.glyph.ensures
     ∙ sym (last_digit a.base l.rest (drop l.start l.out) (64 + l.start - a.end) (omega (arith, i.places)) c.if-rest-eq0.true) ∙ i.put
@@ -48,18 +52,30 @@ returns-then-rest-eq0-clause-start c =
     let l = c.loop-rest in
     let a = c.args in
     let i = l.invariant in
-    let left = place_left a.base (64 + l.start - a.end) l.rest l.start a.end l.out a.out.now (digits a.base false a.number) (omega (arith, i.places)) i.put i.kept c.requires.inside c.requires.room i.before in
+    let left = place_left a.base (64 + l.start - a.end) l.rest l.start a.end l.out a.out.now (digits a.base false a.number)
+    (omega (arith, i.places)) i.put i.kept c.requires.inside c.requires.room i.before in
     let put = set l.out (l.start - 1) c.glyph.result in
     let counts : length (drop (l.start - 1) put) ≡ length (digits a.base false a.number) + length (drop a.end a.out.now) =
     ap length (returns-then-rest-eq0-clause-digits c) ∙ length-append (digits a.base false a.number) (drop a.end a.out.now) in
-    omega (arith, left, counts, i.before, i.kept, c.requires.inside, length-drop (l.start - 1) put, length-drop a.end a.out.now, length-set l.out (l.start - 1) c.glyph.result)
+    omega (
+      arith,
+      left,
+      counts,
+      i.before,
+      i.kept,
+      c.requires.inside,
+      length-drop (l.start - 1) put,
+      length-drop a.end a.out.now,
+      length-set l.out (l.start - 1) c.glyph.result,
+    )
 
 pub loop-rest-preserved : goal.loop-rest-preserved
 loop-rest-preserved c =
     let l = c.loop-rest in
     let a = c.args in
     let i = l.invariant in
-    let left = place_left a.base (64 + l.start - a.end) l.rest l.start a.end l.out a.out.now (digits a.base false a.number) (omega (arith, i.places)) i.put i.kept c.requires.inside c.requires.room i.before in
+    let left = place_left a.base (64 + l.start - a.end) l.rest l.start a.end l.out a.out.now (digits a.base false a.number)
+    (omega (arith, i.places)) i.put i.kept c.requires.inside c.requires.room i.before in
     let k : ℕ = 64 + l.start - a.end in
     let fewer : k - 1 ≡ 64 + (l.start - 1) - a.end = omega (arith, left, i.places) in
     let small = fits_less a.base l.rest k c.requires.least (omega (arith, i.places)) i.small in
@@ -69,7 +85,10 @@ loop-rest-preserved c =
       kept = length-set l.out (l.start - 1) c.glyph.result ∙ i.kept;
       places = omega (arith, some, left);
       small = subst (λ (j : ℕ). l.rest / a.base < 2 ^ j) fewer small;
-      put = ap (λ (j : ℕ). digits_onto j a.base false (l.rest / a.base) (drop (l.start - 1) (set l.out (l.start - 1) c.glyph.result))) (sym fewer)
-          ∙ ap (digits_onto (k - 1) a.base false (l.rest / a.base)) (put_before l.out l.start c.glyph.result left (omega (arith, i.before, i.kept, c.requires.inside)) ∙ ap (λ (d : ℕ). d ∷ drop l.start l.out) c.glyph.ensures)
+      put = ap (λ (j : ℕ). digits_onto j a.base false (l.rest / a.base) (drop (l.start - 1) (set l.out (l.start - 1) c.glyph.result)))
+          (sym fewer)
+          ∙ ap (digits_onto (k - 1) a.base false (l.rest / a.base))
+          (put_before l.out l.start c.glyph.result left (omega (arith, i.before, i.kept, c.requires.inside)) ∙
+          ap (λ (d : ℕ). d ∷ drop l.start l.out) c.glyph.ensures)
           ∙ sym (more_digits a.base l.rest (drop l.start l.out) k (omega (arith, i.places)) c.if-rest-eq0.false) ∙ i.put;
     }

@@ -9,7 +9,8 @@ invariant-loop-rest l = record {
   kept : length l.out ≡ length l.initial.out;
   places : l.end < 64 + l.start;
   small : l.rest < 2 ^ (64 + l.start - l.end);
-  put : digits_onto (64 + l.start - l.end) l.base false l.rest (drop l.start l.out) ≡ digits l.base false l.number ++ drop l.end l.initial.out;
+  put : digits_onto (64 + l.start - l.end) l.base false l.rest (drop l.start l.out) ≡ digits l.base false l.number ++
+      drop l.end l.initial.out;
 }
 
 abbrev pub decreases-loop-rest : goal.decreases-loop-rest

@@ -22,7 +22,8 @@ returns-in_err-flush_piece g c =
     let is = line_at line c.loop-j.j c.count-j-end.result n (line c.loop-j.j) c.loop-j-test.true c.count-j-end.ensures refl in
     let p = err_from_is_err_and c.from_residual-in_err-flush_piece.result c.from_residual-in_err-flush_piece.ensures.1 in
     rw (p.1, p.2) (line_cut line (range_with_len 0 n) c.loop-j.j 0 within _ _ _ _ (line c.loop-j.j) c.loop-j.invariant is
-    _ (record { pending = c.push.new.text; written = c.loop-j.output.written }) c.in_err-flush_piece.field-0.0 c.in_ok-push.ensures refl c.in_err-flush_piece.ensures.buffered)
+    _ (record { pending = c.push.new.text; written = c.loop-j.output.written }) c.in_err-flush_piece.field-0.0 c.in_ok-push.ensures refl
+    c.in_err-flush_piece.ensures.buffered)
 
 pub loop-j-preserved : goal.loop-j-preserved
 loop-j-preserved g c =
@@ -31,7 +32,8 @@ loop-j-preserved g c =
     let within = is_index c.loop-j.j c.count-j-end.result n c.loop-j-test.true c.count-j-end.ensures in
     let is = line_at line c.loop-j.j c.count-j-end.result n (line c.loop-j.j) c.loop-j-test.true c.count-j-end.ensures refl in
     line_buffered line (range_with_len 0 n) c.loop-j.j 0 within _ _ _ _ (line c.loop-j.j) c.loop-j.invariant is
-    _ (record { pending = c.push.new.text; written = c.loop-j.output.written }) _ c.in_ok-push.ensures refl c.in_ok-flush_piece.ensures.buffered
+    _ (record { pending = c.push.new.text; written = c.loop-j.output.written }) _ c.in_ok-push.ensures refl
+    c.in_ok-flush_piece.ensures.buffered
 
 pub returns : goal.returns
 returns g c =

@@ -15,12 +15,15 @@ loop-next-init g c = record {
 pub returns-in_err-pass_block : goal.returns-in_err-pass_block
 returns-in_err-pass_block g c =
     let p = err_from_is_err_and c.from_residual.result c.from_residual.ensures.1 in
-    rw (p.1, p.2) (block_cut c.args.bytes.now c.loop-next.next (c.loop-next.next + c.min-several.result) _ _ _ _ _ (omega arith) c.loop-next.invariant.passed
+    rw (p.1, p.2)
+    (block_cut c.args.bytes.now c.loop-next.next (c.loop-next.next + c.min-several.result) _ _ _ _ _
+    (omega arith) c.loop-next.invariant.passed
     _ c.in_err-pass_block.ensures)
 
 pub loop-next-preserved : goal.loop-next-preserved
 loop-next-preserved g c = record {
   within = omega arith;
-  passed = block_passed c.args.bytes.now c.loop-next.next (c.loop-next.next + c.min-several.result) _ _ _ _ _ (omega arith) c.loop-next.invariant.passed
+  passed = block_passed c.args.bytes.now c.loop-next.next (c.loop-next.next + c.min-several.result) _ _ _ _ _
+      (omega arith) c.loop-next.invariant.passed
       _ c.in_ok-pass_block.ensures;
 }

@@ -7,7 +7,8 @@ use Rattle.elf_tool_text.proofs.passed.pass_hexadecimal.Given as goal
 abbrev pub invariant-loop-next : goal.invariant-loop-next
 invariant-loop-next g l = record {
   within : l.next ≤ length l.bytes;
-  passed : Buffers (g.W.Write.contents l.initial.writer) (g.W.Write.contents l.writer) l.initial.output l.output (encode_lower (take l.next l.bytes));
+  passed : Buffers (g.W.Write.contents l.initial.writer) (g.W.Write.contents l.writer) l.initial.output l.output
+      (encode_lower (take l.next l.bytes));
 }
 
 abbrev pub decreases-loop-next : goal.decreases-loop-next

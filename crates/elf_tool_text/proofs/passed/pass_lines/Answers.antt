@@ -9,7 +9,9 @@ pub returns-in_err-pass : goal.returns-in_err-pass
 returns-in_err-pass g c =
     let n = g.L.PassedLines.count c.args.lines.now in
     let p = err_from_is_err_and c.from_residual.result c.from_residual.ensures.1 in
-    rw (p.1, p.2) (line_stopped (g.L.PassedLines.line c.args.lines.now) c.loop-j.j c.count-j-end.result n c.loop-j-test.true c.count-j-end.ensures _ _ _ _ _
+    rw (p.1, p.2)
+    (line_stopped
+    (g.L.PassedLines.line c.args.lines.now) c.loop-j.j c.count-j-end.result n c.loop-j-test.true c.count-j-end.ensures _ _ _ _ _
     c.loop-j.invariant _ c.in_err-pass.ensures)
 
 pub loop-j-preserved : goal.loop-j-preserved

@@ -26,7 +26,10 @@ returns c =
     ap app_of_fields c.disable_help_subcommand-command.ensures ∙ ap with_no_help c.subcommand_required.ensures in
     let start = settings ∙ ap with_settings named in
     let filed = c.in_ok-command.ensures ∙ ap with_file_commands start in
-    let mapped = joined (app_of c.in_ok-command.command) _ _ c.map_command.result c.in_ok-command-2.ensures c.map_command.ensures.shape ∙ ap (λ (a : App). with_subcommand a map_command) filed in
+    let mapped =
+    joined (app_of c.in_ok-command.command) _ _ c.map_command.result c.in_ok-command-2.ensures c.map_command.ensures.shape ∙
+    ap (λ (a : App). with_subcommand a map_command) filed in
     IfOk-weaker c.with-2.result _ _
-    (λ r more. joined (app_of c.in_ok-command-2.command) _ _ c.link_command.result more c.link_command.ensures.shape ∙ ap (λ (a : App). with_subcommand a link_command) mapped)
+    (λ r more. joined (app_of c.in_ok-command-2.command) _ _ c.link_command.result more c.link_command.ensures.shape ∙
+    ap (λ (a : App). with_subcommand a link_command) mapped)
     c.with-2.ensures

@@ -9,4 +9,5 @@ pub returns-clause-shape : goal.returns-clause-shape
 returns-clause-shape c =
     let file_is : rule_of c.required-file.result ≡ file = search rules in
     IfOk-weaker c.arg.result _ _
-    (λ r added. ap (λ (a : App). a.top) (added.shape (search rules) ∙ ap₂ with_rule (ap app_of_fields c.about.ensures ∙ c.new-2.ensures.app) file_is)) c.arg.ensures
+    (λ r added. ap (λ (a : App). a.top)
+    (added.shape (search rules) ∙ ap₂ with_rule (ap app_of_fields c.about.ensures ∙ c.new-2.ensures.app) file_is)) c.arg.ensures

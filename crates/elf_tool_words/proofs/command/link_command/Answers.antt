@@ -12,7 +12,8 @@ with_rules s = record s { rules = ((s.rules ++ entry_word ∷ []) ++ needed_rule
 pub returns-clause-shape : goal.returns-clause-shape
 unfolding link_command
 returns-clause-shape c =
-    let entered = c.in_ok-arg.ensures.shape c.entry.ensures.local ∙ ap (with_rule (app_of c.in_ok-placing_command.field-0)) c.entry.ensures.rule in
+    let entered =
+    c.in_ok-arg.ensures.shape c.entry.ensures.local ∙ ap (with_rule (app_of c.in_ok-placing_command.field-0)) c.entry.ensures.rule in
     let ruled = c.in_ok-arg-2.ensures.shape c.needed_rules.ensures.local ∙ ap₂ with_rule entered c.needed_rules.ensures.rule in
     IfOk-weaker c.arg-3.result _ _
     (λ r added. ap (λ (a : App). a.top) (added.shape c.files.ensures.local ∙ ap₂ with_rule ruled c.files.ensures.rule)
@@ -21,6 +22,8 @@ returns-clause-shape c =
 
 pub returns-clause-local : goal.returns-clause-local
 returns-clause-local c =
-    let entered : (fields_of c.in_ok-arg.field-0).has_globals ≡ false = c.in_ok-arg.ensures.globals ∙ ap₂ ◌||◌ c.in_ok-placing_command.ensures.local c.entry.ensures.local in
-    let ruled : (fields_of c.in_ok-arg-2.field-0).has_globals ≡ false = c.in_ok-arg-2.ensures.globals ∙ ap₂ ◌||◌ entered c.needed_rules.ensures.local in
+    let entered : (fields_of c.in_ok-arg.field-0).has_globals ≡ false =
+    c.in_ok-arg.ensures.globals ∙ ap₂ ◌||◌ c.in_ok-placing_command.ensures.local c.entry.ensures.local in
+    let ruled : (fields_of c.in_ok-arg-2.field-0).has_globals ≡ false =
+    c.in_ok-arg-2.ensures.globals ∙ ap₂ ◌||◌ entered c.needed_rules.ensures.local in
     IfOk-weaker c.arg-3.result _ _ (λ r added. added.globals ∙ ap₂ ◌||◌ ruled c.files.ensures.local) c.arg-3.ensures

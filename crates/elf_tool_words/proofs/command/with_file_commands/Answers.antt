@@ -8,7 +8,9 @@ use Rattle.elf_tool_words.proofs.command.with_file_commands.Goals as goal
 pub returns : goal.returns
 returns c =
     let checked = joined (app_of c.args.command) _ _ c.check_command.result c.in_ok-command.ensures c.check_command.ensures.shape in
-    let shown = joined (app_of c.in_ok-command.command) _ _ c.show_command.result c.in_ok-command-2.ensures c.show_command.ensures.shape ∙ ap (λ (a : App). with_subcommand a show) checked in
+    let shown = joined (app_of c.in_ok-command.command) _ _ c.show_command.result c.in_ok-command-2.ensures c.show_command.ensures.shape ∙
+    ap (λ (a : App). with_subcommand a show) checked in
     IfOk-weaker c.with-3.result _ _
-    (λ r more. joined (app_of c.in_ok-command-2.command) _ _ c.rewrite_command.result more c.rewrite_command.ensures.shape ∙ ap (λ (a : App). with_subcommand a rewrite) shown)
+    (λ r more. joined (app_of c.in_ok-command-2.command) _ _ c.rewrite_command.result more c.rewrite_command.ensures.shape ∙
+    ap (λ (a : App). with_subcommand a rewrite) shown)
     c.with-3.ensures

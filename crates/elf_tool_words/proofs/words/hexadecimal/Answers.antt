@@ -8,4 +8,5 @@ pub returns : goal.returns
 returns c =
     let text = c.args.text.now in
     let short : nat_le (length text) 16 ≡ true = le-leb (length text) 16 (omega (arith, c.if-text-gt-MOST_DIGITS.false)) in
-    rw short (c.ok.ensures.value ∙ parsed 16 is_hexadecimal_digit hexadecimal text c.from_str_radix.result (search rules) c.from_str_radix.ensures.value)
+    rw short (c.ok.ensures.value ∙
+    parsed 16 is_hexadecimal_digit hexadecimal text c.from_str_radix.result (search rules) c.from_str_radix.ensures.value)

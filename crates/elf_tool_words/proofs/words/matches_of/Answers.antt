@@ -33,7 +33,8 @@ returns-clause-taken g c =
 pub returns-clause-entered : goal.returns-clause-entered
 returns-clause-entered g c =
     let is_elfmap = c.in_ok-command.ensures in
-    (c.in_ok-matches.ensures.matches (ap is_simple is_elfmap ∙ simple)).1 ∙ ap (λ (a : App). subcommand_of a (map g.S.AsStr.text c.args.words.now)) is_elfmap
+    (c.in_ok-matches.ensures.matches (ap is_simple is_elfmap ∙ simple)).1 ∙
+    ap (λ (a : App). subcommand_of a (map g.S.AsStr.text c.args.words.now)) is_elfmap
 
 -- what is not true is false
 false_from_not_true : (b : Bool) → ¬ (b ≡ true) → b ≡ false
@@ -41,7 +42,8 @@ false_from_not_true true not = absurd (not refl)
 false_from_not_true false not = refl
 
 -- an error of clap refuses the words as its fault reports it: other than out of memory it comes only where clap does not take them
-refused_by : (a : App) (words : List Text) (error : Error) (fault : WordsFault) → a ≡ elfmap → (takes a words ≡ true → kind_of error ≡ kind.OutOfMemory) →
+refused_by : (a : App) (words : List Text) (error : Error) (fault : WordsFault) → a ≡ elfmap →
+    (takes a words ≡ true → kind_of error ≡ kind.OutOfMemory) →
     HasKind (fault_of a words) error → Tells error fault → IsRefusedBy words fault
 refused_by a words error OutOfMemory is_elfmap passes kind tells = tt
 refused_by a words error TooManyFiles is_elfmap passes kind tells = absurd tells
@@ -58,4 +60,5 @@ returns-in_err-matches-clause-err g c =
     let is_elfmap = c.in_ok-command.ensures in
     let kinds = c.in_err-matches.ensures.kinds (ap is_simple_and_free is_elfmap ∙ simple_and_free) in
     let told = err_from_is_err_and c.from_residual-in_err-matches.result c.from_residual-in_err-matches.ensures.1 in
-    rw told.1 (refused_by (app_of c.in_ok-command.command) (map g.S.AsStr.text c.args.words.now) c.in_err-matches.field-0.0 told.0 is_elfmap c.in_err-matches.ensures.passes kinds told.2)
+    rw told.1 (refused_by (app_of c.in_ok-command.command)
+    (map g.S.AsStr.text c.args.words.now) c.in_err-matches.field-0.0 told.0 is_elfmap c.in_err-matches.ensures.passes kinds told.2)

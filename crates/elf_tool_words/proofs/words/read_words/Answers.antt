@@ -13,5 +13,7 @@ pub request_of-requires : goal.request_of-requires
 request_of-requires g c =
     let words = map g.S.AsStr.text c.args.words.now in
     let rows = rows_of (found_of c.in-Some.inner.now) in
-    let entered = entered_is words c.in_ok-matches.matches c.in-Some.name.now rows c.in_ok-matches.ensures.entered c.in-Some.ensures.name c.in-Some.ensures.rows in
+    let entered =
+    entered_is words c.in_ok-matches.matches c.in-Some.name.now rows c.in_ok-matches.ensures.entered c.in-Some.ensures.name
+    c.in-Some.ensures.rows in
     is_command words (c.in-Some.name.now, rows) entered

@@ -31,7 +31,8 @@ returns c =
     let within = c.requires.within in
     let many = many_places m p.places c.linked.ensures.placed.least in
     let all = length-program_headers m.page (loads m) p.places many in
-    let page = c.page-page.ensures ∙ ap (λ (n : LinkMapValue). n.page) c.map.ensures ∙ ap (λ (l : LinkedValue). l.map.page) c.linked.ensures.value in
+    let page = c.page-page.ensures ∙ ap (λ (n : LinkMapValue). n.page) c.map.ensures ∙
+    ap (λ (l : LinkedValue). l.map.page) c.linked.ensures.value in
     c.program_header.ensures
     ∙ ap₂ (λ (n : ℕ) (load : Load). program_header n load c.place.result) page c.load.ensures
     ∙ ap (λ (x : ℕ). program_header m.page (load_in m c.args.index) x) c.place.ensures

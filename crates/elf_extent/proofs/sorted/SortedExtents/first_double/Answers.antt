@@ -11,7 +11,8 @@ sweep-requires-clause-nonempty c =
 
 pub returns-clause-lowest : goal.returns-clause-lowest
 returns-clause-lowest c =
-    rw (← c.self.view_is) (lowest_sorted c.self.inside.extents.now _ _ c.self.invariant.held (rw c.deref.ensures.value at c.sweep.ensures.lowest))
+    rw (← c.self.view_is)
+    (lowest_sorted c.self.inside.extents.now _ _ c.self.invariant.held (rw c.deref.ensures.value at c.sweep.ensures.lowest))
 
 pub returns-clause-disjoint : goal.returns-clause-disjoint
 returns-clause-disjoint c = disjoint_where_none _ _ (returns-clause-lowest c)

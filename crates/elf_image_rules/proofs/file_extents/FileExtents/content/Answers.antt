@@ -20,5 +20,6 @@ returns c =
     let same : i + 3 - 3 ≡ i = omega arith in
     let content = content_extent_at (header b) n.sections n.segments s (i + 3) (omega arith) (omega arith) in
     let read : content_extent (s (i + 3 - 3)) ≡ c.extent_of_content.result =
-    ap (λ (k : ℕ). content_extent (s k)) same ∙ ap (λ (entry : Shdr). content_extent entry) (sym c.section.ensures) ∙ sym c.extent_of_content.ensures in
+    ap (λ (k : ℕ). content_extent (s k)) same ∙ ap (λ (entry : Shdr). content_extent entry) (sym c.section.ensures) ∙
+    sym c.extent_of_content.ensures in
     content ∙ ap Some read

@@ -15,4 +15,5 @@ returns-clause-each c =
     let v = view_of c.self.inside in
     let found = rw c.deref.ensures.value at c.load.ensures in
     rw (← c.self.view_is) (λ b is.
-    subst (λ (x : List ℕ). LoadsFirst x v.segments c.args.address c.load.result) (one_list v (joined v) b (joined_is_image v c.self.invariant) is.stands) found)
+    subst (λ (x : List ℕ). LoadsFirst x v.segments c.args.address c.load.result)
+    (one_list v (joined v) b (joined_is_image v c.self.invariant) is.stands) found)

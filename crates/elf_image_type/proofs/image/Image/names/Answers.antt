@@ -11,4 +11,6 @@ index-requires c =
 pub returns : goal.returns
 returns c =
     let table = rw (← c.self.view_is) at c.name_table-index.ensures in
-    rw (← c.self.view_is) (names_held _ c.self.inside.contents.items c.name_table-index.result c.index.result.now c.self.invariant refl table (omega arith) c.index.ensures)
+    rw (← c.self.view_is)
+    (names_held _ c.self.inside.contents.items c.name_table-index.result c.index.result.now c.self.invariant refl table
+    (omega arith) c.index.ensures)

@@ -6,7 +6,9 @@ use Rattle.elf_image_outline.proofs.Standing.{are_parts}
 use Rattle.elf_image_type.proofs.image.Image.parts.Goals as goal
 
 pub returns-clause-value : goal.returns-clause-value
-returns-clause-value c = rw (← c.self.view_is) (c.parts.ensures.value ∙ parts-placed c.self.inside.outline.zeroed c.self.inside.file.now c.self.inside.outline.parts)
+returns-clause-value c =
+    rw (← c.self.view_is)
+    (c.parts.ensures.value ∙ parts-placed c.self.inside.outline.zeroed c.self.inside.file.now c.self.inside.outline.parts)
 
 pub returns-clause-parts : goal.returns-clause-parts
 returns-clause-parts c =

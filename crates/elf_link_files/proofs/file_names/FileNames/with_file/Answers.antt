@@ -18,7 +18,8 @@ invariant_of-result c =
       all = ap length numbers ∙ length-append l.ends.items ends ∙ ap (λ n. n + length ends) c.self.invariant.all
           ∙ ap (λ n. length l.names.items + n) (many ∙ c.requires.all) ∙ sym (length-append l.names.items own) ∙ sym (ap length names);
       tails = rw (numbers, names, map-append)
-          (tails_of_both (texts l.names.items) (texts own) l.ends.items c.args.ends.now l.files l.count (c.self.invariant.all ∙ sym old_names)
+          (tails_of_both (texts l.names.items) (texts own) l.ends.items c.args.ends.now l.files l.count
+          (c.self.invariant.all ∙ sym old_names)
           c.self.invariant.tails c.requires.tails c.self.invariant.files);
       files = rw numbers (files_of_both l.ends.items c.args.ends.now l.files c.next_file.result l.count
           c.next_file.ensures.same c.next_file.ensures.next c.self.invariant.files);

@@ -8,7 +8,8 @@ returns-clause-known c =
     let fs = s.inputs.now in
     let name = (symbol_in fs s.id.file s.id.index).name in
     record {
-      strong = best_next fs (IsStrong fs name) s.id.file s.id.index c.args.self.now.strong _ c.is_definition-strong.result s.there.0 s.there.1
+      strong = best_next fs
+          (IsStrong fs name) s.id.file s.id.index c.args.self.now.strong _ c.is_definition-strong.result s.there.0 s.there.1
           c.is_definition-strong.ensures c.note_first.ensures c.requires.strong;
       weak = best_next fs (IsWeak fs name) s.id.file s.id.index c.args.self.now.weak _ c.is_definition-weak.result s.there.0 s.there.1
           c.is_definition-weak.ensures c.note_first-2.ensures c.requires.weak;

@@ -23,7 +23,8 @@ loop-k-preserved c = λ j lt is. elim (cases_lt j c.loop-k.k) [
       let count = c.len-k-end.ensures in
       let name = its_name list c.loop-k.k c.index.result.now (omega arith) c.index.ensures in
       let own = rw (← c.self.view_is, here) at is in
-      absurd (true≢false (sym ((bytes_eq-Decides c.index.result.now.name.now c.args.name.now).1 (sym name ∙ own)) ∙ sym c.eq.ensures ∙ c.if-eq.false)))
+      absurd (true≢false
+      (sym ((bytes_eq-Decides c.index.result.now.name.now c.args.name.now).1 (sym name ∙ own)) ∙ sym c.eq.ensures ∙ c.if-eq.false)))
 ]
 
 pub returns-then-eq : goal.returns-then-eq

@@ -22,7 +22,8 @@ returns-then-is_own c =
     let asked = rw (← c.self.view_is) at c.requires in
     let many = length-known_from t.large.items 0 t.rows.items in
     let own = is_here _ t.large.items row.large c.args.k _ true c.deref.ensures.value c.is_own.ensures c.if-is_own.true in
-    rw (← c.self.view_is) (read_own t.large.items t.rows.items c.args.k row c.index.result.now (omega arith) c.index-row.ensures own c.index.ensures)
+    rw (← c.self.view_is)
+    (read_own t.large.items t.rows.items c.args.k row c.index.result.now (omega arith) c.index-row.ensures own c.index.ensures)
 
 pub returns : goal.returns
 returns c =
@@ -31,4 +32,5 @@ returns c =
     let asked = rw (← c.self.view_is) at c.requires in
     let many = length-known_from t.large.items 0 t.rows.items in
     let other = is_here _ t.large.items row.large c.args.k _ false c.deref.ensures.value c.is_own.ensures c.if-is_own.false in
-    rw (← c.self.view_is) (c.small_item.ensures ∙ read_small t.large.items t.rows.items c.args.k row (omega arith) c.index-row.ensures other)
+    rw (← c.self.view_is)
+    (c.small_item.ensures ∙ read_small t.large.items t.rows.items c.args.k row (omega arith) c.index-row.ensures other)

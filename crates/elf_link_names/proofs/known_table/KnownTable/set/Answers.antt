@@ -23,7 +23,9 @@ returns-then-is_own c =
     let asked = rw (← c.self.view_is) at c.requires in
     let many = length-known_from t.large.items 0 t.rows.items in
     let own = is_here _ t.large.items row.large c.args.k _ true c.deref.ensures.value c.is_own.ensures c.if-is_own.true in
-    rw (← c.self.view_is) (set_own t.large.items t.rows.items c.args.k row (record { name = c.args.k; known = c.args.known }) refl (omega arith) c.index.ensures own)
+    rw (← c.self.view_is)
+    (set_own t.large.items t.rows.items c.args.k row (record { name = c.args.k; known = c.args.known }) refl
+    (omega arith) c.index.ensures own)
 
 pub index_mut-requires-2 : goal.index_mut-requires-2
 index_mut-requires-2 c =
@@ -35,5 +37,6 @@ returns c =
     let t = c.self.inside in
     let asked = rw (← c.self.view_is) at c.requires in
     let many = length-known_from t.large.items 0 t.rows.items in
-    rw (← c.self.view_is) (from_set t.large.items c.row_of.new.large.items 0 c.args.k c.args.k t.rows.items c.in_ok-self-inside.field-0 c.args.known
+    rw (← c.self.view_is)
+    (from_set t.large.items c.row_of.new.large.items 0 c.args.k c.args.k t.rows.items c.in_ok-self-inside.field-0 c.args.known
     (omega arith) (omega arith) c.in_ok-self-inside.ensures.others c.in_ok-self-inside.ensures.row)

@@ -20,5 +20,7 @@ returns-in-Free c =
     let p = c.self.inside in
     let q = c.args.name.now in
     let tells = rw (c.deref.ensures.value, c.deref-2.ensures.value, c.in-Free.is) at c.look.ensures in
-    let none = no_position p.entries.items q (absent_free p.slots.items p.entries.items (position_by p.more) c.self.invariant q c.in-Free.field-0 tells) in
-    rw (← c.self.view_is) (rw none (sym (not_behind p.slots.items p.entries.items (position_by p.more) c.self.invariant q c.in-Free.field-0 tells)))
+    let none = no_position p.entries.items q
+    (absent_free p.slots.items p.entries.items (position_by p.more) c.self.invariant q c.in-Free.field-0 tells) in
+    rw (← c.self.view_is)
+    (rw none (sym (not_behind p.slots.items p.entries.items (position_by p.more) c.self.invariant q c.in-Free.field-0 tells)))

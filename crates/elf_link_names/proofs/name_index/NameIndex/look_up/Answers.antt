@@ -7,5 +7,6 @@ unfolding name_position
 returns-clause-position c =
     let p = c.self.inside in
     let found = rw c.deref.ensures.value at c.position_of-position.ensures in
-    rw (← c.self.view_is) (looked_up p.slots.items p.entries.items (position_by p.more) c.self.invariant c.args.slot (upper_of_hash c.args.hash) c.args.name.now
+    rw (← c.self.view_is)
+    (looked_up p.slots.items p.entries.items (position_by p.more) c.self.invariant c.args.slot (upper_of_hash c.args.hash) c.args.name.now
     c.position_of-position.result found)

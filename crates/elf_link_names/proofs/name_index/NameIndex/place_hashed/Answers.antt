@@ -4,7 +4,8 @@ use Rattle.std.proofs.Common.{◌≡◌, ◌+◌, ap, length, rules, sym}
 use Rattle.std.specs.Prelude.{Option, ℕ}
 use Rattle.elf_link_names.specs.declared.slots.Entry.{Entry}
 use Rattle.elf_link_names.specs.Tables.{position_by, name_position, or_else}
-use Rattle.elf_link_names.proofs.Tables.{absent_free, absent_taken, entered, here_position, no_position, not_behind, placed_behind, placed_free, tables_behind, tables_same}
+use Rattle.elf_link_names.proofs.Tables.{absent_free, absent_taken, entered, here_position, no_position, not_behind, placed_behind}
+use Rattle.elf_link_names.proofs.Tables.{placed_free, tables_behind, tables_same}
 use Rattle.elf_link_names.proofs.name_index.NameIndex.place_hashed.Goals as goal
 
 pub invariant_of-self-in-Free : goal.invariant_of-self-in-Free
@@ -23,13 +24,15 @@ invariant_of-self-in-Taken c =
     let old = position_by p.more in
     let tells = rw (c.deref.ensures.value, c.deref-2.ensures.value, c.in-Taken.is) at c.look.ensures in
     let none = absent_taken p.slots.items p.entries.items old c.self.invariant n tells in
-    tables_behind p.slots.items p.entries.items old (position_by c.place_ordered.new.positions) c.in_ok-place_ordered-in-Taken.field-0 n c.args.next c.self.invariant none
+    tables_behind p.slots.items p.entries.items old
+    (position_by c.place_ordered.new.positions) c.in_ok-place_ordered-in-Taken.field-0 n c.args.next c.self.invariant none
     tells.0 c.in_ok-place_ordered-in-Taken.ensures.positions
 
 pub invariant_of-self-in_err-place_ordered-in-Taken : goal.invariant_of-self-in_err-place_ordered-in-Taken
 invariant_of-self-in_err-place_ordered-in-Taken c =
     let p = c.self.inside in
-    tables_same p.slots.items p.entries.items (position_by p.more) (position_by c.place_ordered.new.positions) c.self.invariant c.in_err-place_ordered-in-Taken.ensures.err
+    tables_same p.slots.items p.entries.items (position_by p.more)
+    (position_by c.place_ordered.new.positions) c.self.invariant c.in_err-place_ordered-in-Taken.ensures.err
 
 pub returns-in-Here-clause-old : goal.returns-in-Here-clause-old
 unfolding name_position
@@ -46,8 +49,10 @@ returns-in_ok-push-in-Free-clause-old c =
     let p = c.self.inside in
     let q = c.args.name.now in
     let tells = rw (c.deref.ensures.value, c.deref-2.ensures.value, c.in-Free.is) at c.look.ensures in
-    let none = no_position p.entries.items q (absent_free p.slots.items p.entries.items (position_by p.more) c.self.invariant q c.in-Free.at tells) in
-    rw (← c.self.view_is) (rw none (sym (not_behind p.slots.items p.entries.items (position_by p.more) c.self.invariant q c.in-Free.at tells)))
+    let none = no_position p.entries.items q
+    (absent_free p.slots.items p.entries.items (position_by p.more) c.self.invariant q c.in-Free.at tells) in
+    rw (← c.self.view_is)
+    (rw none (sym (not_behind p.slots.items p.entries.items (position_by p.more) c.self.invariant q c.in-Free.at tells)))
 
 pub returns-in_ok-push-in-Free-clause-placed : goal.returns-in_ok-push-in-Free-clause-placed
 unfolding name_position
@@ -74,5 +79,7 @@ returns-in_ok-place_ordered-in-Taken-clause-placed c =
     let n = c.args.name.now in
     let tells = rw (c.deref.ensures.value, c.deref-2.ensures.value, c.in-Taken.is) at c.look.ensures in
     let none = absent_taken p.slots.items p.entries.items (position_by p.more) c.self.invariant n tells in
-    rw (← c.self.view_is) (placed_behind p.entries.items (position_by p.more) (position_by c.place_ordered.new.positions) c.in_ok-place_ordered-in-Taken.field-0 n c.args.next none
+    rw (← c.self.view_is)
+    (placed_behind p.entries.items (position_by p.more)
+    (position_by c.place_ordered.new.positions) c.in_ok-place_ordered-in-Taken.field-0 n c.args.next none
     c.in_ok-place_ordered-in-Taken.ensures.positions)

@@ -14,7 +14,9 @@ item-requires c =
     let t = c.self.inside in
     let ks = t.names.known in
     let indexed = rw (← c.self.view_is) at c.index_of.ensures in
-    let (lt, named) = index_by t.inputs _ c.index_of.result (map first_site ks) (whole_firsts t.inputs (name_position t.names.positions) ks c.self.invariant.names) indexed in
+    let (lt, named) =
+    index_by t.inputs _ c.index_of.result (map first_site ks)
+    (whole_firsts t.inputs (name_position t.names.positions) ks c.self.invariant.names) indexed in
     let many = length-map ks first_site in
     omega arith
 
@@ -30,4 +32,5 @@ returns c =
     let within : c.index_of.result < length ks = omega arith in
     rw (← c.self.view_is) (subst (IsKnownWhole fs (symbol_in fs c.args.id.file c.args.id.index).name)
     (sym c.item.ensures)
-    (subst (λ (n : List ℕ). IsKnownWhole fs n (known_at ks c.index_of.result)) named (whole_at fs position ks c.index_of.result within c.self.invariant.names)))
+    (subst (λ (n : List ℕ). IsKnownWhole fs n (known_at ks c.index_of.result)) named
+    (whole_at fs position ks c.index_of.result within c.self.invariant.names)))

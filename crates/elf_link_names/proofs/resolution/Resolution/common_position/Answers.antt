@@ -17,5 +17,6 @@ returns c =
     let long = ranks.long in
     let lt = asked.name in
     let within : c.args.k < length r.ranks.items = omega arith in
-    let here : get_or r.ranks.items c.args.k 0 ≡ c.index.result.now = get_or_default r.ranks.items c.args.k 0 c.index.result.now within ∙ sym c.index.ensures in
+    let here : get_or r.ranks.items c.args.k 0 ≡ c.index.result.now =
+    get_or_default r.ranks.items c.args.k 0 c.index.result.now within ∙ sym c.index.ensures in
     rw (← c.self.view_is) (subst (IsCommonOf fs cs name) here (ranks.right c.args.k j lt is.0 is))

@@ -19,5 +19,6 @@ invariant_of-result c =
       chosen = chosen;
       symbols = chosen_symbols fs cs chosen;
       all = have_chosen fs cs chosen;
-      ranks = ranks (map first_site t.names.known) (whole_firsts fs (name_position t.names.positions) t.names.known c.table.invariant.names);
+      ranks = ranks (map first_site t.names.known)
+          (whole_firsts fs (name_position t.names.positions) t.names.known c.table.invariant.names);
     }

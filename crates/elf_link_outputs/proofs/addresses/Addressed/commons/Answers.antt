@@ -8,7 +8,8 @@ use Rattle.elf_link_outputs.proofs.addresses.Addressed.commons.Goals as goal
 pub placed_commons-requires-clause-places : goal.placed_commons-requires-clause-places
 placed_commons-requires-clause-places c =
     let p = c.plan.inside in
-    let sites : p.sites.items ≡ placed c.self.inside.plan.plan = c.plan.invariant.sites ∙ ap (λ (p : PlanValue). placed p.plan) c.plan.view_is in
+    let sites : p.sites.items ≡ placed c.self.inside.plan.plan =
+    c.plan.invariant.sites ∙ ap (λ (p : PlanValue). placed p.plan) c.plan.view_is in
     let commons : p.commons.now ≡ c.self.inside.plan.plan.commons = ap (λ (p : PlanValue). p.plan.commons) c.plan.view_is in
     let many = ap (λ (ps : List Site). length ps) sites in
     let wide : length p.sites.items ≡ vec_len p.sites = search rules in

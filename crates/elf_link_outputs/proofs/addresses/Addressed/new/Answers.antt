@@ -10,18 +10,22 @@ use Rattle.elf_link_outputs.proofs.addresses.Addressed.new.Goals as goal
 
 pub addresses-requires : goal.addresses-requires
 addresses-requires c =
-    let parts : c.deref.result.now ≡ plan_parts c.args.plan = c.deref.ensures.value ∙ c.plan.invariant.parts ∙ ap (λ (p : PlanValue). plan_parts p) c.plan.view_is in
+    let parts : c.deref.result.now ≡ plan_parts c.args.plan =
+    c.deref.ensures.value ∙ c.plan.invariant.parts ∙ ap (λ (p : PlanValue). plan_parts p) c.plan.view_is in
     subst (λ (n : ℕ). IsTargetBelow n c.args.target) (sym (ap (λ (ps : List (ℕ × ℕ)). length ps) parts ∙ plan_long c.args.plan)) c.requires
 
 pub returns-in_err-found-clause-err : goal.returns-in_err-found-clause-err
 returns-in_err-found-clause-err c =
-    let parts : c.deref.result.now ≡ plan_parts c.args.plan = c.deref.ensures.value ∙ c.plan.invariant.parts ∙ ap (λ (p : PlanValue). plan_parts p) c.plan.view_is in
-    let fault = subst (λ (ps : List (ℕ × ℕ)). IfErr c.addresses.result (IsAddressFault ps c.args.base c.args.target)) parts c.addresses.ensures.err in
+    let parts : c.deref.result.now ≡ plan_parts c.args.plan =
+    c.deref.ensures.value ∙ c.plan.invariant.parts ∙ ap (λ (p : PlanValue). plan_parts p) c.plan.view_is in
+    let fault = subst
+    (λ (ps : List (ℕ × ℕ)). IfErr c.addresses.result (IsAddressFault ps c.args.base c.args.target)) parts c.addresses.ensures.err in
     search rules
 
 pub invariant_of-result : goal.invariant_of-result
 invariant_of-result c =
-    let parts : c.deref.result.now ≡ plan_parts c.args.plan = c.deref.ensures.value ∙ c.plan.invariant.parts ∙ ap (λ (p : PlanValue). plan_parts p) c.plan.view_is in
+    let parts : c.deref.result.now ≡ plan_parts c.args.plan =
+    c.deref.ensures.value ∙ c.plan.invariant.parts ∙ ap (λ (p : PlanValue). plan_parts p) c.plan.view_is in
     let places = c.in_ok-found.found.places.items in (
       c.args.base,
       subst (λ (ps : List (ℕ × ℕ)). Least ps c.args.base places) parts c.in_ok-found.ensures.least,
@@ -30,7 +34,8 @@ invariant_of-result c =
 
 pub returns-clause-ok : goal.returns-clause-ok
 returns-clause-ok c =
-    let parts : c.deref.result.now ≡ plan_parts c.args.plan = c.deref.ensures.value ∙ c.plan.invariant.parts ∙ ap (λ (p : PlanValue). plan_parts p) c.plan.view_is in
+    let parts : c.deref.result.now ≡ plan_parts c.args.plan =
+    c.deref.ensures.value ∙ c.plan.invariant.parts ∙ ap (λ (p : PlanValue). plan_parts p) c.plan.view_is in
     let found = c.in_ok-found.found in
     record {
       plan = refl;

@@ -6,7 +6,8 @@ use Rattle.elf_link_outputs.proofs.addresses.Addressed.section_addresses.Goals a
 
 pub section_addresses-requires-clause-long : goal.section_addresses-requires-clause-long
 section_addresses-requires-clause-long c =
-    let sites : c.deref.result.now ≡ placed c.self.inside.plan.plan = c.deref.ensures.value ∙ c.plan.invariant.sites ∙ ap (λ (p : PlanValue). placed p.plan) c.plan.view_is in
+    let sites : c.deref.result.now ≡ placed c.self.inside.plan.plan =
+    c.deref.ensures.value ∙ c.plan.invariant.sites ∙ ap (λ (p : PlanValue). placed p.plan) c.plan.view_is in
     let many = ap (λ (ps : List Site). length ps) sites in
     let long = plan_places c.self.inside.plan c.self.inside.places.items c.self.invariant in
     let places = ap (λ (xs : List ℕ). length xs) c.deref-2.ensures.value in

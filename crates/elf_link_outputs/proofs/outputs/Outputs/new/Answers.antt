@@ -24,4 +24,5 @@ invariant_of-sections g c = record {
 }
 
 pub bits_first-requires : goal.bits_first-requires
-bits_first-requires g c = groups_live c.args.objects.now c.args.live.now (map (λ ms. ms.items) (values c.in_ok-groups.groups)) c.requires c.in_ok-groups.ensures
+bits_first-requires g c =
+    groups_live c.args.objects.now c.args.live.now (map (λ ms. ms.items) (values c.in_ok-groups.groups)) c.requires c.in_ok-groups.ensures

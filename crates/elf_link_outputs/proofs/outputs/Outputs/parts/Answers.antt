@@ -10,12 +10,15 @@ push_parts-requires c =
     let fs = c.self.inside.objects.now in
     let all = c.deref-members-items.result.now in
     subst (AreIn fs) (sym c.deref.ensures.value)
-    (item_in fs all c.loop-members.members-index c.members-item.result (rw c.deref-members-items.ensures.value c.self.invariant.within) c.loop-members-test.true c.members-item.is)
+    (item_in fs all c.loop-members.members-index c.members-item.result
+    (rw c.deref-members-items.ensures.value c.self.invariant.within) c.loop-members-test.true c.members-item.is)
 
 pub loop-members-preserved : goal.loop-members-preserved
 loop-members-preserved c =
     let all = c.deref-members-items.result.now in
     let objects : c.self.inside.objects.now ≡ c.args.self.now.objects = ap (λ (o : OutputsValue). o.objects) c.self.view_is in
     let groups = ap (map (λ ms. ms.items)) c.deref-members-items.ensures.value ∙ ap (λ (o : OutputsValue). o.groups) c.self.view_is in
-    rw (flat_more (output_parts c.args.self.now.objects c.args.page) all c.args.self.now.groups c.loop-members.members-index c.members-item.result groups c.loop-members-test.true c.members-item.is)
+    rw (flat_more
+    (output_parts c.args.self.now.objects c.args.page) all c.args.self.now.groups c.loop-members.members-index c.members-item.result groups
+    c.loop-members-test.true c.members-item.is)
     (search rules)

@@ -12,5 +12,6 @@ loop-k-preserved g c =
     let many = c.in_ok-numbers.ensures.count in
     let its = sym (get_or_read c.in_ok-numbers.numbers.items _ _ (search rules) c.index.ensures 0) in
     grouped_next c.args.self.now.objects c.args.self.now.sites c.in_ok-numbers.numbers.items c.loop-k.k c.index.result.now
-    (keys c.loop-k.groups) (map (λ ms. ms.items) (values c.loop-k.groups)) (keys c.add_member.new.groups) (map (λ ms. ms.items) (values c.add_member.new.groups))
+    (keys c.loop-k.groups) (map (λ ms. ms.items) (values c.loop-k.groups)) (keys c.add_member.new.groups)
+    (map (λ ms. ms.items) (values c.add_member.new.groups))
     order (search rules) c.in_ok-numbers.ensures its (rw sites at c.in_ok-add_member.ensures) c.loop-k.invariant

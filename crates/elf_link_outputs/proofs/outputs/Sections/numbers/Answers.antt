@@ -5,7 +5,8 @@ use Rattle.elf_link_outputs.proofs.outputs.Sections.numbers.Goals as goal
 
 pub loop-i-preserved : goal.loop-i-preserved
 loop-i-preserved c =
-    counted_read c.args.self.now.objects c.args.self.now.sites c.in_ok-firsts.firsts.items c.in_ok-firsts.ensures c.in_ok-keyed.keyed.items (rw c.deref.ensures.value at c.in_ok-keyed.ensures.keyed) c.in_ok-keyed.ensures.ascending
+    counted_read c.args.self.now.objects c.args.self.now.sites c.in_ok-firsts.firsts.items c.in_ok-firsts.ensures c.in_ok-keyed.keyed.items
+    (rw c.deref.ensures.value at c.in_ok-keyed.ensures.keyed) c.in_ok-keyed.ensures.ascending
     c.loop-i.i c.loop-i.number c.if-ne.number c.loop-i.numbers.items c.index.result.now c.index-in-loop-i.result.now
     (search rules) (search rules) c.index.ensures c.index-in-loop-i.ensures
     (elim c.if-ne.branch [
@@ -16,5 +17,6 @@ loop-i-preserved c =
 
 pub returns : goal.returns
 returns c =
-    counted_all c.args.self.now.objects c.args.self.now.sites c.in_ok-firsts.firsts.items c.in_ok-firsts.ensures c.in_ok-keyed.keyed.items (rw c.deref.ensures.value at c.in_ok-keyed.ensures.keyed) c.in_ok-keyed.ensures.ascending
+    counted_all c.args.self.now.objects c.args.self.now.sites c.in_ok-firsts.firsts.items c.in_ok-firsts.ensures c.in_ok-keyed.keyed.items
+    (rw c.deref.ensures.value at c.in_ok-keyed.ensures.keyed) c.in_ok-keyed.ensures.ascending
     c.loop-i.i c.loop-i.number c.loop-i.numbers.items (search rules) c.loop-i.invariant

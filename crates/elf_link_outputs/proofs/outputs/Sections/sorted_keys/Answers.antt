@@ -6,7 +6,8 @@ use Rattle.elf_link_outputs.proofs.outputs.Sections.sorted_keys.Goals as goal
 
 pub returns-clause-keyed : goal.returns-clause-keyed
 returns-clause-keyed c =
-    keyed_moved c.args.self.now.objects c.args.self.now.sites c.args.firsts.now (length c.args.self.now.sites) c.in_ok-keyed.keyed.items c.sort_unstable_by_key.new.self.items
+    keyed_moved c.args.self.now.objects c.args.self.now.sites c.args.firsts.now
+    (length c.args.self.now.sites) c.in_ok-keyed.keyed.items c.sort_unstable_by_key.new.self.items
     c.sort_unstable_by_key.ensures.permutation c.in_ok-keyed.ensures
 
 pub returns-clause-ascending : goal.returns-clause-ascending

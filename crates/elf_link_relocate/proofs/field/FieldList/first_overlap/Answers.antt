@@ -17,4 +17,5 @@ pub returns : goal.returns
 returns c =
     let l = c.self.inside in
     subst (λ (v : FieldListValue). IsFirstOverlappingField v.objects v.fields c.in_ok-first_sharer.field-0) c.self.view_is
-    (first_shared l.values.now.objects l.values.now.map l.fields.now c.self.invariant.read c.in_ok-first_sharer.field-0 c.in_ok-first_sharer.ensures)
+    (first_shared l.values.now.objects l.values.now.map l.fields.now c.self.invariant.read c.in_ok-first_sharer.field-0
+    c.in_ok-first_sharer.ensures)

@@ -14,7 +14,9 @@ invariant_of-result g c =
         subst (λ (fs : List ObjectValue). IsLinkMap c.args.options.now fs link.map) c.deref.ensures.value c.in_ok-link.ensures.map,
         subst (λ (fs : List ObjectValue). FirstOfLink c.args.options.now fs None) c.deref.ensures.value c.in_ok-link.ensures.sound,
       );
-      indexes = subst (λ (fs : List ObjectValue). AreBindingIndexes fs link.map (map (λ row. row.items) link.indexes.items)) c.deref.ensures.value c.in_ok-link.ensures.indexes;
+      indexes = subst
+          (λ (fs : List ObjectValue). AreBindingIndexes fs link.map (map (λ row. row.items) link.indexes.items)) c.deref.ensures.value
+          c.in_ok-link.ensures.indexes;
     }
 
 pub returns-clause-sound : goal.returns-clause-sound

@@ -14,8 +14,10 @@ reference-requires c =
     let fs = c.self.inside.values.now.objects in
     let p = c.self.inside.field.site in
     let is = c.self.invariant in
-    let same : c.linking.inside.objects.now ≡ c.linking-linking.result.now.objects = ap (λ (l : LinkingValue). l.objects) c.linking.view_is in
+    let same : c.linking.inside.objects.now ≡ c.linking-linking.result.now.objects =
+    ap (λ (l : LinkingValue). l.objects) c.linking.view_is in
     let here = subst (λ (l : LinkingValue). IsObject (object_at l.objects p.file)) c.linking-linking.ensures
     (subst (λ (os : List ObjectValue). IsObject (object_at os p.file)) same c.prove_rules.ensures) in
     let symbol = symbol_in_file fs p is.has.applied.0 here in
-    subst (λ (o : Option ℕ). IfSome o (IsFileSymbol fs p.file)) (sym (ap (λ (r : Relocation). r.symbol) (rw is.site at is.entry.relocation))) symbol
+    subst (λ (o : Option ℕ). IfSome o (IsFileSymbol fs p.file))
+    (sym (ap (λ (r : Relocation). r.symbol) (rw is.site at is.entry.relocation))) symbol

@@ -9,6 +9,8 @@ pub returns : goal.returns
 returns c =
     let l = c.args.self.now in
     let v = c.self.inside in
-    let is = subst (λ (now : LinkingValue). AreBindingIndexes now.objects now.map (map (λ (row : Vec ℕ). row.items) v.indexes.now)) c.self.view_is c.self.invariant in
+    let is = subst
+    (λ (now : LinkingValue). AreBindingIndexes now.objects now.map (map (λ (row : Vec ℕ). row.items) v.indexes.now)) c.self.view_is
+    c.self.invariant in
     index_stands l.objects l.map v.indexes.now c.index-indexes-file.result c.args.file c.args.index c.index.result.now
     c.requires.symbol.0 c.requires.symbol.1 c.requires.entry c.index-indexes-file.is c.index.ensures is

@@ -17,7 +17,8 @@ shared_table_at-requires c =
 
 pub shared_table_at-requires-2 : goal.shared_table_at-requires-2
 shared_table_at-requires-2 c =
-    let sections : map now_of c.deref-2.result.now ≡ section_names c.args.object.now = ap (map now_of) c.deref-2.ensures.value ∙ c.in_ok-section_names.ensures in
+    let sections : map now_of c.deref-2.result.now ≡ section_names c.args.object.now =
+    ap (map now_of) c.deref-2.ensures.value ∙ c.in_ok-section_names.ensures in
     subst (λ (names : List (List ℕ)). AreTails names c.section_ends.result.now) (sym sections)
     (section_tails c.args.object.now c.section_ends.result.now c.section_ends.ensures.tails c.section_ends.ensures.fits)
 
@@ -27,7 +28,8 @@ returns-clause-ok c =
     let symbols : map now_of c.deref.result.now ≡ symbol_names o =
     ap (map now_of) (c.deref.ensures.value ∙ c.in_ok-symbol_names.ensures) ∙ names_of_symbols c.symbols.result.now
     ∙ ap (map (λ (s : SymbolValue). s.name)) c.symbols.ensures in
-    let sections : map now_of c.deref-2.result.now ≡ section_names o = ap (map now_of) c.deref-2.ensures.value ∙ c.in_ok-section_names.ensures in
+    let sections : map now_of c.deref-2.result.now ≡ section_names o =
+    ap (map now_of) c.deref-2.ensures.value ∙ c.in_ok-section_names.ensures in
     record {
       strings = c.in_ok-strings.ensures.bytes ∙ ap string_table symbols;
       string_offsets = c.in_ok-strings.ensures.offsets ∙ ap (λ (names : List (List ℕ)). map (name_offset names) names) symbols;

@@ -6,4 +6,5 @@ use Rattle.elf_object_reader.proofs.object_file.FileSection.lowest_wrong_member.
 
 abbrev pub invariant-loop-j : goal.invariant-loop-j
 invariant-loop-j l =
-    let f = sections_of_file l.self.file.now in (k : ℕ) → k < l.j → IsWrongGroupMember l.self.file.now.left f l.self.index (member (order f) (content f l.self.index) k) → ⊥
+    let f = sections_of_file l.self.file.now in (k : ℕ) → k < l.j →
+    IsWrongGroupMember l.self.file.now.left f l.self.index (member (order f) (content f l.self.index) k) → ⊥

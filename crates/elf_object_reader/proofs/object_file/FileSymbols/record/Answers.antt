@@ -21,7 +21,8 @@ overflow_mul-j c =
     let bytes = c.content.ensures.bytes in
     let inside = c.content.ensures.inside in
     let short = c.content.ensures.short in
-    let long : length c.content.result.now ≡ length (content (sections_of_file table.file.now) table.index) = ap (λ (b : List _). length b) bytes in
+    let long : length c.content.result.now ≡ length (content (sections_of_file table.file.now) table.index) =
+    ap (λ (b : List _). length b) bytes in
     omega arith
 
 pub returns : goal.returns

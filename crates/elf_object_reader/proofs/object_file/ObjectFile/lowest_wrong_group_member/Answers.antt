@@ -3,7 +3,8 @@
 use Rattle.std.proofs.Common.{◌≡◌, length, arith}
 use Rattle.elf_object_reader.specs.FileRules.{sections_of_file}
 use Rattle.elf_object_reader.proofs.FileRules.{marks_passed, wrong_next, wrong_passed}
-use Rattle.elf_object_reader.proofs.object_file.ObjectFile.lowest_wrong_group_member.Goals.{then-section-eq-SHT_GROUP, else-section-eq-SHT_GROUP}
+use Rattle.elf_object_reader.proofs.object_file.ObjectFile.lowest_wrong_group_member.Goals.{then-section-eq-SHT_GROUP}
+use Rattle.elf_object_reader.proofs.object_file.ObjectFile.lowest_wrong_group_member.Goals.{else-section-eq-SHT_GROUP}
 use Rattle.elf_object_reader.proofs.object_file.ObjectFile.lowest_wrong_group_member.Goals as goal
 
 pub loop-i-preserved : goal.loop-i-preserved
@@ -17,7 +18,8 @@ loop-i-preserved c =
           let typed = rw header at w.if-section-eq-SHT_GROUP.true in
           record {
             marked = rw w.marks-is (rw (own.file, own.index) at w.mark_members.ensures);
-            lowest = rw w.lowest-is (rw w.lower-lowest.ensures (wrong_next c.args.self.now.left f c.loop-i.i _ _ typed c.loop-i.invariant.lowest
+            lowest = rw w.lowest-is
+                (rw w.lower-lowest.ensures (wrong_next c.args.self.now.left f c.loop-i.i _ _ typed c.loop-i.invariant.lowest
                 (rw (own.file, own.index) at w.lowest_wrong_member.ensures)));
           })
       | else-section-eq-SHT_GROUP w ↦ (

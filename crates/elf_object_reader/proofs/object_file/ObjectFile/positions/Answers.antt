@@ -28,8 +28,10 @@ loop-i-preserved c =
           ap (λ (k : ℕ). map P (range_with_len 0 i) ++ k ∷ []) c.loop-i.invariant.kept ∙ sym (map-range_with_len_more P 0 i i (zero-add i));
       kept = elim c.if-is_kept.branch [
         | then-is_kept w ↦
-            w.kept-is ∙ ap (λ (k : ℕ). k + 1) c.loop-i.invariant.kept ∙ sym (count_kept (is_kept left f) i (rw c.is_kept.ensures.value at w.if-is_kept.true))
-        | else-is_kept w ↦ w.kept-is ∙ c.loop-i.invariant.kept ∙ sym (count_other (is_kept left f) i (rw c.is_kept.ensures.value at w.if-is_kept.false))
+            w.kept-is ∙ ap (λ (k : ℕ). k + 1) c.loop-i.invariant.kept ∙
+            sym (count_kept (is_kept left f) i (rw c.is_kept.ensures.value at w.if-is_kept.true))
+        | else-is_kept w ↦
+            w.kept-is ∙ c.loop-i.invariant.kept ∙ sym (count_other (is_kept left f) i (rw c.is_kept.ensures.value at w.if-is_kept.false))
       ];
     }
 

@@ -15,4 +15,5 @@ returns-in_err-validate_bodies c =
 
 pub returns : goal.returns
 unfolding rules_behind
-returns c = verdict_later _ _ _ c.in_ok-validate_symbols.ensures (verdict_later _ _ _ c.in_ok-validate_bodies.ensures c.validate_references.ensures)
+returns c = verdict_later _ _ _ c.in_ok-validate_symbols.ensures
+    (verdict_later _ _ _ c.in_ok-validate_bodies.ensures c.validate_references.ensures)

@@ -19,5 +19,7 @@ loop-i-preserved c =
       | then-is_kept+in_ok-validate_body w ↦
           bodies_next c.args.self.now.left f c.loop-i.i (omega arith) (rw c.is_kept.ensures.value at w.if-is_kept.true) c.loop-i.invariant
           (rw (w.section.ensures.file, w.section.ensures.index) at w.in_ok-validate_body.ensures)
-      | else-is_kept w ↦ bodies_passed c.args.self.now.left f c.loop-i.i (omega arith) (rw c.is_kept.ensures.value at w.if-is_kept.false) c.loop-i.invariant
+      | else-is_kept w ↦
+          bodies_passed c.args.self.now.left f c.loop-i.i (omega arith)
+          (rw c.is_kept.ensures.value at w.if-is_kept.false) c.loop-i.invariant
     ]

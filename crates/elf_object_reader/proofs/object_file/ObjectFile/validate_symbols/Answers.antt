@@ -18,7 +18,8 @@ pub returns-in_err-verdict : goal.returns-in_err-verdict
 returns-in_err-verdict c =
     let file = c.args.self.now in
     let told = symbols_told file c.in-Some.t _ c.in-Some.is c.in_err-verdict.ensures.fault in
-    FirstIn-handed _ _ _ (symbols_fault file.left (sections_of_file file) file.left.symbol_table c.in-Some.t _ c.in-Some.is told) c.from_residual.ensures.1
+    FirstIn-handed _ _ _
+    (symbols_fault file.left (sections_of_file file) file.left.symbol_table c.in-Some.t _ c.in-Some.is told) c.from_residual.ensures.1
 
 pub symbols-requires : goal.symbols-requires
 symbols-requires c =
@@ -32,7 +33,9 @@ pub returns-in-Some-lowest_outside : goal.returns-in-Some-lowest_outside
 returns-in-Some-lowest_outside c =
     let file = c.args.self.now in
     let sound = symbols_told file c.in-Some.t _ c.in-Some.is c.in_ok-verdict.ensures.fault in
-    rw c.new.ensures (outside_found file.left (sections_of_file file) file.left.symbol_table c.in-Some.t _ c.in-Some.is sound c.in-Some-lowest_outside.ensures)
+    rw c.new.ensures
+    (outside_found file.left
+    (sections_of_file file) file.left.symbol_table c.in-Some.t _ c.in-Some.is sound c.in-Some-lowest_outside.ensures)
 
 pub returns-in-None : goal.returns-in-None
 returns-in-None c =

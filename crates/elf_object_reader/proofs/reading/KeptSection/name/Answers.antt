@@ -1,6 +1,6 @@
 use Rattle.std.proofs.Common.{ℕ, List, ap₂, sym, ◌∙◌}
 use Rattle.elf_field.specs.declared.shdr.Shdr.{Shdr}
-use Rattle.elf_image_type.specs.ImageView.{string}
+use Rattle.elf_field.specs.Strings.{string}
 use Rattle.elf_object_reader.specs.FileRules.{sections_of_file}
 use Rattle.elf_object_reader.proofs.NameTails.{name_in_table}
 use Rattle.elf_object_reader.proofs.reading.KeptSection.name.Goals as goal

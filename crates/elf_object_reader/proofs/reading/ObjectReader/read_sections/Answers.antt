@@ -18,8 +18,10 @@ loop-i-preserved c =
           let here = rw c.is_kept.ensures.value at w.if-is_kept.true in
           let pushed = ap (λ (v : _). v.items) w.sections-is ∙ w.in_ok-push.ensures.items in
           ap (λ (xs : List Section). map section_value xs) pushed ∙
-          mapped_next section_value (section_denoted left f) (is_kept left f) i c.loop-i.sections.items w.in_ok-section.section c.loop-i.invariant w.in_ok-section.ensures here)
+          mapped_next section_value (section_denoted left f)
+          (is_kept left f) i c.loop-i.sections.items w.in_ok-section.section c.loop-i.invariant w.in_ok-section.ensures here)
       | else-is_kept w ↦ (
           let here = rw c.is_kept.ensures.value at w.if-is_kept.false in
-          ap (λ (v : _). map section_value v.items) w.sections-is ∙ c.loop-i.invariant ∙ mapped_passed (section_denoted left f) (is_kept left f) i here)
+          ap (λ (v : _). map section_value v.items) w.sections-is ∙ c.loop-i.invariant ∙
+          mapped_passed (section_denoted left f) (is_kept left f) i here)
     ]

@@ -18,4 +18,5 @@ pub strings_of-requires-clause-linked : goal.strings_of-requires-clause-linked
 strings_of-requires-clause-linked c =
     let reader = c.args.self.now in
     let f = sections_of_file reader.file in
-    sound_link f c.in-Some.t (symbols_of_table f c.in-Some.t reader.sound (sym (ap (λ (l : LeftOut). l.symbol_table) reader.file.own_left) ∙ c.in-Some.is))
+    sound_link f c.in-Some.t
+    (symbols_of_table f c.in-Some.t reader.sound (sym (ap (λ (l : LeftOut). l.symbol_table) reader.file.own_left) ∙ c.in-Some.is))

@@ -1,9 +1,10 @@
--- A string that ends within its block is one of the whole table (`string_near`). Any other one ends where the string at the beginning of the
+-- A string that ends within its block is one of the whole table (`string_near`). Any other one ends where the string at the beginning of
+-- the
 -- next block does (`end_far`).
 use Rattle.std.proofs.Common.{◌≡◌, ◌+◌, ◌*◌, ◌<◌, ◌≤◌, ℕ, length, get_or, arith, vec_len, ◌∙◌, take}
 use Rattle.std.specs.Prelude.{◌/◌}
 use Rattle.std.proofs.lemmas.List.{length-take}
-use Rattle.elf_image_type.specs.ImageView.{string}
+use Rattle.elf_field.specs.Strings.{string}
 use Rattle.elf_object_reader.specs.declared.string_blocks.StringBlocks.{StringBlocks}
 use Rattle.elf_object_reader.proofs.DenotedSymbols.{block_there, end_far, end_there, end_within, string_near, string_to}
 use Rattle.elf_object_reader.proofs.string_blocks.StringBlocks.string.Goals as goal
@@ -58,4 +59,5 @@ returns c =
     let b = c.args.self.now in
     let lt : c.args.offset / 4096 < b.ends.len = omega (arith, c.if-block-len.false, c.len.ensures) in
     let beyond = rw c.string_at-near.ensures at c.if-at-near.false in
-    c.between.ensures ∙ string_to b.table.now c.args.offset c.index.result.now (goes_on b c.args.offset c.index.result.now lt beyond c.index.ensures)
+    c.between.ensures ∙
+    string_to b.table.now c.args.offset c.index.result.now (goes_on b c.args.offset c.index.result.now lt beyond c.index.ensures)

@@ -17,6 +17,7 @@ returns-then-self-rela c =
           table_is_of t c.args.rela c.args.order c.prove_bytes.ensures
           ((booleans_Decides t.rela c.args.rela).0 (sym w.value-is ∙ c.if-self-rela.true))
           ((order_decides t.order c.args.order).0 (sym (order_same t.order c.args.order) ∙ sym c.eq.ensures ∙ w.if-eq.true))
-          (ap (λ n. length t.bytes.now % n) (sym c.relocation_size.ensures) ∙ (unsigned_Decides (length t.bytes.now % c.relocation_size.result) 0).0 e)
+          (ap (λ n. length t.bytes.now % n) (sym c.relocation_size.ensures) ∙
+          (unsigned_Decides (length t.bytes.now % c.relocation_size.result) 0).0 e)
       | else-eq w ↦ λ e. absurd (not_both c.if-eq.value c.if-self-rela.true (w.value-is ∙ w.if-eq.false))
     ]

@@ -11,5 +11,6 @@ entry-requires c =
 pub returns-in-Table : goal.returns-in-Table
 returns-in-Table c =
     let t = c.in-Table.table in
-    let within : c.args.j < table_count t.rela t.bytes.now = rw (← c.self.view_is, c.in-Table.is, length_table_relocations t.rela t.order t.bytes.now) at c.requires in
+    let within : c.args.j < table_count t.rela t.bytes.now =
+    rw (← c.self.view_is, c.in-Table.is, length_table_relocations t.rela t.order t.bytes.now) at c.requires in
     rw (← c.self.view_is, c.in-Table.is) (c.entry.ensures ∙ sym (table_relocation_get _ _ _ c.args.j within))

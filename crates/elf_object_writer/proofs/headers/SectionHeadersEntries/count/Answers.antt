@@ -7,6 +7,7 @@ use Rattle.elf_object_writer.proofs.headers.SectionHeadersEntries.count.Goals as
 pub returns : goal.returns
 returns c =
     let p = c.args.self.now.placed.now in
-    let all = length-headers (name_offset (section_names p.object)) (plain_sections p.object) p.layout.places c.prove_placed.ensures.layout.count in
+    let all = length-headers (name_offset (section_names p.object))
+    (plain_sections p.object) p.layout.places c.prove_placed.ensures.layout.count in
     let is = c.header_count.ensures.value in
     omega arith

@@ -11,7 +11,8 @@ use Rattle.elf_object_writer.proofs.headers.SectionHeadersEntries.entry.Goals as
 pub header_at-requires : goal.header_at-requires
 header_at-requires c =
     let p = c.args.self.now.placed.now in
-    let all = length-headers (name_offset (section_names p.object)) (plain_sections p.object) p.layout.places c.prove_placed.ensures.layout.count in
+    let all = length-headers (name_offset (section_names p.object))
+    (plain_sections p.object) p.layout.places c.prove_placed.ensures.layout.count in
     let within = c.requires.within in
     omega arith
 
@@ -20,7 +21,8 @@ returns-then-index-eq0 c =
     let p = c.args.self.now.placed.now in
     let o = p.object in
     let all = length-headers (name_offset (section_names o)) (plain_sections o) p.layout.places c.prove_placed.ensures.layout.count in
-    c.first_header.ensures ∙ ap (λ (n : ℕ). first_header (n + 1) (name_table_at o)) (sym all) ∙ sym (first_one _ _ c.args.index c.first_header.result c.if-index-eq0.true)
+    c.first_header.ensures ∙ ap (λ (n : ℕ). first_header (n + 1) (name_table_at o)) (sym all) ∙
+    sym (first_one _ _ c.args.index c.first_header.result c.if-index-eq0.true)
 
 pub returns-else-index-eq0 : goal.returns-else-index-eq0
 returns-else-index-eq0 c =
@@ -32,4 +34,5 @@ returns-else-index-eq0 c =
     let some = c.if-index-eq0.false in
     c.header_at.ensures d
     ∙ sym (behind_first _ _ c.args.index c.header_at.result (omega arith)
-    ∙ header_found (name_offset (section_names o)) (plain_sections o) p.layout.places (c.args.index - 1) c.header_at.result d c.prove_placed.ensures.layout.count (omega arith))
+    ∙ header_found (name_offset (section_names o)) (plain_sections o) p.layout.places
+    (c.args.index - 1) c.header_at.result d c.prove_placed.ensures.layout.count (omega arith))

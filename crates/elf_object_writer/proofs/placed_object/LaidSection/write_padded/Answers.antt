@@ -12,5 +12,6 @@ returns-in-Ok-write_content g c = Appends-trans _ _ _ (replicate c.args.padding 
 
 pub returns-in-Err-write_content : goal.returns-in-Err-write_content
 returns-in-Err-write_content g c =
-    second_cut _ _ _ c.args.padding c.in-Err-write_content.fault.written (replicate c.args.padding 0) _ (length-replicate c.args.padding 0) c.in-Ok.ensures
+    second_cut _ _ _ c.args.padding c.in-Err-write_content.fault.written (replicate c.args.padding 0) _
+    (length-replicate c.args.padding 0) c.in-Ok.ensures
     c.in-Err-write_content.ensures

@@ -6,4 +6,5 @@ use Rattle.elf_object_writer.proofs.placed_object.PlacedObject.own_count.Goals a
 
 pub returns : goal.returns
 returns c =
-    sym (length-map c.sections.result.now section_value) ∙ ap length c.sections.ensures ∙ ap (λ (p : PlacedValue). length p.object.sections) c.self.view_is
+    sym (length-map c.sections.result.now section_value) ∙ ap length c.sections.ensures ∙
+    ap (λ (p : PlacedValue). length p.object.sections) c.self.view_is

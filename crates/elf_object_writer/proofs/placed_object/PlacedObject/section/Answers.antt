@@ -15,4 +15,5 @@ pub returns-then-position-count-2 : goal.returns-then-position-count-2
 returns-then-position-count-2 c = record { there = tt; is = sym (strings_found c.args.self.now.object c.args.position _ (omega arith)) }
 
 pub returns-else-position-count-2 : goal.returns-else-position-count-2
-returns-else-position-count-2 c = record { there = tt; is = sym (index_table_found c.args.self.now.object c.args.position _ (omega arith) (omega arith)) }
+returns-else-position-count-2 c =
+    record { there = tt; is = sym (index_table_found c.args.self.now.object c.args.position _ (omega arith) (omega arith)) }

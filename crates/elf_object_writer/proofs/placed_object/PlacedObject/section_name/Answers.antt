@@ -20,7 +20,9 @@ overflow_cast-result c =
     let o = c.args.self.now.object in
     let placed = subst (IsPlacedWith c.self.inside.tables) c.self.view_is c.self.invariant in
     let many = length-section_names o in
-    let is = place_read (section_names o) c.self.inside.tables.names.offsets.items c.args.position c.index.result.now placed.tables.name_offsets (omega arith) c.index.ensures in
+    let is = place_read
+    (section_names o) c.self.inside.tables.names.offsets.items c.args.position c.index.result.now placed.tables.name_offsets
+    (omega arith) c.index.ensures in
     let below = section_name_below o c.args.self.now.layout c.args.position placed.placed.layout c.requires in
     omega arith
 
@@ -29,4 +31,5 @@ returns c =
     let o = c.args.self.now.object in
     let placed = subst (IsPlacedWith c.self.inside.tables) c.self.view_is c.self.invariant in
     let many = length-section_names o in
-    place_read (section_names o) c.self.inside.tables.names.offsets.items c.args.position c.index.result.now placed.tables.name_offsets (omega arith) c.index.ensures
+    place_read (section_names o) c.self.inside.tables.names.offsets.items c.args.position c.index.result.now placed.tables.name_offsets
+    (omega arith) c.index.ensures

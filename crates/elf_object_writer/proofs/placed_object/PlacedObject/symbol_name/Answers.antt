@@ -11,6 +11,8 @@ overflow_cast-result c =
     let o = c.args.self.now.object in
     let placed = subst (IsPlacedWith c.self.inside.tables) c.self.view_is c.self.invariant in
     let many = length-map o.symbols (λ (s : SymbolValue). s.name) in
-    let is = place_read (symbol_names o) c.self.inside.tables.strings.offsets.items c.args.position c.index.result.now placed.tables.string_offsets (omega arith) c.index.ensures in
+    let is = place_read
+    (symbol_names o) c.self.inside.tables.strings.offsets.items c.args.position c.index.result.now placed.tables.string_offsets
+    (omega arith) c.index.ensures in
     let below = symbol_name_below o c.args.self.now.layout c.args.position placed.placed.layout c.requires in
     omega arith

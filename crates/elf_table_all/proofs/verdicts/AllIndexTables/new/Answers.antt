@@ -1,6 +1,7 @@
 use Rattle.std.proofs.Common.{ap, sym}
 use Rattle.elf_table_all.proofs.TableLinks.{all_noted, all_passed}
-use Rattle.elf_table_all.proofs.verdicts.AllIndexTables.new.Goals.{then-section-eq-SHT_SYMTAB_SHNDX+in_ok-note, else-section-eq-SHT_SYMTAB_SHNDX}
+use Rattle.elf_table_all.proofs.verdicts.AllIndexTables.new.Goals.{then-section-eq-SHT_SYMTAB_SHNDX+in_ok-note}
+use Rattle.elf_table_all.proofs.verdicts.AllIndexTables.new.Goals.{else-section-eq-SHT_SYMTAB_SHNDX}
 use Rattle.elf_table_all.proofs.verdicts.AllIndexTables.new.Goals as goal
 
 pub loop-j-preserved : goal.loop-j-preserved

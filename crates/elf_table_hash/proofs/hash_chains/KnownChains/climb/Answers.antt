@@ -4,7 +4,8 @@ use Rattle.elf_table_hash.proofs.hash_chains.KnownChains.climb.Goals as goal
 
 pub returns-then-seen-s-clause-endless : goal.returns-then-seen-s-clause-endless
 returns-then-seen-s-clause-endless c =
-    seen_twice _ _ c.args.start c.steps.s _ _ _ c.steps.invariant.seen c.steps.invariant.path c.if-seen-s.true (sym c.at.ensures.depth ∙ c.if-at-eq0.true)
+    seen_twice _ _ c.args.start c.steps.s _ _ _ c.steps.invariant.seen c.steps.invariant.path c.if-seen-s.true
+    (sym c.at.ensures.depth ∙ c.if-at-eq0.true)
 
 pub steps-preserved : goal.steps-preserved
 steps-preserved c =

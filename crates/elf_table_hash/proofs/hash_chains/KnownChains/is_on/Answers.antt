@@ -22,8 +22,11 @@ returns-then-symbol-start c =
     let above : 0 < get_or c.args.self.now.depth c.args.s 0 = omega arith in
     let none = zero_depth _ _ _ c.prove_known.ensures.depths in
     let some : c.args.s ≢ 0 = λ is. (let depth = ap (λ k. get_or c.args.self.now.depth k 0) is in omega arith) in
-    let leads = subst (λ k. Leads (chain c.args.self.now.words) k c.args.s) c.if-symbol-start.true (c.at-symbol.ensures.start (rw c.at-symbol.ensures.depth above)) in
-    ((λ _. on_from_path _ c.args.start c.args.s leads.0 leads.1 some (known_ends _ _ _ c.args.s c.prove_known.ensures.depths (inr above))), λ _. refl)
+    let leads = subst (λ k. Leads (chain c.args.self.now.words) k c.args.s) c.if-symbol-start.true
+    (c.at-symbol.ensures.start (rw c.at-symbol.ensures.depth above)) in (
+      (λ _. on_from_path _ c.args.start c.args.s leads.0 leads.1 some (known_ends _ _ _ c.args.s c.prove_known.ensures.depths (inr above))),
+      λ _. refl,
+    )
 
 pub steps-preserved : goal.steps-preserved
 steps-preserved c =
@@ -33,7 +36,8 @@ steps-preserved c =
     let step = c.leap-here.ensures.leads in
     record {
       leads = leads;
-      on = λ on. on_behind _ _ _ c.steps.here c.leap-here.result c.args.s c.prove_known.ensures.depths was.known c.leap-here.ensures.leads above (was.on on);
+      on = λ on. on_behind _ _ _ c.steps.here c.leap-here.result c.args.s c.prove_known.ensures.depths was.known c.leap-here.ensures.leads
+          above (was.on on);
       known = known_along _ _ _ c.steps.here c.leap-here.result step.0 c.prove_known.ensures.depths was.known step.1;
       inside = c.leap-here.ensures.inside;
     }
@@ -49,6 +53,8 @@ returns c =
       (λ test. (
           let same = eqb-true c.steps.here c.args.s test in
           let leads = subst (Leads (chain c.args.self.now.words) c.args.start) same was.leads in
-          on_from_path _ c.args.start c.args.s leads.0 leads.1 some (subst (Ends (chain c.args.self.now.words)) same (known_ends _ _ _ c.steps.here c.prove_known.ensures.depths was.known)))),
-      λ on. eq-eqb c.steps.here c.args.s (on_same _ _ _ c.steps.here c.args.s c.prove_known.ensures.depths was.known (was.on on) (omega arith)),
+          on_from_path _ c.args.start c.args.s leads.0 leads.1 some
+          (subst (Ends (chain c.args.self.now.words)) same (known_ends _ _ _ c.steps.here c.prove_known.ensures.depths was.known)))),
+      λ on. eq-eqb c.steps.here c.args.s
+          (on_same _ _ _ c.steps.here c.args.s c.prove_known.ensures.depths was.known (was.on on) (omega arith)),
     )

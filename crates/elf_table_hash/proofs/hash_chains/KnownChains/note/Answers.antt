@@ -30,13 +30,16 @@ overflow_add-depth c =
     omega arith
 
 pub index_mut-requires : goal.index_mut-requires
-index_mut-requires c = (places _ _ _ c.self.invariant (rw (← c.self.view_is) at c.requires.start) (rw (← c.self.view_is) at c.requires.leads)).depth
+index_mut-requires c =
+    (places _ _ _ c.self.invariant (rw (← c.self.view_is) at c.requires.start) (rw (← c.self.view_is) at c.requires.leads)).depth
 
 pub index_mut-requires-2 : goal.index_mut-requires-2
-index_mut-requires-2 c = (places _ _ _ c.self.invariant (rw (← c.self.view_is) at c.requires.start) (rw (← c.self.view_is) at c.requires.leads)).jump
+index_mut-requires-2 c =
+    (places _ _ _ c.self.invariant (rw (← c.self.view_is) at c.requires.start) (rw (← c.self.view_is) at c.requires.leads)).jump
 
 pub index_mut-requires-3 : goal.index_mut-requires-3
-index_mut-requires-3 c = (places _ _ _ c.self.invariant (rw (← c.self.view_is) at c.requires.start) (rw (← c.self.view_is) at c.requires.leads)).starts
+index_mut-requires-3 c =
+    (places _ _ _ c.self.invariant (rw (← c.self.view_is) at c.requires.start) (rw (← c.self.view_is) at c.requires.leads)).starts
 
 pub invariant_of-self : goal.invariant_of-self
 invariant_of-self c =
@@ -57,5 +60,6 @@ invariant_of-self c =
 
 pub returns-clause-inside : goal.returns-clause-inside
 returns-clause-inside c =
-    let place = (places _ _ _ c.self.invariant (rw (← c.self.view_is) at c.requires.start) (rw (← c.self.view_is) at c.requires.leads)).depth in
+    let place = (places _ _ _ c.self.invariant (rw (← c.self.view_is) at c.requires.start)
+    (rw (← c.self.view_is) at c.requires.leads)).depth in
     rw (← c.self.view_is) (omega arith)

@@ -1,6 +1,7 @@
 -- The symbol that is popped has `s` as its chain word, whose chain is known, and `start` leads to it (`last_of`). This is what `note`
 -- requires; after it the symbol's chain is known too. Each symbol that was on the stack is still there, or known (`waiting`).
-use Rattle.std.proofs.Common.{◌≡◌, ◌≢◌, ℕ, ◌+◌, ◌<◌, ◌⊎◌, List, [], ◌∷◌, ◌++◌, length, get_or, set, inl, inr, refl, subst, arith, get_or-set_same}
+use Rattle.std.proofs.Common.{◌≡◌, ◌≢◌, ℕ, ◌+◌, ◌<◌, ◌⊎◌, List, [], ◌∷◌, ◌++◌, length, get_or, set, inl, inr, refl, subst, arith}
+use Rattle.std.proofs.Common.{get_or-set_same}
 use Rattle.elf_table_hash.specs.ChainDepths.{IsAmongSymbols}
 use Rattle.elf_table_hash.specs.HashTable.{IsPath}
 use Rattle.elf_table_hash.proofs.Chains.{path_last, deep_more, in_push}

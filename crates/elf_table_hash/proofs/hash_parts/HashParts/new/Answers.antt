@@ -12,7 +12,8 @@ use Rattle.elf_table_hash.proofs.HashSound.{hash_content, hash_type, names_of_se
 use Rattle.elf_table_hash.proofs.hash_parts.HashParts.new.Goals as goal
 
 pub content-strings-requires : goal.content-strings-requires
-content-strings-requires c = rw c.linked_header-strings_index.ensures (sound_link (sections_of c.args.linked.table.image.now) _ c.requires.symbols)
+content-strings-requires c =
+    rw c.linked_header-strings_index.ensures (sound_link (sections_of c.args.linked.table.image.now) _ c.requires.symbols)
 
 pub returns-clause-value : goal.returns-clause-value
 returns-clause-value c =
@@ -33,7 +34,8 @@ returns-clause-value c =
 
 -- a content that lies in the file is no longer than the file
 no_longer : (n start end : ℕ) → (0 < n → start + n ≤ end) → n ≤ end
-no_longer n start end within = elim (cases_lt 0 n) [ inl some ↦ (let le = within some in omega arith) | inr none ↦ (let le = none in omega arith) ]
+no_longer n start end within =
+    elim (cases_lt 0 n) [ inl some ↦ (let le = within some in omega arith) | inr none ↦ (let le = none in omega arith) ]
 
 -- the entries of a content are no more than its bytes
 few : (o : Order) (table names : List ℕ) (m : ℕ) → length table ≤ m → length (names_in o table names) ≤ m

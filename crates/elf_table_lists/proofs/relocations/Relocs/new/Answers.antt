@@ -10,8 +10,11 @@ returns-in_err-validate_relocation_section-clause-validated c = search rules
 
 pub returns-in_err-validate_relocation_section-clause-file : goal.returns-in_err-validate_relocation_section-clause-file
 returns-in_err-validate_relocation_section-clause-file c =
-    let f = sections_of c.args.image.now in
-    (f, its_file c.args.image.now c.prove_stands.ensures, (one_fault (relocation_section_rules f c.args.i), returns-in_err-validate_relocation_section-clause-validated c))
+    let f = sections_of c.args.image.now in (
+      f,
+      its_file c.args.image.now c.prove_stands.ensures,
+      (one_fault (relocation_section_rules f c.args.i), returns-in_err-validate_relocation_section-clause-validated c),
+    )
 
 pub returns-clause-validated : goal.returns-clause-validated
 returns-clause-validated c = search rules

@@ -7,7 +7,9 @@ pub entry-symbol-requires : goal.entry-symbol-requires
 entry-symbol-requires c = symbol_within c.self.inside _ c.args.j c.self.view_is c.requires
 
 pub place_at-requires : goal.place_at-requires
-place_at-requires c = λ extended. c.self.invariant c.args.j (symbol_within c.self.inside _ c.args.j c.self.view_is c.requires) (rw c.entry-symbol.ensures at extended)
+place_at-requires c =
+    λ extended. c.self.invariant c.args.j (symbol_within c.self.inside _ c.args.j c.self.view_is c.requires)
+    (rw c.entry-symbol.ensures at extended)
 
 pub returns : goal.returns
 unfolding symbol_entry_in

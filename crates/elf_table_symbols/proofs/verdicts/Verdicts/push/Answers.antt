@@ -16,7 +16,8 @@ returns-clause-ok c =
     let a = c.self.inside in
     elim c.match-verdict.branch [
       | in-Err+in_ok-insert w ↦
-          rw (w.self-inside-is, ← c.self.view_is, w.in-Err.is) (broken_added a.count a.broken w.insert.new.self w.in-Err.broken w.in_ok-insert.ensures.updates)
+          rw (w.self-inside-is, ← c.self.view_is, w.in-Err.is)
+          (broken_added a.count a.broken w.insert.new.self w.in-Err.broken w.in_ok-insert.ensures.updates)
       | in_default w ↦
           rw (w.self-inside-is, ← c.self.view_is, w.in_default.is) (sound_added a.count a.broken (c.self.invariant a.count (omega arith)))
     ]

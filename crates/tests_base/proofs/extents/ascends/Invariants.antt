@@ -1,7 +1,0 @@
-use Rattle.std.proofs.Common.{◌≤◌}
-use Rattle.std.specs.List.{AllAdjacentBelow}
-use Rattle.tests_base.proofs.extents.ascends.Given as goal
-
--- so far no start falls
-abbrev pub invariant-loop-k : goal.invariant-loop-k
-invariant-loop-k l = AllAdjacentBelow (λ e f. e.start ≤ f.start) l.extents l.k
