@@ -185,7 +185,7 @@ def string(table, offset):
 
 def body_of(f, i, position):
     """What a section holds: the entries of relocations, a group's members, bytes, or a size alone.
-    Sections are told by their positions."""
+    Sections are named by their positions."""
     it = f.section(i)
     if it.sh_type in RELOCATIONS:
         return [
@@ -237,7 +237,7 @@ def symbol_value(f, k, it, strings, position):
 
 
 def object_of(content):
-    """The object that these bytes denote, which break no rule. A section is told by its position
+    """The object that these bytes denote, which break no rule. A section is named by its position
     among the object's, a symbol by its index in the table."""
     f = File(content)
     position = {i: p for p, i in enumerate(kept(f))}
@@ -261,7 +261,7 @@ def object_of(content):
 def string_table(names):
     """A zero, and each distinct name that is neither empty nor a proper suffix of another one, with
     its zero, in the order of first use; and the lowest place at which each name stands with a zero
-    behind it."""
+    after it."""
     tails = {name[k:] for name in names for k in range(1, len(name))}
     kept = [name for name in dict.fromkeys(names) if name and name not in tails]
     table = b"\0" + b"".join(name + b"\0" for name in kept)

@@ -72,7 +72,7 @@ PN_XNUM = 0xFFFF
 
 class Record:
     """A record at an offset of a file: each field is read where it stands, when it is first asked
-    for, and `at` tells where that is."""
+    for, and `at` returns where that is."""
 
     def __init__(self, file, offset, layout):
         self.file = file
@@ -155,7 +155,7 @@ class File:
         return [Record(self, it.sh_offset + size * k, layout) for k in range(it.sh_size // size)]
 
     def words(self, i):
-        """The words of four bytes in a section, and where each stands."""
+        """The 32-bit words in a section, and where each stands."""
         it = self.section(i)
         return [
             (it.sh_offset + 4 * k, self.number(it.sh_offset + 4 * k, 4))

@@ -132,7 +132,7 @@ static void dump_segments(const struct elfmap_file *file, const uint8_t *bytes, 
                p.p_flags, p.p_offset, p.p_vaddr, p.p_paddr, p.p_filesz, p.p_memsz, p.p_align);
 }
 
-/* What each loadable segment's first and last addresses are given, those of its bytes in the file, and the address behind it. */
+/* What each loadable segment's first and last addresses are given, those of its bytes in the file, and the address after it. */
 static void dump_loaded(const struct elfmap_file *file, const uint8_t *bytes, size_t len) {
     struct elfmap_segment p;
     for (uint64_t j = 0; elfmap_segment(file, bytes, len, j, &p); j++) {
@@ -229,7 +229,7 @@ static void dump_notes(const struct elfmap_file *file, uint64_t section, const s
         printf(is_placed(file, bytes, len, section, j, whole) ? "\n" : " its bytes are in another one\n");
     }
     if (elfmap_note(table, bytes, len, j, &by_index))
-        printf("there is a note behind the last one\n");
+        printf("there is a note after the last one\n");
 }
 
 static void dump_words(const struct elfmap_table *table, const uint8_t *bytes, size_t len, bool at_once) {

@@ -6,7 +6,7 @@
  *   engines rewrite FILE
  *   engines map BASE PAGE RULES FILE..         RULES is a file, or - for no relocation rules
  *   engines link BASE PAGE ENTRY RULES FILE..
- *                                              writes the status and the numbers of the outcome in a line, and behind it what the engine
+ *                                              writes the status and the numbers of the outcome in a line, and after it what the engine
  *                                              says, for tools/test c-library to compare with the cases
  *
  * Each call is tried with a room that is ample, one that is just as long as is wanted, one that is a byte shorter, and one of no bytes; and
@@ -148,10 +148,10 @@ static struct answer call_in(const struct call *it, size_t size) {
     return answer;
 }
 
-/* A room of fewer bytes than are wanted tells how many these are, and stays as it was. */
+/* With a room of fewer bytes than are wanted the answer is how many these are, and the room stays as it was. */
 static void check_short(const struct call *it, size_t size, uint64_t wanted) {
     struct answer answer = call_in(it, size);
-    check(answer.status == ELFMAP_SMALL_ROOM, "a room that is too small is told");
+    check(answer.status == ELFMAP_SMALL_ROOM, "a room that is too small is reported");
     check(is_length_alone(answer.outcome, wanted), "with how long it has to be");
     check(is_untouched(answer.text, size), "and is as it was");
     free(answer.text);
@@ -163,7 +163,7 @@ static bool is_answer(struct answer a, struct answer b) {
 
 #ifndef OVER_MALLOC
 /*
- * Each refusal of memory is told, with the room as it was; or the answer is the one that is wanted, where a call asks again.
+ * Each refusal of memory is reported, with the room as it was; or the answer is the one that is wanted, where a call asks again.
  */
 static void check_refusals(const struct call *it, struct answer wanted, size_t size) {
     bool is_done = false;
@@ -174,7 +174,7 @@ static void check_refusals(const struct call *it, struct answer wanted, size_t s
         refused = 0;
         is_done = requests < k;
         if (answer.status == ELFMAP_NO_MEMORY) {
-            check(!is_done && is_length_alone(answer.outcome, 0), "a refusal of memory is told");
+            check(!is_done && is_length_alone(answer.outcome, 0), "a refusal of memory is reported");
             check(is_untouched(answer.text, size), "and the room is as it was");
         } else {
             check(is_answer(answer, wanted), "or a call that asks again answers the same");
@@ -195,7 +195,7 @@ static struct answer answer_of(const struct call *it) {
     free(first.text);
     struct answer answer = call_in(it, length + BEHIND);
     check(answer.outcome.length == length, "the length is the same in any room");
-    check(is_untouched(answer.text + length, BEHIND), "behind what is said the room is as it was");
+    check(is_untouched(answer.text + length, BEHIND), "after what is said the room is as it was");
     check(answer.status != ELFMAP_SMALL_ROOM && answer.status != ELFMAP_NO_MEMORY, "a room that is long enough suffices");
     check(says_something(answer.status) || length == 0, "without an answer nothing is said");
     struct answer exact = call_in(it, length);
@@ -367,7 +367,7 @@ static struct found check_verdict(enum verdict kind, const struct call *it, uint
         refused = 0;
         is_done = requests < k;
         if (other.status == ELFMAP_NO_MEMORY) {
-            check(!is_done && is_length_alone(other.outcome, 0), "a refusal of memory is told");
+            check(!is_done && is_length_alone(other.outcome, 0), "a refusal of memory is reported");
             check(is_untouched((const uint8_t *) other.faults, sizeof other.faults), "and the slots are as they were");
         } else {
             check(other.status == found.status && is_outcome(other.outcome, found.outcome), "or a call that asks again answers the same");
@@ -455,7 +455,7 @@ static void check_rewrite(void) {
     check_answer(&call, ELFMAP_REFUSED, numbers_of(0, 4, 0, 4), "", "nor is a file that is no image");
 }
 
-/* Two files in one row of bytes: an object, and behind it a byte that is no file. */
+/* Two files in one row of bytes: an object, and after it a byte that is no file. */
 enum { PAIR_SIZE = OBJECT_SIZE + 1 };
 static const struct elfmap_extent object_place = {0, OBJECT_SIZE};
 
@@ -480,7 +480,7 @@ static void check_map(void) {
     call.rules_len = 32;
     check_answer(&call, ELFMAP_BAD_RULES, numbers_of(0, 0, 0, 3), "", "the third line is bad");
     call.rules_len = 27;
-    check_answer(&call, ELFMAP_DONE, no_numbers, BYTES_LINES, "with rules the relocated bytes are told");
+    check_answer(&call, ELFMAP_DONE, no_numbers, BYTES_LINES, "with rules the relocated bytes are printed");
     call.rules_len = 0;
     call.options.uses_rules = UINT32_MAX;
     check_answer(&call, ELFMAP_DONE, no_numbers, BYTES_LINES, "also with rules of no lines");
@@ -498,7 +498,7 @@ static void check_map(void) {
     check_answer(&call, ELFMAP_DONE, no_numbers, "", "no files have no lines");
 }
 
-/* An extent that does not lie in the bytes is told before anything is said of a file. */
+/* An extent that does not lie in the bytes is reported before anything is said of a file. */
 static void check_extents(void) {
     uint8_t bytes[PAIR_SIZE];
     bytes[OBJECT_SIZE] = 0;
@@ -517,7 +517,7 @@ static void check_extents(void) {
             call.options.uses_rules = 1;
             call.rules = (const uint8_t *) "\n";
             call.rules_len = 1;
-            check_answer(&call, ELFMAP_BAD_RULES, numbers_of(0, 0, 0, 1), "", "bad rules are told first");
+            check_answer(&call, ELFMAP_BAD_RULES, numbers_of(0, 0, 0, 1), "", "bad rules are reported first");
         }
     }
     struct elfmap_extent at_end = {PAIR_SIZE, 0};
@@ -657,7 +657,7 @@ static void read_behind(const char *path, uint8_t **bytes, size_t *len) {
     *len += (size_t) size;
 }
 
-/* A number in decimal, or in hexadecimal behind 0x. */
+/* A number in decimal, or in hexadecimal after 0x. */
 static uint64_t number_of(const char *word) {
     return strtoull(word, NULL, strncmp(word, "0x", 2) == 0 ? 16 : 10);
 }

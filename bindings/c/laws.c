@@ -1,5 +1,5 @@
 /*
- * laws COUNT SEED FILE..: changes bytes of each file, COUNT times in all, and looks whether what the library tells of each copy agrees with
+ * laws COUNT SEED FILE..: changes bytes of each file, COUNT times in all, and looks whether what the library says of each copy agrees with
  * itself, by laws that need no second opinion:
  *
  * - the verdict by a room is that without one;
@@ -9,9 +9,9 @@
  * - what `rewrite` writes is accepted, and rewritten gives itself; a name that a hash table finds is that of the symbol found;
  * - the words of groups and hash tables are those of the lines of `show`, and come many at once as one by one;
  * - as many notes are read as are counted, and each has its bytes; a section of a name has it, and none before it has;
- * - a link of the copy tells by a room of no bytes how long it is, and what is linked is accepted;
+ * - a link of the copy answers with a room of no bytes how long it is, and what is linked is accepted;
  * - `map` by relocation rules says first what it says without, and is refused as the link is, but for the entry symbol; each byte that it
- *   tells of a section is in the memory of what is linked, at the section's address.
+ *   prints of a section is in the memory of what is linked, at the section's address.
  *
  * The last line is 'N passed, M failed'. The copies that a law fails for are written to failed-SEED-K.
  */

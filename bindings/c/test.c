@@ -4,7 +4,7 @@
  *   test            checks every export on bytes that stand here; the last line is 'N passed, M failed'
  *   test FILE..     dumps what the library says of each file, for tools/test c-library to compare with the reference implementation
  *
- * The bytes of a file stand between two pages that can't be read, so that a read before or behind them ends the program.
+ * The bytes of a file stand between two pages that can't be read, so that a read before or after them ends the program.
  */
 #define _DEFAULT_SOURCE
 #include "elfmap.h"
@@ -180,7 +180,7 @@ static void check_rooms(void) {
     room[SMALL_WANTED].start = 5;
     room[SMALL_WANTED].len = 6;
     check(elfmap_verdict_in(bytes, SMALL_SIZE, room, SMALL_WANTED, &fault), "a room that is large enough suffices");
-    check(room[SMALL_WANTED].start == 5 && room[SMALL_WANTED].len == 6, "nothing is written behind the room");
+    check(room[SMALL_WANTED].start == 5 && room[SMALL_WANTED].len == 6, "nothing is written after the room");
     check(elfmap_verdict_in(bytes, SMALL_SIZE, room, SMALL_WANTED + 1, &fault), "a larger room does too");
     put(bytes + 88 + SECTION_SIZE + 32, 8, 5, false);
     check(!elfmap_verdict_in(bytes, SMALL_SIZE, room, SMALL_WANTED - 1, &fault) && is_fault(fault, ELFMAP_SHORT_ROOM, SMALL_WANTED),
@@ -212,7 +212,7 @@ static void check_parts(bool is_big) {
               && is_part(room[3], 68 + sizeof small_names, 20 - sizeof small_names, ELFMAP_GAP)
               && is_part(room[4], 88, 3 * SECTION_SIZE, ELFMAP_SECTION_HEADERS), "they are right");
     check(is_fault(fault, ELFMAP_SHORT_ROOM, SMALL_PARTS), "a fault stays as it was where there is none");
-    check(room[SMALL_PARTS].start == UINT64_C(0x5a5a5a5a5a5a5a5a), "nothing is written behind the room");
+    check(room[SMALL_PARTS].start == UINT64_C(0x5a5a5a5a5a5a5a5a), "nothing is written after the room");
     give_back(it);
     put(made + 88 + SECTION_SIZE + 32, 8, 5, is_big);
     parts = 99;
@@ -241,7 +241,7 @@ static void check_load(bool is_big) {
           "it has three parts");
     for (uint64_t k = 0; k < 12; k++)
         is_right = is_right && elfmap_load(&file, it.bytes, it.len, 0x1000 + k, &byte) && byte == (uint8_t) expected[k];
-    check(is_right, "the first loadable segment gives the byte, or 0 behind its bytes in the file");
+    check(is_right, "the first loadable segment gives the byte, or 0 after its bytes in the file");
     byte = 77;
     check(!elfmap_load(&file, it.bytes, it.len, 0xfff, &byte) && !elfmap_load(&file, it.bytes, it.len, 0x100c, &byte)
               && !elfmap_load(&file, it.bytes, it.len, 0, &byte) && !elfmap_load(&file, it.bytes, it.len, UINT64_MAX, &byte) && byte == 77,
@@ -257,7 +257,7 @@ static void check_records(bool is_big) {
     struct elfmap_extent name;
     make_small(made, is_big);
     struct guarded it = guarded_bytes(made, SMALL_SIZE, true);
-    check(elfmap_file(it.bytes, it.len, &file), "the numbers of a small file are told");
+    check(elfmap_file(it.bytes, it.len, &file), "the numbers of a small file are found");
     check(file.e_phoff == 0 && file.e_shoff == 88 && file.sections == 3 && file.segments == 0 && file.name_table == 2
               && file.ei_data == (is_big ? 2 : 1), "they are right");
     check(elfmap_header(it.bytes, it.len, &header) && memcmp(header.e_ident, it.bytes, 16) == 0 && header.e_machine == 62
@@ -285,7 +285,7 @@ static void check_unchanged(void) {
     header_before = header;
     section_before = section;
     segment_before = segment;
-    check(elfmap_file(bytes, SMALL_SIZE, &file), "the numbers of a small file are told");
+    check(elfmap_file(bytes, SMALL_SIZE, &file), "the numbers of a small file are found");
     memset(&other, 0x5a, sizeof other);
     check(!elfmap_file(bytes, 63, &other) && other.sections == UINT64_C(0x5a5a5a5a5a5a5a5a), "63 bytes have no numbers");
     check(!elfmap_file(bytes, 88 + 63, &other) && other.ei_data == 0x5a, "without section header 0 there are none");
@@ -427,7 +427,7 @@ static void check_dynamic(const struct elfmap_table *table, struct guarded it) {
     check(elfmap_string(table, it.bytes, it.len, 11, &text) && is_place(text, 0, 0), "the last string is empty");
     text.start = 7;
     text.len = 8;
-    check(!elfmap_string(table, it.bytes, it.len, 12, &text) && is_place(text, 7, 8), "there is none behind it");
+    check(!elfmap_string(table, it.bytes, it.len, 12, &text) && is_place(text, 7, 8), "there is none after it");
 }
 
 static void check_notes(const struct elfmap_table *table, struct guarded it) {
@@ -436,8 +436,8 @@ static void check_notes(const struct elfmap_table *table, struct guarded it) {
     check(elfmap_note(table, it.bytes, it.len, 0, &n) && is_place(n.name, NOTES_AT + 12, 3) && is_place(n.desc, NOTES_AT + 16, 5)
               && n.next == 24 && n.n_type == 3, "note 0 is right");
     check(elfmap_note_at(table, it.bytes, it.len, n.next, &n) && n.name.len == 0 && n.desc.len == 0 && n.next == 40 && n.n_type == 4,
-          "note 1 begins behind it");
-    check(!elfmap_note_at(table, it.bytes, it.len, n.next, &n) && n.n_type == 4, "no note begins behind the last one");
+          "note 1 begins after it");
+    check(!elfmap_note_at(table, it.bytes, it.len, n.next, &n) && n.n_type == 4, "no note begins after the last one");
 }
 
 /* Of notes of which one is cut those before it are counted and read, and their bytes have places. */
@@ -552,7 +552,7 @@ static void check_tables_unchanged(void) {
     struct elfmap_note note = {{1, 2}, {3, 4}, 5, 6};
     const uint64_t none[] = {0, 2, 9, TABLES, UINT64_MAX};
     make_tables(bytes, false);
-    check(elfmap_file(bytes, TABLES_SIZE, &file), "the numbers of the file are told");
+    check(elfmap_file(bytes, TABLES_SIZE, &file), "the numbers of the file are found");
     memset(&table, 0x5a, sizeof table);
     before = table;
     for (size_t k = 0; k < sizeof none / sizeof *none; k++)
@@ -583,7 +583,7 @@ static void check_other_kinds(void) {
     struct elfmap_note note;
     uint32_t word;
     make_tables(bytes, false);
-    check(elfmap_file(bytes, TABLES_SIZE, &file), "the numbers of the file are told");
+    check(elfmap_file(bytes, TABLES_SIZE, &file), "the numbers of the file are found");
     for (uint64_t i = 1; i < TABLES; i++) {
         if (!elfmap_table(&file, bytes, TABLES_SIZE, i, &table))
             continue;
@@ -603,7 +603,7 @@ static bool lies_in(struct elfmap_extent place, size_t len) {
     return place.start <= len && place.len <= len - place.start;
 }
 
-/* With any numbers in place of a table's no call reads outside of the bytes, and each place that is told lies in them. */
+/* With any numbers in place of a table's no call reads outside of the bytes, and each place that is returned lies in them. */
 static void check_any_tables(void) {
     const uint64_t numbers[] = {0, 1, 3, 64, 135, 136, TABLES_SIZE - 24, TABLES_SIZE - 12, TABLES_SIZE - 1, TABLES_SIZE, UINT64_C(1) << 60,
                                 UINT64_MAX / 24, UINT64_MAX - 23, UINT64_MAX};
@@ -643,7 +643,7 @@ static void check_any_tables(void) {
         }
         give_back(it);
     }
-    check(is_inside, "each place that is told of a table lies in the bytes");
+    check(is_inside, "each place that is returned of a table lies in the bytes");
 }
 
 /* The parts of a file whose contents, of a byte each, stand in the opposite order of their headers, in less than a second. */
@@ -655,7 +655,7 @@ static void check_descending_parts(const uint8_t *bytes, size_t len, uint64_t se
     if (!room)
         stop("calloc");
     clock_t begun = clock();
-    check(elfmap_parts(bytes, len, room, wanted, &parts, &fault) && parts == sections + 2, "the parts of so many contents are told");
+    check(elfmap_parts(bytes, len, room, wanted, &parts, &fault) && parts == sections + 2, "the parts of so many contents are found");
     check(is_part(room[1], HEADER_SIZE, 1, ELFMAP_GAP) && is_part(room[2], HEADER_SIZE + 1, 1, ELFMAP_CONTENTS + sections - 1)
               && is_part(room[parts - 1], HEADER_SIZE + sections, SECTION_SIZE * sections, ELFMAP_SECTION_HEADERS), "they are right");
     check(clock() - begun < CLOCKS_PER_SEC, "that takes less than a second too");

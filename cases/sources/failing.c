@@ -11,17 +11,17 @@
 
 extern void *__libc_malloc(size_t), *__libc_realloc(void *, size_t);
 enum { FILES = 256 };
-static char kind[16], how[16], told[512], ended[FILES];
+static char kind[16], how[16], record[512], ended[FILES];
 static long left, at[FILES], failed_file = -1, opened, vain, late, grown, asked;
 
 __attribute__((constructor)) static void begin(void) {
     const char *words = getenv("FAILING_CALL");
-    if (words && sscanf(words, "%15s %ld %15s %511s", kind, &left, how, told) != 4) left = 0;
+    if (words && sscanf(words, "%15s %ld %15s %511s", kind, &left, how, record) != 4) left = 0;
 }
 
 static void say(const char *word, long number) {
     char line[64];
-    int file = syscall(SYS_openat, AT_FDCWD, told, O_WRONLY | O_CREAT | O_APPEND, 0600);
+    int file = syscall(SYS_openat, AT_FDCWD, record, O_WRONLY | O_CREAT | O_APPEND, 0600);
     syscall(SYS_write, file, line, snprintf(line, sizeof line, "%s %ld\n", word, number));
     syscall(SYS_close, file);
 }

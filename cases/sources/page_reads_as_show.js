@@ -1,5 +1,5 @@
 "use strict";
-// page_reads_as_show.js MODULE LAYOUT FILE..: of each file what the page's reader and its check of tables tell of it, in the lines that
+// page_reads_as_show.js MODULE LAYOUT FILE..: of each file what the page's reader and its check of tables say of it, in the lines that
 // `elfmap show` prints; for tools/test page to compare. Groups that break no rule have no lines here. Run by node.
 const fs = require("fs");
 const path = require("path");

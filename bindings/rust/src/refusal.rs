@@ -37,7 +37,7 @@ impl Refusal {
         row(&TABLE, self.rule).0
     }
 
-    /// What the rule refuses, in the words of `docs/RULES.md`.
+    /// What the rule refuses, as `docs/RULES.md` says it.
     pub fn sentence(&self) -> &'static str {
         row(&TABLE, self.rule).1
     }
@@ -77,7 +77,7 @@ impl LinkRefusal {
         row(&LINK_TABLE, self.rule).0
     }
 
-    /// What the rule refuses, in the words of `docs/RULES.md`.
+    /// What the rule refuses, as `docs/RULES.md` says it.
     pub fn sentence(&self) -> &'static str {
         row(&LINK_TABLE, self.rule).1
     }

@@ -10,7 +10,7 @@ use std::{env, fs};
 
 use elfmap::{check, Failure, File, Header, Owner, Part, Section, Segment};
 
-/// Of a longer file the reference tells the records alone.
+/// Of a longer file the reference prints the records alone.
 const LONG: usize = 1 << 20;
 
 /// A folder with the files, as `tools/dev told` writes it; `None` where there is no Python.

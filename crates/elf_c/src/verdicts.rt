@@ -28,7 +28,8 @@ pub extern "C" fn elfmap_verdict(bytes: &[u8], fault: &mut Fault) -> bool
     }
 }
 
-/// The same in n log n for any file, with a buffer for its extents. If the buffer has too few, `at` is how many are needed.
+/// The verdict of `elfmap_verdict` in n log n for any file, with a buffer for its extents. If the buffer has too few, `at` is how many are
+/// needed.
 #[unsafe(no_mangle)]
 pub extern "C" fn elfmap_verdict_in(bytes: &[u8], room: &mut [Slot], fault: &mut Fault) -> bool
     ensures kept { OnTrue result (IsFault bytes.now None) }

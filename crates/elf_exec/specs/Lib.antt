@@ -1,4 +1,4 @@
--- The words of this crate's contracts.
+-- The definitions that this crate's contracts use.
 pub mod Executable
 pub mod ExecWriting
 pub use Rattle.elf_link_relocate.specs.Loads

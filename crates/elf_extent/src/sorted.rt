@@ -106,7 +106,7 @@ impl<'a> SortedExtents<'a> {
         })
     }
 
-    /// Those that hold a byte, ascending by start.
+    /// The extents that hold a byte, ascending by start.
     pub(crate) fn members(&self) -> &[Member]
         ensures members { AreMembers self.now (length self.now) result.now }
         ensures ascending { IsNonDecreasingBy (λ m. m.extent.start) result.now }

@@ -1,4 +1,4 @@
--- The words of the contracts that this public crate shows, for the contracts of those who build on it.
+-- The definitions in the contracts that this public crate shows, for the contracts of those who build on it.
 pub use Rattle.elf_image_outline.specs.Outline
 pub use Rattle.elf_image_rules.specs.Rows
 pub use Rattle.elf_image_rules.specs.Rules

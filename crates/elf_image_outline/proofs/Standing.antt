@@ -1,7 +1,7 @@
 -- A value that breaks no rule, and has as many records as it counts (`IsCounted`), has extents that share no byte and lie in its length.
--- Its extents are those that the rules look at (`extents_are`), so this follows from the facts on clean files. Small facts on lists by
--- index come first. A written file is validated by its parts and owners: that no byte is shared follows from their order, and needs no
--- proof about every two.
+-- The extents of the value are those that the rules look at (`extents_are`), so this follows from the facts on clean files. Small facts
+-- on lists by index come first. A written file is validated by its parts and owners: that no byte is shared follows from their order, and
+-- needs no proof about every two.
 use Rattle.std.proofs.Common.{◌≡◌, ◌+◌, ℕ, List, [], ◌∷◌, ◌++◌, length, take, drop, map, sym, ap, ap₂, ◌∙◌, arith, append_assoc}
 use Rattle.std.proofs.Common.{length-append, ◌≢◌, ◌≤◌, ◌<◌, ◌*◌, zero, suc, None, Some, get_or, refl, subst, inl, inr, add-zero, lit≤}
 use Rattle.std.specs.List.{AllByRecursion, flat_map, range_with_len}

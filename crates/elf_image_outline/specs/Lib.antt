@@ -1,4 +1,4 @@
--- The words of this crate's contracts.
+-- The definitions that this crate's contracts use.
 pub mod Records
 pub mod Outline
 pub mod Image

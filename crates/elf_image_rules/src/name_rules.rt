@@ -22,9 +22,9 @@ use elf_image_rule_names::Broken;
 pub struct TableEnds {
     /// How many bytes it has.
     pub len: u64,
-    /// Its first byte.
+    /// The first byte.
     pub first: u8,
-    /// Its last byte.
+    /// The last byte.
     pub last: u8,
 }
 

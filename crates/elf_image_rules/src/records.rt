@@ -38,7 +38,7 @@ pub trait Records {
 pub struct FileRecords<'a> {
     /// The whole file.
     pub bytes: &'a [u8],
-    /// Its header, which says where the two tables are.
+    /// The ELF header, which says where the two tables are.
     pub header: &'a Ehdr,
 }
 

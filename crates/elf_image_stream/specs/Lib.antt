@@ -1,4 +1,4 @@
--- The words of this crate's contracts.
+-- The definitions that this crate's contracts use.
 pub mod Output
 pub mod Reading
 pub mod Source

@@ -10,7 +10,7 @@ IsReadFault OutOfMemory count = Unit {0}
 IsReadFault (Io at) count = at ≡ count
 IsReadFault (Rule rule at) count = ⊥
 
--- what a buffer holds anew is what it held, and after it what the reader gave
+-- what a buffer holds then is what it held, and after it what the reader gave
 pub record IsReadBehind (before after : Option (List ℕ)) (old new : List ℕ) : Type 0 where
   pub given : List ℕ
   pub behind : new ≡ old ++ given

@@ -1,2 +1,2 @@
--- The words of this crate's contracts.
+-- The definitions that this crate's contracts use.
 pub mod Field

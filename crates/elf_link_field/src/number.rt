@@ -26,7 +26,7 @@ pub(crate) fn modulo(width: Width, number: i128) -> u64
     ensures value { result ≡ modulo_of (size_of width) number }
     ensures fits { result < 256 ^ size_of width }
 {
-    // By a constant it is a mask; by a number that only the width tells, a division of 128 bits.
+    // By a constant it is a mask; by a number that depends on the width, a division of 128 bits.
     match width {
         Width::W1 => number.rem_euclid(0x100) as u64,
         Width::W2 => number.rem_euclid(0x1_0000) as u64,

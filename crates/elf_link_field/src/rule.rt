@@ -43,11 +43,11 @@ impl Width {
 /// The numbers that a field of some width admits.
 #[derive(Clone, Copy, Debug, PartialEq, Eq)]
 pub enum Range {
-    /// Those that are in it as two's complement.
+    /// The numbers that are in it as two's complement.
     Signed,
-    /// Those from 0 on that are in it.
+    /// The numbers from 0 on that are in it.
     Unsigned,
-    /// All, of which it holds the lowest bytes.
+    /// All numbers, of which it holds the lowest bytes.
     Wrap,
 }
 

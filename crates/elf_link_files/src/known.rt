@@ -22,15 +22,15 @@ pub struct Block {
 /// What is known of a name.
 #[derive(Clone, Copy)]
 pub struct Known {
-    /// Its first entry.
+    /// The name's first entry.
     pub first: SymbolId,
     /// Whether it has an entry that is not weak.
     pub not_weak: bool,
-    /// Its first global definition.
+    /// The first global definition.
     pub strong: Option<SymbolId>,
-    /// Its first weak definition.
+    /// The first weak definition.
     pub weak: Option<SymbolId>,
-    /// Its commons.
+    /// The commons of the name.
     pub common: Option<Block>,
 }
 

@@ -1,5 +1,5 @@
 //! What all parts of a link speak of: the files that are linked, the sections that are discarded or live, what a symbol is to the link and
-//! tells of its name ([`Known`]), and how a broken rule ([`rules`]) is reported.
+//! says of its name ([`Known`]), and how a broken rule ([`rules`]) is reported.
 //!
 //! `elf_link_names` binds names over it, `elf_link_outputs` places sections, and `elf_link_map` makes the link map of both. Begin with
 //! [`Inputs`], which are the files, and know which of their sections the link discards.

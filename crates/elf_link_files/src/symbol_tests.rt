@@ -76,7 +76,7 @@ impl<'i, 'l, 'a> InputSymbol<'i, 'l, 'a> {
         self.is_entry() && self.symbol().binding() != STB_WEAK
     }
 
-    /// Its place: where that is in a section, it is one of its file.
+    /// The symbol's place: where that is in a section, it is one of its file.
     fn place(&self) -> Place
         ensures place { result ≡ (symbol_with self.now.inputs.now self.now.id).place }
         ensures there { IsPlaceIn (object_at self.now.inputs.now self.now.id.file) result }

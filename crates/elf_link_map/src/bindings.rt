@@ -181,7 +181,7 @@ impl<'a> Names<'a> {
         }
     }
 
-    /// The same, by going through all of them.
+    /// The position of a name, found by going through all bindings.
     fn search(&self, name: &[u8]) -> Option<usize>
         ensures { MatchOption result (bound_in self.now name.now ≡ None) (IsBindingAt self.now name.now) }
     {

@@ -404,7 +404,7 @@ own_named ls i k l own read =
     let some = slice_get_read ls (length ls) i l refl (own_within ls i k own) read in
     eqb-true l.name k (subst (λ (o : Option Large). is_of k o ≡ true) some own)
 
--- of what an answer says, after it was read behind a reference
+-- of what an answer says, after it was read through a reference
 pub is_here : (behind ls : List Large) (i k : ℕ) (told answer : Bool) → behind ≡ ls → told ≡ is_of k (slice_get behind i) → told ≡ answer →
     is_of k (slice_get ls i) ≡ answer
 is_here behind ls i k told answer same is now = subst (λ (l : List Large). is_of k (slice_get l i) ≡ answer) same (sym is ∙ now)

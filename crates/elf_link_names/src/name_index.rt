@@ -107,7 +107,7 @@ impl<'a> NameIndex<'a> {
         }
     }
 
-    /// The position of any name, or `None` in its place if it has none; and `None` if only the ordered map can tell, in which no name is
+    /// The position of any name, or `None` in its place if it has none; and `None` if only the ordered map knows, in which no name is
     /// looked up that may live shorter than its own.
     #[tactic(auto, unfolding(crate::specs::Tables::name_position))]
     pub fn get_at_once(&self, name: &[u8]) -> Option<Option<usize>>

@@ -163,7 +163,7 @@ impl<'l, 'a> Resolution<'l, 'a> {
         }
     }
 
-    /// The same, by going through all names.
+    /// The index of a name, found by going through all names.
     fn search(&self, name: &[u8]) -> Option<usize>
         ensures { MatchOption result (Never (entries self.now.objects name.now)) (IsIndexIn self.now name.now) }
     {
@@ -203,7 +203,7 @@ impl<'l, 'a> Resolution<'l, 'a> {
         self.ranks[k]
     }
 
-    /// Its parts, for what outlives it.
+    /// The resolution's parts, for what outlives it.
     pub fn into_parts(self) -> ResolutionParts<'a>
         ensures marks { AreDiscardMarks self.entry.objects (map (λ row. row.items) result.marks.items) }
         ensures firsts { Lists (first_entries self.entry.objects) self.entry.firsts }

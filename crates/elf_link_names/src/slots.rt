@@ -78,7 +78,7 @@ pub(crate) const MOST_STEPS: usize = 8;
 const MOST_NAMES: usize = 0xffff_ffff;
 
 /// The ordinal of a name among those that are in slots, from 1 on, and 0 in a slot that is free; and the upper half of its hash, by which
-/// most other names are told apart from it without a look at them.
+/// most other names differ from it without a look at them.
 #[derive(Clone, Copy, Debug)]
 pub struct Slot {
     pub(crate) upper: u32,
@@ -105,7 +105,7 @@ pub(crate) struct Entry<'a> {
 pub(crate) enum Seen {
     /// That it is in none; this one is the first that is free.
     Free(usize),
-    /// Its position.
+    /// That the name is at this position.
     Here(usize),
     /// That it is in none, and can take none: none is free, or there is no ordinal left.
     Taken,

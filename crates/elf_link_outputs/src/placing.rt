@@ -18,7 +18,7 @@ use std::alloc::{AllocError, Global};
 /// A common that has an address.
 #[derive(Clone, Copy, Debug, PartialEq, Eq)]
 pub struct Common<'a> {
-    /// Its name.
+    /// The name.
     pub name: &'a [u8],
     /// Where it begins.
     pub address: u64,

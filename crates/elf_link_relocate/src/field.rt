@@ -23,7 +23,7 @@ pub(crate) struct Entry {
     pub relocation: Relocation,
 }
 
-/// An entry that has a field, the relocation rule of its kind, and what the link needs of it, so that no later pass looks it up anew.
+/// An entry that has a field, the relocation rule of its kind, and what the link needs of it, so that no later pass looks it up again.
 #[derive(Clone, Copy)]
 pub(crate) struct Field {
     /// Where the entry is.
@@ -34,7 +34,7 @@ pub(crate) struct Field {
     pub target: usize,
     /// Where it starts there, in bytes.
     pub offset: usize,
-    /// Its number; 0 if its symbol has no value, or if it passes the end of its target.
+    /// The field's number; 0 if its symbol has no value, or if it passes the end of its target.
     pub number: i128,
 }
 

@@ -16,7 +16,7 @@ pub struct Load {
     pub address: u64,
     /// How many bytes of memory it takes (`p_memsz`).
     pub size: u64,
-    /// Its permissions (`p_flags`).
+    /// The permissions (`p_flags`).
     pub flags: u32,
     /// Whether all these bytes are 0, and none is in the file.
     pub no_bits: bool,

@@ -79,7 +79,7 @@ impl<'f, 'v, 'l, 'a> FieldOf<'f, 'v, 'l, 'a> {
         }
     }
 
-    /// Its addend, where it ends within its target: that of its entry, or the number that is in it.
+    /// The field's addend, where it ends within its target: that of its entry, or the number that is in it.
     fn addend(&self) -> i128
         requires { IsWithin self.now.objects self.now.field.site self.now.field.rule }
         ensures value { result ≡ addend_at self.now.objects self.now.field.site self.now.field.rule }
@@ -100,7 +100,7 @@ impl<'f, 'v, 'l, 'a> FieldOf<'f, 'v, 'l, 'a> {
         )
     }
 
-    /// Its number, where it ends within its target, by the value of its symbol.
+    /// The field's number, where it ends within its target, by the value of its symbol.
     fn number(&self, value: u128) -> i128
         requires within { IsWithin self.now.objects self.now.field.site self.now.field.rule }
         requires value { value_at self.now.objects self.now.map self.now.field.site ≡ Some value }

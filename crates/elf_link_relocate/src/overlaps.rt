@@ -19,7 +19,7 @@ pub(crate) struct Spot {
     pub target: usize,
     /// Where the field starts there, in bytes.
     pub offset: usize,
-    /// Its position in the list.
+    /// The field's position in the list.
     pub position: usize,
 }
 

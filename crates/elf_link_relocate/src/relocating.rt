@@ -130,7 +130,7 @@ pub fn relocate_indexed<'m, 'a>(
 /// The relocated bytes of these objects, whose link map it is: the number of each applied relocation in its field, by the first
 /// relocation rule of its kind.
 ///
-/// Its condition holds for a map that [`map`](elf_link_map::map) returned for these objects: `match map(..) { Ok(link) => .. }`. It asks
+/// The condition holds for a map that [`map`](elf_link_map::map) returned for these objects: `match map(..) { Ok(link) => .. }`. It asks
 /// nothing of the map's base, page and entry, nor that there is an entry symbol. If `map` returned the map, `write_exec` of `elf_exec` can
 /// write the relocated bytes.
 ///

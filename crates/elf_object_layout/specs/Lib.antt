@@ -1,4 +1,4 @@
--- The words of this crate's contracts.
+-- The definitions that this crate's contracts use.
 pub mod Laid
 pub mod SectionsLeftOut
 pub mod StringTables

@@ -1,4 +1,4 @@
--- The sections of a file that an object does not keep: those that its layout makes anew. (gABI chapter 4, Sections, String Table, Symbol
+-- The sections of a file that an object does not keep: those that its layout makes again. (gABI chapter 4, Sections, String Table, Symbol
 -- Table.) An index counts the file's section headers.
 use Rattle.std.specs.Prelude.{ℕ, ◌==◌, ◌||◌, not, Bool, false, Option, None, Some, position}
 use Rattle.elf_field.specs.Abi.{SHT_NULL, SHT_SYMTAB}

@@ -96,7 +96,7 @@ fn table_size(count: usize, entry: u64) -> u64
 /// Why an object has no layout.
 #[derive(Clone, Copy, Debug, PartialEq, Eq, Error)]
 pub enum LayoutFault {
-    /// Its canonical layout is longer than the longest file, 2^30 bytes.
+    /// The object's canonical layout is longer than the longest file, 2^30 bytes.
     #[error("longer than 2^30 bytes")]
     TooLong,
     /// An allocation failed.

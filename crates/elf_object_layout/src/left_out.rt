@@ -1,4 +1,4 @@
-//! The sections of a file that an object does not keep, because its layout makes them anew (gABI chapter 4, Sections, String Table, Symbol
+//! The sections of a file that an object does not keep, because its layout makes them again (gABI chapter 4, Sections, String Table, Symbol
 //! Table).
 ghost use Rattle.std.specs.Prelude.{◌≡◌, ◌<◌, IfSome, length};
 ghost use Rattle.std.specs.Bool.{OnTrue};
@@ -25,7 +25,7 @@ pub struct LeftOut {
 }
 
 impl LeftOut {
-    /// Those of this image.
+    /// The sections that the object of this image does not keep.
     pub fn of(image: &Image<'_>) -> LeftOut
         ensures { result ≡ left_out (sections_of image.now) }
     {

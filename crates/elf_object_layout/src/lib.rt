@@ -1,5 +1,5 @@
 //! The canonical layout of an object (gABI chapter 4): its two string tables, and where each of its parts begins. [`LeftOut`] names the
-//! sections of a file that a layout makes anew, so that an object does not keep them. Of the object without sections and symbols:
+//! sections of a file that a layout makes again, so that an object does not keep them. Of the object without sections and symbols:
 //!
 //! ```
 //! let layout = lay_out(alloc, &object)?;

@@ -1,6 +1,7 @@
 //! An image that is read as an object, with what is looked up once for all its sections.
 //!
-//! Its tables are validated once, after rules 70 to 74. So reading takes n log n, also if many relocation sections share a symbol table.
+//! The image's tables are validated once, after rules 70 to 74. So reading takes n log n, also if many relocation sections share a symbol
+//! table.
 ghost use Rattle.std.specs.Prelude.{◌≡◌, ◌<◌, length};
 ghost use Rattle.std.specs.Bool.{OnTrue};
 ghost use Rattle.elf_object_layout.specs.SectionsLeftOut.{is_kept as is_kept_of, left_out};
@@ -93,7 +94,7 @@ pub(crate) struct FileSection<'f, 'i, 'a> {
     pub(crate) file: &'f ObjectFile<'i, 'a>,
     /// The section's index.
     pub(crate) index: usize,
-    /// Its header.
+    /// The section's header.
     pub(crate) header: Shdr,
     ghost there: { index < length file.now.image.now.sections },
     ghost own_header: { header ≡ section (sections_of file.now.image.now) index },

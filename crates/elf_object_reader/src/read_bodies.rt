@@ -17,7 +17,7 @@ use elf_table_all::Group;
 use std::alloc::{AllocError, Global};
 
 impl<'r, 'i, 'a> KeptSection<'r, 'i, 'a> {
-    /// Its name.
+    /// The section's name.
     fn name(&self) -> &'a [u8]
         ensures { result.now ≡ section_name_of (sections_of_file self.now.reader.now.file) self.now.index }
     {
@@ -36,7 +36,7 @@ impl<'r, 'i, 'a> KeptSection<'r, 'i, 'a> {
         }
     }
 
-    /// Its info, where it has neither relocations nor members.
+    /// The section's info, where it has neither relocations nor members.
     fn plain_info(&self) -> Info
         ensures { let file = self.now.reader.now.file in result ≡ plain_info_of file.left (sections_of_file file) self.now.header }
     {
@@ -47,7 +47,7 @@ impl<'r, 'i, 'a> KeptSection<'r, 'i, 'a> {
         }
     }
 
-    /// Its info.
+    /// The section's info.
     fn info(&self, kind: BodyKind) -> Info
         ensures { let file = self.now.reader.now.file in result ≡ info_denoted file.left (sections_of_file file) self.now.header kind }
     {
@@ -57,7 +57,7 @@ impl<'r, 'i, 'a> KeptSection<'r, 'i, 'a> {
         }
     }
 
-    /// Its relocations, which stay the bytes that they are in the file.
+    /// The section's relocations, which stay the bytes that they are in the file.
     fn relocations(&self) -> Relocations<'a>
         ensures { result ≡ map relocation_denoted (relocations_of (sections_of_file self.now.reader.now.file) self.now.index) }
     {

@@ -258,7 +258,7 @@ last_ones name (suc m) is =
     let long : 7 ≤ length (reverse (drop (suc m) name)) = simp (length-reverse, length-drop) (omega arith) in
     sym (ap (leading 7) parts ∙ leading-append 7 (reverse (drop (suc m) name)) (reverse (take (suc m) name)) long)
 
--- the last bytes behind the length and zeros, eight in all
+-- the last bytes after the length and zeros, eight in all
 closed_end : (name tail : List ℕ) (k : ℕ) → k + length tail ≡ 7 → tail ≡ drop (length name - length tail) name →
     length tail ≡ min (length name) 7 → from_le_bytes w64 (min (length name) 8 ∷ (zeros k ++ tail)) ≡ end_number name
 closed_end name tail k long is count =

@@ -55,9 +55,9 @@ impl<T: Drop> From<AllocFailed<T>> for ObjectFault {
 /// after its name, plus 1; 0, or none, if that is not known.
 #[derive(Debug, Drop)]
 pub struct NameEnds {
-    /// Those of the symbols, in their order.
+    /// The ends for the symbols, in their order.
     pub symbols: Vec<u32>,
-    /// Those of the sections, in their order, as many as there are sections at most.
+    /// The ends for the sections, in their order, as many as there are sections at most.
     pub sections: Vec<u32>,
 }
 

@@ -42,14 +42,14 @@ pub struct Symbol<'a> {
 }
 
 impl Symbol<'_> {
-    /// Its binding (`ELF64_ST_BIND`): 0 local, 1 global, 2 weak.
+    /// The symbol's binding (`ELF64_ST_BIND`): 0 local, 1 global, 2 weak.
     pub fn binding(&self) -> u8
         ensures { result ≡ binding_of (symbol_value self.now) }
     {
         self.info / 16
     }
 
-    /// Its type (`ELF64_ST_TYPE`).
+    /// The symbol's type (`ELF64_ST_TYPE`).
     pub fn symbol_type(&self) -> u8
         ensures { result ≡ symbol_type_of (symbol_value self.now) }
     {

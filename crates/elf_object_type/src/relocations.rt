@@ -1,6 +1,6 @@
 //! The relocations of a section (gABI chapter 4, Relocation).
 //!
-//! Those that were read stay bytes, so they take no memory, and a writer may send them as they are. To every contract they are a list.
+//! Relocations that were read stay bytes, so they take no memory, and a writer may send them as they are. To contracts they are a list.
 ghost use Rattle.std.specs.Prelude.{◌≡◌, ◌<◌, IsTrue, ◌↔◌, IfSome, get_or, length};
 ghost use Rattle.std.specs.List.{AllByRecursion};
 ghost use Rattle.elf_field.specs.Abi.{relocation_size as relocation_size_of};
@@ -21,7 +21,7 @@ pub struct Relocation {
     pub offset: u64,
     /// The position of its symbol in the object; None for none.
     pub symbol: Option<usize>,
-    /// Its type, whose meaning is the processor's.
+    /// The type, whose meaning is the processor's.
     pub kind: u32,
     /// The constant that is added; 0 in a section of type REL, where it is in the bytes that are relocated.
     pub addend: i64,

@@ -406,9 +406,8 @@ part_end p k s placed lt at =
     let same = ap (λ (q : PlainSection). length q.content) at.is in
     omega arith
 
--- Bytes that wait to go out together, behind what a writer holds. A part that joins them, or that goes out behind them, extends both
--- together
--- as it would extend the writer's bytes alone. If a call fails, the writer has a beginning of what waited and of the part.
+-- Bytes that wait to go out together, after what a writer holds. A part that joins them, or that goes out after them, extends both
+-- together as it would extend the writer's bytes alone. If a call fails, the writer has a beginning of what waited and of the part.
 
 -- ---- one part
 
@@ -427,7 +426,7 @@ pub undone : (w v bytes : List ℕ) (at n : ℕ) (fault : WriteFault) → n ≡ 
     take n v ≡ w
 undone w v bytes at n fault long (low, below, went) = ap (take n) went ∙ take_at w (take (fault.written - at) bytes) n (sym long)
 
--- what waits goes out, and the part behind it
+-- what waits goes out, and the part after it
 pub passed : (b c d : Option (List ℕ)) (w bytes : List ℕ) (at end : ℕ) → Appends b c w → WritesBehind at c d bytes (Ok end) →
     WritesBehind at (append_known b w) (append_known d []) bytes (Ok end)
 passed None c d w bytes at end sent (is, went) = (is, tt)
@@ -435,7 +434,7 @@ passed (Some ys) None d w bytes at end sent (is, went) = absurd sent
 passed (Some ys) (Some zs) None w bytes at end sent (is, went) = absurd went
 passed (Some ys) (Some zs) (Some vs) w bytes at end sent (is, went) = (is, append-nil vs ∙ went ∙ ap (λ (s : List ℕ). s ++ bytes) sent)
 
--- the part fails behind it
+-- the part fails after it
 pub passed_cut : (b c d : Option (List ℕ)) (w bytes : List ℕ) (at : ℕ) (fault : WriteFault) → length w ≤ at → Appends b c w →
     WritesBehind at c d bytes (Err fault) → WritesBehind (at - length w) b d (w ++ bytes) (Err fault)
 passed_cut b c d w bytes at fault few sent (low, below, went) =
@@ -559,7 +558,7 @@ content_fails p a b c w at k fault placed lt going few failed =
     going_cut a b c w _ at (get_or q k 0) fault (drop (k + 1) q) (get_or ps k []) (drop (k + 1) ps)
     (moved a (append_known b w) _ at q ps k (omega arith) (omega arith) going) few part
 
--- or within what waits behind all contents
+-- or within what waits after all contents
 pub waiting_fails : (p : PlacedValue) (a b c : Option (List ℕ)) (w : List ℕ) (at k : ℕ) (fault : WriteFault) → IsPlacedObject p →
     k ≡ length (plain_sections p.object) → IsGoingAt p a (append_known b w) at k → length w ≤ at →
     WritesBehind (at - length w) b c w (Err fault) →

@@ -107,7 +107,7 @@ WritesBehind out before after bytes result = MatchResult result
     (λ end. (end ≡ out + length bytes) × Appends before after bytes)
     (λ fault. (out ≤ fault.written) × (fault.written < out + length bytes) × Appends before after (take (fault.written - out) bytes))
 
--- the content of the section at a position of the layout, behind the zeros that it needs after so many bytes
+-- the zeros that the content at a position of the layout needs after so many bytes, and then the content
 abbrev pub next_bytes : PlacedValue → ℕ → ℕ → PlainSection → List ℕ
 next_bytes p position out d =
     replicate (slice_index p.layout.places position - out) 0 ++ (get_or (plain_sections p.object) position d).content

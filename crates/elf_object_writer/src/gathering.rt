@@ -65,7 +65,7 @@ pub(crate) struct NextPart<'p, 'o, 'a> {
 }
 
 impl NextPart<'_, '_, '_> {
-    /// Whether it has no room behind the bytes that wait.
+    /// Whether it has no room after the bytes that wait.
     fn is_long(&self, waiting: &Vec<u8>) -> bool {
         let section = self.placed.section(self.position);
         let laid = LaidSection {
@@ -98,7 +98,7 @@ impl NextPart<'_, '_, '_> {
         }
     }
 
-    /// Puts it behind the bytes before it: it waits with them if it is short, and else it goes out after them. The answer is where it ends;
+    /// Puts it after the bytes before it: it waits with them if it is short, and else it goes out after them. The answer is where it ends;
     /// a fault counts the bytes that are written.
     pub(crate) fn pass<W: Write>(
         &self,

@@ -114,7 +114,7 @@ fn header_at(placed: &PlacedObject<'_, '_>, position: usize) -> Shdr
 }
 
 impl<'p, 'o, 'a> LaidSection<'p, 'o, 'a> {
-    /// Its header, with this name, where its content begins at this offset.
+    /// The section's header, with this name, where its content begins at this offset.
     fn header(&self, sh_name: u32, sh_offset: u64) -> Shdr
         ensures { let s = plain_section self.now.placed.now.object self.now.section in
             (name_at : List ℕ → ℕ) → sh_name ≡ name_at s.name → result ≡ section_header name_at s sh_offset }

@@ -181,7 +181,7 @@ fn behind(out: u64, size: u64, sent: Result<(), WriteFault>) -> Result<u64, Writ
 /// Why an object is not written.
 #[derive(Clone, Copy, Debug, PartialEq, Eq, Error)]
 pub enum ObjectWriteFault {
-    /// Its canonical layout is longer than the longest file, 2^30 bytes. Nothing is written.
+    /// The object's canonical layout is longer than the longest file, 2^30 bytes. Nothing is written.
     #[error("longer than 2^30 bytes")]
     TooLong,
     /// An allocation failed. Nothing is written.

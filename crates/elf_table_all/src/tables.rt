@@ -52,7 +52,7 @@ impl<'i, 'a> Model for Tables<'i, 'a> {
 }
 
 impl<'i, 'a> Tables<'i, 'a> {
-    /// Those of this image, all of them validated. The error comes only if an allocation fails. They keep an entry for each table that
+    /// The tables of this image, all validated. The error comes only if an allocation fails. They keep an entry for each table that
     /// breaks a rule, and one for each symbol table that has an index table. A section group or a hash table can take memory while it is
     /// tested. Names of over 64 bytes of symbols in hash tables take memory too, until all tables are tested: a few bytes for each place
     /// where such a name begins.

@@ -56,7 +56,7 @@ pub record AreThreaded (next head home : ℕ → ℕ) (n m from : ℕ) : Type 0 
   pub own_heads : (b : ℕ) → b < n → head b ≢ 0 → home (head b) ≡ b
   pub own_links : (s : ℕ) → s < m → next s ≢ 0 → home (next s) ≡ home s
 
--- in the words of a table for these names
+-- in the 32-bit words of a table for these names
 abbrev pub home_of : List ℕ → List (List ℕ) → ℕ → ℕ
 home_of words names s = hash_of (name_of names s) % nbucket words
 

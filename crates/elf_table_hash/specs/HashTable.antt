@@ -89,7 +89,7 @@ pub record Valid (words : List ℕ) (names : List (List ℕ)) : Type 0 where
 abbrev pub MAX_HASH : ℕ
 MAX_HASH = 2 ^ 24
 
--- the words are a hash table of n buckets for these names
+-- the 32-bit words are a hash table of n buckets for these names
 pub record IsBuilt (words : List ℕ) (names : List (List ℕ)) (n : ℕ) : Type 0 where
   pub valid : Valid words names
   pub buckets : nbucket words ≡ n

@@ -18,7 +18,7 @@ use std::marker::Model;
 // What is known of a symbol's chain.
 #[derive(Clone, Copy)]
 struct Known {
-    // Its chain word.
+    // The symbol's chain word.
     next: u32,
     // The length of the chain, 0 if it isn't known.
     depth: u32,
@@ -53,7 +53,7 @@ impl<'w, 'a> Model for KnownChains<'w, 'a> {
 }
 
 impl<'w, 'a> KnownChains<'w, 'a> {
-    /// Those of these words: none is known.
+    /// The chains of these words, of which none is known.
     pub(crate) fn new(
         alloc: Global,
         words: &'w HashWords<'a>,

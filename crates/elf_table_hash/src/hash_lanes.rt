@@ -1,6 +1,6 @@
 //! Hashing strings side by side that end at one place: tails of one name (gABI chapter 5, Hash Table).
 //!
-//! The hash of a name tells nothing of those of its tails, so each tail is hashed by itself. But from the beginning of the last one on they
+//! The hash of a name says nothing of those of its tails, so each tail is hashed by itself. But from the beginning of the last one on they
 //! have the same bytes, and one instruction of the processor can put a byte into several hashes.
 ghost use Rattle.std.specs.Prelude.{◌≡◌, ◌<◌, ◌≤◌, ℕ, IfSome, fold, get_or, length};
 ghost use Rattle.elf_field.specs.Strings.{string};

@@ -40,7 +40,7 @@ impl<'a> HashParts<'a> {
     ghost use Rattle.elf_table_hash.specs.HashTable.{name_of};
     ghost use Rattle.elf_field.specs.Strings.{string};
 
-    /// Those of a hash table whose section header breaks no rule, as the symbol table that it links to.
+    /// The parts of a hash table whose section header breaks no rule, as the symbol table that it links to.
     pub(crate) fn new(linked: LinkedTable<'_, 'a>) -> HashParts<'a>
         requires own { FirstIn (own_rules TableKind.HashTable (sections_of linked.table.image.now) linked.table.index) None }
         requires symbols { let f = sections_of linked.table.image.now in

@@ -27,7 +27,7 @@ impl<'a> Model for HashWords<'a> {
 }
 
 impl<'a> HashWords<'a> {
-    /// Those of this content.
+    /// The words of this content.
     pub(crate) fn new(order: Order, table: &'a [u8]) -> HashWords<'a>
         ensures { result ≡ words_in order table.now }
     {
@@ -99,7 +99,7 @@ impl<'a> HashWords<'a> {
         self.get(2 + self.nbucket() as usize + s as usize)
     }
 
-    /// The same, and 0 if there is no such word.
+    /// The chain word of symbol `s`, and 0 if there is no such word.
     #[tactic(auto, unfolding(crate::specs::HashTable::chain))]
     pub(crate) fn chain_or_zero(&self, s: u32) -> u32
         ensures { result ≡ chain_word self.now s }
@@ -126,7 +126,7 @@ impl<'a> Model for SymbolNames<'a> {
 }
 
 impl<'a> SymbolNames<'a> {
-    /// Those of a symbol table of this content, with this content of its string table.
+    /// The names of a symbol table of this content, with this content of its string table.
     pub(crate) fn new(order: Order, table: &'a [u8], names: &'a [u8]) -> SymbolNames<'a>
         ensures { result ≡ names_in order table.now names.now }
     {

@@ -43,7 +43,7 @@ impl<'i, 'a> Model for NameHashes<'i, 'a> {
 }
 
 impl<'i, 'a> NameHashes<'i, 'a> {
-    /// Those of this image: none is kept.
+    /// The hashes of this image's names, of which none is kept.
     pub fn new(alloc: Global, image: &'i Image<'a>) -> NameHashes<'i, 'a>
         ensures { result ≡ sections_of image.entry.now }
     {

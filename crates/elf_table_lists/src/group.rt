@@ -69,7 +69,7 @@ impl<'a> Group<'a> {
         Ok(sound_group(image, i))
     }
 
-    /// Its flags: `GRP_COMDAT`, or 0 for none.
+    /// The group's flags: `GRP_COMDAT`, or 0 for none.
     pub fn flags(&self) -> u32
         ensures { result ≡ self.now.flags }
     {

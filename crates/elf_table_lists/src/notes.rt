@@ -22,7 +22,7 @@ use std::marker::Model;
 /// A note of a note section. It borrows from the bytes of the file.
 #[derive(Clone, Copy, Debug, PartialEq, Eq)]
 pub struct Note<'a> {
-    /// Its type, whose meaning is the owner's, whom the name names.
+    /// The type, whose meaning is the owner's, whom the name names.
     pub note_type: u32,
     /// The name, without its closing zero and its padding; empty where the note has none.
     pub name: &'a [u8],

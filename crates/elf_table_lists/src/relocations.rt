@@ -29,7 +29,7 @@ pub struct Relocation {
     pub offset: u64,
     /// The index of the symbol in the symbol table that the section links to.
     pub symbol: u32,
-    /// Its type, whose meaning is the processor's.
+    /// The type, whose meaning is the processor's.
     pub relocation_type: u32,
     /// The constant that is added; None in a section of type REL, where it is in the bytes that are relocated.
     pub addend: Option<i64>,

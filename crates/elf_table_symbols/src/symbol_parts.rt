@@ -40,7 +40,7 @@ impl<'a> SymbolParts<'a> {
     ghost use Rattle.elf_table_symbols.specs.Symbols.{parts_value, symbol_parts};
     ghost use Rattle.elf_table_symbols.specs.Symbols.{entry_count};
 
-    /// Those of this symbol table, with its index tables.
+    /// The parts of this symbol table, with its index tables.
     pub(crate) fn new(linked: LinkedTable<'_, 'a>, tables: IndexTables) -> SymbolParts<'a>
         requires { let t = linked.table in AreIndexTables (sections_of t.image.now) t.index (length t.image.now.sections) tables }
         ensures value { parts_value result ≡ symbol_parts (sections_of linked.entry.table.image.now) linked.entry.table.index }

@@ -105,7 +105,7 @@ impl<'i, 'a> TableSection<'i, 'a> {
         self.image.order()
     }
 
-    /// Its section header.
+    /// The section header.
     pub fn header(self) -> Shdr
         ensures { result ≡ section (sections_of self.entry.image.now) self.entry.index }
     {
@@ -120,7 +120,7 @@ impl<'i, 'a> TableSection<'i, 'a> {
         self.image.header_offset(self.index)
     }
 
-    /// Its content, empty where it has none in the file.
+    /// The section's content, empty where it has none in the file.
     pub fn content(self) -> &'a [u8]
         ensures bytes { result.now ≡ content (sections_of self.entry.image.now) self.entry.index }
         ensures size { length result.now ≡ (content_extent (section (sections_of self.entry.image.now) self.entry.index)).len }

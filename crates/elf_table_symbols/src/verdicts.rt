@@ -74,7 +74,7 @@ impl Verdicts {
 /// Which verdicts on symbol tables are known.
 #[derive(Clone, Copy, Drop)]
 pub enum SymbolVerdicts<'a> {
-    /// Those on the symbol table in each section.
+    /// The verdicts on the symbol table in each section.
     All(&'a Verdicts),
     /// None: a symbol table is validated when its verdict is asked for.
     Unknown,

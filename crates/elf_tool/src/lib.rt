@@ -1,5 +1,5 @@
-//! The program `elfmap` without its surroundings: its engines over any reader or source and any writer, the words of its command line,
-//! files of relocation rules, and [`run`], the whole program over its words and an [`Opener`] of files. [`laws`] has what holds of the
+//! The program `elfmap` without its surroundings: its engines over any reader or source and any writer, its command line,
+//! files of relocation rules, and [`run`], the whole program over its arguments and an [`Opener`] of files. [`laws`] has what holds of the
 //! texts of the commands.
 //!
 //! ```

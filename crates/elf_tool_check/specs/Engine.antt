@@ -1,4 +1,4 @@
--- What an engine does between its reader and its writer, in the words that all engines share.
+-- What an engine does between its reader and its writer: the definitions that all engines share.
 use Rattle.std.specs.Prelude.{◌≡◌, ◌⊎◌, ℕ, ◌+◌, ◌<◌, ◌≤◌, List, length, take, Option, Result, Ok, Err, IfOk, MatchResult, ◌++◌, codes}
 use Rattle.std.specs.Io.KnownBytes.{Appends, Consumes, IsAtEnd, Keeps}
 use Rattle.std.specs.Fmt.{decimal}

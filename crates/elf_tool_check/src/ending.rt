@@ -18,13 +18,13 @@ pub enum Status {
     Done,
     /// What was read is refused, and standard output says why, for `rewrite` and `link` standard error.
     Refused,
-    /// The words are not as the command takes them, or call for help, or a line of a file of rules is bad.
+    /// The arguments are not as the command takes them, or call for help, or a line of a file of rules is bad.
     Usage,
     /// A file could not be opened or read, the output could not be written, or an allocation failed.
     Failed,
 }
 
-/// The exit status where the machine gives no words: 2, wrong usage, where a word is not UTF-8, and
+/// The exit status where the machine gives no arguments: 2, wrong usage, where one is not UTF-8, and
 /// else 3.
 pub fn refuse_words<E: Write>(error: &io::Error, err: &mut E) -> u8
     ensures status { (status : Ending) × (result ≡ code_of status) }
@@ -33,7 +33,7 @@ pub fn refuse_words<E: Write>(error: &io::Error, err: &mut E) -> u8
 {
     let status = match error.kind() {
         io::ErrorKind::InvalidData => {
-            let _ = writeln!(err, "error: the words of the command line are not UTF-8");
+            let _ = writeln!(err, "error: the arguments are not UTF-8");
             Status::Usage
         }
         io::ErrorKind::OutOfMemory => fail(&ToolFault::OutOfMemory, err),

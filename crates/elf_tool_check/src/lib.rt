@@ -1,4 +1,4 @@
-//! The command `check` by itself, from the words of a command line to an exit status: its engine, [`check`], and [`run_check`], the
+//! The command `check` by itself, from a command line to an exit status: its engine, [`check`], and [`run_check`], the
 //! program that has this command alone; and what all commands share: files that are read whole, how an engine ends ([`Verdict`],
 //! [`ToolFault`]), the lines on a file, the [`Opener`] of files, the exit [`Status`], and what a program prints on standard error.
 //! `elf_tool_program`, the program with all commands, takes `check_file` from here.

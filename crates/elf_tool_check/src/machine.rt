@@ -29,8 +29,8 @@ pub fn check_on_machine(rt: &HostRuntime) -> u8
     }
 }
 
-/// The words of the command line, the program's name first. It fails with `InvalidData` where one is not UTF-8, with `OutOfMemory` when out
-/// of memory, and else as the machine does.
+/// The arguments of the command line, the program's name first. It fails with `InvalidData` where one is not UTF-8, with `OutOfMemory` when
+/// out of memory, and else as the machine does.
 pub fn words_of(rt: &HostRuntime) -> io::Result<Vec<String>> {
     Ok(env::args(rt)?.collect(rt.alloc())?)
 }

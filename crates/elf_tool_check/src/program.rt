@@ -11,10 +11,10 @@ use std::alloc::Global;
 use std::convert::AsStr;
 use std::io::Write;
 
-/// Runs the program that has `check` alone: `words` is its command line, whose first word is its own name, `files` opens the file
-/// that the words name, `out` takes what is said of it, and `err` takes the text of what goes wrong. A failed write to `err` changes
+/// Runs the program that has `check` alone: `words` is its command line, whose first argument is its own name, `files` opens the file
+/// that the arguments name, `out` takes what is said of it, and `err` takes the text of what goes wrong. A failed write to `err` changes
 /// nothing. After the name it takes `check FILE`, where FILE does not begin with `-`, or `check -- FILE`. The program with all commands
-/// reads the same FILE from these words. Anything else is wrong usage.
+/// reads the same FILE from these arguments. Anything else is wrong usage.
 ///
 /// Returns the exit status: 0 done, 1 refused, 2 wrong usage, 3 a file that cannot be opened, a failed read or write, or out of memory.
 pub fn run_check<S: AsStr, O: Opener, W: Write, E: Write>(

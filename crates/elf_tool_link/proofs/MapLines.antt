@@ -25,7 +25,7 @@ pub line_behind : {T : Type 0} (a c : Option (List ℕ)) (o q : Output) (front w
 line_behind a c o q front w ws v result is passed =
     line_of_last a c o q front w ws v result (is ∙ ap (λ (s : List ℕ). w ++ s) (behind_to_a_blank ws)) passed
 
--- ---- a line that ends with a name, which may be put together with the words before it
+-- ---- a line that ends with a name, which may be put together with what comes before it
 
 -- words after others, a blank, and what comes then
 abbrev pub to_a_name : List (List ℕ) → List ℕ → List ℕ

@@ -1,4 +1,4 @@
-//! The whole program: from the words of its command line to its exit status.
+//! The whole program: from its command line to its exit status.
 ghost use Rattle.std.specs.Prelude.{◌≡◌, ◌≤◌, length, map as map_list, option_copied};
 ghost use Rattle.elf_tool_check.specs.Ending.{EndsFile, code_of, ending_of};
 ghost use Rattle.elf_tool_check.specs.declared.ending.Status.{Status as Ending};
@@ -25,12 +25,12 @@ use std::alloc::Global;
 use std::convert::AsStr;
 use std::io::Write;
 
-/// Runs the program: `words` is its command line, whose first word is its own name, `files` opens
-/// the files that the words name, `out` takes what is said of them, and `err` takes the text of
+/// Runs the program: `words` is its command line, whose first argument is its own name, `files` opens
+/// the files that the arguments name, `out` takes what is said of them, and `err` takes the text of
 /// what goes wrong. A failed write to `err` changes nothing.
 ///
 /// Returns the exit status: 0 done, 1 refused, 2 wrong usage, a call for help or a bad line in the rule file, 3 a file that cannot be
-/// opened, a failed read or write, or out of memory. Time and memory are those of the command that the words name.
+/// opened, a failed read or write, or out of memory. Time and memory are those of the command that the arguments name.
 pub fn run<S: AsStr, O: Opener, W: Write, E: Write>(
     alloc: Global,
     words: &[S],
@@ -260,7 +260,7 @@ fn told_status<E: Write>(answer: Result<Verdict, ToolFault>, err: &mut E) -> Sta
     status_of(answer, err)
 }
 
-// The same where it read several files: the line on a file that it refuses reports which one.
+// How an engine ends that read several files: the line on a file that it refuses reports which one.
 fn linked_status<E: Write>(answer: Result<Verdict, ToolFault>, err: &mut E) -> Status
     ensures { result ≡ ending_of answer }
 {

@@ -111,7 +111,7 @@ fn object_within<W: Write>(
     }
 }
 
-/// The same of an object whose file is so long.
+/// Writes an object whose file is so long.
 fn object_of_length<W: Write>(
     alloc: Global,
     object: &Object<'_>,

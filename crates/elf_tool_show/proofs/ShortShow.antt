@@ -119,7 +119,7 @@ file_line_short h fits =
     by_order Little = omega arith
     by_order Big = omega arith
 
--- the words on an owner, of which a section has an index
+-- the names of an owner, of which a section's has an index
 abbrev IsIndexed : Owner → Type 0
 IsIndexed Header = Unit {0}
 IsIndexed ProgramTable = Unit {0}

@@ -23,7 +23,7 @@ unfoldable pub name_text : List ℕ → List ℕ
 name_text [] = codes "-"
 name_text (b ∷ bs) = if is_plain (b ∷ bs) then b ∷ bs else codes "#" ++ encode_lower (b ∷ bs)
 
--- a name that ends a line, as far as it is put together with the words before it: with a line feed, or not at all
+-- a name that ends a line, as far as it is put together with what comes before it: with a line feed, or not at all
 abbrev pub name_tail : Bool → List ℕ → List ℕ
 name_tail true name = name_text name ++ codes "\n"
 name_tail false name = []

@@ -167,7 +167,7 @@ impl LineEnd {
         self.start = put_before(bytes, self.start, &mut self.bytes);
     }
 
-    /// Its bytes.
+    /// The bytes.
     pub fn as_bytes(&self) -> &[u8]
         ensures { result.now ≡ self.now }
     {

@@ -1,2 +1,2 @@
--- Lemmas on the words of the command line.
+-- Lemmas on the arguments of the command line.
 pub mod WordLists

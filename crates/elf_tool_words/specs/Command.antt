@@ -1,4 +1,4 @@
--- The program's command: what its words may be, in the words of clap.
+-- The program's command: what its arguments may be, by clap's definitions.
 use Rattle.std.specs.Prelude.{◌≡◌, ◌⊎◌, true, false, Some, List, [], ◌∷◌, codes}
 use Rattle.clap.specs.declared.builder.action.ArgAction.TheVariants.{Append, SetTrue}
 use Rattle.clap.specs.Simple.{App, Shape, new_rule, new_shape, with_subcommand}

@@ -1,3 +1,3 @@
--- The words of this crate's contracts.
+-- The definitions that this crate's contracts use.
 pub mod Command
 pub mod Words

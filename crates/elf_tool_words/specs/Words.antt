@@ -1,4 +1,4 @@
--- What the words of a command line ask for: clap's definition of their matches, read.
+-- What the arguments of a command line ask for: clap's definition of their matches, read.
 use Rattle.std.specs.Prelude.{ℕ, ◌^◌, Bool, ◌&&◌, ◌||◌, List, codes, drop, length, nat_eq, nat_le, nat_lt, Option, None, Some}
 use Rattle.std.specs.Prelude.{if◌then◌else◌, ◌≡◌, ◌≢◌, ◌⊎◌, ◌<◌, ◌≤◌, true, false, [], map, option_copied, unwrap_or}
 use Rattle.std.specs.List.{list_all, starts_with}
@@ -109,7 +109,7 @@ CommandRefuses name rows TooManyFiles = IsLinking name × RefusesLinkWords rows 
 CommandRefuses name rows BadNumber = IsLinking name × RefusesLinkWords rows BadNumber
 CommandRefuses name rows OutOfMemory = Unit {0}
 
--- clap's definition takes the words, and gives a command and matches of which this holds
+-- clap's definition takes the arguments, and gives a command and matches of which this holds
 pub record Gives (words : List Text) (P : Text → List Row → Type 0) : Type 0 where
   pub taken : fault_of elfmap words ≡ []
   pub name : Text
@@ -117,12 +117,12 @@ pub record Gives (words : List Text) (P : Text → List Row → Type 0) : Type 0
   pub entered : subcommand_of elfmap words ≡ Some (name, rows)
   pub holds : P name rows
 
--- the words ask for this
+-- the arguments ask for this
 abbrev pub IsAskedBy : List Text → Request → Type 0
 IsAskedBy words request = Gives words (λ name rows. Asks name rows request)
 
--- the words are refused so: clap's definition does not take them, and gives the error's kind; or it takes them, and the command is refused;
--- or an allocation failed
+-- the arguments are refused so: clap's definition does not take them, and gives the error's kind; or it takes them, and the command is
+-- refused; or an allocation failed
 abbrev pub IsRefusedBy : List Text → WordsFault → Type 0
 IsRefusedBy words (Words error) = (takes elfmap words ≡ false) × IsAmong (kind_of error) (fault_of elfmap words)
 IsRefusedBy words TooManyFiles = Gives words (λ name rows. CommandRefuses name rows TooManyFiles)

@@ -1,7 +1,7 @@
-//! The words of elfmap's command line: what they ask for, as [`Request`], by [`read_words`].
+//! The arguments of elfmap's command line: what they ask for, as [`Request`], by [`read_words`].
 //!
 //! ```
-//! // The first word is the program's name.
+//! // The first argument is the program's name.
 //! let request = read_words(alloc, &["elfmap", "check", "header.elf"])?;
 //! assert_eq!(rt; request, Request::Check { file: "header.elf" });
 //! ```

@@ -1,4 +1,4 @@
-//! What the words of a command line ask for.
+//! What the arguments of a command line ask for.
 ghost use Rattle.std.specs.Prelude.{◌≡◌, ◌<◌, ◌≤◌, [], IfErr, IfOk, OnOk, codes, length, map, option_copied};
 ghost use Rattle.std.specs.List.{list_all};
 ghost use Rattle.clap.specs.Walk.{first_of};
@@ -108,10 +108,10 @@ pub enum Request<'a> {
     },
 }
 
-/// Why the words ask for nothing that the program does.
+/// Why the arguments ask for nothing that the program does.
 #[derive(Debug, Drop, thiserror::Error)]
 pub enum WordsFault {
-    /// The words are not as the command takes them, or call for help; the error has the text.
+    /// The arguments are not as the command takes them, or call for help; the error has the text.
     #[error("{0}")]
     Words(Error),
     /// More than 64 files are named.
@@ -163,13 +163,13 @@ impl From<Error> for WordsFault {
 /// How many files a command takes.
 const MOST_FILES: usize = 64;
 
-/// The request of a command line, whose first word is the program's own name.
+/// The request of a command line, whose first argument is the program's own name.
 ///
-/// It is the one that clap's definition of matches gives for the words, with its numbers read.
+/// It is the one that clap's definition of matches gives for the arguments, with its numbers read.
 /// [`WordsFault::Words`] comes only if that definition does not take them. If it does, out of memory aside,
 /// [`WordsFault::TooManyFiles`] comes exactly if it gives `map` or `link` more than 64 files, and otherwise [`WordsFault::BadNumber`]
 /// exactly if it gives one of these a number that is none.
-/// [`WordsFault::OutOfMemory`] comes only if an allocation fails. Names borrow from the words. Linear in their length.
+/// [`WordsFault::OutOfMemory`] comes only if an allocation fails. Names borrow from the arguments. Linear in their length.
 pub fn read_words<'a, S: AsStr>(alloc: Global, words: &'a [S]) -> Result<Request<'a>, WordsFault>
     ensures ok { IfOk result (IsAskedBy (map S.text words.entry.now)) }
     ensures err { IfErr result (IsRefusedBy (map S.text words.entry.now)) }
@@ -181,7 +181,7 @@ pub fn read_words<'a, S: AsStr>(alloc: Global, words: &'a [S]) -> Result<Request
     request_of(alloc, name, inner)
 }
 
-// What clap makes of the words.
+// What clap makes of the arguments.
 fn matches_of<'a, S: AsStr>(alloc: Global, words: &'a [S]) -> Result<ArgMatches<'a>, WordsFault>
     ensures taken { OnOk result (fault_of elfmap_app (map S.text words.entry.now) ≡ []) }
     ensures entered { IfOk result (λ matches.

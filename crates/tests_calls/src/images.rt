@@ -265,7 +265,7 @@ pub fn copy<S: Source, W: Write>(
     Ok(())
 }
 
-/// The exit status; what failed is reported on standard error, in the words of the program.
+/// The exit status; what failed is reported on standard error, as the program reports it.
 pub fn status<W: Write>(ended: Result<(), Stopped>, err: &mut W) -> u8 {
     let _ = match ended {
         Ok(()) => return 0,

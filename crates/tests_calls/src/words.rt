@@ -1,4 +1,4 @@
-//! The words of a command line.
+//! The arguments of a command line.
 use crate::said::{Said, say};
 use elf_tool_words::{WordsFault, read_words};
 use std::alloc::Global;

@@ -44,7 +44,7 @@ fn counts(alloc: Global, file: &[u8]) -> Result<[usize; 3], Fault> {
 /// The verdict on a file, and its counts.
 type File = (Option<(u16, u64)>, Result<[usize; 3], Fault>);
 
-/// Those of the file of an object.
+/// The verdict on the file of an object, and its counts.
 fn file_of(alloc: Global, object: &Object<'_>) -> Result<File, ObjectWriteFault> {
     let mut file = Vec::new(alloc);
     write_object(alloc, object, &mut file)?;

@@ -100,7 +100,7 @@ fn piece_count(
     }
 }
 
-// The same of a million extents.
+// How many pieces the account of a million extents has.
 fn piece_count_of_a_million(alloc: Global) -> Result<Option<usize>, OutOfMemory> {
     let extents = every_other(alloc, 1_000_000)?;
     piece_count(alloc, &extents, 2_000_000)

@@ -36,7 +36,7 @@ const EMPTY_OBJECT: [Field; 22] = [
     (360, 8, 1),
 ];
 
-/// Those of an object of one section `.text`, and its byte.
+/// The fields of an object of one section `.text`, and its byte.
 const ONE_SECTION: [Field; 29] = [
     (40, 8, 136),
     (58, 2, 64),
@@ -68,7 +68,7 @@ const ONE_SECTION: [Field; 29] = [
     (424, 8, 33),
     (440, 8, 1),
 ];
-/// Those of a file with a section of size 0 and one without bytes in the file, both far past its end.
+/// The fields of a file with a section of size 0 and one without bytes in the file, both far past its end.
 const EMPTY_CONTENTS: [Field; 10] = [
     (40, 8, 64),
     (58, 2, 64),
@@ -82,7 +82,7 @@ const EMPTY_CONTENTS: [Field; 10] = [
     (240, 8, 1),
 ];
 
-/// Those of a file of one loadable segment, and its program header.
+/// The fields of a file of one loadable segment, and its program header.
 const ONE_SEGMENT: [Field; 11] = [
     (16, 2, 2),
     (32, 8, 64),
@@ -97,7 +97,7 @@ const ONE_SEGMENT: [Field; 11] = [
     (112, 8, 0x1000),
 ];
 
-/// Those of a file of two loadable segments and two sections, with a gap between the sections.
+/// The fields of a file of two loadable segments and two sections, with a gap between the sections.
 const TWO_OF_EACH: [Field; 33] = [
     (16, 2, 2),
     (32, 8, 64),
@@ -134,7 +134,7 @@ const TWO_OF_EACH: [Field; 33] = [
     (352, 8, 8),
 ];
 
-/// Those of a file of one section, whose content and the gap before it are longer than a block.
+/// The fields of a file of one section, whose content and the gap before it are longer than a block.
 const LONG_PARTS: [Field; 7] = [
     (40, 8, 64),
     (58, 2, 64),
@@ -264,7 +264,7 @@ const CALLER: [Field; 46] = [
     (600, 8, 1),
 ];
 
-/// Those of the callee, and its byte.
+/// The fields of the callee, and its byte.
 const CALLEE: [Field; 32] = [
     (40, 8, 168),
     (58, 2, 64),

@@ -299,7 +299,7 @@ const ZEROS_OUT: [usize; 11] = [
 /// Relocations of 24 bytes, of which a block holds 170.
 const RELOCATIONS: usize = 400;
 
-/// The same of these.
+/// How many bytes of the relocations are out before each such call.
 const RELOCATIONS_OUT: [usize; 12] = [
     0, 1000, 2000, 3000, 4000, 4080, 5080, 6080, 7080, 8080, 8160, 9160,
 ];

@@ -14,7 +14,7 @@ use tests_files::{
     header_alone, one_section, one_segment, set, set_header, two_of_each,
 };
 
-// Sources read as images, without their contents. Files that a scan rejects are in `cases/`, under `check --seek`.
+// Sources read as images, without their contents. Files that a scan refuses are in `cases/`, under `check --seek`.
 
 fn part(owner: Owner, start: u64, len: u64) -> Part {
     Part { owner, start, len }
@@ -151,13 +151,13 @@ fn told_by(image: &Image<'_>) -> Told {
     (order, numbers, sections, segments)
 }
 
-/// The same of a file.
+/// The numbers, records and parts of a file's image.
 fn told(alloc: Global, file: &[u8]) -> Result<Told, Fault> {
     let image = parse(alloc, file)?;
     Ok(told_by(&image))
 }
 
-/// What is told of the file of one section, and of that of two segments and sections.
+/// The numbers, records and parts of the file of one section, and of that of two segments and sections.
 const TOLD: [Result<Told, Fault>; 2] = [
     Ok((
         (LITTLE, true),
@@ -190,7 +190,7 @@ fn name_and_content_of<'a>(image: &Image<'a>) -> Option<(&'a [u8], &'a [u8])> {
     Some((image.name(1), image.content(1)))
 }
 
-/// The same of a file. They outlive the image that reported them.
+/// The name and the content of section 1 of a file. They outlive the image that returned them.
 fn name_and_content<'a>(
     alloc: Global,
     file: &'a [u8],

@@ -53,7 +53,7 @@ fn failed_after(image: &Image<'_>, front: &[u8]) -> (Result<(), WriteFault>, boo
     (answer, writer.is_whole())
 }
 
-// Within the header, at its end, and within the gap behind the content.
+// Within the header, at its end, and within the gap after the content.
 #[test]
 fn a_failed_write_reports_what_is_written(rt: HostRuntime) -> Result<(), Fault> {
     let file = one_section(Order::Little);

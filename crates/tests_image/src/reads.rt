@@ -246,7 +246,7 @@ fn ends(at: u32, len: u32) -> (Result<TableEnds, ReadFault>, u64) {
     (ends, source.calls)
 }
 
-/// Those of three tables.
+/// The ends of three tables.
 const ENDS: [(Result<TableEnds, ReadFault>, u64); 3] = [
     (
         Ok(TableEnds {

@@ -175,7 +175,7 @@ fn first_three(indexes: &[Vec<usize>]) -> Option<[usize; 3]> {
     Some([*row.first()?, *row.get(1)?, *row.get(2)?])
 }
 
-/// Those that come with a map, and those that are looked up in it.
+/// The indexes that come with a map, and those that are looked up in it.
 fn indexes_by(
     alloc: Global,
     objects: &[Object<'_>],
@@ -186,7 +186,7 @@ fn indexes_by(
     Ok([first_three(&made.indexes), first_three(&found)])
 }
 
-/// The same of a link from 0x1000 on.
+/// Both kinds of indexes of a link from 0x1000 on.
 fn indexes_of(alloc: Global, objects: &[Object<'_>]) -> Result<[Option<[usize; 3]>; 2], LinkFault> {
     let options = Options {
         base: 0x1000,

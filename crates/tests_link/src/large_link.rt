@@ -176,7 +176,7 @@ fn told_of(
     Ok((map_told(&link, digits, base), file))
 }
 
-/// The same of the large link in this order, from this address on.
+/// What the large link in this order, from this address on, reports.
 fn told(alloc: Global, order: Order, base: u64) -> Result<(Mapped, Option<u8>), Fail> {
     let digits = digits(alloc)?;
     let objects = files(alloc, digits.as_bytes(), order)?;

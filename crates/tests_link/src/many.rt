@@ -169,7 +169,7 @@ fn told(link: &LinkMap<'_>) -> Told {
     (link.names().len(), first_wrong(link), bindings)
 }
 
-/// The same of the link of all symbols.
+/// The names and bindings of the link of all symbols.
 fn told_of_all(alloc: Global) -> Result<Told, Fail> {
     let names = numbered(alloc, COUNT)?;
     let link = linked(alloc, names.as_bytes())?;

@@ -75,7 +75,7 @@ fn outcome_of(alloc: Global, objects: &[Object<'_>]) -> Result<(usize, Option<u6
     Ok((link.commons().len(), first_wrong(&link)))
 }
 
-/// The same of the link of the files.
+/// How many commons the link of the files has, and the first one that is wrong.
 fn outcome(alloc: Global) -> Result<(usize, Option<u64>), Fail> {
     let names = numbered(alloc, NAMES as usize)?;
     let objects = files(alloc, names.as_bytes())?;

@@ -60,14 +60,14 @@ fn first_wrong(bytes: &[u8]) -> Option<usize> {
 /// How many bytes a section has, and the first wrong one.
 type Outcome = (usize, Option<usize>);
 
-/// Those of the section in the link of these objects.
+/// The outcome of the section in the link of these objects.
 fn outcome_of(alloc: Global, objects: &[Object<'_>]) -> Result<Outcome, LinkFault> {
     let rules = [rule(1, Form::Abs, Width::W1, Range::Unsigned)];
     let bytes = relocated_bytes(alloc, objects, &rules)?;
     Ok((bytes.len(), first_wrong(&bytes)))
 }
 
-/// The same of the link of such a file.
+/// The outcome of the section in the link of such a file.
 fn outcome_by(alloc: Global, step: usize) -> Result<Result<Outcome, LinkFault>, ObjectFault>
     requires { step < 10000 }
 {

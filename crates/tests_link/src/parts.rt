@@ -74,7 +74,7 @@ pub(crate) fn relocated_bytes(
     relocated_by(alloc, &map, objects, rules)
 }
 
-/// The same by their link map.
+/// The bytes of section 0 of the first file by the link map of the objects; none if they have no such section.
 fn relocated_by<'m, 'a>(
     alloc: Global,
     map: &'m LinkMap<'a>,

@@ -173,7 +173,7 @@ fn stand(alloc: Global, objects: &[Object<'_>]) -> Result<Stands, LinkFault> {
     ])
 }
 
-/// The same of the three kinds.
+/// What stands in the link of the three kinds.
 fn three_kinds_stand(alloc: Global) -> Result<Result<Stands, LinkFault>, ObjectFault> {
     let objects = [three_kinds(alloc)?];
     Ok(stand(alloc, &objects))

@@ -68,7 +68,7 @@ fn the_most_segments_and_one_more(rt: HostRuntime) {
     assert_same(&rt, more, Ok(TOO_LONG));
 }
 
-/// The same of 32,712 segments, each at a page of 32,768 bytes, of which the last one has so many bytes.
+/// What is written of 32,712 segments, each at a page of 32,768 bytes, of which the last one has so many bytes.
 fn outcome_of(alloc: Global, len: usize) -> Result<Written, ObjectFault> {
     let last = vec![in alloc; 3; len]?;
     outcome(alloc, 32_711, &last, 0x8000)

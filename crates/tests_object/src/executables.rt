@@ -61,7 +61,7 @@ pub(crate) fn write_linked<W: Write>(
     write_mapped(alloc, &map, objects, writer)
 }
 
-/// The same by their link map.
+/// Writes the executable of these objects by their link map.
 fn write_mapped<'m, 'a, W: Write>(
     alloc: Global,
     map: &'m LinkMap<'a>,

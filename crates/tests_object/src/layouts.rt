@@ -9,13 +9,13 @@ use tests_files::{object, section};
 /// Of a layout how many sections its file has, how long it is, and where its section header table is.
 type Numbers = (usize, u64, u64);
 
-/// Those of the layout of this object.
+/// The numbers of the layout of this object.
 fn numbers_of(alloc: Global, object: &Object<'_>) -> Result<Numbers, LayoutFault> {
     let layout = lay_out(alloc, object)?;
     Ok((layout.section_count(), layout.length(), layout.table()))
 }
 
-/// Those of an object of these sections, without symbols.
+/// The numbers of an object of these sections, without symbols.
 fn numbers_with(
     alloc: Global,
     sections: Vec<Section<'_>>,
@@ -24,7 +24,7 @@ fn numbers_with(
     Ok(numbers_of(alloc, &object))
 }
 
-/// Those of an object of so many sections with these contents, all of one name, flags and alignment.
+/// The numbers of an object of so many sections with these contents, all of one name, flags and alignment.
 fn numbers(
     alloc: Global,
     count: usize,

@@ -255,7 +255,7 @@ fn call_count_of_a_thousand(alloc: Global) -> Result<usize, Fail> {
     Ok(call_count(alloc, &object)?)
 }
 
-// A thousand contents of a byte, and the three tables behind them, take one call beside that of the header, that of the zeros before the
+// A thousand contents of a byte, and the three tables after them, take one call beside that of the header, that of the zeros before the
 // section header table, and one for each 64 section headers.
 #[test]
 fn short_contents_go_out_together(rt: HostRuntime) -> Result<(), Fail> {

@@ -57,7 +57,7 @@ fn told_by<'a>(image: &Image<'a>) -> Result<(bool, Option<&'a [u8]>), Fault> {
     ))
 }
 
-/// The same of a file. The library's name outlives the image.
+/// Both of section 1 of a file. The library's name outlives the image.
 fn told(alloc: Global, file: &[u8]) -> Result<(bool, Option<&[u8]>), Fault> {
     let image = parse(alloc, file)?;
     told_by(&image)

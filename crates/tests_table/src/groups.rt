@@ -77,13 +77,13 @@ fn told_by<'a>(alloc: Global, image: &Image<'a>) -> Result<(bool, Option<&'a [u8
     Ok((has_one_member(&group), name_of(&group, &symbols)))
 }
 
-/// The same of a file. The group's name outlives the image.
+/// Both of section 1 of a file. The group's name outlives the image.
 fn told(alloc: Global, file: &[u8]) -> Result<(bool, Option<&[u8]>), Fault> {
     let image = parse(alloc, file)?;
     told_by(alloc, &image)
 }
 
-/// Whether section 1 of the image is rejected when all tables are validated.
+/// Whether section 1 of the image is refused when all tables are validated.
 fn is_refused(alloc: Global, image: &Image<'_>) -> Result<bool, Fault> {
     if image.section_count() < 2 {
         return Ok(false);
@@ -92,7 +92,7 @@ fn is_refused(alloc: Global, image: &Image<'_>) -> Result<bool, Fault> {
     Ok(tables.verdict(1).is_err())
 }
 
-/// The same of the file, whose names of the signatures are cut.
+/// Whether section 1 of the file is refused if the names of the signatures are cut.
 fn is_refused_without_names(alloc: Global) -> Result<bool, Fault> {
     let mut file = group();
     file[424] = 2;

@@ -81,7 +81,7 @@ fn told_by(alloc: Global, image: &Image<'_>) -> Result<[bool; 2], Fault> {
     Ok([finds_each_name(&hash), has_words(&hash)])
 }
 
-/// The same of a file.
+/// Both of section 1 of a file.
 fn told(alloc: Global, file: &[u8]) -> Result<[bool; 2], Fault> {
     let image = parse(alloc, file)?;
     told_by(alloc, &image)

@@ -38,7 +38,7 @@ fn notes_of<'a>(image: &Image<'a>) -> Result<(Option<Note<'a>>, Option<Note<'a>>
     Ok((first, notes.next()))
 }
 
-/// The same of a file. They outlive the image.
+/// The first two notes of section 1 of a file. They outlive the image.
 fn notes_told<'a>(
     alloc: Global,
     file: &'a [u8],

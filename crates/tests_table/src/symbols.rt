@@ -119,7 +119,7 @@ fn are_of_the_call(image: &Image<'_>) -> Result<[bool; 3], Fault> {
     ])
 }
 
-/// The same of a file.
+/// What the call reports of a file.
 fn told(alloc: Global, file: &[u8]) -> Result<[bool; 3], Fault> {
     let image = parse(alloc, file)?;
     are_of_the_call(&image)
@@ -134,7 +134,7 @@ fn are_kept(alloc: Global, image: &Image<'_>) -> Result<Option<[bool; 2]>, Fault
     Ok(Some([tables.verdict(0).is_ok(), tables.verdict(3).is_ok()]))
 }
 
-/// The same of a file.
+/// Whether sections 0 and 3 of a file are accepted when all tables are validated; None if they are not there.
 fn are_kept_with_the_other_tables(alloc: Global, file: &[u8]) -> Result<Option<[bool; 2]>, Fault> {
     let image = parse(alloc, file)?;
     are_kept(alloc, &image)
@@ -148,13 +148,13 @@ fn other_type(image: &Image<'_>) -> Option<Fault> {
     Symbols::new(image, 4).err()
 }
 
-/// The same of a file.
+/// Why section 4 of a file is no symbol table; None if it is one, or is not there.
 fn other_type_told(alloc: Global, file: &[u8]) -> Result<Option<Fault>, Fault> {
     let image = parse(alloc, file)?;
     Ok(other_type(&image))
 }
 
-/// Its string table, section 4, is no symbol table.
+/// The file's string table, section 4, is no symbol table.
 const OTHER_TYPE: Fault = Fault::Rule {
     rule: rules::WRONG_TABLE_TYPE,
     at: STRINGS_HEADER + SH_TYPE_AT,
@@ -186,7 +186,7 @@ fn names_of<'a>(image: &Image<'a>) -> Result<(&'a [u8], Option<&'a [u8]>), Fault
     Ok((symbols.entry(2).name, strings.get(1)))
 }
 
-/// The same of a file. They live longer than the image.
+/// The name of symbol 2 of a file, and the string at 1. They live longer than the image.
 fn names_told(alloc: Global, file: &[u8]) -> Result<(&[u8], Option<&[u8]>), Fault> {
     let image = parse(alloc, file)?;
     names_of(&image)

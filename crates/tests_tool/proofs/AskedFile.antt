@@ -1,5 +1,5 @@
--- The words with which the program that has `check` alone opens a file ask the program with all commands to check this file. clap's
--- definition computes on them: of FILE it looks at the first byte alone, and behind `--` at none.
+-- The arguments with which the program that has `check` alone opens a file ask the program with all commands to check this file. clap's
+-- definition computes on them: of FILE it looks at the first byte alone, and after `--` at none.
 use Rattle.std.proofs.Common.{◌≡◌, ℕ, inl, inr, false, List, [], ◌∷◌, Option, Some, None, sym, refl, subst, nat_eq, arith}
 use Rattle.std.specs.Prelude.{codes}
 use Rattle.std.specs.Borrow.{Bor}

@@ -1,3 +1,3 @@
--- Lemmas on what the exit status of the program says, and on the words that both programs take.
+-- Lemmas on what the exit status of the program says, and on the arguments that both programs take.
 pub mod AskedFile
 pub mod Statuses

@@ -1,6 +1,6 @@
--- What the exit status says of known bytes, if the words are `check a.o`, or the same with `--seek`. Without `--seek` the file has at most
--- 2^30 bytes. These words make no other request, so the status is the engine's: 0 means that no rule is broken, 1 that one is. Nothing is
--- claimed of any other status.
+-- What the exit status says of known bytes, if the arguments are `check a.o`, or the same with `--seek`. Without `--seek` the file has at
+-- most 2^30 bytes. These arguments make no other request, so the status is the engine's: 0 means that no rule is broken, 1 that one is.
+-- Nothing is claimed of any other status.
 use Rattle.std.proofs.Common.{◌≡◌, ◌∙◌, ℕ, ◌^◌, ◌≤◌, inl, inr, true, false, List, [], ◌∷◌, ◌++◌, Option, Some, None, Result, Ok, Err}
 use Rattle.std.proofs.Common.{length, ap, sym, subst, arith, length-append}
 use Rattle.std.proofs.lemmas.List.{append-nil}
@@ -94,7 +94,7 @@ module _ (report : Report) (means : (b : List ℕ) (verdict : Verdict) (text : L
   status_says bytes input rest old new (Err fault) status short known call is =
       neither status bytes 3 (λ e. omega arith) (λ e. omega arith) (ap code_of is)
 
--- ---- the words of a check
+-- ---- the arguments of a check
 
 abbrev pub check_words : List Text
 check_words = codes "elfmap" ∷ codes "check" ∷ codes "a.o" ∷ []

@@ -10,7 +10,7 @@ use crate::program::{LimitedWriter, OneFile, Outcome, ROOM, assert_ran};
 use elf_tool_check::run_check;
 use std::alloc::Global;
 
-/// The words with which it opens a file ask the program with all commands to check this file.
+/// The arguments with which it opens a file ask the program with all commands to check this file.
 pub fn takes_the_same_file()
     ensures { (words : List (List ℕ)) (file : Bor (List ℕ)) → AsksFor words file.now → IsAskedBy words (Check file) }
 {}

@@ -70,7 +70,7 @@ pub fn status_of_check(alloc: Global, bytes: &[u8]) -> u8
     )
 }
 
-/// The same of `elfmap check --seek`, of a file of any length.
+/// The exit status of `elfmap check --seek`, of a file of any length.
 pub fn status_of_check_by_seeking(alloc: Global, bytes: &[u8]) -> u8
     ensures done { result ≡ 0 → IsFault bytes.now None }
     ensures refused { result ≡ 1 → (fault : ℕ × ℕ) × IsFault bytes.now (Some fault) }

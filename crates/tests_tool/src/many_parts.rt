@@ -82,7 +82,7 @@ const LAST: [Field; 17] = [
     (176, 8, 1),
 ];
 
-/// Those headers, where `count` sections are before them.
+/// The last section headers, where `count` sections are before them.
 fn last_sections(count: u32) -> [u8; 192] {
     let mut headers = [0; 192];
     set(&mut headers, Order::Little, &LAST);
@@ -202,7 +202,7 @@ fn shows_each_section(rt: HostRuntime) -> Result<(), AllocError> {
 
 const COUNT: usize = 65_535;
 
-/// Its header and section header 0, at 64; the program headers, at 128, are all zero.
+/// The file's header and section header 0, at 64; the program headers, at 128, are all zero.
 fn file(alloc: Global) -> Result<Vec<u8>, AllocError> {
     let fields = [
         (32, 8, 128),

@@ -235,7 +235,7 @@ fn assert_refused(rt: &impl Abort, kind: ErrorKind, status: u8, told: &str) {
 
 #[test]
 fn words_that_the_machine_does_not_give(rt: HostRuntime) {
-    let told = "error: the words of the command line are not UTF-8\n";
+    let told = "error: the arguments are not UTF-8\n";
     assert_refused(&rt, ErrorKind::InvalidData, 2, told);
     assert_refused(&rt, ErrorKind::OutOfMemory, 3, "out of memory\n");
     // The text of any other error is std's own.

@@ -80,7 +80,7 @@ class Cost(NamedTuple):
 
 
 def words_of(command: str, file: str, rules: str) -> list[str]:
-    """The words with which a command is run on a file."""
+    """The command line of a command on a file."""
     if command in OF_PYTHON:
         module, *more = OF_PYTHON[command]
         return [sys.executable, "-B", "-m", f"elfmap.{module}", *more, file]

@@ -76,8 +76,8 @@ def built_below(crates: Iterable[str]) -> tuple[FolderOf, list[str]]:
 
 
 def words(crate: str, folder_of: FolderOf) -> list[str]:
-    """The words with which `rattle check` and `rattle build` read a crate. `folder_of` returns the
-    folder of a library below it."""
+    """The arguments with which `rattle check` and `rattle build` read a crate. `folder_of` returns
+    the folder of a library below it."""
     rlibs = {name: folder_of(name) for name in below(crate)}
     found = ["--crate-name", crate, "src/main.rt" if is_program(crate) else "src/lib.rt"]
     for name in ["std", *LIBRARIES_OF[crate]]:

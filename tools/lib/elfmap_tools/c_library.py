@@ -81,7 +81,7 @@ def answer(
 
 
 def answer_of(case: Case) -> bytes | None:
-    """The case's answer in C; None where the words or the files are wrong, not the rules."""
+    """The case's answer in C; None where the arguments or the files are wrong, not the rules."""
     if case.status == 0:
         return answer(DONE, case.out)
     is_on_output = case.status == 1 and case.words[0] in ("show", "map")
@@ -98,7 +98,7 @@ def answer_of(case: Case) -> bytes | None:
 
 
 def call_of(case: Case) -> list[str] | None:
-    """The words of the test for a case; None where it needs a file that is none."""
+    """The arguments of the test for a case; None where it needs a file that is none."""
     given = dict(it.partition("=")[::2] for it in case.needs)
     options, files = parsed(case.words)
     command = case.words[0]

@@ -81,8 +81,8 @@ def examples_in(crate: str, path: str) -> Iterator[Example]:
 
 
 def words(crates: list[str]) -> list[str]:
-    """The words with which `rattle check` reads the examples over the sources of these crates and
-    of those below them."""
+    """The arguments with which `rattle check` reads the examples over the sources of these crates
+    and of those below them."""
     found = ["check", "--crate-name", "doc_examples", "src/lib.rt", "--only", ""]
     crates = list(dict.fromkeys(it for crate in crates for it in [*below(crate), crate]))
     of_kit = {it for crate in crates for it in LIBRARIES_OF[crate] if it not in LIBRARIES_OF}

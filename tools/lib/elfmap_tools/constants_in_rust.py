@@ -14,7 +14,7 @@ HEAD = """\
 //! tables` from the Python package, bindings/python/elfmap/constants.py.
 //!
 //! Numbers that processors and systems add are not here, but for those of machines."""
-# The field of a kind, in the words on it.
+# The field of a kind, in the comment on it.
 FIELD = re.compile(r"`(\w+)`")
 # The constants of one kind, and the types of the fields that hold them.
 Kind = Union[type[IntEnum], type[IntFlag]]

@@ -1,9 +1,9 @@
-"""docs/generated/DEFINITIONS.md, the words that contracts name, beside the comments in
+"""docs/generated/DEFINITIONS.md, the definitions that contracts name, beside the comments in
 crates/*/specs/.
 
-`tools/release definitions` brings the page up to the comments. The page lists the words: a line "|
-`WORD`" in it becomes the word's row. A word that has no comment of its own keeps the sentence in
-its row."""
+`tools/release definitions` brings the page up to the comments. The page lists the definitions: a
+line "| `NAME`" in it becomes the definition's row. One without a comment of its own keeps the
+sentence in its row."""
 
 import functools
 import glob
@@ -14,7 +14,7 @@ from .sources import Definition, definitions
 from .tree import TOP, Options, read_text, write
 
 DEFINITIONS = "docs/generated/DEFINITIONS.md"
-# A row: its word, and its sentence if it has one.
+# A row: its definition, and its sentence if it has one.
 ROW = re.compile(r"^\| `([^`]+)`(?: \| (.*?) \|)?.*$", re.M)
 
 

@@ -65,7 +65,7 @@ class Page:
             self.add(public_crate, f"{anchor}.{it.name}", f"{path}::{it.name}", it)
 
     def whole(self) -> str:
-        """The page, by its template, which asks for the definitions behind all that leads to
+        """The page, by its template, which asks for the definitions after all that leads to
         them."""
         import jinja2
 

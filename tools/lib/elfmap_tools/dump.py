@@ -285,7 +285,7 @@ def c_lines(content: bytes) -> list[str]:
 
 # ---- for bindings/rust and bindings/python
 
-# Of a longer file the records alone are told: the reference is slow.
+# Of a longer file the records alone are printed: the reference is slow.
 LONG = 1 << 20
 
 

@@ -219,7 +219,7 @@ def growths(tally: Tally) -> None:
 
 
 def calls() -> Iterator[tuple[str, list[str], list[str]]]:
-    """Of each call the program, the words, and the files among them."""
+    """Of each call the program, the arguments, and the files among them."""
     both = ["caller.o", "callee.o"]
     broken = ["caller.o", "refused", "callee.o"]
     for name in ("call_0", "caller.o", "many.o", "full.o", "refused", "/bin/true"):

@@ -37,7 +37,7 @@ class Function:
     end: int
 
     def __post_init__(self) -> None:
-        # Its fault, and what the head says of it: `out` where out of memory is the only one,
+        # The fault, and what the head says of it: `out` where out of memory is the only one,
         # `other` of any other `Result`.
         answer = self.head.partition("->")[2].strip("() {")
         found = re.search(r"(\w+)>$", answer)

@@ -12,7 +12,7 @@ COLUMNS = 100
 MADE = "What include/elfmap.h declares. Made by `tools/release tables` from it, not edited by hand."
 # What the crate for Rust has above its structs.
 DERIVED = "#[derive(Clone, Copy, Debug, Default, PartialEq, Eq, Hash)]"
-# The greatest number that JavaScript tells from the next one.
+# The greatest number that differs from the next one in JavaScript.
 MOST_WHOLE = 2**53 - 1
 # The names of two records there: its `Section` and `Segment` have more than the record.
 RECORDS = {"Section": "SectionHeader", "Segment": "ProgramHeader"}
@@ -23,7 +23,7 @@ CALLS: dict[str, list[Any]] = {"""
 
 
 def sentence(words: str) -> str:
-    """The words of a comment as a sentence."""
+    """A comment as a sentence."""
     return f"{words[0].upper()}{words[1:].removesuffix('.')}."
 
 

@@ -9,7 +9,7 @@ from .tree import LIBRARIES_OF, read_text, texts_of
 
 # The numbers of Rattle, as C has them.
 IN_C = {rattle: name for name, rattle in NUMBERS.items()}
-# The words on a struct begin with its tag.
+# The comment on a struct begins with its tag.
 STRUCT = re.compile(
     rf"^/// `struct ({PREFIX}\w+)`.*\n#\[repr\(C\)\]\n(?:#.*\n)*pub struct (\w+) \{{\n([^}}]*)\}}",
     re.M,

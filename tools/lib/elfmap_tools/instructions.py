@@ -31,7 +31,8 @@ PLACE = ["--base", "0x400000", "--page", "0x1000"]
 BY_RULES = ["--rules", "RULES"]
 PIPE = "/dev/stdin"
 PIPE_LENGTH = 1 << 20
-# The words of each command; its files follow. RULES and ENTRY are replaced by those of the input.
+# The arguments of each command; its files follow. RULES and ENTRY are replaced by those of the
+# input.
 COMMANDS = {
     "check": ["check"],
     "check of a pipe": ["check", PIPE],

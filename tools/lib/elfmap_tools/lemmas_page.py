@@ -57,7 +57,7 @@ def shown_by(crate: str) -> dict[str, Place]:
 
 
 def words_of(listed: str) -> list[str]:
-    """The words of an import."""
+    """The names of an import."""
     return [it.split(" as ")[0].strip() for it in listed.split(",")]
 
 

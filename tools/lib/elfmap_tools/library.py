@@ -27,7 +27,7 @@ FUNCTIONS = ("alloc", "dealloc", "realloc")
 RENAMED = [word for it in FUNCTIONS for word in ("--redefine-sym", f"rattle_{it}=elfmap_{it}")]
 SOURCES = f"{TOP}/bindings/c"
 WARNINGS = ["-std=c99", "-pedantic", "-Wall", "-Wextra", "-Werror", f"-I{TOP}/include"]
-# What `ar` is told.
+# The script that `ar` runs.
 SCRIPT = f"""create libelfmap.a
 addlib {VERDICTS}.a
 addlib {ENGINES}.a
@@ -80,6 +80,6 @@ def shared(archive: str, folder: str) -> str:
 
 
 def packed() -> str:
-    """The archive in the folder of the library, packed anew where a part of it is newer."""
+    """The archive in the folder of the library, packed again where a part of it is newer."""
     parts = [*map(built, (VERDICTS, ENGINES)), f"{SOURCES}/memory.c"]
     return LIBRARY if is_newer(LIBRARY, parts) else pack(FOLDER)

@@ -18,13 +18,13 @@ COMMANDS = " ".join(
 
 
 class Tools(NamedTuple):
-    """The words of the assembler and of the linker of a machine."""
+    """The commands of the assembler and of the linker of a machine."""
 
     assembler: list[str]
     linker: list[str]
 
 
-# Those of each machine but this one.
+# The tools of each machine but this one.
 TOOLS = {machine: Tools([f"{target}-as"], [f"{target}-ld"]) for machine, target in MACHINES.items()}
 for machine, (triple, emulation) in BY_LLVM.items():
     by_llvm = ["llvm-mc-19", "-filetype=obj", f"-triple={triple}"]

@@ -23,7 +23,7 @@ IN_SECTIONS = "-ffunction-sections -fdata-sections -fasynchronous-unwind-tables"
 
 
 class Program(NamedTuple):
-    """A program: the words of the compiler, its base and page, and whether it fits there."""
+    """A program: the compiler's options, its base and page, and whether it fits there."""
 
     title: str
     words: str
@@ -48,7 +48,7 @@ def both_of(shop: Workshop, program: Program) -> Both:
     flags = [*LD_FLAGS, *program.words.split()]
     objects = [shop.compiled("gcc", f"{it}.c", flags) for it in PARTS]
     for it in objects:
-        # ld reads .eh_frame and writes it anew.
+        # ld reads .eh_frame and writes another one.
         shop.wanted("objcopy", "--rename-section", ".eh_frame=.frames", it)
     return Both(shop, objects, program.base, program.page, RULES, ["ld", "-m", "elf_x86_64"])
 

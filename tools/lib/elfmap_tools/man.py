@@ -103,8 +103,8 @@ def page(version: str) -> str:
     return by_pandoc("elfmap", version, list(map(with_tags, text)))
 
 
-# The help of a command, each thing listed in one line; the words of these, with what is said of
-# them; and the words that an option takes.
+# The help of a command, each thing listed in one line; the names of these, with what is said of
+# them; and the values that an option takes.
 HELP = r"--help 2>&1 | sed -zE 's/\n {10,}/  /g'"
 LISTED = r"sed -nE 's/^ +(-., )?(--?[a-z0-9-]+|[a-z]+)( [^ ]+)*  +(.*)/\2\t\4/p'"
 CHOICES = r"sed -nE 's/^ +'$before' \{(.*)\}.*/\1/p'"

@@ -1,8 +1,8 @@
 """`tools/dev minutes PID`: the processor minutes of what the process PID starts, by part (each
 program that it starts itself, and each test of `tools/test`) and by crate.
 
-It looks every two seconds at the processes below PID, until it is told to end (SIGTERM) or PID is
-gone, and then prints what it saw. A crate has the minutes of the checker's runs on it: its proof,
+It looks every two seconds at the processes below PID, until a SIGTERM ends it or PID is gone, and
+then prints what it saw. A crate has the minutes of the checker's runs on it: its proof,
 its tests, the edits of its must-fail/, and its planted bugs. What a process did after the last look
 at it is lost, two seconds at most."""
 
@@ -138,7 +138,7 @@ def print_row(head: str, cells: Iterable[str]) -> None:
 
 
 def print_minutes(options: Options) -> None:
-    """Looks until it is told to end, and prints what was seen."""
+    """Looks until a signal ends it, and prints what was seen."""
     ended: list[bool] = []
     signal.signal(signal.SIGTERM, lambda *_: ended.append(True))
     minutes = Minutes(options.pid)

@@ -1,7 +1,7 @@
 """Mutation tests: the check has to refuse each bug of crates/CRATE/mutations.txt (CONTRIBUTING.md),
 at the function that it is planted in.
 
-Bugs are planted several at a time, each in a function of its own. If a check cannot tell, because
+Bugs are planted several at a time, each in a function of its own. If a check cannot decide, because
 all that it has against a function is that it calls another one that is open too, or because proof
 files name what the bug took away, the next check decides, and at last one of this bug alone. A
 check reads only the functions that have a bug, and those that they call: that is why it takes less

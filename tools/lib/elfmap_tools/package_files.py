@@ -227,8 +227,8 @@ def deb(name: str, tree: str, folder: str, version: str) -> None:
         wanted("dpkg-deb", "--root-owner-group", "-Zxz", "--build", root, path)
 
 
-# setuptools can't see that the package has a library: it would tell installers that its files serve
-# every machine.
+# setuptools can't see that the package has a library: it would mark the package as one for every
+# machine.
 BINARY_WHEEL = """
 import setuptools
 from wheel.bdist_wheel import bdist_wheel

@@ -82,7 +82,7 @@ TO_FIRST_BYTES = (
     "document.querySelector('#offset').value = '0'; document.querySelector('#go').click()"
 )
 # A header of no sections and no segments; a file that begins with it, and is read for longer than
-# the page waits before it draws anew in a window of another size; and a file of which the page has
+# the page waits before it draws again in a window of another size; and a file of which the page has
 # the verdict at once, and the findings of tables much later.
 HEADER_ALONE = generated.File().bytes()[:64]
 HEADER_ALONE = HEADER_ALONE[:40] + bytes(8) + HEADER_ALONE[48:60] + bytes(4)
@@ -252,7 +252,7 @@ class InChromium(Browser):
         self.press("ARROW_RIGHT")
         label = self.value("document.activeElement.ariaLabel")
         words = self.text("#map-words")
-        self.check(words == label, f"the arrow leads to {label}, and the words are {words}")
+        self.check(words == label, f"the arrow leads to {label}, and the text is {words}")
         self.press("ENTER")
         self.waits("document.querySelector('#map [aria-current=true]')", "the part is not chosen")
         scale = "document.querySelector('#map-scale').textContent"
@@ -302,7 +302,7 @@ class InChromium(Browser):
             )
 
     def for_readers(self) -> None:
-        """What a reader of the screen is told."""
+        """What a screen reader says."""
         nodes = [
             it for it in self.call("Accessibility.getFullAXTree")["nodes"] if not it["ignored"]
         ]
@@ -396,21 +396,21 @@ class InChromium(Browser):
         )
 
     def broken_tables(self) -> None:
-        """Each rule of tables that a file of the cases breaks is told, with its name, its place and
-        what to do."""
+        """Each rule of tables that a file of the cases breaks is shown, with its name, its place
+        and what to do."""
         for rule, content, out in explained("table "):
             self.show(write(f"{self.room}/table-{rule}", content))
             _, section, _, at = next(
                 line.split() for line in out.splitlines() if line.startswith("refused ")
             )
             found = self.text("#findings li")
-            is_told = (
+            is_shown = (
                 f": rule {rule}, " in found
                 and f" at {int(at):#x}, " in found
                 and "What to do: " in found
             )
             self.check(
-                is_told and self.text("#verdict") == SOUND,
+                is_shown and self.text("#verdict") == SOUND,
                 f"rule {rule} of the table in section {section}: {found}",
             )
         self.click("#findings li a:nth-of-type(2)")
@@ -489,7 +489,7 @@ class InChromium(Browser):
         for path in ("/bin/true", write(f"{self.room}/nothing", b"")):
             self.value(WATCH_WORDS)
             self.drop(slow)
-            # Its verdict is there, and its tables are not yet checked.
+            # The verdict of slow.o is there, and the tables of slow.o are not yet checked.
             words = "/^Reading slow.o/.test(document.querySelector('#said').textContent)"
             self.waits(
                 f"{words} && !document.querySelector('#main').hidden", "the first file is not shown"
@@ -541,7 +541,7 @@ class InChromium(Browser):
             # What would be sent has come by then.
             time.sleep(1)
         self.check(not asked, f"the page sends {asked}")
-        # The browser tells of each.
+        # The browser logs each.
         self.driver.get_log("browser")
 
     def silent(self, when: str) -> None:
@@ -748,7 +748,7 @@ class InChromium(Browser):
         )
 
     def show_part_of_map(self) -> None:
-        """The words of a part of the map, among several short ones, have a name that is cut, and a
+        """The text of a part of the map, among several short ones, has a name that is cut, and a
         button that shows all of it."""
         buttons = "[...document.querySelectorAll('#map button')]"
         found = f"{buttons}.find((it) => it.ariaLabel.includes('{{}}'))"
@@ -764,7 +764,7 @@ class InChromium(Browser):
         button = self.text("#map-name")
         self.check(
             len(words) < 2 * MOST_CHARACTERS and f"Show all {NAME:,} bytes" in button,
-            f"the words of the part are {words[:1000]}",
+            f"the text of the part is {words[:1000]}",
         )
         self.click("#map-name button")
         shown = f"document.querySelector('#map-name .whole')?.textContent.length === {NAME}"

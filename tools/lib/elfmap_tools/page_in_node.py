@@ -52,9 +52,9 @@ def scripts_in_node(tally: Tally) -> None:
 
 
 def told_in_node(tree: str, room: str, files: list[str]) -> dict[str, list[str]]:
-    """What the page's reader in a tree tells of these files."""
+    """What the page's reader in a tree says of these files."""
     layout_path = write(f"{room}/layout.json", json.dumps(layout()))
-    # Its folder is that of the tree, where it is a link too.
+    # The script's folder is that of the tree, where it is a link too.
     script = ["node", "--preserve-symlinks-main", f"{tree}/cases/sources/page_reads_as_show.js"]
     told: dict[str, str] = {}
     for k in range(0, len(files), 500):
@@ -70,7 +70,7 @@ def shown_by_program(path: str) -> list[str]:
 
 
 def in_node(tally: Tally, room: str, count: int) -> None:
-    """What the page's reader tells of files is what `elfmap show` prints."""
+    """What the page's reader says of files is what `elfmap show` prints."""
     scripts_in_node(tally)
     for path, own in told_in_node(TOP, room, files_for_node(room, count)).items():
         lines = shown_by_program(path)
@@ -85,8 +85,8 @@ def shown_of_cases(room: str) -> dict[str, list[str]]:
 
 
 def different_from_show(tree: str, room: str) -> str:
-    """What the page's reader in a tree tells otherwise of files of the cases than `elfmap show`;
-    nothing where all is the same."""
+    """The files of the cases of which the page's reader in a tree says something else than
+    `elfmap show`; nothing where there are none."""
     shown = shown_of_cases(room)
     try:
         with tempfile.TemporaryDirectory(dir=room) as own:

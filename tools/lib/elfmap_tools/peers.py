@@ -62,7 +62,7 @@ def case_files() -> Files:
     found: Files = {}
     for it in every_case():
         if it.words[:1] and it.words[0] in KINDS and len(it.words) == 2 and len(it.needs) == 1:
-            # `rewrite` tells a refusal on standard error.
+            # `rewrite` prints a refusal on standard error.
             rule = refused_by((it.out + it.err).decode("latin1"))
             if rule in KINDS[it.words[0]]:
                 note(found, rule, bytes(it.files[it.needs[0].partition("=")[2]]))

@@ -101,7 +101,7 @@ def compare_usages(tally: Tally, folder: str) -> None:
 
 
 def words_of(usage: str) -> list[str]:
-    """The words and options of a usage, in any order."""
+    """The arguments and options of a usage, in any order."""
     return sorted(re.findall(r"\[[^\]]*\]|--\w+ [A-Z]+|\S+", usage))
 
 

@@ -37,7 +37,7 @@ RunTest = Callable[[str, str, str], Texts]
 
 class Part(NamedTuple):
     """A folder with a file mutations.txt: what its tests need, what they read a copy of, how one is
-    run, and what is found in the words of one that failed. `at_once` is how many bugs are planted
+    run, and what is found in the output of one that failed. `at_once` is how many bugs are planted
     side by side."""
 
     commands: str
@@ -83,7 +83,7 @@ def by_node(tree: str, test: str, room: str) -> Texts:
 
 
 PARTS = {
-    # Its tests are in Python. A program that is not compiled is an error, and no failure.
+    # The tests are in Python. A program that is not compiled is an error, and no failure.
     "bindings/c": Part(
         PACKERS, ("bindings/c", "bindings/python"), by_unittest, r"^FAILED \(failures=\d+\)$"
     ),

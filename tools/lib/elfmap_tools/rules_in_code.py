@@ -98,7 +98,7 @@ def rattle(words: str, rules: list[Rule]) -> str:
     lines = [
         f"//! The names of rules by their numbers. {MADE}",
         "",
-        f"/// {about}; empty where no rule has the number.",
+        *(f"/// {it}" for it in filled(f"{about}; empty where no rule has the number.", 136)),
         FUNCTION,
         f"const NAMES: [&str; {count}] = [",
         *(f'    "{names.get(number, "")}",' for number in range(count)),

@@ -46,7 +46,7 @@ class Listener(http.server.BaseHTTPRequestHandler):
     do_GET = do_POST = note
 
     def log_message(self, format: str, *words: object) -> None:
-        """Nothing: a request is a failure of the test, which tells it."""
+        """Nothing: a request is a failure of the test, which prints it."""
 
 
 @contextlib.contextmanager

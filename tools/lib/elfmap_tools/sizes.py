@@ -120,7 +120,7 @@ class Parser:
         return self.tokens[self.at] if self.at < len(self.tokens) else ""
 
     def take(self, wanted: str = "") -> str:
-        """Goes behind the next token, which has to be this one, if one is given."""
+        """Goes past the next token, which has to be this one, if one is given."""
         found = self.peek()
         if not found or wanted and found != wanted:
             raise Unread(f"{found} where {wanted or 'something'} is wanted")
@@ -207,7 +207,7 @@ class Parser:
         return found
 
     def skip(self, *ends: str) -> None:
-        """Goes behind the first of these that is in no brackets."""
+        """Goes past the first of these that is in no brackets."""
         level = 0
         while level or self.peek() not in ends:
             token = self.take()

@@ -134,7 +134,7 @@ def signature_and_clauses(text: list[str]) -> tuple[list[str], list[str]]:
 
 
 def imports(text: str) -> Uses:
-    """What the words of the logic in a text stand for, by its `use` lines: a path and a name
+    """What the names of the logic in a text stand for, by its `use` lines: a path and a name
     there."""
     found: Uses = {}
     for path, names in IMPORT.findall(text):

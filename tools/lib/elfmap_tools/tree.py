@@ -26,7 +26,7 @@ PACKAGE = f"{TOP}/bindings/python"
 Answer = tuple[int, bytes, bytes]
 Ended = subprocess.CompletedProcess[bytes]
 Texts = subprocess.CompletedProcess[str]
-# The words that a command or a test was given.
+# The arguments that a command or a test was given.
 Options = argparse.Namespace
 T = TypeVar("T")
 R = TypeVar("R")

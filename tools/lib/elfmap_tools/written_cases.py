@@ -1,5 +1,5 @@
-"""Cases: the words with which elfmap is run, the files that it is given, and what it has to answer.
-The heads of cases/*.txt say how they are written."""
+"""Cases: the arguments with which elfmap is run, the files that it is given, and what it has to
+answer. The heads of cases/*.txt say how they are written."""
 
 import glob
 import os
@@ -17,9 +17,9 @@ Files = dict[str, bytearray]
 
 @dataclass
 class Case:
-    """The words, the files they need (a place, `=` and the file's name, or a folder), the answer,
-    and what another test needs of it; where it is written, and the files by their names; and what
-    holds of an output that is not given."""
+    """The arguments, the files they need (a place, `=` and the file's name, or a folder), the
+    answer, and what another test needs of it; where it is written, and the files by their names;
+    and what holds of an output that is not given."""
 
     words: list[str]
     needs: list[str]
@@ -51,7 +51,7 @@ class Case:
 
 
 def text_of(words: str) -> list[str]:
-    """The words of a line. A byte of a word that is no text is written \\xNN there."""
+    """The arguments in a line. A byte of one that is no text is written \\xNN there."""
     found: list[str] = []
     for it in shlex.split(words):
         bare = re.sub(rb"\\x(..)", lambda byte: bytes.fromhex(byte[1].decode()), it.encode())

@@ -1,5 +1,5 @@
 -- Group by group: those so far are split by whether their openers have bits, and the rest is left (`AreSplit`). At the end the ones without
--- bits go behind the others.
+-- bits go after the others.
 use Rattle.std.proofs.Common.{◌≡◌, ◌∷◌, map, subst, rules, true, false}
 use Rattle.std.proofs.lemmas.List.{get_or_read, map-append}
 use Rattle.elf_link_files.specs.Rows.{site, site_at}

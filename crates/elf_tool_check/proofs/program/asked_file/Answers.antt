@@ -1,4 +1,4 @@
--- A command line that asks for a file: the words at the places that the code looks at are the whole line, by its length.
+-- A command line that asks for a file: the arguments at the places that the code looks at are the whole line, by its length.
 use Rattle.std.proofs.Common.{rules, ◌≡◌, ℕ, ◌<◌, ◌≤◌, false, List, [], ◌∷◌, length, get_or, map, inl, inr, arith, nat_eq}
 use Rattle.std.specs.Prelude.{codes}
 use Rattle.std.specs.List.{starts_with}

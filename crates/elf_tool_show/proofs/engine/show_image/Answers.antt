@@ -28,7 +28,7 @@ file_buffered : (a : Option (List ℕ)) (o p : Output) (h header : Ehdr) → h �
 file_buffered a o p h header same pushed count =
     subst (λ (x : Ehdr). Buffers a a o p (file_line x)) same (buffers_line a a o o p [] (file_line h) (buffers_none a o) pushed count)
 
--- the first line and the parts are sent; what stops behind them stops in the whole text
+-- the first line and the parts are sent; what stops after them stops in the whole text
 parts_cut : (a x y : Option (List ℕ)) (o p q : Output) (b : List ℕ) (v : ImageValue) (h : Ehdr) (ps : List Part) (rest : List ℕ)
     (fault : ToolFault)
     → o.pending.items ≡ [] → o.written ≡ 0 → h ≡ v.header → p.pending.items ≡ o.pending.items ++ file_line h → p.written ≡ o.written

@@ -41,7 +41,7 @@ false_from_not_true : (b : Bool) → ¬ (b ≡ true) → b ≡ false
 false_from_not_true true not = absurd (not refl)
 false_from_not_true false not = refl
 
--- an error of clap refuses the words as its fault reports it: other than out of memory it comes only where clap does not take them
+-- an error of clap refuses the arguments as its fault reports it: other than out of memory it comes only where clap does not take them
 refused_by : (a : App) (words : List Text) (error : Error) (fault : WordsFault) → a ≡ elfmap →
     (takes a words ≡ true → kind_of error ≡ kind.OutOfMemory) →
     HasKind (fault_of a words) error → Tells error fault → IsRefusedBy words fault
