@@ -79,9 +79,9 @@ def group_lines(f, i):
 def note_lines(f, i):
     for at, _, name, descriptor in tables.notes(f, i):
         begin = at + 12 + tables.padded(name)
-        told = f.bytes[at + 12 : at + 12 + name][:-1]
+        name_bytes = f.bytes[at + 12 : at + 12 + name][:-1]
         digits = f.bytes[begin : begin + descriptor].hex() or "-"
-        yield f"note {i} {f.number(at + 8, 4)} {word(told)} {digits}"
+        yield f"note {i} {f.number(at + 8, 4)} {word(name_bytes)} {digits}"
 
 
 def dynamic_lines(f, i):

@@ -644,7 +644,7 @@ static void check_null(void) {
 /* ---- What an engine answers for files. */
 
 /* Appends the bytes of a file to those that are there. */
-static void read_behind(const char *path, uint8_t **bytes, size_t *len) {
+static void read_after(const char *path, uint8_t **bytes, size_t *len) {
     FILE *file = fopen(path, "rb");
     if (!file || fseek(file, 0, SEEK_END) != 0)
         stop(path);
@@ -662,7 +662,7 @@ static uint64_t number_of(const char *word) {
     return strtoull(word, NULL, strncmp(word, "0x", 2) == 0 ? 16 : 10);
 }
 
-static int tell(int count, char **words) {
+static int run_engine(int count, char **words) {
     static const char *const engines[] = {"show", "rewrite", "refused-tables", "map", "link"};
     uint8_t *bytes = NULL, *rules = malloc(1);
     struct elfmap_extent *files = malloc((size_t) count * sizeof *files);
@@ -679,14 +679,14 @@ static int tell(int count, char **words) {
         call.options.page = number_of(words[3]);
         call.options.uses_rules = strcmp(path, "-") != 0;
         if (call.options.uses_rules)
-            read_behind(path, &rules, &call.rules_len);
+            read_after(path, &rules, &call.rules_len);
         call.rules = rules;
         call.entry = (const uint8_t *) words[4];
         call.entry_len = call.engine == LINK ? strlen(words[4]) : 0;
     }
     for (int k = first; k < count; k++) {
         files[call.count].start = call.len;
-        read_behind(words[k], &bytes, &call.len);
+        read_after(words[k], &bytes, &call.len);
         files[call.count].len = call.len - files[call.count].start;
         call.count++;
     }
@@ -705,7 +705,7 @@ static int tell(int count, char **words) {
 
 int main(int count, char **words) {
     if (count > 2)
-        return tell(count, words);
+        return run_engine(count, words);
     check_show();
     check_refused_tables();
     check_table_verdicts();

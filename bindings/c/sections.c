@@ -26,14 +26,14 @@ static uint8_t *bytes_of(const char *path, size_t *len) {
  * Ends a line with a name. Bytes that are not printable ASCII are escaped, because a terminal may obey them. A backslash is written twice:
  * so two names differ in print too.
  */
-static void tell_name(const uint8_t *name, uint64_t len) {
+static void print_name(const uint8_t *name, uint64_t len) {
     for (uint64_t k = 0; k < len; k++)
         printf(name[k] == '\\' ? "\\%c" : name[k] >= ' ' && name[k] <= '~' ? "%c" : "\\x%02x", name[k]);
     putchar('\n');
 }
 
 /* Prints the sections, or the fault: true where there is none. */
-static bool tell(const uint8_t *bytes, size_t len) {
+static bool print_sections(const uint8_t *bytes, size_t len) {
     struct elfmap_fault fault;
     struct elfmap_file file;
     struct elfmap_section section;
@@ -45,7 +45,7 @@ static bool tell(const uint8_t *bytes, size_t len) {
     if (elfmap_file(bytes, len, &file))
         for (uint64_t i = 0; elfmap_section(&file, bytes, len, i, &section) && elfmap_name(&file, bytes, len, i, &name); i++) {
             printf("0x%" PRIx64 " ", section.sh_size);
-            tell_name(bytes + name.start, name.len);
+            print_name(bytes + name.start, name.len);
         }
     return true;
 }
@@ -57,7 +57,7 @@ int main(int argc, char **argv) {
         fprintf(stderr, argc == 2 ? "sections: the file can't be read\n" : "usage: sections FILE\n");
         return argc == 2 ? 3 : 2;
     }
-    bool sound = tell(bytes, len);
+    bool sound = print_sections(bytes, len);
     free(bytes);
     return sound ? 0 : 1;
 }

@@ -26,24 +26,24 @@ static uint8_t *bytes_of(const char *path, size_t *len) {
  * Ends a line with a name. Bytes that are not printable ASCII are escaped, because a terminal may obey them. A backslash is written twice:
  * so two names differ in print too.
  */
-static void tell_name(const uint8_t *name, uint64_t len) {
+static void print_name(const uint8_t *name, uint64_t len) {
     for (uint64_t k = 0; k < len; k++)
         printf(name[k] == '\\' ? "\\%c" : name[k] >= ' ' && name[k] <= '~' ? "%c" : "\\x%02x", name[k]);
     putchar('\n');
 }
 
 /* Prints the symbols of a table; of any other section nothing. */
-static void tell_table(const struct elfmap_table *table, const uint8_t *bytes, size_t len) {
+static void print_table(const struct elfmap_table *table, const uint8_t *bytes, size_t len) {
     struct elfmap_symbol symbol;
     for (uint64_t j = 0; j < table->entries; j++)
         if (elfmap_symbol(table, bytes, len, j, &symbol)) {
             printf("0x%" PRIx64 " ", symbol.st_value);
-            tell_name(bytes + symbol.name.start, symbol.name.len);
+            print_name(bytes + symbol.name.start, symbol.name.len);
         }
 }
 
 /* Prints all symbols, or the fault: true where there is none. */
-static bool tell(const uint8_t *bytes, size_t len) {
+static bool print_symbols(const uint8_t *bytes, size_t len) {
     struct elfmap_fault fault;
     struct elfmap_file file;
     struct elfmap_table table;
@@ -54,7 +54,7 @@ static bool tell(const uint8_t *bytes, size_t len) {
     if (elfmap_file(bytes, len, &file))
         for (uint64_t i = 0; i < file.sections; i++)
             if (elfmap_table(&file, bytes, len, i, &table))
-                tell_table(&table, bytes, len);
+                print_table(&table, bytes, len);
     return true;
 }
 
@@ -65,7 +65,7 @@ int main(int argc, char **argv) {
         fprintf(stderr, argc == 2 ? "symbols: the file can't be read\n" : "usage: symbols FILE\n");
         return argc == 2 ? 3 : 2;
     }
-    bool sound = tell(bytes, len);
+    bool sound = print_symbols(bytes, len);
     free(bytes);
     return sound ? 0 : 1;
 }

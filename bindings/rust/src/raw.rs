@@ -148,9 +148,9 @@ mod tests {
         for (index, value) in (0..header.len()).flat_map(|it| [(it, 0), (it, 1), (it, 0xff)]) {
             let mut bytes = *header;
             bytes[index] = value;
-            let told = |verdict: Result<(), Fault>| verdict.map_err(|it| (it.rule, it.at));
+            let pair = |verdict: Result<(), Fault>| verdict.map_err(|it| (it.rule, it.at));
             let mut buffer = [Extent::default(); 3];
-            assert_eq!(told(verdict(&bytes)), told(verdict_in(&bytes, &mut buffer)));
+            assert_eq!(pair(verdict(&bytes)), pair(verdict_in(&bytes, &mut buffer)));
         }
     }
 }

@@ -162,7 +162,7 @@ fn a_map_has_lines() {
 }
 
 #[test]
-fn what_does_not_link_is_told() {
+fn what_does_not_link_is_reported() {
     let options = Options::default();
     let Err(Failure::NotLinked(link_refusal)) = link(&[START], &options, RULES) else {
         panic!("a name is undefined");

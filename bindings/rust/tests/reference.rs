@@ -13,19 +13,19 @@ use elfmap::{check, Failure, File, Header, Owner, Part, Section, Segment};
 /// Of a longer file the reference prints the records alone.
 const LONG: usize = 1 << 20;
 
-/// A folder with the files, as `tools/dev told` writes it; `None` where there is no Python.
-fn told_folder() -> Option<PathBuf> {
-    let folder = Path::new(env!("CARGO_TARGET_TMPDIR")).join("told");
+/// A folder with the files, as `tools/dev dump` writes it; `None` where there is no Python.
+fn dump_folder() -> Option<PathBuf> {
+    let folder = Path::new(env!("CARGO_TARGET_TMPDIR")).join("dump");
     let script = Path::new(env!("CARGO_MANIFEST_DIR")).join("../../tools/dev");
     let _ = fs::remove_dir_all(&folder);
     fs::create_dir(&folder).unwrap();
     match Command::new("python3")
         .arg(script)
-        .arg("told")
+        .arg("dump")
         .arg(&folder)
         .status()
     {
-        Ok(status) => assert!(status.success(), "tools/dev told failed"),
+        Ok(status) => assert!(status.success(), "tools/dev dump failed"),
         Err(fault) => {
             eprintln!("no file is tried: python3: {fault}");
             return None;
@@ -99,7 +99,7 @@ fn segment_line(segment: Segment<'_>) -> String {
     )
 }
 
-fn told(bytes: &[u8]) -> Vec<String> {
+fn dumped(bytes: &[u8]) -> Vec<String> {
     let file = match File::parse(bytes) {
         Ok(file) => file,
         Err(refusal) => {
@@ -198,7 +198,7 @@ fn comparable(lines: Vec<String>, reference: &[&str]) -> Vec<String> {
 
 #[test]
 fn says_what_the_reference_says() {
-    let Some(folder) = told_folder() else {
+    let Some(folder) = dump_folder() else {
         return;
     };
     let mut broken = BTreeSet::new();
@@ -208,7 +208,7 @@ fn says_what_the_reference_says() {
         };
         let expected = fs::read_to_string(folder.join(format!("{number}.txt"))).unwrap();
         let reference: Vec<&str> = expected.lines().collect();
-        let lines = comparable(told(&bytes), &reference);
+        let lines = comparable(dumped(&bytes), &reference);
         let reference = reference
             .into_iter()
             .filter(|it| !it.starts_with("broken "));

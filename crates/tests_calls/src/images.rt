@@ -109,7 +109,7 @@ fn written(alloc: Global, object: &Object<'_>) -> Said {
 
 /// Reports of each beginning of the file, the shorter ones first, and then for each of its bytes of the files in which it is another one,
 /// in the order of these. Returns the exit status, 0 if all was reported.
-pub fn tell<W: Write>(alloc: Global, bytes: &mut [u8], out: &mut W) -> u8 {
+pub fn report<W: Write>(alloc: Global, bytes: &mut [u8], out: &mut W) -> u8 {
     for length in 0..bytes.len() {
         if !one(alloc, &bytes[..length], out) {
             return 3;
@@ -143,21 +143,21 @@ fn changed<W: Write>(alloc: Global, bytes: &mut [u8], at: usize, out: &mut W) ->
 fn one<W: Write>(alloc: Global, bytes: &[u8], out: &mut W) -> bool {
     let mut file = bytes;
     check(alloc, &mut file, out).is_ok()
-        && tell_verdict(bytes, out)
+        && report_verdict(bytes, out)
         && match parse(alloc, bytes) {
             Ok(image) => {
-                tell_object(alloc, bytes, &image, out) && tell_rewritten(alloc, bytes, out)
+                report_object(alloc, bytes, &image, out) && report_rewritten(alloc, bytes, out)
             }
             Err(_) => true,
         }
 }
 
-fn tell_verdict<W: Write>(bytes: &[u8], out: &mut W) -> bool {
-    let told = match verdict(bytes) {
+fn report_verdict<W: Write>(bytes: &[u8], out: &mut W) -> bool {
+    let seen = match verdict(bytes) {
         None => writeln!(out, "none"),
         Some((rule, at)) => writeln!(out, "{rule} {at}"),
     };
-    told.is_ok()
+    seen.is_ok()
 }
 
 /// Whether the image of these bytes is written as they are.
@@ -166,17 +166,17 @@ fn is_same(alloc: Global, bytes: &[u8], image: &Image<'_>) -> bool {
     write(image, &mut written).is_ok() && written.as_slice() == bytes
 }
 
-fn tell_object<W: Write>(alloc: Global, bytes: &[u8], image: &Image<'_>, out: &mut W) -> bool {
+fn report_object<W: Write>(alloc: Global, bytes: &[u8], image: &Image<'_>, out: &mut W) -> bool {
     let is_same = is_same(alloc, bytes, image);
-    let told = match object_of(alloc, image) {
+    let seen = match object_of(alloc, image) {
         Ok(_) => writeln!(out, "{is_same} object"),
         Err(Fault::Rule { rule, at }) => writeln!(out, "{is_same} {rule} {at}"),
         Err(_) => return false,
     };
-    told.is_ok()
+    seen.is_ok()
 }
 
-fn tell_rewritten<W: Write>(alloc: Global, bytes: &[u8], out: &mut W) -> bool {
+fn report_rewritten<W: Write>(alloc: Global, bytes: &[u8], out: &mut W) -> bool {
     let mut canonical = Vec::new(alloc);
     let mut file = bytes;
     let Ok(ended) = rewrite(alloc, &mut file, &mut canonical) else {

@@ -8,7 +8,7 @@
 //! `tests_calls write FILE`, `object` and `copy` write the file again: its image, the object that it denotes, or by `copy_image` what is
 //! read where it has to be. They end as the program does: status 0 if all is written, 1 if a rule is broken, 3 with a line on standard
 //! error where memory, a read or a write failed. `tests_calls changes FILE` is about the beginnings of the file, and of the files that
-//! differ from it in one byte, what each call says ([`images::tell`]).
+//! differ from it in one byte, what each call says ([`images::report`]).
 #![tactic(auto)]
 
 mod extents;
@@ -121,7 +121,7 @@ fn written(rt: &HostRuntime, call: &str, name: &String) -> io::Result<ExitCode> 
         Ok(()) => match call {
             "write" => images::image(alloc, &bytes, &mut out),
             "object" => images::object(alloc, &bytes, &mut out),
-            _ => return Ok(ExitCode::from(images::tell(alloc, &mut bytes, &mut out))),
+            _ => return Ok(ExitCode::from(images::report(alloc, &mut bytes, &mut out))),
         },
     };
     Ok(ExitCode::from(images::status(ended, &mut err)))

@@ -52,7 +52,7 @@ fn file_of(alloc: Global, object: &Object<'_>) -> Result<File, ObjectWriteFault>
 }
 
 /// The length of the layout of the object, and its file.
-fn told(
+fn seen(
     alloc: Global,
 ) -> Result<(Result<u64, LayoutFault>, Result<File, ObjectWriteFault>), ObjectFault> {
     let object = empty_object(alloc)?;
@@ -62,5 +62,5 @@ fn told(
 #[test]
 fn it_is_laid_out_written_and_read_back(rt: HostRuntime) {
     let expected = (Ok(376), Ok((None, Ok([4, 1, 0]))));
-    assert_eq!(rt; told(rt.alloc()), Ok(expected));
+    assert_eq!(rt; seen(rt.alloc()), Ok(expected));
 }

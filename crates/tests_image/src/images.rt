@@ -126,14 +126,14 @@ fn segment_of(image: &Image<'_>, index: usize) -> Option<(u64, u64, u64)> {
 
 /// Of a file: its order, and whether its parts are those of the file of one section; its length, how many sections and segments it has,
 /// where its section header table is, and its name table; its sections 1, 4 and 5; and its segments 0 and 1.
-type Told = (
+type Seen = (
     (Order, bool),
     [u64; 5],
     [Option<(usize, u64, u64, u64, u64)>; 3],
     [Option<(u64, u64, u64)>; 2],
 );
 
-fn told_by(image: &Image<'_>) -> Told {
+fn seen_in(image: &Image<'_>) -> Seen {
     let numbers = [
         image.len() as u64,
         image.section_count() as u64,
@@ -152,13 +152,13 @@ fn told_by(image: &Image<'_>) -> Told {
 }
 
 /// The numbers, records and parts of a file's image.
-fn told(alloc: Global, file: &[u8]) -> Result<Told, Fault> {
+fn seen(alloc: Global, file: &[u8]) -> Result<Seen, Fault> {
     let image = parse(alloc, file)?;
-    Ok(told_by(&image))
+    Ok(seen_in(&image))
 }
 
 /// The numbers, records and parts of the file of one section, and of that of two segments and sections.
-const TOLD: [Result<Told, Fault>; 2] = [
+const SEEN: [Result<Seen, Fault>; 2] = [
     Ok((
         (LITTLE, true),
         [456, 5, 0, 136, 4],
@@ -174,12 +174,12 @@ const TOLD: [Result<Told, Fault>; 2] = [
 ];
 
 #[test]
-fn tells_the_header_sections_and_segments_of_a_file(rt: HostRuntime) {
+fn reports_the_header_sections_and_segments_of_a_file(rt: HostRuntime) {
     let found = [
-        told(rt.alloc(), &one_section(LITTLE)),
-        told(rt.alloc(), &two_of_each(Order::Big)),
+        seen(rt.alloc(), &one_section(LITTLE)),
+        seen(rt.alloc(), &two_of_each(Order::Big)),
     ];
-    assert_same(&rt, found, TOLD);
+    assert_same(&rt, found, SEEN);
 }
 
 /// The name and the content of section 1.
@@ -202,10 +202,10 @@ fn name_and_content<'a>(
 #[test]
 fn a_name_and_a_content_outlive_the_image(rt: HostRuntime) {
     let file = one_section(LITTLE);
-    let told = name_and_content(rt.alloc(), &file);
+    let seen = name_and_content(rt.alloc(), &file);
     assert_same(
         &rt,
-        told,
+        seen,
         Ok(Some((b".text".as_slice(), [0xc3].as_slice()))),
     );
 }
@@ -376,14 +376,14 @@ fn header_verdict(alloc: Global, fields: &[Field]) -> [Result<Option<(u16, u64)>
 }
 
 #[test]
-fn the_first_rule_and_the_lowest_offset_are_told(rt: HostRuntime) {
+fn the_first_rule_and_the_lowest_offset_are_reported(rt: HostRuntime) {
     for &(fields, broken) in VERDICTS {
         assert_same(&rt, header_verdict(rt.alloc(), fields), [Ok(broken); 2]);
     }
 }
 
 /// Of the file with one section and this byte at an offset `parse` reports the verdict.
-fn assert_told(rt: &impl Abort, alloc: Global, order: Order, at: usize, byte: u8)
+fn assert_verdict(rt: &impl Abort, alloc: Global, order: Order, at: usize, byte: u8)
     requires { at < 456 }
 {
     let mut file = one_section(order);
@@ -393,11 +393,11 @@ fn assert_told(rt: &impl Abort, alloc: Global, order: Order, at: usize, byte: u8
 
 // So it does with each of four bytes at each offset, in either order.
 #[test]
-fn parse_tells_the_verdict(rt: HostRuntime) {
+fn parse_returns_the_verdict(rt: HostRuntime) {
     let bytes = [0, 1, 0x5f, 0xff];
     for k in 0..4 * 456 {
-        assert_told(&rt, rt.alloc(), LITTLE, k / 4, bytes[k % 4]);
-        assert_told(&rt, rt.alloc(), Order::Big, k / 4, bytes[k % 4]);
+        assert_verdict(&rt, rt.alloc(), LITTLE, k / 4, bytes[k % 4]);
+        assert_verdict(&rt, rt.alloc(), Order::Big, k / 4, bytes[k % 4]);
     }
 }
 
@@ -447,13 +447,13 @@ fn loads_each_part_of_a_file(rt: HostRuntime) {
     let file = loaded_whole();
     let parts = [0x1001, 0x1043, 0x10b0, 0x10b4, 0x110f, 0x20c7];
     let edits = [0x101f, 0x1043, 0x10b0, 0x10b4, 0x110f, 0x20b8];
-    let told = [
+    let seen = [
         loaded(rt.alloc(), &file, parts),
         loaded_of_edited(rt.alloc(), &file, edits),
     ];
     assert_same(
         &rt,
-        told,
+        seen,
         [
             Ok([
                 Some(b'E'),
@@ -529,7 +529,7 @@ fn loads_by_segments(rt: HostRuntime) {
     let second = [0x1000, 0x10b0, 0x20b8, 0x20bf, 0x20c0, 0x20c8];
     let last = [0, 0xfff, LAST - 1, LAST, LAST + 0x77, u64::MAX];
     let commons = [0x1fff, 0x2000, 0x2003, 0x2004, 0x3007, 0x3008];
-    let told = [
+    let seen = [
         loaded(alloc, &executable_of_a_call(), code),
         loaded(alloc, &two_of_each_with(LITTLE, &SHARED), shared),
         loaded(alloc, &two_of_each_with(LITTLE, &NOT_LOADED), second),
@@ -538,7 +538,7 @@ fn loads_by_segments(rt: HostRuntime) {
     ];
     assert_same(
         &rt,
-        told,
+        seen,
         [
             Ok([None, Some(0xe8), Some(1), Some(0xc3), None, None]),
             Ok([Some(b't'), Some(0), Some(0), Some(0), Some(0), None]),

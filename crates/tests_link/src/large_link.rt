@@ -127,7 +127,7 @@ fn first_wrong_file(linked: &Linked<'_, '_>, order: Order, base: u64) -> Option<
 type Mapped = ((usize, Option<u16>), Option<u16>, (usize, Option<u16>));
 
 /// What the map reports.
-fn map_told(link: &LinkMap<'_>, digits: &[u8], base: u64) -> Mapped {
+fn map_seen(link: &LinkMap<'_>, digits: &[u8], base: u64) -> Mapped {
     let output = first_wrong_output(link, digits, base);
     let name = first_wrong_name(link, digits);
     (
@@ -149,7 +149,7 @@ fn rules() -> [RelocRule; 5] {
 }
 
 /// The first file whose fields do not hold their numbers, in the link with this map.
-fn fields_told<'m, 'a>(
+fn fields_seen<'m, 'a>(
     alloc: Global,
     link: &'m LinkMap<'a>,
     objects: &'m [Object<'a>],
@@ -164,7 +164,7 @@ fn fields_told<'m, 'a>(
 }
 
 /// What the link of these objects, the files of the large link, reports: its map, and that file.
-fn told_of(
+fn seen_of(
     alloc: Global,
     objects: &[Object<'_>],
     digits: &[u8],
@@ -172,22 +172,22 @@ fn told_of(
     base: u64,
 ) -> Result<(Mapped, Option<u8>), LinkFault> {
     let link = mapped(alloc, objects, base, None)?;
-    let file = fields_told(alloc, &link, objects, order, base)?;
-    Ok((map_told(&link, digits, base), file))
+    let file = fields_seen(alloc, &link, objects, order, base)?;
+    Ok((map_seen(&link, digits, base), file))
 }
 
 /// What the large link in this order, from this address on, reports.
-fn told(alloc: Global, order: Order, base: u64) -> Result<(Mapped, Option<u8>), Fail> {
+fn seen(alloc: Global, order: Order, base: u64) -> Result<(Mapped, Option<u8>), Fail> {
     let digits = digits(alloc)?;
     let objects = files(alloc, digits.as_bytes(), order)?;
-    Ok(told_of(alloc, &objects, digits.as_bytes(), order, base)?)
+    Ok(seen_of(alloc, &objects, digits.as_bytes(), order, base)?)
 }
 
 #[test]
 fn everything_stands_where_it_has_to(rt: HostRuntime) -> Result<(), Fail> {
     for (order, base) in &LINKS {
-        let told = told(rt.alloc(), *order, *base)?;
-        assert_same(&rt, told, (((40, None), None, (1_122, None)), None));
+        let seen = seen(rt.alloc(), *order, *base)?;
+        assert_same(&rt, seen, (((40, None), None, (1_122, None)), None));
     }
     Ok(())
 }

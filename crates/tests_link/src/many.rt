@@ -162,18 +162,18 @@ fn first_wrong(link: &LinkMap<'_>) -> Option<usize> {
 }
 
 /// How many names a link has, the first one that is bound otherwise, and the bindings of the last one and of none.
-type Told = (usize, Option<usize>, [Option<Binding>; 2]);
+type Seen = (usize, Option<usize>, [Option<Binding>; 2]);
 
-fn told(link: &LinkMap<'_>) -> Told {
+fn seen(link: &LinkMap<'_>) -> Seen {
     let bindings = [link.binding(b"1048576"), link.binding(b"1048577")];
     (link.names().len(), first_wrong(link), bindings)
 }
 
 /// The names and bindings of the link of all symbols.
-fn told_of_all(alloc: Global) -> Result<Told, Fail> {
+fn seen_of_all(alloc: Global) -> Result<Seen, Fail> {
     let names = numbered(alloc, COUNT)?;
     let link = linked(alloc, names.as_bytes())?;
-    Ok(told(&link))
+    Ok(seen(&link))
 }
 
 #[test]
@@ -182,7 +182,7 @@ fn a_million_names(rt: HostRuntime) -> Result<(), Fail> {
         file: 0,
         symbol: 1_048_576,
     };
-    let told = told_of_all(rt.alloc())?;
-    assert_same(&rt, told, (COUNT, None, [Some(last), None]));
+    let seen = seen_of_all(rt.alloc())?;
+    assert_same(&rt, seen, (COUNT, None, [Some(last), None]));
     Ok(())
 }

@@ -63,7 +63,7 @@ fn memory_without_bits()
 }
 
 #[test]
-fn memory_is_told_by_laws() {
+fn memory_is_known_by_laws() {
     memory_is_there();
     memory_is_one();
     memory_without_content();

@@ -153,7 +153,7 @@ fn are_the_symbols(symbols: &[Symbol<'_>]) -> bool {
 }
 
 /// The machine of the object of this file, and whether it has these sections and symbols.
-fn told(alloc: Global, file: &[u8]) -> Result<(u16, bool, bool), Fault> {
+fn seen(alloc: Global, file: &[u8]) -> Result<(u16, bool, bool), Fault> {
     let object = object_read(alloc, file)?;
     Ok((
         object.machine(),
@@ -163,12 +163,12 @@ fn told(alloc: Global, file: &[u8]) -> Result<(u16, bool, bool), Fault> {
 }
 
 #[test]
-fn tells_the_sections_and_the_symbols_but_symbol_0(rt: HostRuntime) {
-    let told = [
-        told(rt.alloc(), &object(Order::Little)),
-        told(rt.alloc(), &object(Order::Big)),
+fn reports_the_sections_and_the_symbols_but_symbol_0(rt: HostRuntime) {
+    let seen = [
+        seen(rt.alloc(), &object(Order::Little)),
+        seen(rt.alloc(), &object(Order::Big)),
     ];
-    assert_same(&rt, told, [Ok((62, true, true)); 2]);
+    assert_same(&rt, seen, [Ok((62, true, true)); 2]);
 }
 
 /// The fields that make section 3 a group too: the word at 72 is its flags, and that at 76 its member.

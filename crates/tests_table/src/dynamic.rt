@@ -45,7 +45,7 @@ fn first_library<'a>(dynamic: &Dynamic<'a>, strings: &Strings<'a>) -> Option<&'a
 }
 
 /// Both of the image's section 1.
-fn told_by<'a>(image: &Image<'a>) -> Result<(bool, Option<&'a [u8]>), Fault> {
+fn seen_in<'a>(image: &Image<'a>) -> Result<(bool, Option<&'a [u8]>), Fault> {
     if image.section_count() < 3 {
         return Ok((false, None));
     }
@@ -58,14 +58,14 @@ fn told_by<'a>(image: &Image<'a>) -> Result<(bool, Option<&'a [u8]>), Fault> {
 }
 
 /// Both of section 1 of a file. The library's name outlives the image.
-fn told(alloc: Global, file: &[u8]) -> Result<(bool, Option<&[u8]>), Fault> {
+fn seen(alloc: Global, file: &[u8]) -> Result<(bool, Option<&[u8]>), Fault> {
     let image = parse(alloc, file)?;
-    told_by(&image)
+    seen_in(&image)
 }
 
 #[test]
-fn tells_the_entries_before_the_end(rt: HostRuntime) {
+fn reports_the_entries_before_the_end(rt: HostRuntime) {
     let file = dynamic();
-    let told = told(rt.alloc(), &file);
-    assert_same(&rt, told, Ok((true, Some(b"libc".as_slice()))));
+    let seen = seen(rt.alloc(), &file);
+    assert_same(&rt, seen, Ok((true, Some(b"libc".as_slice()))));
 }

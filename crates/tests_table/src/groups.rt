@@ -68,7 +68,7 @@ fn name_of<'a>(group: &Group<'a>, symbols: &Symbols<'a>) -> Option<&'a [u8]> {
 }
 
 /// Both of the image's section 1.
-fn told_by<'a>(alloc: Global, image: &Image<'a>) -> Result<(bool, Option<&'a [u8]>), Fault> {
+fn seen_in<'a>(alloc: Global, image: &Image<'a>) -> Result<(bool, Option<&'a [u8]>), Fault> {
     if image.section_count() < 4 {
         return Ok((false, None));
     }
@@ -78,9 +78,9 @@ fn told_by<'a>(alloc: Global, image: &Image<'a>) -> Result<(bool, Option<&'a [u8
 }
 
 /// Both of section 1 of a file. The group's name outlives the image.
-fn told(alloc: Global, file: &[u8]) -> Result<(bool, Option<&[u8]>), Fault> {
+fn seen(alloc: Global, file: &[u8]) -> Result<(bool, Option<&[u8]>), Fault> {
     let image = parse(alloc, file)?;
-    told_by(alloc, &image)
+    seen_in(alloc, &image)
 }
 
 /// Whether section 1 of the image is refused when all tables are validated.
@@ -102,13 +102,13 @@ fn is_refused_without_names(alloc: Global) -> Result<bool, Fault> {
 
 // Where the names of the signatures are cut, the group is refused beside the other tables too.
 #[test]
-fn tells_a_group_its_name_and_its_members(rt: HostRuntime) {
+fn reports_a_group_its_name_and_its_members(rt: HostRuntime) {
     let file = group();
-    let told = told(rt.alloc(), &file);
+    let seen = seen(rt.alloc(), &file);
     let refused = is_refused_without_names(rt.alloc());
     assert_same(
         &rt,
-        (told, refused),
+        (seen, refused),
         (Ok((true, Some(b"f".as_slice()))), Ok(true)),
     );
 }

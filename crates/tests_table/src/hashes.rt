@@ -73,7 +73,7 @@ fn has_words(hash: &Hash<'_>) -> bool {
 }
 
 /// Both of the image's section 1.
-fn told_by(alloc: Global, image: &Image<'_>) -> Result<[bool; 2], Fault> {
+fn seen_in(alloc: Global, image: &Image<'_>) -> Result<[bool; 2], Fault> {
     if image.section_count() < 2 {
         return Ok([false; 2]);
     }
@@ -82,9 +82,9 @@ fn told_by(alloc: Global, image: &Image<'_>) -> Result<[bool; 2], Fault> {
 }
 
 /// Both of section 1 of a file.
-fn told(alloc: Global, file: &[u8]) -> Result<[bool; 2], Fault> {
+fn seen(alloc: Global, file: &[u8]) -> Result<[bool; 2], Fault> {
     let image = parse(alloc, file)?;
-    told_by(alloc, &image)
+    seen_in(alloc, &image)
 }
 
 #[test]
@@ -97,7 +97,7 @@ fn hashes_and_finds_each_name(rt: HostRuntime) {
     ];
     assert_same(
         &rt,
-        (hashes, told(rt.alloc(), &hash())),
+        (hashes, seen(rt.alloc(), &hash())),
         ([0, 0x0779_05a6, 0x0006_cf04, 0x0b09_985c], Ok([true; 2])),
     );
 }

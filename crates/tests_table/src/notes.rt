@@ -39,7 +39,7 @@ fn notes_of<'a>(image: &Image<'a>) -> Result<(Option<Note<'a>>, Option<Note<'a>>
 }
 
 /// The first two notes of section 1 of a file. They outlive the image.
-fn notes_told<'a>(
+fn notes_of_file<'a>(
     alloc: Global,
     file: &'a [u8],
 ) -> Result<(Option<Note<'a>>, Option<Note<'a>>), Fault> {
@@ -48,13 +48,13 @@ fn notes_told<'a>(
 }
 
 #[test]
-fn tells_each_note_and_notes_outlive_the_image(rt: HostRuntime) {
+fn reports_each_note_and_notes_outlive_the_image(rt: HostRuntime) {
     let file = note();
-    let told = notes_told(rt.alloc(), &file);
+    let seen = notes_of_file(rt.alloc(), &file);
     let note = Note {
         note_type: 1,
         name: b"GNU",
         desc: b"\xaa\xbb\xcc",
     };
-    assert_same(&rt, told, Ok((Some(note), None)));
+    assert_same(&rt, seen, Ok((Some(note), None)));
 }

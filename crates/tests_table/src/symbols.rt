@@ -71,14 +71,14 @@ fn are_strings(strings: &Strings<'_>) -> bool {
         Some(b""),
         None,
     ];
-    let told = [
+    let seen = [
         strings.get(1),
         strings.get(6),
         strings.get(8),
         strings.get(12),
         strings.get(13),
     ];
-    told == expected
+    seen == expected
 }
 
 /// Whether they are its symbols.
@@ -120,7 +120,7 @@ fn are_of_the_call(image: &Image<'_>) -> Result<[bool; 3], Fault> {
 }
 
 /// What the call reports of a file.
-fn told(alloc: Global, file: &[u8]) -> Result<[bool; 3], Fault> {
+fn seen(alloc: Global, file: &[u8]) -> Result<[bool; 3], Fault> {
     let image = parse(alloc, file)?;
     are_of_the_call(&image)
 }
@@ -149,7 +149,7 @@ fn other_type(image: &Image<'_>) -> Option<Fault> {
 }
 
 /// Why section 4 of a file is no symbol table; None if it is one, or is not there.
-fn other_type_told(alloc: Global, file: &[u8]) -> Result<Option<Fault>, Fault> {
+fn other_type_of(alloc: Global, file: &[u8]) -> Result<Option<Fault>, Fault> {
     let image = parse(alloc, file)?;
     Ok(other_type(&image))
 }
@@ -161,14 +161,14 @@ const OTHER_TYPE: Fault = Fault::Rule {
 };
 
 #[test]
-fn tells_each_relocation_symbol_and_string(rt: HostRuntime) {
+fn reports_each_relocation_symbol_and_string(rt: HostRuntime) {
     let file = caller();
-    let told = told(rt.alloc(), &file);
+    let seen = seen(rt.alloc(), &file);
     let kept = are_kept_with_the_other_tables(rt.alloc(), &file);
-    let fault = other_type_told(rt.alloc(), &file);
+    let fault = other_type_of(rt.alloc(), &file);
     assert_same(
         &rt,
-        (told, kept, fault),
+        (seen, kept, fault),
         (Ok([true; 3]), Ok(Some([true; 2])), Ok(Some(OTHER_TYPE))),
     );
 }
@@ -187,7 +187,7 @@ fn names_of<'a>(image: &Image<'a>) -> Result<(&'a [u8], Option<&'a [u8]>), Fault
 }
 
 /// The name of symbol 2 of a file, and the string at 1. They live longer than the image.
-fn names_told(alloc: Global, file: &[u8]) -> Result<(&[u8], Option<&[u8]>), Fault> {
+fn names_of_file(alloc: Global, file: &[u8]) -> Result<(&[u8], Option<&[u8]>), Fault> {
     let image = parse(alloc, file)?;
     names_of(&image)
 }
@@ -195,6 +195,6 @@ fn names_told(alloc: Global, file: &[u8]) -> Result<(&[u8], Option<&[u8]>), Faul
 #[test]
 fn names_outlive_the_image(rt: HostRuntime) {
     let file = symbols();
-    let names = names_told(rt.alloc(), &file);
+    let names = names_of_file(rt.alloc(), &file);
     assert_same(&rt, names, Ok((b"b".as_slice(), Some(b"ab".as_slice()))));
 }

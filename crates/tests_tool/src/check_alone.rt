@@ -39,8 +39,8 @@ const OTHER_WORDS: &[&[&str]] = &[
 #[test]
 fn other_words_are_wrong_usage(rt: HostRuntime) {
     for &words in OTHER_WORDS {
-        let told = "this program has the command check FILE alone\n";
-        assert_ran(&rt, &run_on(rt.alloc(), words), 2, "", told);
+        let message = "this program has the command check FILE alone\n";
+        assert_ran(&rt, &run_on(rt.alloc(), words), 2, "", message);
     }
 }
 
@@ -52,7 +52,7 @@ const FILES: &[(&str, u8, &str, &str)] = &[
 ];
 
 #[test]
-fn behind_dashes_each_word_is_a_file(rt: HostRuntime) {
+fn after_dashes_each_word_is_a_file(rt: HostRuntime) {
     for &(file, status, said, complained) in FILES {
         let ran = run_on(rt.alloc(), &["elfmap", "check", "--", file]);
         assert_ran(&rt, &ran, status, said, complained);

@@ -111,7 +111,7 @@ fn is_written(alloc: Global, image: &Image<'_>, bytes: &[u8]) -> bool {
 }
 
 /// How many sections the image of these bytes has, the index of its name table, and whether it is written as they are.
-fn image_told(alloc: Global, bytes: &[u8]) -> Result<(u64, u32, bool), Fault> {
+fn image_seen(alloc: Global, bytes: &[u8]) -> Result<(u64, u32, bool), Fault> {
     let image = parse(alloc, bytes)?;
     let count = image.section_count() as u64;
     Ok((count, image.name_table(), is_written(alloc, &image, bytes)))
@@ -139,9 +139,9 @@ fn assert_object(
 ) -> Result<(), AllocError> {
     let file = object(alloc, count)?;
     assert_accepted(rt, alloc, &file, line);
-    let told = (file.len(), verdict(&file), image_told(alloc, &file));
+    let seen = (file.len(), verdict(&file), image_seen(alloc, &file));
     let image = (u64::from(count) + 4, names, true);
-    assert_same(rt, told, (len, None, Ok(image)));
+    assert_same(rt, seen, (len, None, Ok(image)));
     Ok(())
 }
 

@@ -227,16 +227,16 @@ fn an_empty_command_line(rt: HostRuntime) {
 }
 
 /// The status and the text that the program ends with where the machine gives no words.
-fn assert_refused(rt: &impl Abort, kind: ErrorKind, status: u8, told: &str) {
+fn assert_refused(rt: &impl Abort, kind: ErrorKind, status: u8, message: &str) {
     let mut err = LimitedWriter::new(ROOM);
     let ended = refuse_words(&io::Error::from(kind), &mut err);
-    assert_same(rt, (ended, err.text()), (status, told.as_bytes()));
+    assert_same(rt, (ended, err.text()), (status, message.as_bytes()));
 }
 
 #[test]
 fn words_that_the_machine_does_not_give(rt: HostRuntime) {
-    let told = "error: the arguments are not UTF-8\n";
-    assert_refused(&rt, ErrorKind::InvalidData, 2, told);
+    let message = "error: the arguments are not UTF-8\n";
+    assert_refused(&rt, ErrorKind::InvalidData, 2, message);
     assert_refused(&rt, ErrorKind::OutOfMemory, 3, "out of memory\n");
     // The text of any other error is std's own.
     assert_refused(&rt, ErrorKind::Other, 3, "other error\n");
@@ -324,8 +324,8 @@ fn opens_the_name_as_it_stands(rt: HostRuntime) {
     }
     let mut files = OneName::new("a.o", OpenFault::Refused);
     let words = ["elfmap", "show", "--", "\u{e4}.o"];
-    let told = "cannot open \u{e4}.o\n";
-    assert_runs(&rt, rt.alloc(), &words, &mut files, 3, "", told);
+    let message = "cannot open \u{e4}.o\n";
+    assert_runs(&rt, rt.alloc(), &words, &mut files, 3, "", message);
 }
 
 /// Words that ask for a file which is not there.
@@ -374,8 +374,8 @@ const MACHINE_NAMES: &[(&str, (Option<OpenFault>, bool))] = &[
 // No contract reports what the machine's files are: the null device is one, under just this name, and it is no folder.
 #[test]
 fn the_files_of_the_machine(rt: HostRuntime) {
-    for &(name, told) in MACHINE_NAMES {
-        assert_same(&rt, (name, machine_fault(&rt, name)), (name, told));
+    for &(name, message) in MACHINE_NAMES {
+        assert_same(&rt, (name, machine_fault(&rt, name)), (name, message));
     }
 }
 

@@ -156,14 +156,14 @@ fn as_many_rules_as_there_may_be(rt: HostRuntime) {
 }
 
 /// The fault is reported in these words.
-fn assert_told(rt: &impl Abort, fault: RulesFault, words: &str) {
-    let told: InlineText<80> = InlineText::of(fault);
-    assert_same(rt, told.as_str(), words);
+fn assert_text(rt: &impl Abort, fault: RulesFault, words: &str) {
+    let text: InlineText<80> = InlineText::of(fault);
+    assert_same(rt, text.as_str(), words);
 }
 
 #[test]
-fn faults_as_they_are_told(rt: HostRuntime) {
+fn faults_as_they_are_printed(rt: HostRuntime) {
     let bad = RulesFault::BadLine { line: 257 };
-    assert_told(&rt, bad, "bad rule line 257");
-    assert_told(&rt, RulesFault::OutOfMemory, "out of memory");
+    assert_text(&rt, bad, "bad rule line 257");
+    assert_text(&rt, RulesFault::OutOfMemory, "out of memory");
 }

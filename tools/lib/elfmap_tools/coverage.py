@@ -14,7 +14,7 @@ from typing import Any
 
 from .building import built
 from .library import FOLDER, packed
-from .page_in_node import files_for_node, told_in_node
+from .page_in_node import files_for_node, read_in_node
 from .requirements import COVERAGE, missing, words_of
 from .suite import word
 from .tree import PACKAGE, TOP, Options, read_text, run, write
@@ -93,7 +93,7 @@ class Script:
         both = int.from_bytes(self.reached, "big") | int.from_bytes(own, "big")
         self.reached = bytearray(both.to_bytes(len(own), "big"))
 
-    def told(self, path: str) -> str:
+    def line(self, path: str) -> str:
         """What is printed of it."""
         left = [(start, end) for start, end in self.branches if not any(self.reached[start:end])]
         lines = {self.text.count("\n", 0, start) + 1 for start, _ in left}
@@ -106,7 +106,7 @@ def of_page(folder: str) -> Iterator[str]:
     counts = f"{folder}/counts"
     os.environ["NODE_V8_COVERAGE"] = counts
     run("node", "--test", *sorted(glob.glob(f"{TOP}/page/tests/*.js")))
-    told_in_node(TOP, folder, files_for_node(folder, CHANGED))
+    read_in_node(TOP, folder, files_for_node(folder, CHANGED))
     del os.environ["NODE_V8_COVERAGE"]
     paths = sorted(glob.glob("page/*.js", root_dir=TOP))
     scripts = {f"file://{TOP}/{it}": Script(it) for it in paths}
@@ -115,7 +115,7 @@ def of_page(folder: str) -> Iterator[str]:
             if ran["url"] in scripts:
                 scripts[ran["url"]].add(ran["functions"])
     for path in paths:
-        yield scripts[f"file://{TOP}/{path}"].told(path)
+        yield scripts[f"file://{TOP}/{path}"].line(path)
 
 
 PARTS = {"bindings/python": (of_python, COVERAGE), "page": (of_page, "node wasm-opt")}
@@ -133,6 +133,6 @@ def main(options: Options) -> int:
         return 3
     for it in parts:
         with tempfile.TemporaryDirectory(prefix="coverage-") as folder:
-            for told in PARTS[it][0](folder):
-                print(told, flush=True)
+            for line in PARTS[it][0](folder):
+                print(line, flush=True)
     return 0

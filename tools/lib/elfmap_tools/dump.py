@@ -1,6 +1,6 @@
 """What the libraries have to say of files, by the reference implementation: the lines that
 bindings/c/test.c prints, and those with which the tests of bindings/rust and bindings/python
-compare. `tools/dev told FOLDER` writes these into FOLDER: a file as K.elf, and its lines as K.txt,
+compare. `tools/dev dump FOLDER` writes these into FOLDER: a file as K.elf, and its lines as K.txt,
 K from 0; bytes as `=` and their hexadecimal digits, `-` where there are none."""
 
 import os
@@ -336,7 +336,7 @@ def lines_of(content: bytes) -> list[str]:
 
 
 def main(options: Options) -> None:
-    """`tools/dev told`."""
+    """`tools/dev dump`."""
     os.makedirs(options.folder, exist_ok=True)
     for k, content in enumerate(files()):
         write(f"{options.folder}/{k}.elf", content)

@@ -209,11 +209,11 @@ def planted(text: str, function: Function, way: str, value: str) -> str:
     """The text of a file with a body that gives up at the head of a function: its body begins a
     line."""
     filled = way.replace("VALUE", value).replace("FAULT", function.fault).strip("\n")
-    head, _, behind = filled.partition("\n\n")
+    head, _, rest = filled.partition("\n\n")
     lines = text.split("\n")
     indent = " " * (indent_of(lines[function.begin]) + 4)
     lines.insert(function.begin + 1, textwrap.indent(head, indent))
-    return "\n".join([*lines, behind])
+    return "\n".join([*lines, rest])
 
 
 # Of each crate a function with a fault, and a value of this.

@@ -78,15 +78,15 @@ def verdict(bug: Edit, said: str, others: Iterable[Edit]) -> str:
     line = found[1]
     if line == "proved":
         return "NOT REFUSED: its function is still proved"
-    told: list[str] = MESSAGE.findall(said)
-    lost = [it for it in told if LOST.match(it)]
+    messages: list[str] = MESSAGE.findall(said)
+    lost = [it for it in messages if LOST.match(it)]
     # A proof takes the functions that it calls by their contracts: what the check doesn't prove of
     # this one is due to its own text.
     is_own = "it calls" not in line or "did not prove" in line
     if proofs := [proofs_of(it) for it in others]:
         is_lost = any(not any(own in it for own in proofs) for it in lost)
         return "refused" if is_own and not is_lost else ""
-    if lost and lost == told:
+    if lost and lost == messages:
         return "NOT REFUSED: proof files name what it took away, and no more"
     # What it calls and is open has to be a closure in it: no other function of the text has a bug.
     inside = f"::{bug.function.rsplit('::', 1)[1]}::"

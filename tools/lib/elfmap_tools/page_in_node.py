@@ -51,16 +51,16 @@ def scripts_in_node(tally: Tally) -> None:
     tally.count(max(passed + failed, 1), [] if is_whole else [ran.stdout])
 
 
-def told_in_node(tree: str, room: str, files: list[str]) -> dict[str, list[str]]:
+def read_in_node(tree: str, room: str, files: list[str]) -> dict[str, list[str]]:
     """What the page's reader in a tree says of these files."""
     layout_path = write(f"{room}/layout.json", json.dumps(layout()))
     # The script's folder is that of the tree, where it is a link too.
     script = ["node", "--preserve-symlinks-main", f"{tree}/cases/sources/page_reads_as_show.js"]
-    told: dict[str, str] = {}
+    texts: dict[str, str] = {}
     for k in range(0, len(files), 500):
         text = wanted(*script, module(), layout_path, *files[k : k + 500])
-        told |= dict(it.split("\n", 1) for it in f"\n{text}".split("\n-- ")[1:])
-    return {path: told[path].splitlines() for path in files}
+        texts |= dict(it.split("\n", 1) for it in f"\n{text}".split("\n-- ")[1:])
+    return {path: texts[path].splitlines() for path in files}
 
 
 def shown_by_program(path: str) -> list[str]:
@@ -72,7 +72,7 @@ def shown_by_program(path: str) -> list[str]:
 def in_node(tally: Tally, room: str, count: int) -> None:
     """What the page's reader says of files is what `elfmap show` prints."""
     scripts_in_node(tally)
-    for path, own in told_in_node(TOP, room, files_for_node(room, count)).items():
+    for path, own in read_in_node(TOP, room, files_for_node(room, count)).items():
         lines = shown_by_program(path)
         different = [pair for pair in zip(own, lines) if pair[0] != pair[1]][:2]
         tally.check(own == lines, f"{path}: {different or (len(own), len(lines))}")
@@ -90,7 +90,7 @@ def different_from_show(tree: str, room: str) -> str:
     shown = shown_of_cases(room)
     try:
         with tempfile.TemporaryDirectory(dir=room) as own:
-            told = told_in_node(tree, own, [*shown])
+            texts = read_in_node(tree, own, [*shown])
     except SystemExit as fault:
         return str(fault)
-    return "\n".join(path for path, lines in shown.items() if told[path] != lines)
+    return "\n".join(path for path, lines in shown.items() if texts[path] != lines)

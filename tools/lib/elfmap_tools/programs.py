@@ -163,7 +163,7 @@ DEV = [
         [word("pid", "its number", type=int)],
     ),
     Command(
-        "told",
+        "dump",
         "write the files that the tests of bindings/ read, and what they have to print",
         dump.main,
         [word("folder", "where to")],

@@ -67,7 +67,7 @@ def balance(line: str) -> int:
 
 
 def end_of(lines: list[str], start: int, ends: str) -> int:
-    """Behind the last line of what begins at `start`: all brackets are closed, and it ends as such
+    """After the last line of what begins at `start`: all brackets are closed, and it ends as such
     a text ends."""
     level = 0
     indent = indent_of(lines[start])
