@@ -12,7 +12,7 @@ use Rattle.elf_c.proofs.ReadTables.{table_kind}
 use Rattle.elf_c.specs.Bulk.{IsFilled}
 use Rattle.elf_c.specs.Files.{IsFileOf, ListsSection, ReadsSection, order_named, section_shape}
 use Rattle.elf_c.specs.Tables.{IsTableOf, ListsDynamic, ListsRelocation, ListsSymbol, ReadsDynamic, ReadsRelocation, ReadsSymbol}
-use Rattle.elf_c.specs.Tables.{dynamic_shape, relocation_shape, slot_bytes, symbol_told}
+use Rattle.elf_c.specs.Tables.{dynamic_shape, relocation_shape, slot_bytes, reported_symbol}
 use Rattle.elf_c.specs.declared.shapes.DynamicEntry.{DynamicEntry}
 use Rattle.elf_c.specs.declared.shapes.File.{File}
 use Rattle.elf_c.specs.declared.shapes.Relocation.{Relocation}
@@ -33,16 +33,16 @@ section_listed_as f b j (Some x) is (has, same) =
     (below, same ∙ ap section_shape (section_at f b j is below).read)
 
 pub symbol_listed_as : (t : Table) (b : List ℕ) (i j : ℕ) (r : Option Symbol) → IsTableOf SymbolTable t b i → ReadsSymbol t b j r →
-    IfSome r (λ s. symbol_told b s ≡
+    IfSome r (λ s. reported_symbol b s ≡
     symbol_entry_in (order_named t.ei_data) (slot_bytes b t.content) (slot_bytes b t.strings) (slot_bytes b t.linked) j) →
     ListsSymbol b i j r
-symbol_listed_as t b i j None is none told =
+symbol_listed_as t b i j None is none said =
     let past = (symbol_there t b i j is).1 in
     elim (cases_lt j (length (symbols_of (sections_in b) i))) [
       | inl below ↦ absurd (none (past below))
       | inr le ↦ le
     ]
-symbol_listed_as t b i j (Some x) is (has, same) told = ((symbol_there t b i j is).0 has, told ∙ symbol_by_numbers t b i j is has.1)
+symbol_listed_as t b i j (Some x) is (has, same) said = ((symbol_there t b i j is).0 has, said ∙ symbol_by_numbers t b i j is has.1)
 
 pub relocation_listed_as : (t : Table) (b : List ℕ) (i j : ℕ) (r : Option Relocation) → IsTableOf RelocationTable t b i →
     ReadsRelocation t b j r →

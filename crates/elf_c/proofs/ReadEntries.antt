@@ -24,7 +24,7 @@ use Rattle.elf_field.specs.Abi.{DT_NULL, SHN_XINDEX, WORD_SIZE, NHDR_SIZE, N_DES
 use Rattle.elf_field.specs.Entries.{word_at, word_laws}
 use Rattle.elf_field.specs.declared.dynamic.Dyn.{Dyn}
 use Rattle.elf_field.specs.declared.number.Order.{Order}
-use Rattle.elf_image_rules.proofs.Public.{FirstIn-front, FirstIn-behind}
+use Rattle.elf_image_rules.proofs.Public.{FirstIn-front, FirstIn-after}
 use Rattle.elf_image_rules.specs.Rows.{FirstIn}
 use Rattle.elf_image_rules.specs.Tables.{bytes_in}
 use Rattle.elf_table_all.specs.Tables.{dynamic_strings}
@@ -180,7 +180,7 @@ strings_there : (f : Sections) (i : ℕ) → FirstIn (hash_table_rules f i) None
 unfolding hash_table_rules
 strings_there f i sound =
     let link = (section f i).sh_link in
-    sound_link f link (FirstIn-front (symbol_table_rules f link) _ (FirstIn-behind (own_rules HashTable f i) _ sound))
+    sound_link f link (FirstIn-front (symbol_table_rules f link) _ (FirstIn-after (own_rules HashTable f i) _ sound))
 
 -- its words and the names of its symbols are those of the section
 pub table_hash : (t : Table) (b : List ℕ) (i : ℕ) → IsTableOf HashTable t b i →
@@ -241,8 +241,8 @@ index_table_kept : (f : Sections) (i : ℕ) → FirstIn (symbol_table_rules f i)
 unfolding symbol_table_rules rest_rules
 index_table_kept f i sound =
     let p = symbol_parts f i in
-    FirstIn-behind (symbol_entry_rules p) _
-    (FirstIn-behind (linked_string_rules p.names p.names_start) _ (FirstIn-behind (own_rules SymbolTable f i) _ sound))
+    FirstIn-after (symbol_entry_rules p) _
+    (FirstIn-after (linked_string_rules p.names p.names_start) _ (FirstIn-after (own_rules SymbolTable f i) _ sound))
 
 -- the index table has a word for each symbol
 index_table_sized : (f : Sections) (i j : ℕ) → FirstIn (symbol_table_rules f i) None → index_table f i ≡ Some j →
@@ -262,7 +262,7 @@ index_table_needed : (f : Sections) (i j : ℕ) → FirstIn (symbol_table_rules 
 unfolding place_rules
 index_table_needed f i j sound within extended = some (index_table f i) refl where
   places : FirstIn (place_rules (symbol_parts f i)) None
-  places = FirstIn-behind (index_table_rules f i (index_table f i) (entry_count (content f i))) _ (index_table_kept f i sound)
+  places = FirstIn-after (index_table_rules f i (index_table f i) (entry_count (content f i))) _ (index_table_kept f i sound)
 
   some : (found : Option ℕ) → index_table f i ≡ found → (k : ℕ) × (index_table f i ≡ Some k)
   some None is = absurd (places.0 _ (j, within, inl (extended, is), refl))
@@ -361,7 +361,7 @@ note_end_in_file o b e x within =
     let names : namesz o t x ≡ namesz o b (e.start + x) = word_in_file o b e x N_NAMESZ_AT (omega arith) in
     let descs : descsz o t x ≡ descsz o b (e.start + x) = word_in_file o b e x N_DESCSZ_AT (omega arith) in
     let named : padded (namesz o t x) ≡ padded (namesz o b (e.start + x)) = ap padded names in
-    let told : padded (descsz o t x) ≡ padded (descsz o b (e.start + x)) = ap padded descs in
+    let known : padded (descsz o t x) ≡ padded (descsz o b (e.start + x)) = ap padded descs in
     omega arith
 
 -- and where what it holds is there
@@ -374,10 +374,10 @@ note_stands_in_file n o b e x within (name, desc) =
     let descs : descsz o t x ≡ descsz o b (e.start + x) = word_in_file o b e x N_DESCSZ_AT (omega arith) in
     let named : padded (namesz o t x) ≡ padded (namesz o b (e.start + x)) = ap padded names in
     let begins : 0 + name_start (e.start + x) ≡ e.start + name_start x = omega arith in
-    let told : 0 + desc_start o b (e.start + x) ≡ e.start + desc_start o t x = omega arith in (
+    let known : 0 + desc_start o b (e.start + x) ≡ e.start + desc_start o t x = omega arith in (
       name ∙ ap (λ (s : ℕ). slot s (namesz o b (e.start + x) - 1)) begins ∙
           ap (λ (l : ℕ). slot (e.start + name_start x) (l - 1)) (sym names),
-      desc ∙ ap (λ (s : ℕ). slot s (descsz o b (e.start + x))) told ∙ ap (slot (e.start + desc_start o t x)) (sym descs),
+      desc ∙ ap (λ (s : ℕ). slot s (descsz o b (e.start + x))) known ∙ ap (slot (e.start + desc_start o t x)) (sym descs),
     ) where
       slot : ℕ → ℕ → Slot
       slot start len = record { start = start; len = len }
@@ -444,10 +444,10 @@ note_there t b i k is =
     (there_in o c k (whole_by_numbers t b i is))
 
 -- after a note that is cut there is none
-pub none_behind : (t : Table) (b : List ℕ) (i k j : ℕ) → IsTableOf NoteSection t b i → let o = order_named t.ei_data in let c =
+pub none_after : (t : Table) (b : List ℕ) (i k j : ℕ) → IsTableOf NoteSection t b i → let o = order_named t.ei_data in let c =
     slot_bytes b t.content in
     k < j → length c < note_end o c (note_offset o c 0 k) → j < length (notes_of (sections_in b) i) → ⊥
-none_behind t b i k j is before cut below =
+none_after t b i k j is before cut below =
     let there = (note_there t b i k is).1 (omega arith) in
     omega arith
 

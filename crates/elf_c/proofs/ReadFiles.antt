@@ -34,16 +34,17 @@ none_there {T} P r none not_there =
     subst (λ (s : Option T). IsSome s ↔ P) (sym none) (λ wrong. cc, λ there. absurd (not_there there))
 
 -- a value that is reported is known by another name, where it is there
-pub some_same : {T V : Type 0} (told : T → V) (x y : V) (r : Option T) → IfSome r (λ n. told n ≡ x) → (IsSome r → x ≡ y) →
-    IfSome r (λ n. told n ≡ y)
-some_same told x y None none same = none
-some_same told x y (Some n) some same = some ∙ same refl
+pub some_same : {T V : Type 0} (seen : T → V) (x y : V) (r : Option T) → IfSome r (λ n. seen n ≡ x) → (IsSome r → x ≡ y) →
+    IfSome r (λ n. seen n ≡ y)
+some_same seen x y None none same = none
+some_same seen x y (Some n) some same = some ∙ same refl
 
 -- what is known of the value that was found is known of the struct that it was put into
-pub put_told : {T V : Type 0} (told : T → V) (y : V) (r : Option T) (b : Bool) (new : T) → (IsTrue b ↔ IsSome r) → IfSome r (λ x. new ≡ x) →
-    (IsTrue b → IfSome r (λ x. told x ≡ y)) → OnTrue b (told new ≡ y)
-put_told told y None b new there put all = OnTrue_from b _ (λ yes. (let some = there.0 yes in absurd cc))
-put_told told y (Some x) b new there put all = OnTrue_from b _ (λ yes. ap told put ∙ all yes)
+pub put_reported : {T V : Type 0} (seen : T → V) (y : V) (r : Option T) (b : Bool) (new : T) →
+    (IsTrue b ↔ IsSome r) → IfSome r (λ x. new ≡ x) →
+    (IsTrue b → IfSome r (λ x. seen x ≡ y)) → OnTrue b (seen new ≡ y)
+put_reported seen y None b new there put all = OnTrue_from b _ (λ yes. (let some = there.0 yes in absurd cc))
+put_reported seen y (Some x) b new there put all = OnTrue_from b _ (λ yes. ap seen put ∙ all yes)
 
 -- No rule has the number 0.
 
@@ -180,9 +181,9 @@ string_in_file b start len x some =
     let short : n ≤ length (drop x strings) = own_length_within _ (drop x strings) in
     let left : length (drop x strings) ≡ length strings - x = length-drop x strings in
     let most : length strings ≤ len = length-take-within len rest in
-    let behind : x + (len - x) ≡ len = omega arith in
+    let past : x + (len - x) ≡ len = omega arith in
     let cut : drop x strings ≡ take (len - x) (drop x rest) =
-    ap (λ (k : ℕ). drop x (take k rest)) (sym behind) ∙ drop-take x (len - x) rest in
+    ap (λ (k : ℕ). drop x (take k rest)) (sym past) ∙ drop-take x (len - x) rest in
     let prefix : take n (drop x strings) ≡ take n (drop x rest) =
     ap (take n) cut ∙ take-take n (len - x) (drop x rest) (omega arith) in
     ap (take n) (sym (drop-drop x start b)) ∙ sym prefix ∙ own
@@ -292,8 +293,8 @@ loaded_inside b s x lt =
     let test : nat_lt (x - s.p_vaddr) s.p_filesz ≡ true = grind (arith, nat_tests) in
     ap (λ (t : Bool). cond t (slice_index b (s.p_offset + (x - s.p_vaddr))) 0) (sym test)
 
-pub loaded_behind : (b : List ℕ) (s : Phdr) (x : ℕ) → s.p_filesz ≤ x - s.p_vaddr → 0 ≡ loaded b s x
-loaded_behind b s x le =
+pub loaded_after : (b : List ℕ) (s : Phdr) (x : ℕ) → s.p_filesz ≤ x - s.p_vaddr → 0 ≡ loaded b s x
+loaded_after b s x le =
     let test : nat_lt (x - s.p_vaddr) s.p_filesz ≡ false = grind (arith, nat_tests) in
     ap (λ (t : Bool). cond t (slice_index b (s.p_offset + (x - s.p_vaddr))) 0) (sym test)
 

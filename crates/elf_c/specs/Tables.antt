@@ -188,8 +188,8 @@ NoteStandsAt n o content start x = (n.name ≡ note_name_place o content start x
 -- (gABI chapter 4, Symbol Table, Relocation; chapter 5, Note Section, Dynamic Section.)
 
 -- the symbol that the struct reports, of a file with these bytes
-abbrev pub symbol_told : List ℕ → Symbol → SymbolEntryValue
-symbol_told b s = record {
+abbrev pub reported_symbol : List ℕ → Symbol → SymbolEntryValue
+reported_symbol b s = record {
   name = slot_bytes b s.name;
   binding = s.st_info / 16;
   symbol_type = s.st_info % 16;
@@ -251,8 +251,8 @@ abbrev pub dynamic_shape : Dyn → DynamicEntry
 dynamic_shape e = record { d_tag = e.d_tag; d_un = e.d_un }
 
 -- the note that the struct reports, of a file with these bytes
-abbrev pub note_told : List ℕ → Note → NoteValue
-note_told b n = record { note_type = n.n_type; name = slot_bytes b n.name; desc = slot_bytes b n.desc }
+abbrev pub reported_note : List ℕ → Note → NoteValue
+reported_note b n = record { note_type = n.n_type; name = slot_bytes b n.name; desc = slot_bytes b n.desc }
 
 -- the note used for one that isn't there
 abbrev pub no_note_value : NoteValue
@@ -282,7 +282,7 @@ ReadsSymbol t b j r = SomeIff r (HasSymbol t b j) (symbol_shape t b j)
 abbrev pub ListsSymbol : List ℕ → ℕ → ℕ → Option Symbol → Type 0
 ListsSymbol b i j r =
     let listed = symbols_of (sections_in b) i in
-    MatchOption r (length listed ≤ j) (λ s. (j < length listed) × (symbol_told b s ≡ get_or listed j no_symbol_entry))
+    MatchOption r (length listed ≤ j) (λ s. (j < length listed) × (reported_symbol b s ≡ get_or listed j no_symbol_entry))
 
 -- a relocation section has an entry j
 abbrev pub HasRelocation : Table → List ℕ → ℕ → Type 0

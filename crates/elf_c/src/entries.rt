@@ -15,7 +15,7 @@ ghost use Rattle.elf_table_symbols.specs.SymbolView.{no_symbol_entry};
 ghost use Rattle.elf_c_parts.specs.Slots.{extent_in};
 ghost use Rattle.elf_c.specs.Tables.{HasDynamic, HasRelocation, HasSymbol, ReadsDynamic, ReadsRelocation, ReadsSymbol, dynamic_read};
 ghost use Rattle.elf_c.specs.Tables.{dynamic_shape, relocation_read, relocation_shape, symbol_shape, section_index, symbol_record};
-ghost use Rattle.elf_c.specs.Tables.{symbol_told, string_place, IsTableOfKind, IsTableOf, slot_bytes};
+ghost use Rattle.elf_c.specs.Tables.{reported_symbol, string_place, IsTableOfKind, IsTableOf, slot_bytes};
 ghost use Rattle.elf_c.specs.Files.{order_named};
 ghost use Rattle.elf_table_hash.specs.HashView.{hash_of_section};
 ghost use Rattle.elf_table_hash.specs.HashTable.{HasSymbolNamed, IsProbed};
@@ -43,7 +43,7 @@ pub extern "C" fn elfmap_symbol(
     ensures there { (i : ℕ) → IsTableOf SymbolTable table.now bytes.now i →
         IsTrue result ↔ (index < length (symbols_of (sections_in bytes.now) i)) }
     ensures value { (i : ℕ) → IsTableOf SymbolTable table.now bytes.now i →
-        OnTrue result (symbol_told bytes.now symbol.new ≡ get_or (symbols_of (sections_in bytes.now) i) index no_symbol_entry) }
+        OnTrue result (reported_symbol bytes.now symbol.new ≡ get_or (symbols_of (sections_in bytes.now) i) index no_symbol_entry) }
     ensures record { (i : ℕ) → IsTableOf SymbolTable table.now bytes.now i → let f = sections_in bytes.now in
         OnTrue result (symbol_record symbol.new ≡ entry_of (order f) (content f i) index) }
     ensures typed { OnTrue result (IsTableOfKind SymbolTable table.now) }
@@ -62,7 +62,7 @@ pub extern "C" fn elfmap_symbol(
 #[tactic(auto, unfolding(elf_table_symbols::specs::Symbols::symbol_entry_in))]
 pub fn symbol_of(table: &Table, bytes: &[u8], index: u64) -> Option<Symbol>
     ensures read { ReadsSymbol table.now bytes.now index result }
-    ensures value { let t = table.now in let b = bytes.now in IfSome result (λ s. symbol_told b s ≡
+    ensures value { let t = table.now in let b = bytes.now in IfSome result (λ s. reported_symbol b s ≡
         symbol_entry_in (order_named t.ei_data) (slot_bytes b t.content) (slot_bytes b t.strings) (slot_bytes b t.linked) index) }
     ensures inside { IfSome result (λ s. s.name.start + s.name.len ≤ length bytes.now) }
 {

@@ -4,7 +4,7 @@ ghost use Rattle.std.specs.Bool.{OnFalse, OnTrue};
 ghost use Rattle.elf_table_symbols.specs.Sections.{content, order, sections_in};
 ghost use Rattle.elf_table_symbols.specs.declared.table_section.TableKind.TheVariants.{NoteSection};
 ghost use Rattle.elf_table_lists.specs.Notes.{note_at as note_of_content, note_end as note_end_of, note_offset, notes_of};
-ghost use Rattle.elf_c.specs.Tables.{HasNote, HasNoteAt, LiesInFile, no_note_value, note_told, NoteStandsAt, IsTableOfKind, IsTableOf};
+ghost use Rattle.elf_c.specs.Tables.{HasNote, HasNoteAt, LiesInFile, no_note_value, reported_note, NoteStandsAt, IsTableOfKind, IsTableOf};
 ghost use Rattle.elf_c.specs.Tables.{slot_bytes};
 ghost use Rattle.elf_c.specs.Files.{order_named};
 
@@ -24,7 +24,7 @@ pub extern "C" fn elfmap_note(table: &Table, bytes: &[u8], index: u64, note: &mu
     ensures there { (i : ℕ) → IsTableOf NoteSection table.now bytes.now i →
         IsTrue result ↔ (index < length (notes_of (sections_in bytes.now) i)) }
     ensures value { (i : ℕ) → IsTableOf NoteSection table.now bytes.now i →
-        OnTrue result (note_told bytes.now note.new ≡ get_or (notes_of (sections_in bytes.now) i) index no_note_value) }
+        OnTrue result (reported_note bytes.now note.new ≡ get_or (notes_of (sections_in bytes.now) i) index no_note_value) }
     ensures next { (i : ℕ) → IsTableOf NoteSection table.now bytes.now i → let f = sections_in bytes.now in
         OnTrue result (note.new.next ≡ note_offset (order f) (content f i) 0 (index + 1)) }
     ensures stands { let t = table.now in let o = order_named t.ei_data in let notes = slot_bytes bytes.now t.content in
@@ -42,7 +42,7 @@ pub extern "C" fn elfmap_note(table: &Table, bytes: &[u8], index: u64, note: &mu
 pub extern "C" fn elfmap_note_at(table: &Table, bytes: &[u8], offset: u64, note: &mut Note) -> bool
     ensures there { IsTrue result ↔ HasNoteAt table.now bytes.now offset }
     ensures value { let t = table.now in let content = slot_bytes bytes.now t.content in
-        OnTrue result (note_told bytes.now note.new ≡ note_of_content (order_named t.ei_data) content offset) }
+        OnTrue result (reported_note bytes.now note.new ≡ note_of_content (order_named t.ei_data) content offset) }
     ensures next { let t = table.now in let content = slot_bytes bytes.now t.content in
         OnTrue result (note.new.next ≡ note_end_of (order_named t.ei_data) content offset) }
     ensures stands { let t = table.now in
@@ -58,7 +58,7 @@ fn note_of_index(table: &Table, bytes: &[u8], index: u64) -> Option<Note>
     ensures there { (i : ℕ) → IsTableOf NoteSection table.now bytes.now i →
         IsSome result ↔ (index < length (notes_of (sections_in bytes.now) i)) }
     ensures value { (i : ℕ) → IsTableOf NoteSection table.now bytes.now i →
-        IfSome result (λ n. note_told bytes.now n ≡ get_or (notes_of (sections_in bytes.now) i) index no_note_value) }
+        IfSome result (λ n. reported_note bytes.now n ≡ get_or (notes_of (sections_in bytes.now) i) index no_note_value) }
     ensures next { (i : ℕ) → IsTableOf NoteSection table.now bytes.now i → let f = sections_in bytes.now in
         IfSome result (λ n. n.next ≡ note_offset (order f) (content f i) 0 (index + 1)) }
     ensures stands { let t = table.now in let o = order_named t.ei_data in let notes = slot_bytes bytes.now t.content in
@@ -76,7 +76,7 @@ fn note_of_index(table: &Table, bytes: &[u8], index: u64) -> Option<Note>
 fn note_of(table: &Table, bytes: &[u8], offset: u64) -> Option<Note>
     ensures there { IsSome result ↔ HasNoteAt table.now bytes.now offset }
     ensures value { let t = table.now in let content = slot_bytes bytes.now t.content in
-        IfSome result (λ n. note_told bytes.now n ≡ note_of_content (order_named t.ei_data) content offset) }
+        IfSome result (λ n. reported_note bytes.now n ≡ note_of_content (order_named t.ei_data) content offset) }
     ensures next { let t = table.now in let content = slot_bytes bytes.now t.content in
         IfSome result (λ n. n.next ≡ note_end_of (order_named t.ei_data) content offset) }
     ensures stands { let t = table.now in
@@ -118,7 +118,7 @@ pub fn end_of_note(order: Order, content: &[u8], offset: u64) -> Option<usize>
 #[tactic(auto, unfolding(elf_table_lists::specs::Notes::note_at, elf_table_lists::specs::Notes::note_end, elf_table_lists::specs::Notes::desc_start))]
 fn note_in(order: Order, bytes: &[u8], at: usize, next: usize) -> Note
     requires { note_end_of order bytes.now at ≤ length bytes.now }
-    ensures value { note_told bytes.now result ≡ note_of_content order bytes.now at }
+    ensures value { reported_note bytes.now result ≡ note_of_content order bytes.now at }
     ensures next { result.next ≡ next }
     ensures stands { NoteStandsAt result order bytes.now 0 at }
     ensures inside { LiesInFile result (length bytes.now) }

@@ -98,8 +98,8 @@ module _ (fs : List ObjectValue) (m : LinkMapValue) (rules : List RelocRule) (li
       omega arith))
 
   -- contents are before the commons
-  no_content_behind : (x : ℕ) → 0 < length m.commons → (common_at m.commons 0).address ≤ x → HasContentAt fs m x → ⊥
-  no_content_behind x some behind (f, s, k, (k_in, (a, there, at))) =
+  no_content_after : (x : ℕ) → 0 < length m.commons → (common_at m.commons 0).address ≤ x → HasContentAt fs m x → ⊥
+  no_content_after x some after (f, s, k, (k_in, (a, there, at))) =
       let before = (stand fs m rules link b file).commons_behind f s a 0 there some in
       let fits = content_fits (section_in fs f s).body in
       omega arith
@@ -111,9 +111,9 @@ module _ (fs : List ObjectValue) (m : LinkMapValue) (rules : List RelocRule) (li
   zero_if_no_content x v none (inr (no_field, inr (outside, area, zero_is))) = zero_is
 
   commons_zero : (x : ℕ) → 0 < length m.commons → (common_at m.commons 0).address ≤ x → IsInMemory m x → IsMemory fs m rules x 0
-  commons_zero x some behind area =
+  commons_zero x some after area =
       let (v, memory) = some_byte fs m rules (any_options fs m link.map) link.relocated x area in
-      subst (λ (w : ℕ). IsMemory fs m rules x w) (zero_if_no_content x v (no_content_behind x some behind) memory) memory
+      subst (λ (w : ℕ). IsMemory fs m rules x w) (zero_if_no_content x v (no_content_after x some after) memory) memory
 
   -- ---- a segment gives its addresses memory's bytes
 

@@ -23,7 +23,7 @@ use Rattle.elf_extent.specs.Place.{Fits, IsOverflowAt, end_of, Least}
 use Rattle.elf_field.proofs.RecordTableLaws.{length-table}
 use Rattle.elf_field.specs.Headers.{ehdr_laws, phdr_laws}
 use Rattle.elf_field.specs.declared.phdr.Phdr.{Phdr}
-use Rattle.elf_image_stream.proofs.Public.{sends_behind}
+use Rattle.elf_image_stream.proofs.Public.{sends_after}
 use Rattle.elf_image_stream.specs.Output.{Sends, WentOut}
 use Rattle.elf_image_stream.specs.declared.fault.WriteFault.{WriteFault}
 use Rattle.elf_image_type.proofs.Public.{length-unaligned, length-spread}
@@ -157,29 +157,29 @@ byte_of_spread from (x ∷ q) [] fits k lt = absurd fits
 byte_of_spread from [] (p ∷ ps) fits k lt = absurd fits
 byte_of_spread from (x ∷ q) (p ∷ ps) (multiple, le, rest) k lt =
     let zeros : List ℕ = replicate (x - from) 0 in
-    let behind : List ℕ = spread (x + length p) q ps in
+    let following : List ℕ = spread (x + length p) q ps in
     let pad : length zeros ≡ x - from = length-replicate (x - from) 0 in
-    let whole = length-append zeros (p ++ behind) in
-    let part = length-append p behind in
+    let whole = length-append zeros (p ++ following) in
+    let part = length-append p following in
     let later : (j : ℕ) → j < length ps → x + length p ≤ get_or q j 0 =
     (λ j lt. let many = length-unaligned ps in above_from (map unaligned ps) (x + length p) q j rest (omega arith)) in
     elim (cases_lt k (x - from)) [
       | inl gap ↦ inr (
         in_gap q ps x p from k le gap later,
-        get_or_append_left zeros (p ++ behind) 0 k (omega arith) ∙ get_or-replicate (x - from) k 0 0 gap,
+        get_or_append_left zeros (p ++ following) 0 k (omega arith) ∙ get_or-replicate (x - from) k 0 0 gap,
       )
       | inr past ↦
-          (let first : get_or (zeros ++ (p ++ behind)) k 0 ≡ get_or (p ++ behind) (k - (x - from)) 0 =
-          get_or-append_right zeros (p ++ behind) (x - from) k 0 pad past in
+          (let first : get_or (zeros ++ (p ++ following)) k 0 ≡ get_or (p ++ following) (k - (x - from)) 0 =
+          get_or-append_right zeros (p ++ following) (x - from) k 0 pad past in
           elim (cases_lt (k - (x - from)) (length p)) [
             | inl here ↦
-                inl (0, k - (x - from), (omega arith, here, omega arith), first ∙ get_or_append_left p behind 0 (k - (x - from)) here)
+                inl (0, k - (x - from), (omega arith, here, omega arith), first ∙ get_or_append_left p following 0 (k - (x - from)) here)
             | inr far ↦
                 (let m = k - (x - from) - length p in
-                let second : get_or (p ++ behind) (k - (x - from)) 0 ≡ get_or behind m 0 =
-                get_or-append_right p behind (length p) (k - (x - from)) 0 refl far in
+                let second : get_or (p ++ following) (k - (x - from)) 0 ≡ get_or following m 0 =
+                get_or-append_right p following (length p) (k - (x - from)) 0 refl far in
                 let same : x + length p + m ≡ from + k = omega arith in
-                behind_part q ps x p (from + k) (x + length p + m) (get_or (zeros ++ (p ++ behind)) k 0) (get_or behind m 0) same
+                after_part q ps x p (from + k) (x + length p + m) (get_or (zeros ++ (p ++ following)) k 0) (get_or following m 0) same
                 (omega arith) (first ∙ second)
                 (byte_of_spread (x + length p) q ps rest m (omega arith)))
           ])
@@ -191,11 +191,11 @@ byte_of_spread from (x ∷ q) (p ∷ ps) (multiple, le, rest) k lt =
     in_gap q ps x p from k le gap later zero i (lt, i_in, at) = omega arith
     in_gap q ps x p from k le gap later (suc j) i (lt, i_in, at) = (let above = later j (omega arith) in omega arith)
 
-    behind_part : (q : List ℕ) (ps : List (List ℕ)) (x : ℕ) (p : List ℕ) (y z v w : ℕ) → z ≡ y → x + length p ≤ y → v ≡ w →
+    after_part : (q : List ℕ) (ps : List (List ℕ)) (x : ℕ) (p : List ℕ) (y z v w : ℕ) → z ≡ y → x + length p ≤ y → v ≡ w →
         IsPartByte q ps z w → IsPartByte (x ∷ q) (p ∷ ps) y v
-    behind_part q ps x p y z v w same above equal (inl (j, i, (lt, i_in, at), is)) =
+    after_part q ps x p y z v w same above equal (inl (j, i, (lt, i_in, at), is)) =
         inl (suc j, i, (omega arith, i_in, omega arith), equal ∙ is)
-    behind_part q ps x p y z v w same above equal (inr (none, is)) = inr (none_there, equal ∙ is)
+    after_part q ps x p y z v w same above equal (inr (none, is)) = inr (none_there, equal ∙ is)
       where
         none_there : (j i : ℕ) → IsInPart (x ∷ q) (p ∷ ps) y j i → ⊥
         none_there zero i (lt, i_in, at) = omega arith
@@ -471,9 +471,9 @@ exec_is fs m places contents many =
     ap (λ (n : ℕ). h ++ (replicate (64 - n) 0 ++ (t ++ spread (64 + length t) places contents))) first
     ∙ ap (λ (n : ℕ). h ++ (t ++ spread n places contents)) second
 
-behind_length : (l : LinkedValue) (places : List ℕ) → IsReadyLink l → Least (load_parts l.map) (bytes_from l.map) places →
+after_length : (l : LinkedValue) (places : List ℕ) → IsReadyLink l → Least (load_parts l.map) (bytes_from l.map) places →
     bytes_from l.map + length (spread (bytes_from l.map) places (load_contents l)) ≡ exec_end l.map places
-behind_length l places ready least =
+after_length l places ready least =
     let parts = many_parts l.map in
     let contents = length-contents l in
     let fits = contents_fit l places ready least in
@@ -516,7 +516,7 @@ length-exec l places ready least =
     let inner = length-append t s in
     let header = length-header fs m in
     let table = length-table_bytes fs m places many in
-    let behind = behind_length l places ready least in
+    let following = after_length l places ready least in
     omega arith
 
 -- ---- piece by piece
@@ -567,7 +567,7 @@ pub padded_sent : (a b c : Option (List ℕ)) (out mid n k : ℕ) (s t : List �
 padded_sent a b c out mid n k s t result zeros padding same sends =
     subst (λ (j : ℕ). Sends a c out (replicate j 0 ++ t) result) padding
     (subst (λ (u : List ℕ). Sends a c out (replicate n 0 ++ u) result) same
-    (sends_behind a b c out mid (replicate n 0) s result zeros sends))
+    (sends_after a b c out mid (replicate n 0) s result zeros sends))
 
 -- the bytes of an output, member by member
 pub output_text : (l : LinkedValue) (o : OutputValue) →

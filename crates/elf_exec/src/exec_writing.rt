@@ -61,7 +61,7 @@ pub(crate) fn send_exec<W: Write>(
         (placed_header placed.now ++ (placed_table placed.now ++ loads_text placed.now)) result }
 {
     write_header(writer, placed)?;
-    send_behind_header(writer, placed)
+    send_after_header(writer, placed)
 }
 
 #[tactic(auto, unfolding(crate::specs::Executable::header_bytes))]
@@ -74,7 +74,7 @@ fn write_header<W: Write>(writer: &mut W, placed: &PlacedExec<'_, '_, '_>) -> Re
 }
 
 /// Sends what is after the header.
-fn send_behind_header<W: Write>(
+fn send_after_header<W: Write>(
     writer: &mut W,
     placed: &PlacedExec<'_, '_, '_>,
 ) -> Result<u64, WriteFault>

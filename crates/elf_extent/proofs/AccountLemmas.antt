@@ -433,19 +433,19 @@ room_for (n ∷ ns) m up = elim (cases_lt (member_start m) (member_start n)) [
       high = λ k d le lt. (let rises : member_start n ≤ member_start (get_or (n ∷ ns) k d) = up 0 k d (omega arith) lt in omega arith);
     },
   )
-  | inr behind ↦
+  | inr past ↦
       let later = room_for ns m (λ a b d le lt. up (suc a) (suc b) d (omega arith) (omega arith)) in
-      (suc later.0, later_room ns later.0 behind later.1)
+      (suc later.0, later_room ns later.0 past later.1)
 ]
   where
     later_room : (ns : List Member) (i : ℕ) → member_start n ≤ member_start m → IsRoomFor ns m i → IsRoomFor (n ∷ ns) m (suc i)
-    later_room ns i behind room = record {
+    later_room ns i past room = record {
       within = (let le = room.within in omega arith);
       low = low_at;
       high = high_at;
     } where
       low_at : (k : ℕ) (d : Member) → k < suc i → member_start (get_or (n ∷ ns) k d) ≤ member_start m
-      low_at zero d lt = behind
+      low_at zero d lt = past
       low_at (suc k) d lt = room.low k d (omega arith)
 
       high_at : (k : ℕ) (d : Member) → suc i ≤ k → k < length (n ∷ ns) → member_start m ≤ member_start (get_or (n ∷ ns) k d)

@@ -54,10 +54,10 @@ pub flat_err : {A : Type 0} (f : A → List ℕ) (rs : List A) (k m start n : �
     (n < length ys) × Appends b c (take n ys) → (start + n < length (flat_map f rs)) × Appends a c (take (start + n) (flat_map f rs))
 flat_err f rs k m start n a b c ys long here before failed =
     let P : List ℕ → Type 0 = λ s. (start + n < length s) × Appends a c (take (start + n) s) in
-    let behind : (n < length (flat_map f (take m (drop k rs)))) × Appends b c (take n (flat_map f (take m (drop k rs)))) =
+    let later : (n < length (flat_map f (take m (drop k rs)))) × Appends b c (take n (flat_map f (take m (drop k rs)))) =
     subst (λ (s : List ℕ). (n < length s) × Appends b c (take n s)) here failed in
     subst P (sym (flat_split f rs k m))
-    (went_err a b c start n (flat_map f (take k rs)) (flat_map f (take m (drop k rs))) (flat_map f (drop m (drop k rs))) long before behind)
+    (went_err a b c start n (flat_map f (take k rs)) (flat_map f (take m (drop k rs))) (flat_map f (drop m (drop k rs))) long before later)
 
 -- they went out
 pub flat_ok : {A : Type 0} (f : A → List ℕ) (rs : List A) (k m : ℕ) (a b c : Option (List ℕ)) (ys : List ℕ) →

@@ -21,7 +21,7 @@ use Rattle.elf_image_outline.proofs.Edited.{parts-placed, len_short}
 use Rattle.elf_image_outline.proofs.Standing.{HaveLengths, clean_of, counted_of, length-joined, lengths_of, are_parts, get_or_at}
 use Rattle.elf_image_outline.proofs.Standing.{within_list, content_is}
 use Rattle.elf_image_outline.specs.Image.{ImageValue, IsSoundImage, PlacedPart, joined, part_bytes, piece_of, owned_bytes, IsExtentOf}
-use Rattle.elf_image_outline.specs.Outline.{Copies, CopiedOut, ReadsBehind, bytes_out, copy_failure, later, OutlineValue, image_of}
+use Rattle.elf_image_outline.specs.Outline.{Copies, CopiedOut, ReadsAfter, bytes_out, copy_failure, later, OutlineValue, image_of}
 use Rattle.elf_image_outline.specs.Outline.{placed_part, IsOutlineOf, IsSoundOutline, blank_image, bytes_of_outline, contents_in, image_in}
 use Rattle.elf_image_outline.specs.Outline.{ReadsOfSource, ReadsPart}
 use Rattle.elf_image_outline.specs.declared.copying.CopyFault.TheVariants.{Read, Write}
@@ -38,7 +38,7 @@ use Rattle.elf_image_stream.specs.declared.source.Failures.{Failures}
 
 -- Bytes that are copied piece by piece: a copied piece follows the earlier ones (`out_more`), and of a piece that fails its first bytes do
 -- (`copies_after`). So a beginning of the whole is written, and the counts add up. A read that failed in a piece failed in the whole
--- (`behind_after`); small facts on ranges follow from `take` and `drop`.
+-- (`after_within`); small facts on ranges follow from `take` and `drop`.
 
 -- m bytes went out, and n more after them
 pub out_more : (content now a b c : Option (List ℕ)) (m n : ℕ) (f g h : List ℕ → List ℕ) → now ≡ content → CopiedOut content a b m f →
@@ -48,7 +48,7 @@ out_more content now a b c m n f g h same before went joins = record {
   out = before.out ++ went.out;
   many = length-append before.out went.out ∙ ap₂ (λ (i j : ℕ). i + j) before.many went.many;
   appends = Appends-trans a b c before.out went.out before.appends went.appends;
-  are = λ x told. ap₂ (λ (s t : List ℕ). s ++ t) (before.are x told) (went.are x (same ∙ told)) ∙ joins x;
+  are = λ x known. ap₂ (λ (s t : List ℕ). s ++ t) (before.are x known) (went.are x (same ∙ known)) ∙ joins x;
 }
 
 -- m bytes went out, and n of the next piece, which has more
@@ -60,14 +60,14 @@ out_some content now a b c m n f g rest h same before failed long splits = recor
   out = before.out ++ failed.out;
   many = length-append before.out failed.out ∙ ap₂ (λ (i j : ℕ). i + j) before.many failed.many;
   appends = Appends-trans a b c before.out failed.out before.appends failed.appends;
-  are = λ x told.
-      let first : before.out ≡ f x = before.are x told in
-      let next : failed.out ≡ take n (g x) = failed.are x (same ∙ told) in
+  are = λ x known.
+      let first : before.out ≡ f x = before.are x known in
+      let next : failed.out ≡ take n (g x) = failed.are x (same ∙ known) in
       let count : length (f x) ≡ m = ap (λ (s : List ℕ). length s) (sym first) ∙ before.many in
       ap₂ (λ (s t : List ℕ). s ++ t) first next
       ∙ sym (ap (take (m + n)) (splits x) ∙ take-add m n (f x ++ (g x ++ rest x))
       ∙ ap₂ (λ (s t : List ℕ). s ++ t) (take_at (f x) (g x ++ rest x) m count)
-      (ap (take n) (drop_at (f x) (g x ++ rest x) m count) ∙ take-append-le n (g x) (rest x) (long x told)));
+      (ap (take n) (drop_at (f x) (g x ++ rest x) m count) ∙ take-append-le n (g x) (rest x) (long x known)));
 }
 
 -- the first n of some bytes are n, so there are as many
@@ -85,18 +85,18 @@ pub copies_after : (content now a b c : Option (List ℕ)) (m len total : ℕ) (
 copies_after content now a b c m len total f g rest h (Read at n) same within before (below, failed) splits = (
   omega arith,
   out_some content now a b c m n f g rest h same before failed
-      (λ x told. long_enough n failed.out (g x) failed.many (failed.are x (same ∙ told))) splits,
+      (λ x known. long_enough n failed.out (g x) failed.many (failed.are x (same ∙ known))) splits,
 )
 copies_after content now a b c m len total f g rest h (Write n) same within before (below, failed) splits = (
   omega arith,
   out_some content now a b c m n f g rest h same before failed
-      (λ x told. long_enough n failed.out (g x) failed.many (failed.are x (same ∙ told))) splits,
+      (λ x known. long_enough n failed.out (g x) failed.many (failed.are x (same ∙ known))) splits,
 )
 
-pub behind_after : (block start m size len : ℕ) (fault : CopyFault) → m + size ≤ len → ReadsBehind block (start + m) size (Err fault) →
-    ReadsBehind block start len (Err (later m fault))
-behind_after block start m size len (Read at n) within (above, near, below) = (omega arith, omega arith, omega arith)
-behind_after block start m size len (Write n) within is = tt
+pub after_within : (block start m size len : ℕ) (fault : CopyFault) → m + size ≤ len → ReadsAfter block (start + m) size (Err fault) →
+    ReadsAfter block start len (Err (later m fault))
+after_within block start m size len (Read at n) within (above, near, below) = (omega arith, omega arith, omega arith)
+after_within block start m size len (Write n) within is = tt
 
 -- the part of a list from start on: what was written of it, the next piece, and the rest
 pub range_more : (b : List ℕ) (start m n : ℕ) → take m (drop start b) ++ take n (drop (start + m) b) ≡ take (m + n) (drop start b)
@@ -125,7 +125,7 @@ read_failed content old new at n x (Err fault) reaches failed is =
 pub out_own : (content a b : Option (List ℕ)) (len : ℕ) (own : List ℕ) (bytes : List ℕ → List ℕ) → length own ≡ len →
     ((x : List ℕ) → own ≡ bytes x) → Appends a b own →
     CopiedOut content a b len bytes
-out_own content a b len own bytes long same went = record { out = own; many = long; appends = went; are = λ x told. same x }
+out_own content a b len own bytes long same went = record { out = own; many = long; appends = went; are = λ x known. same x }
 
 pub copies_own : (content a b : Option (List ℕ)) (len n : ℕ) (own : List ℕ) (bytes : List ℕ → List ℕ)
     (result : Result (Unit {0}) CopyFault) → length own ≡ len →
@@ -139,7 +139,7 @@ copies_own content a b len n own bytes (Err fault) long same (below, went) is =
         out = take n own;
         many = length-take-le n own (omega arith);
         appends = went;
-        are = λ x told. ap (take n) (same x);
+        are = λ x known. ap (take n) (same x);
       },
     ) in
     subst (λ (f : CopyFault). Copies content a b len bytes (Err f)) (sym is) out
@@ -149,7 +149,7 @@ pub copies_as : (content a b : Option (List ℕ)) (len : ℕ) (f g : List ℕ �
     ((x : List ℕ) → content ≡ Some x → f x ≡ g x) →
     Copies content a b len f result → Copies content a b len g result
 copies_as content a b len f g (Ok u) same went =
-    record { out = went.out; many = went.many; appends = went.appends; are = λ x told. went.are x told ∙ same x told }
+    record { out = went.out; many = went.many; appends = went.appends; are = λ x known. went.are x known ∙ same x known }
 copies_as content a b len f g (Err fault) same (below, went) = (
   below,
   record {
@@ -157,7 +157,7 @@ copies_as content a b len f g (Err fault) same (below, went) = (
     many = went.many;
     appends = went.appends;
     are =
-        λ x told. went.are x told ∙ ap (take (bytes_out fault)) (same x told);
+        λ x known. went.are x known ∙ ap (take (bytes_out fault)) (same x known);
   },
 )
 
@@ -238,8 +238,8 @@ out_fits v n sound below = let all = length-joined v sound in let short = not_lo
 abbrev pub blank_bytes : OutlineValue → Part → List ℕ
 blank_bytes o p = part_bytes (blank_image o) (placed_part true [] p)
 
-abbrev pub told_bytes : OutlineValue → List ℕ → Part → List ℕ
-told_bytes o b p = part_bytes (image_in o b) (placed_part o.zeroed b p)
+abbrev pub known_bytes : OutlineValue → List ℕ → Part → List ℕ
+known_bytes o b p = part_bytes (image_in o b) (placed_part o.zeroed b p)
 
 -- ---- part k by itself
 
@@ -289,23 +289,23 @@ zeroed_part v z file p zeroed is = rw (zeroed, is) refl
 is_within : (b : List ℕ) (start len : ℕ) → 0 < len → length (take len (drop start b)) ≡ len → start + len ≤ length b
 is_within b start len some whole = let count = length-take len (drop start b) in let rest = length-drop start b in omega arith
 
-told_part : (o : OutlineValue) (b : List ℕ) (k : ℕ) (p : Part) → IsOutlineOf o b → slice_get o.parts k ≡ Some p →
+known_part : (o : OutlineValue) (b : List ℕ) (k : ℕ) (p : Part) → IsOutlineOf o b → slice_get o.parts k ≡ Some p →
     IsPartAt (part_bytes (image_in o b)) o.zeroed b o.parts 0 k p
-told_part o b k p of here =
+known_part o b k p of here =
     subst (λ (q : Part). IsPartAt (part_bytes (image_in o b)) o.zeroed b o.parts 0 k q) (get_or_at o.parts k p p here)
     (part_in o (contents_in o b) b o.parts k p of refl (within_list o.parts k p here))
 
 -- bytes of b that are a part lie in b
-pub told_within : (o : OutlineValue) (b : List ℕ) (k : ℕ) (p : Part) → IsOutlineOf o b → slice_get o.parts k ≡ Some p →
-    take p.len (drop p.start b) ≡ told_bytes o b p → p.start + p.len ≤ length b
-told_within o b k p of here is =
-    let part = told_part o b k p of here in
+pub known_within : (o : OutlineValue) (b : List ℕ) (k : ℕ) (p : Part) → IsOutlineOf o b → slice_get o.parts k ≡ Some p →
+    take p.len (drop p.start b) ≡ known_bytes o b p → p.start + p.len ≤ length b
+known_within o b k p of here is =
+    let part = known_part o b k p of here in
     is_within b p.start p.len part.some (ap (λ (s : List ℕ). length s) is ∙ part.whole)
 
 -- a content is what is at its offset
 pub content_part : (o : OutlineValue) (b : List ℕ) (k i : ℕ) (p : Part) → IsOutlineOf o b → slice_get o.parts k ≡ Some p →
     p.owner ≡ Content i →
-    take p.len (drop p.start b) ≡ told_bytes o b p
+    take p.len (drop p.start b) ≡ known_bytes o b p
 content_part o b k i p of here is =
     let extent : IsExtentOf (image_in o b) (Content i) p.start p.len =
     subst (λ (w : Owner). IsExtentOf (image_in o b) w p.start p.len) is
@@ -316,7 +316,7 @@ content_part o b k i p of here is =
     ∙ ap (owned_bytes (image_in o b) (placed_part o.zeroed b p).gap) (sym is)
 
 pub gap_part : (o : OutlineValue) (b : List ℕ) (p : Part) → o.zeroed ≡ false → p.owner ≡ Gap →
-    take p.len (drop p.start b) ≡ told_bytes o b p
+    take p.len (drop p.start b) ≡ known_bytes o b p
 gap_part o b p kept is = rw (kept, is) refl
 
 -- ---- the parts one after the other
@@ -349,9 +349,9 @@ at_index o ps k d same within = subst (λ (qs : List Part). slice_get qs k ≡ S
 
 pub parts_more : (o : OutlineValue) (ps : List Part) (k : ℕ) (d : Part) (content now a b c : Option (List ℕ)) → IsSoundOutline o →
     ps ≡ o.parts → k < length ps → now ≡ content →
-    CopiedOut content a b (length (flat_map (blank_bytes o) (take k ps))) (λ x. flat_map (told_bytes o x) (take k ps)) →
-    CopiedOut now b c (get_or ps k d).len (λ x. told_bytes o x (get_or ps k d)) →
-    CopiedOut content a c (length (flat_map (blank_bytes o) (take (k + 1) ps))) (λ x. flat_map (told_bytes o x) (take (k + 1) ps))
+    CopiedOut content a b (length (flat_map (blank_bytes o) (take k ps))) (λ x. flat_map (known_bytes o x) (take k ps)) →
+    CopiedOut now b c (get_or ps k d).len (λ x. known_bytes o x (get_or ps k d)) →
+    CopiedOut content a c (length (flat_map (blank_bytes o) (take (k + 1) ps))) (λ x. flat_map (known_bytes o x) (take (k + 1) ps))
 parts_more o ps k d content now a b c sound same within moved before went =
     let p = get_or ps k d in
     let m = length (flat_map (blank_bytes o) (take k ps)) in
@@ -359,43 +359,43 @@ parts_more o ps k d content now a b c sound same within moved before went =
     ap (λ (n : ℕ). m + n) (sym (blank_whole o k p sound (at_index o ps k d same within)))
     ∙ sym (length-append (flat_map (blank_bytes o) (take k ps)) (blank_bytes o p))
     ∙ ap (λ (s : List ℕ). length s) (sym (flat_more (blank_bytes o) ps k d within)) in
-    out_count content a c (m + p.len) _ (λ x. flat_map (told_bytes o x) (take (k + 1) ps)) count
-    (out_more content now a b c m p.len (λ x. flat_map (told_bytes o x) (take k ps)) (λ x. told_bytes o x p)
-    (λ x. flat_map (told_bytes o x) (take (k + 1) ps))
-    moved before went (λ x. sym (flat_more (told_bytes o x) ps k d within)))
+    out_count content a c (m + p.len) _ (λ x. flat_map (known_bytes o x) (take (k + 1) ps)) count
+    (out_more content now a b c m p.len (λ x. flat_map (known_bytes o x) (take k ps)) (λ x. known_bytes o x p)
+    (λ x. flat_map (known_bytes o x) (take (k + 1) ps))
+    moved before went (λ x. sym (flat_more (known_bytes o x) ps k d within)))
 
 pub parts_failed : (o : OutlineValue) (ps : List Part) (k : ℕ) (d : Part) (content now a b c : Option (List ℕ)) (fault : CopyFault) →
     IsSoundOutline o → ps ≡ o.parts → k < length ps →
-    now ≡ content → CopiedOut content a b (length (flat_map (blank_bytes o) (take k ps))) (λ x. flat_map (told_bytes o x) (take k ps)) →
-    Copies now b c (get_or ps k d).len (λ x. told_bytes o x (get_or ps k d)) (Err fault) →
+    now ≡ content → CopiedOut content a b (length (flat_map (blank_bytes o) (take k ps))) (λ x. flat_map (known_bytes o x) (take k ps)) →
+    Copies now b c (get_or ps k d).len (λ x. known_bytes o x (get_or ps k d)) (Err fault) →
     Copies content a c o.len (bytes_of_outline o) (Err (later (get_or ps k d).start fault))
 parts_failed o ps k d content now a b c fault sound same within moved before failed =
     let p = get_or ps k d in
-    copies_after content now a b c p.start p.len o.len (λ x. flat_map (told_bytes o x) (take k ps)) (λ x. told_bytes o x p)
-    (λ x. flat_map (told_bytes o x) (drop (k + 1) ps)) (bytes_of_outline o) fault moved
+    copies_after content now a b c p.start p.len o.len (λ x. flat_map (known_bytes o x) (take k ps)) (λ x. known_bytes o x p)
+    (λ x. flat_map (known_bytes o x) (drop (k + 1) ps)) (bytes_of_outline o) fault moved
     (part_within o k p sound (at_index o ps k d same within))
     (out_count content a b _ p.start _ (start_of o ps k d sound same within) before) failed
-    (λ x. sym (joined_parts o (contents_in o x) x ps same) ∙ flat_splits (told_bytes o x) ps k d within)
+    (λ x. sym (joined_parts o (contents_in o x) x ps same) ∙ flat_splits (known_bytes o x) ps k d within)
 
 -- all of them
 pub parts_all : (o : OutlineValue) (ps : List Part) (k : ℕ) (content a b : Option (List ℕ)) → IsSoundOutline o → ps ≡ o.parts →
     length ps ≤ k →
-    CopiedOut content a b (length (flat_map (blank_bytes o) (take k ps))) (λ x. flat_map (told_bytes o x) (take k ps)) →
+    CopiedOut content a b (length (flat_map (blank_bytes o) (take k ps))) (λ x. flat_map (known_bytes o x) (take k ps)) →
     CopiedOut content a b o.len (bytes_of_outline o)
 parts_all o ps k content a b sound same past went =
     let blank = record o { zeroed = true } in
     let cs = map (λ s. replicate (content_extent s).len 0) o.sections in
-    let all = subst (λ (qs : List Part). CopiedOut content a b (length (flat_map (blank_bytes o) qs)) (λ x. flat_map (told_bytes o x) qs))
+    let all = subst (λ (qs : List Part). CopiedOut content a b (length (flat_map (blank_bytes o) qs)) (λ x. flat_map (known_bytes o x) qs))
     (take_all k ps past) went in
     let whole : length (flat_map (blank_bytes o) ps) ≡ o.len =
     ap (λ (s : List ℕ). length s) (joined_parts blank cs [] ps same) ∙ length-joined (blank_image o) sound in
-    let out = out_count content a b _ o.len (λ x. flat_map (told_bytes o x) ps) whole all in
+    let out = out_count content a b _ o.len (λ x. flat_map (known_bytes o x) ps) whole all in
     record {
       out = out.out;
       many = out.many;
       appends = out.appends;
       are =
-          λ x told. out.are x told ∙ joined_parts o (contents_in o x) x ps same;
+          λ x known. out.are x known ∙ joined_parts o (contents_in o x) x ps same;
     }
 
 pub part_fits : (o : OutlineValue) (k : ℕ) (p : Part) → IsSoundOutline o → slice_get o.parts k ≡ Some p → p.start + p.len < 2 ^ 64
@@ -408,19 +408,19 @@ pub failed_fits : (o : OutlineValue) (ps : List Part) (k : ℕ) (d : Part) (cont
 failed_fits o ps k d content b c bytes fault sound same within (below, failed) =
     let fits = part_fits o k (get_or ps k d) sound (at_index o ps k d same within) in omega arith
 
-pub parts_behind : (block : ℕ) (o : OutlineValue) (ps : List Part) (k : ℕ) (d : Part) (fault : CopyFault) → IsSoundOutline o →
+pub parts_after : (block : ℕ) (o : OutlineValue) (ps : List Part) (k : ℕ) (d : Part) (fault : CopyFault) → IsSoundOutline o →
     ps ≡ o.parts → k < length ps →
-    ReadsBehind block (get_or ps k d).start (get_or ps k d).len (Err fault) →
-    ReadsBehind block 0 o.len (Err (later (get_or ps k d).start fault))
-parts_behind block o ps k d fault sound same within is =
+    ReadsAfter block (get_or ps k d).start (get_or ps k d).len (Err fault) →
+    ReadsAfter block 0 o.len (Err (later (get_or ps k d).start fault))
+parts_after block o ps k d fault sound same within is =
     let p = get_or ps k d in
-    behind_after block 0 p.start p.len o.len fault (part_within o k p sound (at_index o ps k d same within))
-    (subst (λ (n : ℕ). ReadsBehind block n p.len (Err fault)) (sym (zero-add p.start)) is)
+    after_within block 0 p.start p.len o.len fault (part_within o k p sound (at_index o ps k d same within))
+    (subst (λ (n : ℕ). ReadsAfter block n p.len (Err fault)) (sym (zero-add p.start)) is)
 
 -- a read that failed in a part whose bytes are the source's failed at a byte of such a part
 pub parts_read : (block : ℕ) (o : OutlineValue) (ps : List Part) (k : ℕ) (d : Part) (fault : CopyFault) → ps ≡ o.parts → k < length ps →
-    ReadsBehind block (get_or ps k d).start (get_or ps k d).len (Err fault) → ReadsPart o.zeroed (get_or ps k d).owner (Err fault) →
+    ReadsAfter block (get_or ps k d).start (get_or ps k d).len (Err fault) → ReadsPart o.zeroed (get_or ps k d).owner (Err fault) →
     ReadsOfSource o (Err (later (get_or ps k d).start fault))
-parts_read block o ps k d (Write written) same within behind reads = tt
-parts_read block o ps k d (Read at written) same within behind reads =
-    (k, get_or ps k d, at_index o ps k d same within, reads, omega (arith, behind.0), behind.2)
+parts_read block o ps k d (Write written) same within following reads = tt
+parts_read block o ps k d (Read at written) same within following reads =
+    (k, get_or ps k d, at_index o ps k d same within, reads, omega (arith, following.0), following.2)

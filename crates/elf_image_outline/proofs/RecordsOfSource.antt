@@ -70,7 +70,7 @@ table_on {size = size} {at = at} laws o b block start table from several old now
 failed_later : (content before : Option (List ℕ)) (old start new : Failures) (x : ℕ) → before ≡ content → start ≡ old →
     Fails start new x ⊎ ((new ≡ start) × EndsBy before x) → Fails old new x ⊎ ((new ≡ old) × EndsBy content x)
 failed_later content before old start new x same left (inl fails) = inl (subst (λ (f : Failures). Fails f new x) left fails)
-failed_later content before old start new x same left (inr (still, (b, told, short))) = inr (still ∙ left, (b, sym same ∙ told, short))
+failed_later content before old start new x same left (inr (still, (b, known, short))) = inr (still ∙ left, (b, sym same ∙ known, short))
 
 -- a fault of a later part of a table is one of the table
 pub fault_later : (content before : Option (List ℕ)) (old start new : Failures) (at n from m : ℕ) (fault : RecordsFault) →

@@ -63,9 +63,9 @@ read_more {A} read n xs ys x pushed before is =
 -- the bytes' records (`tables_read`).
 
 -- the length that a source says is that of what it reports
-pub told_length : (content : Option (List ℕ)) (b : List ℕ) (len : ℕ) → content ≡ Some b → IfSome content (λ c. len ≡ length c) →
+pub known_length : (content : Option (List ℕ)) (b : List ℕ) (len : ℕ) → content ≡ Some b → IfSome content (λ c. len ≡ length c) →
     len ≡ length b
-told_length content b len told says = subst (λ (k : Option (List ℕ)). IfSome k (λ c. len ≡ length c)) told says
+known_length content b len known says = subst (λ (k : Option (List ℕ)). IfSome k (λ c. len ≡ length c)) known says
 
 -- the header in the first bytes of a file is the file's
 pub header_of_block : (b block : List ℕ) → length block ≡ EHDR_SIZE → block ≡ take (length block) (drop 0 b) → header block ≡ header b
@@ -364,13 +364,13 @@ end_read b e len there at says is from to end =
 pub ends_there : (b : List ℕ) (ends : TableEnds) (e : Extent) (len there : ℕ) → len ≡ length b → there ≡ min (len - e.start) e.len →
     ends.len ≡ there →
     (e.start + there ≤ length b → AreEnds ends (take there (drop e.start b))) → AreEnds ends (bytes_in b e)
-ends_there b ends e len there says is long told =
+ends_there b ends e len there says is long known =
     let rest = length-drop e.start b in
     let m : there ≡ min (length (drop e.start b)) e.len = is ∙ ap (λ (k : ℕ). min k e.len) (ap (λ (k : ℕ). k - e.start) says ∙ sym rest) in
     let same : take there (drop e.start b) ≡ bytes_in b e = taken_there (drop e.start b) e.len there m in
     let below : there ≤ length (drop e.start b) = rw m (min-le_left (length (drop e.start b)) e.len) in
     elim (cases_lt 0 there) [
-      | inl some ↦ subst (AreEnds ends) same (told (omega arith))
+      | inl some ↦ subst (AreEnds ends) same (known (omega arith))
       | inr none ↦
           (let nothing : length (bytes_in b e) ≡ there = ap length (sym same) ∙ length-take-le there (drop e.start b) below in
           record { len = long ∙ sym nothing; first = λ some. absurd (omega arith); last = λ some. absurd (omega arith) })

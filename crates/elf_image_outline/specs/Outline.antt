@@ -110,10 +110,10 @@ copy_failure (Err (Write written)) = None
 copy_failure (Err (Read at written)) = Some at
 
 -- a read of len bytes from start on failed at one of them, in the block after those that are written
-abbrev pub ReadsBehind : ℕ → ℕ → ℕ → Result (Unit {0}) CopyFault → Type 0
-ReadsBehind block start len (Ok u) = Unit
-ReadsBehind block start len (Err (Write written)) = Unit
-ReadsBehind block start len (Err (Read at written)) = (start + written ≤ at) × (at < start + written + block) × (at < start + len)
+abbrev pub ReadsAfter : ℕ → ℕ → ℕ → Result (Unit {0}) CopyFault → Type 0
+ReadsAfter block start len (Ok u) = Unit
+ReadsAfter block start len (Err (Write written)) = Unit
+ReadsAfter block start len (Err (Read at written)) = (start + written ≤ at) × (at < start + written + block) × (at < start + len)
 
 -- the bytes of a part are the source's: those of a content, and those of a gap where gaps don't count as zeros
 abbrev pub IsOfSource : Bool → Owner → Type 0

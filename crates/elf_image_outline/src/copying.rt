@@ -1,6 +1,6 @@
 //! The image of an outline onto a writer.
 ghost use Rattle.std.specs.Prelude.{◌≡◌, ◌<◌, ◌+◌, ◌^◌, ◌≤◌, ℕ, List, Some, drop, length, take, slice_get};
-ghost use Rattle.elf_image_outline.specs.Outline.{bytes_out, later, Copies, ReadsBehind, copy_failure, IsOutlineOf, IsSoundOutline};
+ghost use Rattle.elf_image_outline.specs.Outline.{bytes_out, later, Copies, ReadsAfter, copy_failure, IsOutlineOf, IsSoundOutline};
 ghost use Rattle.elf_image_outline.specs.Outline.{bytes_of_outline, image_in, placed_part, ReadsOfSource, ReadsPart};
 ghost use Rattle.elf_image_stream.specs.Source.{Reaches, Remembers};
 ghost use Rattle.elf_image_outline.specs.Image.{IsImage, part_bytes};
@@ -85,7 +85,7 @@ fn copy_block<S: Source, W: Write>(
     ensures failures { Remembers (copy_failure result) (S.failures source.old) (S.failures source.new) }
     ensures copies { Copies (S.content source.old) (W.contents writer.old) (W.contents writer.new) (length block.old)
         (λ b. take (length block.old) (drop at b)) result }
-    ensures behind { ReadsBehind BLOCK at (length block.old) result }
+    ensures after { ReadsAfter BLOCK at (length block.old) result }
 {
     read_exactly(source, at, block)?;
     write_whole(writer, block)?;
@@ -105,7 +105,7 @@ pub(crate) fn copy_range<S: Source, W: Write>(
     ensures failures { Remembers (copy_failure result) (S.failures source.old) (S.failures source.new) }
     ensures copies { Copies (S.content source.old) (W.contents writer.old) (W.contents writer.new) len
         (λ b. take len (drop start b)) result }
-    ensures behind { ReadsBehind BLOCK start len result }
+    ensures after { ReadsAfter BLOCK start len result }
 {
     let mut block = [0; BLOCK];
     let mut done = 0;
@@ -134,7 +134,7 @@ fn copy_part<S: Source, W: Write>(
     ensures failures { Remembers (copy_failure result) (S.failures source.old) (S.failures source.new) }
     ensures copies { Copies (S.content source.old) (W.contents writer.old) (W.contents writer.new) part.len
         (λ b. part_bytes (image_in outline.now b) (placed_part outline.now.zeroed b part)) result }
-    ensures behind { ReadsBehind BLOCK part.start part.len result }
+    ensures after { ReadsAfter BLOCK part.start part.len result }
     ensures reads { ReadsPart outline.now.zeroed part.owner result }
 {
     match part.owner {
@@ -170,7 +170,7 @@ pub fn copy_image<S: Source, W: Write>(
     ensures image { (b : List ℕ) → S.content source.old ≡ Some b →
         IsImage (image_in outline.now b) (bytes_of_outline outline.now b) }
     ensures failures { Remembers (copy_failure result) (S.failures source.old) (S.failures source.new) }
-    ensures behind { ReadsBehind BLOCK 0 outline.now.len result }
+    ensures after { ReadsAfter BLOCK 0 outline.now.len result }
     ensures reads { ReadsOfSource outline.now result }
 {
     outline.prove_stands();

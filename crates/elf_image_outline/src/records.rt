@@ -137,7 +137,7 @@ fn push_records<T: Record + Drop>(
     requires { length bytes.now ≡ T.SIZE * several }
     ensures many { OnOk result (length records.new.items ≡ length records.old.items + several) }
     ensures valid { OnOk result (AllByRecursion T.IsValid records.old.items → AllByRecursion T.IsValid records.new.items) }
-    ensures told { OnOk result (Extends (λ i. T.at order bytes.now (T.SIZE * i)) several records.old.items records.new.items) }
+    ensures known { OnOk result (Extends (λ i. T.at order bytes.now (T.SIZE * i)) several records.old.items records.new.items) }
 {
     for i in 0..several {
         let record: T = get_at(order, bytes, T::SIZE * i);
@@ -161,7 +161,7 @@ fn read_several<T: Record + Drop, S: Source>(
     ensures failures { OnOk result (S.failures source.new ≡ S.failures source.old) }
     ensures many { OnOk result (length records.new.items ≡ length records.old.items + several) }
     ensures valid { OnOk result (AllByRecursion T.IsValid records.old.items → AllByRecursion T.IsValid records.new.items) }
-    ensures told { OnOk result ((b : List ℕ) (table from : ℕ) → S.content source.old ≡ Some b → at ≡ table + T.SIZE * from →
+    ensures known { OnOk result ((b : List ℕ) (table from : ℕ) → S.content source.old ≡ Some b → at ≡ table + T.SIZE * from →
         records.old.items ≡ table_at (T.at order) T.SIZE b table from →
         records.new.items ≡ table_at (T.at order) T.SIZE b table (from + several)) }
     ensures err { IfErr result

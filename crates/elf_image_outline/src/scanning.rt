@@ -46,7 +46,7 @@ pub(crate) fn scan_head<S: Source>(source: &mut S) -> Result<Head, Fault>
     ensures short { IfOk result (λ head. head.len ≤ MAX_LEN) }
     ensures valid { IfOk result (λ head. IsEhdr head.header) }
     ensures bytes { ReportsBytes (S.content source.old) }
-    ensures told { (b : List ℕ) → S.content source.old ≡ Some b →
+    ensures known { (b : List ℕ) → S.content source.old ≡ Some b →
         Scans b (λ head. (head.len ≡ length b) × (head.header ≡ header_in b)) result }
 {
     let Ok(len) = source.length() else {
@@ -83,7 +83,7 @@ fn read_first<S: Source>(source: &mut S, header: &Ehdr) -> Result<Shdr, Fault>
     ensures failures { Remembers (scan_failure result) (S.failures source.old) (S.failures source.new) }
     ensures valid { IfOk result IsShdr }
     ensures none { IfOk result (λ first. header.now.e_shoff ≡ 0 → first ≡ no_section_header) }
-    ensures told { (b : List ℕ) → S.content source.old ≡ Some b → header.now ≡ header_in b →
+    ensures known { (b : List ℕ) → S.content source.old ≡ Some b → header.now ≡ header_in b →
         Scans b (λ first. first ≡ sections_in b header.now 0) result }
 {
     match header.e_shoff {
@@ -111,7 +111,7 @@ fn read_sections<S: Source>(
     ensures many { IfOk result (λ v. length v.items ≡ count) }
     ensures valid { IfOk result (λ v. AllByRecursion IsShdr v.items) }
     ensures first { IfOk result (λ v. section_header_of v.items 0 ≡ first) }
-    ensures told { (b : List ℕ) → S.content source.old ≡ Some b →
+    ensures known { (b : List ℕ) → S.content source.old ≡ Some b →
         KeepsTableRules b → header.now ≡ header_in b → count ≡ (file_counts b).sections →
         (0 < count → first ≡ shdr_at (order_of header.now.e_ident) b header.now.e_shoff) →
         Scans b (λ v. v.items ≡ table_at (shdr_at (order_of header.now.e_ident)) SHDR_SIZE b header.now.e_shoff count) result }
@@ -139,7 +139,7 @@ pub(crate) fn scan_tables<S: Source>(
     ensures failures { Remembers (scan_failure result) (S.failures source.old) (S.failures source.new) }
     ensures header { IfOk result (λ t. t.header ≡ head.now.header) }
     ensures tables { IfOk result (λ t. HasTables head.now.len t.header t.counts t.sections.items t.segments.items) }
-    ensures told { (b : List ℕ) → S.content source.old ≡ Some b → head.now.len ≡ length b → head.now.header ≡ header_in b →
+    ensures known { (b : List ℕ) → S.content source.old ≡ Some b → head.now.len ≡ length b → head.now.header ≡ header_in b →
         Scans b (λ t. AreRecordsIn b t.header t.sections.items t.segments.items) result }
 {
     let Head { len, header } = *head;
@@ -191,7 +191,7 @@ pub(crate) fn scan_names<S: Source>(
         (section_header_of tables.now.sections.items tables.now.counts.name_table).sh_offset + ends.len ≤ len) }
     ensures clipped { let names = names_extent tables.now.sections.items tables.now.counts.name_table in
         IfOk result (λ ends. ends.len ≡ min (len - names.start) names.len) }
-    ensures told { (b : List ℕ) → S.content source.old ≡ Some b → len ≡ length b →
+    ensures known { (b : List ℕ) → S.content source.old ≡ Some b → len ≡ length b →
         HasTables len tables.now.header tables.now.counts tables.now.sections.items tables.now.segments.items →
         AreRecordsIn b tables.now.header tables.now.sections.items tables.now.segments.items →
         Scans b (λ ends. AreEnds ends (names_in b tables.now.header)) result }
@@ -211,7 +211,7 @@ pub(crate) fn scan_names<S: Source>(
 pub fn scan<S: Source>(alloc: Global, source: &mut S) -> Result<Outline, Fault>
     ensures kept { S.content source.new ≡ S.content source.old }
     ensures failures { Remembers (scan_failure result) (S.failures source.old) (S.failures source.new) }
-    ensures told { (b : List ℕ) → S.content source.old ≡ Some b →
+    ensures known { (b : List ℕ) → S.content source.old ≡ Some b →
         Scans b (λ outline. IsImage (image_in outline b) b) result }
     ensures of { (b : List ℕ) → S.content source.old ≡ Some b → IfOk result (λ outline. IsOutlineOf outline b) }
 {

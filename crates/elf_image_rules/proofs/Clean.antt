@@ -163,7 +163,7 @@ doubly_ascending es limit found ascend lowest = doubly_below es limit found apar
   apart i j x high lt within (a, at_i, one) (e, at_j, other) =
       let some : 0 < a.len = omega arith in
       let also : 0 < e.len = omega arith in
-      let behind = ascend i j a e high lt within at_i at_j some also in
+      let past = ascend i j a e high lt within at_i at_j some also in
       omega arith
 
 -- The walk over the contents: those below index k ascend, and none of them starts before `first` or ends after `last`. `last` is one of

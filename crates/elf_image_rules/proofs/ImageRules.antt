@@ -48,8 +48,8 @@ pub FirstIn-front : (xs ys : List {1} (Ruled ℕ)) → FirstIn (xs ++ ys) None �
 FirstIn-front [] ys clean = tt
 FirstIn-front (r ∷ xs) ys clean = (clean.0, FirstIn-front xs ys clean.1)
 
-pub FirstIn-behind : (xs ys : List {1} (Ruled ℕ)) → FirstIn (xs ++ ys) None → FirstIn ys None
-FirstIn-behind xs ys clean = FirstIn-rest xs ys None (FirstIn-front xs ys clean) clean
+pub FirstIn-after : (xs ys : List {1} (Ruled ℕ)) → FirstIn (xs ++ ys) None → FirstIn ys None
+FirstIn-after xs ys clean = FirstIn-rest xs ys None (FirstIn-front xs ys clean) clean
 
 -- the result that hands on what a run found is what is found, alone and with more rules after the run
 pub FirstIn-handed : {T : Type 0} (xs : List {1} (Ruled ℕ)) (broken : Broken ℕ) (result : Result T (Broken ℕ)) →
@@ -137,10 +137,10 @@ abbrev pub HasFirst : {At : Type 0} → (Row At → At → Type 0) → Row At �
 HasFirst {At} IsFirst row = ((x : At) × IsFirst row x) ⊎ Never row
 
 -- where a rule is not broken, the answer is that of the rules after it
-behind : {At : Type 0} (IsFirst : Row At → At → Type 0) (r : Ruled At) (rules : List {1} (Ruled At)) → Never r.row →
+past : {At : Type 0} (IsFirst : Row At → At → Type 0) (r : Ruled At) (rules : List {1} (Ruled At)) → Never r.row →
     ((x : Option (ℕ × At)) → ¬ FirstBy IsFirst (r ∷ rules) x) → (x : Option (ℕ × At)) → ¬ FirstBy IsFirst rules x
-behind IsFirst r rules never none None first = none None (never, first)
-behind IsFirst r rules never none (Some fault) first = none (Some fault) (inr (never, first))
+past IsFirst r rules never none None first = none None (never, first)
+past IsFirst r rules never none (Some fault) first = none (Some fault) (inr (never, first))
 
 pub some_first : {At : Type 0} (IsFirst : Row At → At → Type 0) → ((row : Row At) → ¬ (¬ HasFirst IsFirst row)) →
     (rules : List {1} (Ruled At)) → ¬ ((x : Option (ℕ × At)) → ¬ FirstBy IsFirst rules x)
@@ -149,7 +149,7 @@ some_first IsFirst each (r ∷ rules) none =
     let rest = some_first IsFirst each rules in
     each r.row (λ found. elim found [
       | inl (x, first) ↦ none (Some (r.number, x)) (inl (refl, first))
-      | inr never ↦ rest (behind IsFirst r rules never none)
+      | inr never ↦ rest (past IsFirst r rules never none)
     ])
 
 -- a predicate on numbers that has no least one holds of none below any bound

@@ -14,7 +14,7 @@ use Rattle.elf_field.specs.Abi.{EHDR_SIZE, SHT_NULL}
 use Rattle.elf_field.specs.declared.ehdr.Ehdr.{Ehdr}
 use Rattle.elf_field.specs.declared.phdr.Phdr.{Phdr}
 use Rattle.elf_field.specs.declared.shdr.Shdr.{Shdr}
-use Rattle.elf_image_rules.proofs.ImageRules.{FirstIn-behind, FirstIn-front, FirstIn-later}
+use Rattle.elf_image_rules.proofs.ImageRules.{FirstIn-after, FirstIn-front, FirstIn-later}
 use Rattle.elf_image_rules.specs.KeepsRules.{IsAlignment, IsNullHeader, KeepsEachRecordRule, KeepsHeaderRules, KeepsIdentRules}
 use Rattle.elf_image_rules.specs.KeepsRules.{KeepsLengthRules, KeepsNameRules, KeepsProgramTableRules, KeepsRules, KeepsSectionRules}
 use Rattle.elf_image_rules.specs.KeepsRules.{KeepsSectionTableRules, KeepsSegmentRules}
@@ -431,13 +431,13 @@ pub records_kept : (len : ℕ) (h : Ehdr) (s : ℕ → Shdr) (g : ℕ → Phdr) 
     FirstIn (record_rules len h s g names) None → KeepsEachRecordRule len h s g names
 unfolding record_rules header_table_rules header_entry_rules
 records_kept len h s g names clean =
-    let from_ident = FirstIn-behind (length_rules len) _ clean in
-    let from_header = FirstIn-behind (ident_rules h.e_ident) _ from_ident in
-    let from_section_table = FirstIn-behind (header_rules len h) _ from_header in
-    let from_program_table = FirstIn-behind (section_table_rules len h (s 0)) _ from_section_table in
-    let from_sections = FirstIn-behind (program_table_rules len h (s 0)) _ from_program_table in
-    let from_segments = FirstIn-behind (section_header_rules len h (section_header_count h (s 0)) s) _ from_sections in
-    let from_names = FirstIn-behind (segment_rules len h (program_header_count h (s 0)) g) _ from_segments in
+    let from_ident = FirstIn-after (length_rules len) _ clean in
+    let from_header = FirstIn-after (ident_rules h.e_ident) _ from_ident in
+    let from_section_table = FirstIn-after (header_rules len h) _ from_header in
+    let from_program_table = FirstIn-after (section_table_rules len h (s 0)) _ from_section_table in
+    let from_sections = FirstIn-after (program_table_rules len h (s 0)) _ from_program_table in
+    let from_segments = FirstIn-after (section_header_rules len h (section_header_count h (s 0)) s) _ from_sections in
+    let from_names = FirstIn-after (segment_rules len h (program_header_count h (s 0)) g) _ from_segments in
     record {
       file_length = length_kept len (FirstIn-front (length_rules len) _ clean);
       ident = ident_kept h.e_ident (FirstIn-front (ident_rules h.e_ident) _ from_ident);
@@ -469,7 +469,7 @@ pub rules_kept : (len : ℕ) (h : Ehdr) (s : ℕ → Shdr) (g : ℕ → Phdr) (n
 unfolding image_rules
 rules_kept len h s g names clean = record {
   records = records_kept len h s g names (FirstIn-front (record_rules len h s g names) _ clean);
-  disjoint = disjoint_from_never _ (FirstIn-behind (record_rules len h s g names) _ clean).0;
+  disjoint = disjoint_from_never _ (FirstIn-after (record_rules len h s g names) _ clean).0;
 }
 
 pub rules_unbroken : (len : ℕ) (h : Ehdr) (s : ℕ → Shdr) (g : ℕ → Phdr) (names : List ℕ) →

@@ -9,6 +9,6 @@ pub use Rattle.elf_image_rules.proofs.KeepsRules.{above, at_most, equal, is_alig
 pub use Rattle.elf_image_rules.proofs.KeepsRules.{rules_unbroken}
 pub use Rattle.elf_image_rules.proofs.ImageRules.{fault_of_extents, fault_of_records, from_entries, from_header, from_ident, from_length}
 pub use Rattle.elf_image_rules.proofs.ImageRules.{from_program_table, from_section_table, from_tables, overlap_alone, record_rules_of}
-pub use Rattle.elf_image_rules.proofs.ImageRules.{table_rules_of, AreSame, AreSame-append, AreSame-refl, FirstIn-behind, FirstIn-front}
+pub use Rattle.elf_image_rules.proofs.ImageRules.{table_rules_of, AreSame, AreSame-append, AreSame-refl, FirstIn-after, FirstIn-front}
 pub use Rattle.elf_image_rules.proofs.ImageRules.{FirstIn-handed, FirstIn-later, FirstIn-rest, FirstIn-same, FirstIn-sooner, FirstIn-stop}
 pub use Rattle.elf_image_rules.proofs.ImageRules.{one_fault, one_fault_by, HasFirst, least_or_never, some_fault, some_first}

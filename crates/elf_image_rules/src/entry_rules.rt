@@ -23,7 +23,7 @@ pub fn is_wrong_alignment(align: u64) -> bool
 // Sums of offsets and sizes, as whole numbers.
 
 /// Whether what begins at `start` and is `size` bytes long ends after `len`. A sum that is no u64 is above every length.
-pub fn ends_behind(start: u64, size: u64, len: u64) -> bool
+pub fn ends_past(start: u64, size: u64, len: u64) -> bool
     ensures { IsTrue result ↔ (len < start + size) }
 {
     match start.checked_add(size) {
@@ -87,7 +87,7 @@ fn is_content_past_end(entry: &Shdr, len: u64) -> bool
 {
     entry.sh_type != SHT_NOBITS
         && entry.sh_size > 0
-        && ends_behind(entry.sh_offset, entry.sh_size, len)
+        && ends_past(entry.sh_offset, entry.sh_size, len)
 }
 
 /// The lowest offset in the file at which one of `count` sections breaks the rule.
@@ -160,7 +160,7 @@ impl SegmentRule {
             SegmentRule::SegmentPastEnd(len) => {
                 segment.p_type != PT_NULL
                     && segment.p_filesz > 0
-                    && ends_behind(segment.p_offset, segment.p_filesz, len)
+                    && ends_past(segment.p_offset, segment.p_filesz, len)
             }
             SegmentRule::FileSizeAboveMemorySize => is_load && segment.p_filesz > segment.p_memsz,
             SegmentRule::WrongSegmentAlignment => is_load && is_wrong_alignment(segment.p_align),

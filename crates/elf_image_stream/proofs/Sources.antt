@@ -16,8 +16,8 @@ use Rattle.elf_image_stream.specs.declared.source.Failures.{Failures}
 pub failed_within : (content : Option (List ℕ)) (old new : Failures) (at n x : ℕ) → Reaches content (at + n) →
     HasFailed content old new at n x → Fails old new x
 failed_within content old new at n x reaches (above, below, inl fails) = fails
-failed_within content old new at n x reaches (above, below, inr (still, (b, told, short))) =
-    absurd (let long = reaches b told in omega arith)
+failed_within content old new at n x reaches (above, below, inr (still, (b, said, short))) =
+    absurd (let long = reaches b said in omega arith)
 
 -- one failure more is never none
 none_more : (c : ℕ) → c ≡ (c + 1) % 2 ^ 64 → ⊥
@@ -108,8 +108,8 @@ gives_up_to {E = E} (Some bytes) b (Ok u) old new n read within ends =
     full (inr whole) counted = inr (omega (omega_arith, whole, counted))
 
 -- after nothing is what was given
-pub behind_nothing : {U E : Type 0} (a : Option (List ℕ)) (result : Result U E) (old new : List ℕ) (n : ℕ) → old ≡ []
+pub after_nothing : {U E : Type 0} (a : Option (List ℕ)) (result : Result U E) (old new : List ℕ) (n : ℕ) → old ≡ []
     → OnOk result (IfSome a (λ bytes. new ≡ old ++ take (n - length old) bytes)) → OnOk result (IfSome a (λ bytes. new ≡ take n bytes))
-behind_nothing a (Err e) old new n empty told = tt
-behind_nothing None (Ok u) old new n empty told = tt
-behind_nothing (Some bytes) (Ok u) old new n empty told = simp unary_clauses at (rw empty at told)
+after_nothing a (Err e) old new n empty said = tt
+after_nothing None (Ok u) old new n empty said = tt
+after_nothing (Some bytes) (Ok u) old new n empty said = simp unary_clauses at (rw empty at said)

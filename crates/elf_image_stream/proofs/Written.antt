@@ -66,11 +66,11 @@ stopped_longer a c out written s t (n, is, below, went) =
     let whole = length-append s t in
     (n, is, omega arith, subst (Appends a c) (sym (take-append-le n s t (omega arith))) went)
 
-pub sends_behind : (a b c : Option (List ℕ)) (out mid : ℕ) (s t : List ℕ) (result : Result ℕ WriteFault) → WentOut a b out s mid →
+pub sends_after : (a b c : Option (List ℕ)) (out mid : ℕ) (s t : List ℕ) (result : Result ℕ WriteFault) → WentOut a b out s mid →
     Sends b c mid t result →
     Sends a c out (s ++ t) result
-sends_behind a b c out mid s t (Ok all) first second = both_out a b c out mid all s t first second
-sends_behind a b c out mid s t (Err fault) first second = stopped_later a b c out mid fault.written s t first second
+sends_after a b c out mid s t (Ok all) first second = both_out a b c out mid all s t first second
+sends_after a b c out mid s t (Err fault) first second = stopped_later a b c out mid fault.written s t first second
 
 -- the count is exact where the text is no longer than a count can report
 pub stopped_whole : (a c : Option (List ℕ)) (text : List ℕ) (written : ℕ) → length text < 2 ^ 64 → StoppedIn a c 0 text written

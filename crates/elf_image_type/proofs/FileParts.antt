@@ -71,16 +71,16 @@ in_spread pre from (x ∷ q) [] k long fits lt = absurd (omega arith)
 in_spread pre from [] (p ∷ ps) k long fits lt = absurd fits
 in_spread pre from (x ∷ q) (p ∷ ps) zero long (multiple, le, rest) lt =
     let zeros : List ℕ = replicate (x - from) 0 in
-    let behind : List ℕ = spread (x + length p) q ps in
-    let placed : drop x (pre ++ (zeros ++ (p ++ behind))) ≡ p ++ behind =
-    ap (drop x) (sym (append_assoc pre zeros (p ++ behind))) ∙ drop_at (pre ++ zeros) (p ++ behind) x (front_long pre from x long le) in
-    ap (take (length p)) placed ∙ take_at p behind (length p) refl
+    let after : List ℕ = spread (x + length p) q ps in
+    let placed : drop x (pre ++ (zeros ++ (p ++ after))) ≡ p ++ after =
+    ap (drop x) (sym (append_assoc pre zeros (p ++ after))) ∙ drop_at (pre ++ zeros) (p ++ after) x (front_long pre from x long le) in
+    ap (take (length p)) placed ∙ take_at p after (length p) refl
 in_spread pre from (x ∷ q) (p ∷ ps) (suc k) long (multiple, le, rest) lt =
     let zeros : List ℕ = replicate (x - from) 0 in
-    let behind : List ℕ = spread (x + length p) q ps in
+    let after : List ℕ = spread (x + length p) q ps in
     let front : List ℕ = (pre ++ zeros) ++ p in
-    let joined : pre ++ (zeros ++ (p ++ behind)) ≡ front ++ behind =
-    sym (append_assoc pre zeros (p ++ behind)) ∙ sym (append_assoc (pre ++ zeros) p behind) in
+    let joined : pre ++ (zeros ++ (p ++ after)) ≡ front ++ after =
+    sym (append_assoc pre zeros (p ++ after)) ∙ sym (append_assoc (pre ++ zeros) p after) in
     let end : length front ≡ x + length p =
     (let a = length-append (pre ++ zeros) p in let b = front_long pre from x long le in omega arith) in
     ap (λ (s : List ℕ). take (length (get_or ps k [])) (drop (get_or q k 0) s)) joined ∙
@@ -103,11 +103,11 @@ length-spread from (x ∷ q) (p ∷ []) (suc k) fits last = absurd (omega arith)
 length-spread from (x ∷ (y ∷ q)) (p ∷ []) zero (multiple, le, rest) last = absurd rest
 length-spread from (x ∷ q) (p ∷ (r ∷ ps)) zero fits last = absurd (omega arith)
 length-spread from (x ∷ q) (p ∷ (r ∷ ps)) (suc k) (multiple, le, rest) last =
-    let behind = spread (x + length p) q (r ∷ ps) in
+    let after = spread (x + length p) q (r ∷ ps) in
     let later = length-spread (x + length p) q (r ∷ ps) k rest (omega arith) in
     let zeros = length-zeros (x - from) in
-    let both = length-append (replicate (x - from) 0) (p ++ behind) in
-    let one = length-append p behind in
+    let both = length-append (replicate (x - from) 0) (p ++ after) in
+    let one = length-append p after in
     omega arith
 
 -- ---- two parts
@@ -136,9 +136,9 @@ pub same_part : (from : ℕ) (q : List ℕ) (ps : List (List ℕ)) (j k x : ℕ)
     get_or q j 0 ≤ x → x < get_or q j 0 + length (get_or ps j []) → get_or q k 0 ≤ x → x < get_or q k 0 + length (get_or ps k []) → j ≡ k
 same_part from q ps j k x fits within_j within_k low_j high_j low_k high_k =
     elim (cases_lt j k) [
-      | inl lt ↦ (let behind = parts_ascend from q ps j k fits lt within_k in absurd (omega arith))
+      | inl lt ↦ (let after = parts_ascend from q ps j k fits lt within_k in absurd (omega arith))
       | inr le ↦ elim (cases_lt k j) [
-        | inl lt ↦ (let behind = parts_ascend from q ps k j fits lt within_j in absurd (omega arith))
+        | inl lt ↦ (let after = parts_ascend from q ps k j fits lt within_j in absurd (omega arith))
         | inr ge ↦ omega arith
       ]
     ]

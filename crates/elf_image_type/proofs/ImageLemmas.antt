@@ -240,7 +240,7 @@ parts_end o cs file ps k sound same within =
 pub in_some_part : (o : OutlineValue) (cs : List (List ℕ)) (file : List ℕ) (ps : List Part) (offset : ℕ) →
     IsSoundImage (image_of o cs file) → ps ≡ o.parts →
     length (flat_map (bytes_in_parts o cs file) ps) ≤ offset → o.len ≤ offset
-in_some_part o cs file ps offset sound same behind =
+in_some_part o cs file ps offset sound same later =
     let whole = ap length (joined_parts o cs file ps same) in
     let long = length-joined (image_of o cs file) sound in
     omega arith

@@ -26,7 +26,7 @@ use Rattle.elf_image_outline.specs.declared.outline.Owner.TheVariants.{Header, P
 use Rattle.elf_image_outline.specs.Image.{ImageValue, Stands, value_names}
 use Rattle.elf_image_type.specs.WrittenFile.{encoding, identification, AreFileParts, HasContents, IsPartOf, IsWritable, WrittenPart}
 use Rattle.elf_image_type.specs.WrittenFile.{owner_bytes, owner_start, spread, unaligned, written, IsRelocatableFile, all_headers}
-use Rattle.elf_image_type.specs.WrittenFile.{behind_header, content_parts, short_count, first_header, long_number, short_index, offsets}
+use Rattle.elf_image_type.specs.WrittenFile.{after_header, content_parts, short_count, first_header, long_number, short_index, offsets}
 use Rattle.elf_image_type.specs.WrittenFile.{relocatable_bytes, relocatable_file, relocatable_parts, section_table}
 use Rattle.elf_image_type.proofs.FileParts.{written_accepted, written_is_bytes, written_read, length-spread, length-unaligned, parts_ascend}
 
@@ -196,16 +196,16 @@ named h n k index = rw index (elim (cases_lt k SHN_LORESERVE) [
 
 -- where the section header table ends
 pub length-relocatable_bytes : (h : Ehdr) (ss : List Shdr) (cs : List (List ℕ)) (names : ℕ) → length cs ≡ length ss →
-    Fits (map unaligned (behind_header h ss cs names)) EHDR_SIZE (offsets h ss) →
+    Fits (map unaligned (after_header h ss cs names)) EHDR_SIZE (offsets h ss) →
     length (relocatable_bytes h ss cs names) ≡ h.e_shoff + SHDR_SIZE * (length ss + 1)
 unfolding relocatable_bytes
 length-relocatable_bytes h ss cs names counts order =
-    let ps = ehdr_bytes (order_of h.e_ident) h ∷ behind_header h ss cs names in
+    let ps = ehdr_bytes (order_of h.e_ident) h ∷ after_header h ss cs names in
     let all = length-append cs (section_table h ss names ∷ []) in
     let long : EHDR_SIZE ≡ 0 + length (ehdr_bytes (order_of h.e_ident) h) =
     (let e = ehdr_laws.length_is (order_of h.e_ident) h in omega arith) in
     let whole : Fits (map unaligned ps) 0 (0 ∷ offsets h ss) =
-    (omega arith, omega arith, subst (λ (x : ℕ). Fits (map unaligned (behind_header h ss cs names)) x (offsets h ss)) long order) in
+    (omega arith, omega arith, subst (λ (x : ℕ). Fits (map unaligned (after_header h ss cs names)) x (offsets h ss)) long order) in
     let end = length-spread 0 (0 ∷ offsets h ss) ps (suc (length cs)) whole (omega arith) in
     let place = offset_last ss h.e_shoff (length cs) counts in
     let last = ap length (bytes_last cs (section_table h ss names)) in
@@ -231,10 +231,10 @@ module _ (h : Ehdr) (ss : List Shdr) (cs : List (List ℕ)) (names : ℕ) (file 
   table_above : EHDR_SIZE ≤ h.e_shoff
   table_above =
       let all = length-append cs (section_table h ss names ∷ []) in
-      let long = length-unaligned (behind_header h ss cs names) in
+      let long = length-unaligned (after_header h ss cs names) in
       let same = counts in
       let last = offset_last ss h.e_shoff (length ss) refl in
-      let above = above_from (map unaligned (behind_header h ss cs names)) EHDR_SIZE (offsets h ss) (length ss) file.order (omega arith) in
+      let above = above_from (map unaligned (after_header h ss cs names)) EHDR_SIZE (offsets h ss) (length ss) file.order (omega arith) in
       omega arith
 
   -- a content ends before the section table
@@ -245,7 +245,7 @@ module _ (h : Ehdr) (ss : List Shdr) (cs : List (List ℕ)) (names : ℕ) (file 
       let last = offset_last ss h.e_shoff (length ss) refl in
       let here = offset_at ss h.e_shoff j lt in
       let content = ap length (bytes_here cs (section_table h ss names) j (omega arith)) in
-      let below = parts_ascend EHDR_SIZE (offsets h ss) (behind_header h ss cs names) j (length ss) file.order lt (omega arith) in
+      let below = parts_ascend EHDR_SIZE (offsets h ss) (after_header h ss cs names) j (length ss) file.order lt (omega arith) in
       omega arith
 
   first_fits : IsShdr (first_header n names)
@@ -304,11 +304,11 @@ module _ (h : Ehdr) (ss : List Shdr) (cs : List (List ℕ)) (names : ℕ) (file 
     each_owner = each_owner;
   }
     where
-      from_header : Fits (map unaligned (behind_header h ss cs names)) (0 + length (ehdr_bytes (order_of h.e_ident) h)) (offsets h ss)
+      from_header : Fits (map unaligned (after_header h ss cs names)) (0 + length (ehdr_bytes (order_of h.e_ident) h)) (offsets h ss)
       from_header =
           let long : EHDR_SIZE ≡ 0 + length (ehdr_bytes (order_of h.e_ident) h) =
           (let e = ehdr_laws.length_is (order_of h.e_ident) h in omega arith) in
-          subst (λ (x : ℕ). Fits (map unaligned (behind_header h ss cs names)) x (offsets h ss)) long file.order
+          subst (λ (x : ℕ). Fits (map unaligned (after_header h ss cs names)) x (offsets h ss)) long file.order
 
       owned : (k : ℕ) (p : WrittenPart) → slice_get (relocatable_parts h ss cs names) k ≡ Some p → p.owner ≢ Gap →
           (get_or places k 0 ≡ owner_start (relocatable_file h ss cs names) p.owner) ×

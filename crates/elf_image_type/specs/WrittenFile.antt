@@ -150,8 +150,8 @@ abbrev pub section_table : Ehdr → List Shdr → ℕ → List ℕ
 section_table h ss names = flat_map (shdr_bytes (order_of h.e_ident)) (all_headers ss names)
 
 -- the contents, and after them the section header table
-abbrev pub behind_header : Ehdr → List Shdr → List (List ℕ) → ℕ → List (List ℕ)
-behind_header h ss cs names = cs ++ (section_table h ss names ∷ [])
+abbrev pub after_header : Ehdr → List Shdr → List (List ℕ) → ℕ → List (List ℕ)
+after_header h ss cs names = cs ++ (section_table h ss names ∷ [])
 
 -- where they begin
 abbrev pub offsets : Ehdr → List Shdr → List ℕ
@@ -160,7 +160,7 @@ offsets h ss = map (λ s. s.sh_offset) ss ++ (h.e_shoff ∷ [])
 -- the file's bytes
 unfoldable pub relocatable_bytes : Ehdr → List Shdr → List (List ℕ) → ℕ → List ℕ
 relocatable_bytes h ss cs names =
-    spread 0 (0 ∷ offsets h ss) (ehdr_bytes (order_of h.e_ident) h ∷ behind_header h ss cs names)
+    spread 0 (0 ∷ offsets h ss) (ehdr_bytes (order_of h.e_ident) h ∷ after_header h ss cs names)
 
 -- ---- its parts
 
@@ -191,7 +191,7 @@ pub record IsRelocatableFile (h : Ehdr) (ss : List Shdr) (cs : List (List ℕ)) 
   pub no_segments : h.e_phnum ≡ 0
   -- each part begins after the one before it, and the last one ends in time
   pub lengths : map length cs ≡ map (λ s. (content_extent s).len) ss
-  pub order : Fits (map unaligned (behind_header h ss cs names)) EHDR_SIZE (offsets h ss)
+  pub order : Fits (map unaligned (after_header h ss cs names)) EHDR_SIZE (offsets h ss)
   pub short : h.e_shoff + SHDR_SIZE * (length ss + 1) ≤ MAX_LEN
   -- alignments and names
   pub alignment : EachSectionHeader (length ss + 1) (section_header_of (all_headers ss names)) (λ entry. IsAlignment entry.sh_addralign)

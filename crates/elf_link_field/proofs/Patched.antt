@@ -37,8 +37,8 @@ module _ {X : Type 0} (d : X) (b new : List X) (x n : ℕ) (within : x + n ≤ l
   between_before k below =
       get_or_append_left (take x b) (new ++ drop (x + n) b) d k (omega (arith, front)) ∙ get_or-take x b k d below
 
-  between_behind : (k : ℕ) → x + n ≤ k → get_or (take x b ++ (new ++ drop (x + n) b)) k d ≡ get_or b k d
-  between_behind k above =
+  between_after : (k : ℕ) → x + n ≤ k → get_or (take x b ++ (new ++ drop (x + n) b)) k d ≡ get_or b k d
+  between_after k above =
       get_or-append_right (take x b) (new ++ drop (x + n) b) x k d front (omega arith)
       ∙ get_or-append_right new (drop (x + n) b) n (k - x) d long (omega arith)
       ∙ get_or-drop (x + n) b (k - x - n) d
@@ -46,7 +46,7 @@ module _ {X : Type 0} (d : X) (b new : List X) (x n : ℕ) (within : x + n ≤ l
 
   pub between_outside : (k : ℕ) → (k < x) ⊎ (x + n ≤ k) → get_or (take x b ++ (new ++ drop (x + n) b)) k d ≡ get_or b k d
   between_outside k (inl below) = between_before k below
-  between_outside k (inr above) = between_behind k above
+  between_outside k (inr above) = between_after k above
 
 -- A field that is written at the front of the rest of a slice.
 

@@ -54,13 +54,13 @@ pub best_next : (fs : List ObjectValue) (P : ℕ → ℕ → Type 0) (f i : ℕ)
     i < length (object_at fs f).symbols → (passes ≡ true) ↔ P f i → now ≡ first_or best passes (id_in f i) →
     IsBest (AtSymbol fs P) f i best →
     IsBest (AtSymbol fs P) f (i + 1) now
-best_next fs P f i (Some s) now passes file index tells is best =
+best_next fs P f i (Some s) now passes file index says is best =
     subst (IsBest (AtSymbol fs P) f (i + 1)) (sym is) (first_past (AtSymbol fs P) f i s best)
-best_next fs P f i None now true file index tells is none =
-    subst (IsBest (AtSymbol fs P) f (i + 1)) (sym is) (first_here fs P f i file index (tells.0 refl) none)
-best_next fs P f i None now false file index tells is none =
+best_next fs P f i None now true file index says is none =
+    subst (IsBest (AtSymbol fs P) f (i + 1)) (sym is) (first_here fs P f i file index (says.0 refl) none)
+best_next fs P f i None now false file index says is none =
     subst (IsBest (AtSymbol fs P) f (i + 1)) (sym is)
-    (none_past fs P f i (λ here. (let never : false ≡ true = tells.1 here in absurd (cc))) none)
+    (none_past fs P f i (λ here. (let never : false ≡ true = says.1 here in absurd (cc))) none)
 
 some_past : (row : Row Site) (f i : ℕ) → SomeBefore row f i → SomeBefore row f (i + 1)
 some_past row f i (p, there, earlier) = (p, there, earlier_more p.file p.index f i earlier)
@@ -75,9 +75,9 @@ some_back fs P f i (p, there, earlier) = elim (earlier_next p.file p.index f i e
 pub found_past : (fs : List ObjectValue) (P : ℕ → ℕ → Type 0) (f i : ℕ) (found : Bool) → (P f i → ⊥) →
     (found ≡ true) ↔ SomeBefore (AtSymbol fs P) f i →
     (found ≡ true) ↔ SomeBefore (AtSymbol fs P) f (i + 1)
-found_past fs P f i found other tells = (
-  (λ yes. some_past (AtSymbol fs P) f i (tells.0 yes)),
-  (λ some. elim (some_back fs P f i some) [ inl before ↦ tells.1 before | inr here ↦ absurd (other here) ]),
+found_past fs P f i found other says = (
+  (λ yes. some_past (AtSymbol fs P) f i (says.0 yes)),
+  (λ some. elim (some_back fs P f i some) [ inl before ↦ says.1 before | inr here ↦ absurd (other here) ]),
 )
 
 pub found_here : (fs : List ObjectValue) (P : ℕ → ℕ → Type 0) (f i : ℕ) → f < length fs → i < length (object_at fs f).symbols → P f i →

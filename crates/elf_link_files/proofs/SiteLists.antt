@@ -283,23 +283,23 @@ in_rest x xs p before zero lt at = (let self = subst (Before x) (sym at) before 
 in_rest x xs p before (suc k) lt at = (k, omega arith, at)
 
 -- a list of a row without its first site is that of the sites after it
-behind : (row : Row Site) (x : Site) (xs : List Site) → Lists row (x ∷ xs) → Lists (λ p. row p × Before x p) xs
-behind row x xs is = record {
+later : (row : Row Site) (x : Site) (xs : List Site) → Lists row (x ∷ xs) → Lists (λ p. row p × Before x p) xs
+later row x xs is = record {
   each = λ k lt. (is.each (suc k) (omega arith), is.order 0 (suc k) (omega arith) (omega arith));
   all = λ p (there, before). (let (k, lt, at) = is.all p there in in_rest x xs p before k lt at);
   order = λ j k lt within. is.order (suc j) (suc k) (omega arith) (omega arith);
 }
 
-first_or_behind : (x : Site) (xs : List Site) (k : ℕ) → ((j : ℕ) → 0 < j → j < length (x ∷ xs) → Before x (site_at (x ∷ xs) j)) →
+first_or_after : (x : Site) (xs : List Site) (k : ℕ) → ((j : ℕ) → 0 < j → j < length (x ∷ xs) → Before x (site_at (x ∷ xs) j)) →
     k < length (x ∷ xs) → (x ≡ site_at (x ∷ xs) k) ⊎ Before x (site_at (x ∷ xs) k)
-first_or_behind x xs zero order lt = inl refl
-first_or_behind x xs (suc k) order lt = inr (order (suc k) (omega arith) lt)
+first_or_after x xs zero order lt = inl refl
+first_or_after x xs (suc k) order lt = inr (order (suc k) (omega arith) lt)
 
 -- the first site of a list of the row is no site after another one of the row
 first_of : (row : Row Site) (x : Site) (xs : List Site) (p : Site) → Lists row (x ∷ xs) → row p → (x ≡ p) ⊎ Before x p
 first_of row x xs p is there =
     let (k, lt, at) = is.all p there in
-    subst (λ (q : Site). (x ≡ q) ⊎ Before x q) at (first_or_behind x xs k (λ j above within. is.order 0 j above within) lt)
+    subst (λ (q : Site). (x ≡ q) ⊎ Before x q) at (first_or_after x xs k (λ j above within. is.order 0 j above within) lt)
 
 one_head : (row : Row Site) (x y : Site) (xs ys : List Site) → Lists row (x ∷ xs) → Lists row (y ∷ ys) → x ≡ y
 one_head row x y xs ys is are = elim (first_of row x xs y is (are.each 0 (omega arith))) [
@@ -316,9 +316,9 @@ one_site_list row [] (y ∷ ys) is are = (let (k, lt, at) = is.all y (are.each 0
 one_site_list row (x ∷ xs) [] is are = (let (k, lt, at) = are.all x (is.each 0 (omega arith)) in absurd (omega arith))
 one_site_list row (x ∷ xs) (y ∷ ys) is are =
     let same = one_head row x y xs ys is are in
-    let rest = subst (λ (p : Site). Lists (λ q. row q × Before p q) ys) (sym same) (behind row y ys are) in
+    let rest = subst (λ (p : Site). Lists (λ q. row q × Before p q) ys) (sym same) (later row y ys are) in
     ap (λ (p : Site). p ∷ xs) same ∙
-    ap (λ (ps : List Site). y ∷ ps) (one_site_list (λ q. row q × Before x q) xs ys (behind row x xs is) rest)
+    ap (λ (ps : List Site). y ∷ ps) (one_site_list (λ q. row q × Before x q) xs ys (later row x xs is) rest)
 
 -- ---- rules
 
@@ -332,10 +332,10 @@ one_found = one_fault_by IsFirstAt (λ row p first. first.stands) one_first
 -- the least number below n that P holds of, or none
 least_below : (P : ℕ → Type 0) → ((k : ℕ) → P k ⊎ (P k → ⊥)) → (n : ℕ) →
     ((m : ℕ) × (m < n) × P m × ((j : ℕ) → j < m → P j → ⊥)) ⊎ ((j : ℕ) → j < n → P j → ⊥)
-least_below P told zero = inr (λ j lt here. omega arith)
-least_below P told (suc n) = elim (least_below P told n) [
+least_below P known zero = inr (λ j lt here. omega arith)
+least_below P known (suc n) = elim (least_below P known n) [
   | inl (m, lt, here, first) ↦ inl (m, omega arith, here, first)
-  | inr none ↦ elim (told n) [
+  | inr none ↦ elim (known n) [
     | inl here ↦ inl (n, omega arith, here, none)
     | inr other ↦ inr (λ j lt here. elim (cases_lt j n) [
       | inl below ↦ none j below here
@@ -349,28 +349,28 @@ abbrev SomeIn : List ObjectValue → (ℕ → ℕ → Type 0) → ℕ → Type 0
 SomeIn fs P f = (i : ℕ) × (i < length (object_at fs f).symbols) × P f i × ((j : ℕ) → j < i → P f j → ⊥)
 
 some_in : (fs : List ObjectValue) (P : ℕ → ℕ → Type 0) → ((f i : ℕ) → P f i ⊎ (P f i → ⊥)) → (f : ℕ) → SomeIn fs P f ⊎ (SomeIn fs P f → ⊥)
-some_in fs P told f = elim (least_below (P f) (told f) (length (object_at fs f).symbols)) [
+some_in fs P known f = elim (least_below (P f) (known f) (length (object_at fs f).symbols)) [
   | inl found ↦ inl found
   | inr none ↦ inr (λ (i, lt, here, first). none i lt here)
 ]
 
 least_in : (fs : List ObjectValue) (P : ℕ → ℕ → Type 0) → ((f i : ℕ) → P f i ⊎ (P f i → ⊥)) → (f i : ℕ) →
     i < length (object_at fs f).symbols → P f i → SomeIn fs P f
-least_in fs P told f i lt here = elim (least_below (P f) (told f) (length (object_at fs f).symbols)) [
+least_in fs P known f i lt here = elim (least_below (P f) (known f) (length (object_at fs f).symbols)) [
   | inl found ↦ found
   | inr none ↦ absurd (none i lt here)
 ]
 
 pub first_in_row : (fs : List ObjectValue) (P : ℕ → ℕ → Type 0) → ((f i : ℕ) → P f i ⊎ (P f i → ⊥)) → (p : Site) → AtSymbol fs P p →
     (q : Site) × IsFirstAt (AtSymbol fs P) q
-first_in_row fs P told p (file, index, here, entry) = elim (least_below (SomeIn fs P) (some_in fs P told) (suc p.file)) [
-  | inr none ↦ absurd (none p.file (omega arith) (least_in fs P told p.file p.index index here))
+first_in_row fs P known p (file, index, here, entry) = elim (least_below (SomeIn fs P) (some_in fs P known) (suc p.file)) [
+  | inr none ↦ absurd (none p.file (omega arith) (least_in fs P known p.file p.index index here))
   | inl (f, lt, (i, i_in, stands, first), earlier) ↦ (
     site f i,
     record {
       stands = (omega arith, i_in, stands, refl);
       first = λ r (r_file, r_index, r_here, r_entry) before. elim before [
-        | inl below ↦ earlier r.file below (least_in fs P told r.file r.index r_index r_here)
+        | inl below ↦ earlier r.file below (least_in fs P known r.file r.index r_index r_here)
         | inr (same, rest) ↦ elim rest [
           | inl below ↦ first r.index below (subst (λ (n : ℕ). P n r.index) same r_here)
           | inr (again, never) ↦ omega arith

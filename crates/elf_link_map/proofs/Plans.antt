@@ -229,11 +229,11 @@ some_each {A} none P (suc n) each lacks =
     (λ x here. lacks (xs ++ x ∷ []) (subst (λ (m : ℕ). AreEach none P m (xs ++ x ∷ [])) (add-one n) (each_more none P n xs x here are))))
 
 pub first_or_never : (row : Row Site) → ¬ (¬ (((p : Site) × IsFirstAt row p) ⊎ Never row))
-first_or_never row none = some_site (rule 0 row ∷ []) told where
-  told : (x : Option (ℕ × Site)) → ¬ FirstAmong (rule 0 row ∷ []) x
-  told None (never, rest) = none (inr never)
-  told (Some found) (inl (is, first)) = none (inl (found.1, first))
-  told (Some found) (inr (never, rest)) = rest
+first_or_never row none = some_site (rule 0 row ∷ []) known where
+  known : (x : Option (ℕ × Site)) → ¬ FirstAmong (rule 0 row ∷ []) x
+  known None (never, rest) = none (inr never)
+  known (Some found) (inl (is, first)) = none (inl (found.1, first))
+  known (Some found) (inr (never, rest)) = rest
 
 -- ---- what a name is bound to
 

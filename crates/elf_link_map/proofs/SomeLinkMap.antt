@@ -47,10 +47,10 @@ false_true e = cc
 some_value : (parts : List (ℕ × ℕ)) (base : ℕ) (target : Target) (places : List ℕ) → Least parts base places →
     ¬ HasNoValue parts base target →
     (x : ℕ) × HasValue parts base target x
-some_value parts base target places least lacks = told (target_value places target) refl where
-  told : (o : Option ℕ) → target_value places target ≡ o → (x : ℕ) × HasValue parts base target x
-  told None is = absurd (lacks (places, least, λ x at. absurd (none_some x (sym is ∙ at))))
-  told (Some x) is = elim (cases_lt x (2 ^ 64)) [
+some_value parts base target places least lacks = known (target_value places target) refl where
+  known : (o : Option ℕ) → target_value places target ≡ o → (x : ℕ) × HasValue parts base target x
+  known None is = absurd (lacks (places, least, λ x at. absurd (none_some x (sym is ∙ at))))
+  known (Some x) is = elim (cases_lt x (2 ^ 64)) [
     | inl below ↦ (x, (places, least, is, below))
     | inr past ↦ absurd (lacks (places, least, λ y at. (let same : Some x ≡ Some y = sym is ∙ at in let one : x ≡ y = cc in omega arith)))
   ]
@@ -120,14 +120,14 @@ found_in (e ∷ bs) name b is = found_first e bs name b (bytes_eq name e.0) refl
 bindings_of : (fs : List ObjectValue) (cs : List CommonValue) (ps : List Site) (bs : List (List ℕ × Binding)) →
     Lists (first_entries fs) ps →
     AreNamedAt fs cs ps (length ps) bs → AreBindings fs cs bs
-bindings_of fs cs ps bs are named name = told (bound_in bs name) refl where
-  told : (o : Option Binding) → bound_in bs name ≡ o → MatchOption (bound_in bs name) (Never (entries fs name)) (IsBinding fs cs name)
-  told None is =
+bindings_of fs cs ps bs are named name = known (bound_in bs name) refl where
+  known : (o : Option Binding) → bound_in bs name ≡ o → MatchOption (bound_in bs name) (Never (entries fs name)) (IsBinding fs cs name)
+  known None is =
       subst (λ (o : Option Binding). MatchOption o (Never (entries fs name)) (IsBinding fs cs name)) (sym is)
       (λ p there. (
       let (k, lt, at) = entry_listed fs ps name p are there in
       none_some (get_or bs k no_name).1 (sym is ∙ bound_here fs cs ps bs name k are named lt at)))
-  told (Some b) is =
+  known (Some b) is =
       let (k, lt, at, here) = found_in bs name b is in
       let count = named.count in
       let each = named.each k (omega arith) in

@@ -57,10 +57,10 @@ pub part_size : (fs : List ObjectValue) (page : ℕ) (oss : List (List Site)) (c
     slice_index (sizes (parts_of fs page (record { outputs = oss; commons = cs }))) k ≡ size_at fs (site_at (flat oss) k)
 part_size fs page oss cs k lt =
     let own = flat_map (output_parts fs page) oss in
-    let behind = raised page (map common_part cs) in
+    let past = raised page (map common_part cs) in
     let same = output_sizes fs page oss in
-    ap (λ (xs : List ℕ). slice_index xs k) (map-append (λ (p : ℕ × ℕ). p.0) own behind ∙ ap (λ (xs : List ℕ). xs ++ sizes behind) same) ∙
-    get_or-append (map (size_at fs) (flat oss)) (sizes behind) 0 k (let long = length-map (flat oss) (size_at fs) in omega arith) ∙
+    ap (λ (xs : List ℕ). slice_index xs k) (map-append (λ (p : ℕ × ℕ). p.0) own past ∙ ap (λ (xs : List ℕ). xs ++ sizes past) same) ∙
+    get_or-append (map (size_at fs) (flat oss)) (sizes past) 0 k (let long = length-map (flat oss) (size_at fs) in omega arith) ∙
     get_or-map (size_at fs) (flat oss) k (site 0 0) 0 lt
 
 -- the part of a common has its size
@@ -68,14 +68,14 @@ common_size : (fs : List ObjectValue) (page : ℕ) (oss : List (List Site)) (cs 
     slice_index (sizes (parts_of fs page (record { outputs = oss; commons = cs }))) (length (flat oss) + k) ≡ (chosen_at cs k).size
 common_size fs page oss cs k lt =
     let own = flat_map (output_parts fs page) oss in
-    let behind = raised page (map common_part cs) in
+    let past = raised page (map common_part cs) in
     let same = output_sizes fs page oss in
     let long = length-map (flat oss) (size_at fs) in
     let here : length (flat oss) + k ≡ length (map (size_at fs) (flat oss)) + k = omega arith in
     ap (λ (xs : List ℕ). slice_index xs (length (flat oss) + k))
-    (map-append (λ (p : ℕ × ℕ). p.0) own behind ∙ ap (λ (xs : List ℕ). xs ++ sizes behind) same) ∙
-    ap (λ (i : ℕ). slice_index (map (size_at fs) (flat oss) ++ sizes behind) i) here ∙
-    get_or-append-add (map (size_at fs) (flat oss)) (sizes behind) k 0 ∙
+    (map-append (λ (p : ℕ × ℕ). p.0) own past ∙ ap (λ (xs : List ℕ). xs ++ sizes past) same) ∙
+    ap (λ (i : ℕ). slice_index (map (size_at fs) (flat oss) ++ sizes past) i) here ∙
+    get_or-append-add (map (size_at fs) (flat oss)) (sizes past) k 0 ∙
     ap (λ (xs : List ℕ). slice_index xs k) (raised_sizes page (map common_part cs) ∙ map-map (λ (p : ℕ × ℕ). p.0) common_part cs) ∙
     get_or-map (λ (c : Chosen). c.size) cs k no_common 0 lt
 
@@ -190,7 +190,7 @@ parts_apart opt fs m (l, is, of) = record {
       elim (cases_lt j k) [
         | inl before ↦ inr (inl (ends_before opt fs l f s a j g t b k is first second before))
         | inr above ↦ elim (cases_lt k j) [
-          | inl behind ↦ inr (inr (ends_before opt fs l g t b k f s a j is second first behind))
+          | inl past ↦ inr (inr (ends_before opt fs l g t b k f s a j is second first past))
           | inr below ↦ (
               let same : j ≡ k = omega arith in
               let equal = sym first.here ∙ ap (site_at (placed l.plan)) same ∙ second.here in
@@ -463,8 +463,8 @@ module _ (opt : Options) (fs : List ObjectValue) (l : LinkPlan) (m : LinkMapValu
       let more = many_members l l_in in
       one_output k i l j k_in (omega arith) l_in (omega arith) same
 
-  behind : (k n : ℕ) → k < length m.outputs → last_of k < n → n < length (link_parts fs opt l) → output_end m k ≤ slice_index l.places n
-  behind k n lt before within =
+  past : (k n : ℕ) → k < length m.outputs → last_of k < n → n < length (link_parts fs opt l) → output_end m k ≤ slice_index l.places n
+  past k n lt before within =
       let above = above_earlier (link_parts fs opt l) opt.base l.places (last_of k) n is.least.fits before within in
       let ends = ends_at k lt in
       omega arith
@@ -481,13 +481,13 @@ module _ (opt : Options) (fs : List ObjectValue) (l : LinkPlan) (m : LinkMapValu
         let later : last_of j < start k = omega arith in
         let there = all_parts (start k)
         (let more = some_members k lt in let whole = within_all outputs k (output_in k lt) in omega arith) in
-        let above = behind j (start k) (omega arith) later there in
+        let above = past j (start k) (omega arith) later there in
         let begins = (output_is k lt).address in
         omega arith);
     commons_behind = λ j k lt k_in. (
         let some = some_members j lt in
         let whole = within_all outputs j (output_in j lt) in
-        let above = behind j (length (placed l.plan) + k) lt (omega arith) (common_in_parts opt fs l m k of k_in) in
+        let above = past j (length (placed l.plan) + k) lt (omega arith) (common_in_parts opt fs l m k of k_in) in
         let begins = common_begins opt fs l m k of k_in in
         omega arith);
   }
@@ -530,7 +530,7 @@ module _ (fs : List ObjectValue) (m : LinkMapValue) (o : OutputValue) (stand : M
               let above = above_earlier parts o.address places i (length o.members - 1) stand.order before (omega arith) in
               let more : slice_index places (length o.members - 1) ≤ end_of parts places (length o.members - 1) = omega arith in
               omega arith)
-          | inr behind ↦ (
+          | inr past ↦ (
               let same : i ≡ length o.members - 1 = omega arith in
               let at = ap (λ (n : ℕ). end_of parts places n) same in
               omega arith)

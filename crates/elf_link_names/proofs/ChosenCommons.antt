@@ -106,8 +106,8 @@ chosen_symbols fs cs (ps, lists, are) k lt =
     subst (λ (p : Site). (p.file < length fs) × (p.index < length (object_at fs p.file).symbols)) (sym (are.each k below).0) (row.0, row.1)
 
 -- a symbol is a common of the name, or not
-common_told : (fs : List ObjectValue) (name : List ℕ) (f i : ℕ) → IsCommon fs name f i ⊎ (IsCommon fs name f i → ⊥)
-common_told fs name f i = elim (cases_eq (binding (symbol_in fs f i)) STB_LOCAL) [
+common_decided : (fs : List ObjectValue) (name : List ℕ) (f i : ℕ) → IsCommon fs name f i ⊎ (IsCommon fs name f i → ⊥)
+common_decided fs name f i = elim (cases_eq (binding (symbol_in fs f i)) STB_LOCAL) [
   | inl local ↦ inr (λ is. is.0.0 local)
   | inr not_local ↦ elim (same_name (symbol_in fs f i).name name) [
     | inr other ↦ inr (λ is. other is.0.1)
@@ -130,7 +130,7 @@ first_chosen fs name q first none =
 pub have_chosen : (fs : List ObjectValue) (cs : List Chosen) → AreChosen fs cs → HaveChosen fs cs
 have_chosen fs cs (ps, lists, are) name size align (none, largest, aligned) =
     let (p, common, at) = largest.attained in
-    let (q, first) = first_in_row fs (IsCommon fs name) (common_told fs name) p common in
+    let (q, first) = first_in_row fs (IsCommon fs name) (common_decided fs name) p common in
     let (file, index, is, entry) = first.stands in
     let (k, lt, here) = lists.all q (file, index, first_chosen fs name q first none, entry) in
     let count = are.count in

@@ -81,8 +81,8 @@ pub names_once : (fs : List ObjectValue) (ps : List Site) → Lists (first_entri
 names_once fs ps are j k lt within q one other =
     apart_names fs (site_at ps j) (site_at ps k) (are.each j (omega arith)) (are.each k within) (are.order j k lt within) q one other
 
-pub entry_told : (fs : List ObjectValue) (name : List ℕ) (f i : ℕ) → IsEntry fs name f i ⊎ (IsEntry fs name f i → ⊥)
-entry_told fs name f i = elim (cases_eq (binding (symbol_in fs f i)) STB_LOCAL) [
+pub entry_decided : (fs : List ObjectValue) (name : List ℕ) (f i : ℕ) → IsEntry fs name f i ⊎ (IsEntry fs name f i → ⊥)
+entry_decided fs name f i = elim (cases_eq (binding (symbol_in fs f i)) STB_LOCAL) [
   | inl local ↦ inr (λ is. is.0 local)
   | inr not_local ↦ elim (same_name (symbol_in fs f i).name name) [
     | inr other ↦ inr (λ is. other is.1)
@@ -94,7 +94,7 @@ entry_told fs name f i = elim (cases_eq (binding (symbol_in fs f i)) STB_LOCAL) 
 pub entry_listed : (fs : List ObjectValue) (ps : List Site) (name : List ℕ) (p : Site) → Lists (first_entries fs) ps → entries fs name p →
     (k : ℕ) × (k < length ps) × (name_at fs (site_at ps k) ≡ name)
 entry_listed fs ps name p are there =
-    let (q, first) = first_in_row fs (IsEntry fs name) (entry_told fs name) p there in
+    let (q, first) = first_in_row fs (IsEntry fs name) (entry_decided fs name) p there in
     let (file, index, is, entry) = first.stands in
     let at = site_is q q.file q.index refl refl entry in
     let stands = subst (λ (n : List ℕ). IsEntry fs n q.file q.index × IsFirstAt (entries fs n) (site q.file q.index)) (sym is.1)
@@ -166,7 +166,7 @@ index_read fs position rows row f i k f_in i_in not_local row_is k_is are =
 none_listed : (fs : List ObjectValue) (f i : ℕ) (ps : List Site) (name : List ℕ) → Lists (UpTo (first_entries fs) f i) ps →
     ((k : ℕ) → k < length ps → name_at fs (site_at ps k) ≡ name → ⊥) → NoneBefore (entries fs name) f i
 none_listed fs f i ps name are none p there earlier =
-    let (q, first) = first_in_row fs (IsEntry fs name) (entry_told fs name) p there in
+    let (q, first) = first_in_row fs (IsEntry fs name) (entry_decided fs name) p there in
     let (file, index, is, entry) = first.stands in
     let at = site_is q q.file q.index refl refl entry in
     let p_at = site_is p p.file p.index refl refl there.3 in
@@ -314,9 +314,9 @@ block_file fs name f (Some b) is = record {
 
 found_file : (fs : List ObjectValue) (P : ℕ → ℕ → Type 0) (f : ℕ) (found : Bool) →
     (found ≡ true) ↔ SomeBefore (AtSymbol fs P) f (length (object_at fs f).symbols) → (found ≡ true) ↔ SomeBefore (AtSymbol fs P) (f + 1) 0
-found_file fs P f found tells = (
-  (λ yes. (let (p, there, earlier) = tells.0 yes in (p, there, file_before p.file p.index f (length (object_at fs f).symbols) earlier))),
-  (λ (p, there, earlier). tells.1 (p, there, file_back fs P f p there earlier)),
+found_file fs P f found states = (
+  (λ yes. (let (p, there, earlier) = states.0 yes in (p, there, file_before p.file p.index f (length (object_at fs f).symbols) earlier))),
+  (λ (p, there, earlier). states.1 (p, there, file_back fs P f p there earlier)),
 )
 
 known_file : (fs : List ObjectValue) (name : List ℕ) (f : ℕ) (k : Known) → IsKnownBefore fs name f (length (object_at fs f).symbols) k →

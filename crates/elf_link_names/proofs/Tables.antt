@@ -12,7 +12,7 @@ use Rattle.std.proofs.lemmas.List.{get_or_append_left, length-append, length-set
 use Rattle.std.proofs.lemmas.Slice.Eq.{bytes_eq-Decides}
 use Rattle.std.proofs.lemmas.Option.{slice_get_read}
 use Rattle.elf_link_names.specs.KnownNames.{known_at, no_known}
-use Rattle.elf_link_names.specs.Tables.{IsPlaced, AreTables, AreSlotsTaken, IsEnd, IsFound, IsInNone, LeadsTo, SlotsTell, ordinal_entry}
+use Rattle.elf_link_names.specs.Tables.{IsPlaced, AreTables, AreSlotsTaken, IsEnd, IsFound, IsInNone, LeadsTo, SlotsSay, ordinal_entry}
 use Rattle.elf_link_names.specs.Tables.{entry_position, free_slot, home, entry_name, name_hash, no_name_entry, or_else, place_among}
 use Rattle.elf_link_names.specs.Tables.{slot_from, upper_of, KeepsOthers, is_of, known_by, known_from, known_in, small_known}
 use Rattle.elf_link_files.specs.declared.known.Known.{Known}
@@ -27,10 +27,10 @@ pub is_same : (n q : List ℕ) → n ≡ q → bytes_eq n q ≡ true
 is_same n q same = (bytes_eq-Decides n q).1 same
 
 pub not_same : (n q : List ℕ) → n ≢ q → bytes_eq n q ≡ false
-not_same n q apart = told (bytes_eq n q) refl where
-  told : (b : Bool) → bytes_eq n q ≡ b → bytes_eq n q ≡ false
-  told true is = absurd (apart ((bytes_eq-Decides n q).0 is))
-  told false is = is
+not_same n q apart = said (bytes_eq n q) refl where
+  said : (b : Bool) → bytes_eq n q ≡ b → bytes_eq n q ≡ false
+  said true is = absurd (apart ((bytes_eq-Decides n q).0 is))
+  said false is = is
 
 -- ---- where the entries say that a name is
 
@@ -78,18 +78,18 @@ absent slots es more tables q n end none k lt same =
     ]
 
 pub absent_free : (slots : List Slot) (es : List Entry) (more : List ℕ → Option ℕ) → AreTables slots es more → (q : List ℕ) (at : ℕ) →
-    SlotsTell slots es q (Free at) →
+    SlotsSay slots es q (Free at) →
     (k : ℕ) → k < length es → entry_name es k ≢ q
 absent_free slots es more tables q at (few, (s, below, is, free, taken, none)) = absent slots es more tables q s (inr free) none
 
 pub absent_taken : (slots : List Slot) (es : List Entry) (more : List ℕ → Option ℕ) → AreTables slots es more → (q : List ℕ) →
-    SlotsTell slots es q Taken →
+    SlotsSay slots es q Taken →
     (k : ℕ) → k < length es → entry_name es k ≢ q
 absent_taken slots es more tables q (taken, (n, end, none)) = absent slots es more tables q n end none
 
 pub here_position : (slots : List Slot) (es : List Entry) (more : List ℕ → Option ℕ) → AreTables slots es more →
     (q : List ℕ) (position : ℕ) →
-    SlotsTell slots es q (Here position) → entry_position es q ≡ Some position
+    SlotsSay slots es q (Here position) → entry_position es q ≡ Some position
 here_position slots es more tables q position (k, lt, is, at) =
     first_position es q k lt is (λ j below same. (let one = tables.once j k (omega arith) lt (same ∙ sym is) in omega arith)) ∙
     ap Some (sym at)
@@ -105,13 +105,13 @@ looked_up slots es more tables slot upper q (Some p) ((some, within, of_name), a
     (here_position slots es more tables q p (slot.ordinal - 1, omega arith, of_name.1, at))
 
 -- where a slot is free and ordinals last, the map has no such name
-pub not_behind : (slots : List Slot) (es : List Entry) (more : List ℕ → Option ℕ) → AreTables slots es more → (q : List ℕ) (at : ℕ) →
-    SlotsTell slots es q (Free at) →
+pub not_in_map : (slots : List Slot) (es : List Entry) (more : List ℕ → Option ℕ) → AreTables slots es more → (q : List ℕ) (at : ℕ) →
+    SlotsSay slots es q (Free at) →
     more q ≡ None
-not_behind slots es more tables q at (few, (s, below, is, free, taken, none)) = told (more q) refl where
-  told : (m : Option ℕ) → more q ≡ m → more q ≡ None
-  told None same = same
-  told (Some p) same = (let some = tables.behind few q p same s below in absurd (omega arith))
+not_in_map slots es more tables q at (few, (s, below, is, free, taken, none)) = said (more q) refl where
+  said : (m : Option ℕ) → more q ≡ m → more q ≡ None
+  said None same = same
+  said (Some p) same = (let some = tables.behind few q p same s below in absurd (omega arith))
 
 -- ---- a name that finds a free slot takes it
 
@@ -140,12 +140,12 @@ at_inside : (slots : List Slot) (q : List ℕ) (s : ℕ) → MOST_STEPS < length
 at_inside slots q s room few = let below = place_below (name_hash q) (length slots - MOST_STEPS) (omega arith) in omega arith
 
 module _ (slots : List Slot) (es : List Entry) (more : List ℕ → Option ℕ) (tables : AreTables slots es more) (e : Entry) (at : ℕ)
-    (tells : SlotsTell slots es e.name.now (Free at)) where
+    (states : SlotsSay slots es e.name.now (Free at)) where
   inside : at < length slots
-  inside = (let (last, (s, few, is, free, taken, none)) = tells in rw is (at_inside slots e.name.now s tables.room few))
+  inside = (let (last, (s, few, is, free, taken, none)) = states in rw is (at_inside slots e.name.now s tables.room few))
 
   has_none : (k : ℕ) → k < length es → entry_name es k ≢ e.name.now
-  has_none = absent_free slots es more tables e.name.now at tells
+  has_none = absent_free slots es more tables e.name.now at states
 
   old_name : (k : ℕ) → k < length es → entry_name (es ++ e ∷ []) k ≡ entry_name es k
   old_name k lt = ap (λ (x : Entry). x.name.now) (get_or_append_left es (e ∷ []) no_name_entry k lt)
@@ -164,7 +164,7 @@ module _ (slots : List Slot) (es : List Entry) (more : List ℕ → Option ℕ) 
   old_found : (k : ℕ) → k < length es → IsFound slots (entry_name es k) (k + 1) →
       IsFound (with_ordinal slots es e.name.now at) (entry_name es k) (k + 1)
   old_found k lt (s, few, taken, is) =
-      let (last, (free_at, below, place, free, before, none)) = tells in
+      let (last, (free_at, below, place, free, before, none)) = states in
       let ordinal : (slot_from slots (home slots (entry_name es k)) s).ordinal ≡ k + 1 = ap (λ (x : Slot). x.ordinal) is in
       let other : home slots (entry_name es k) + s ≢ at = (λ same.
       let here : (get_or slots (home slots (entry_name es k) + s) free_slot).ordinal ≡ 0 =
@@ -181,7 +181,7 @@ module _ (slots : List Slot) (es : List Entry) (more : List ℕ → Option ℕ) 
 
   new_found : IsFound (with_ordinal slots es e.name.now at) e.name.now (length es + 1)
   new_found =
-      let (last, (s, few, place, free, before, none)) = tells in (
+      let (last, (s, few, place, free, before, none)) = states in (
         s,
         few,
         still_taken e.name.now s before,
@@ -222,7 +222,7 @@ module _ (slots : List Slot) (es : List Entry) (more : List ℕ → Option ℕ) 
 
   pub entered : AreTables (with_ordinal slots es e.name.now at) (es ++ e ∷ []) more
   entered =
-      let last = tells.0 in
+      let last = states.0 in
       let long = length-append es (e ∷ []) in
       let new : Slot = record { upper = upper_of (name_hash e.name.now); ordinal = length es + 1 } in record {
         room = rw (length-set slots at new) tables.room;
@@ -236,7 +236,7 @@ module _ (slots : List Slot) (es : List Entry) (more : List ℕ → Option ℕ) 
           | inl old ↦ tables.apart q p k is old (sym (old_name k old) ∙ same)
           | inr k_new ↦ (
               let named : e.name.now ≡ q = sym new_name ∙ sym (ap (λ (i : ℕ). entry_name (es ++ e ∷ []) i) k_new) ∙ same in
-              let none : more e.name.now ≡ None = not_behind slots es more tables e.name.now at tells in
+              let none : more e.name.now ≡ None = not_in_map slots es more tables e.name.now at states in
               let never : None ≡ Some p = sym none ∙ ap more named ∙ is in
               cc
               )
@@ -273,11 +273,11 @@ by_entry None there n q next old now none is = is
 by_entry (Some p) there n q next old now none is =
     rw (not_same n q (λ same. (let never : Some p ≡ None = none same in cc))) (either_way (is_some there) (Some p))
 
-pub placed_behind : (es : List Entry) (old now : List ℕ → Option ℕ) (there : Option ℕ) (n : List ℕ) (next : ℕ) →
+pub placed_in_map : (es : List Entry) (old now : List ℕ → Option ℕ) (there : Option ℕ) (n : List ℕ) (next : ℕ) →
     ((k : ℕ) → k < length es → entry_name es k ≢ n) →
     IsPlaced there n next old now →
     IsPlaced there n next (λ q. or_else (entry_position es q) (old q)) (λ q. or_else (entry_position es q) (now q))
-placed_behind es old now there n next none placed q =
+placed_in_map es old now there n next none placed q =
     by_entry (entry_position es q) there n q next (old q) (now q) (λ same. no_position es q (λ k lt named. none k lt (named ∙ sym same)))
     (placed q)
 
@@ -295,12 +295,12 @@ old_or_placed old now there n q next p placed is = by_there there (placed q) whe
   by_there None at = by_name (bytes_eq n q) refl at
   by_there (Some k) at = inl (sym at ∙ is)
 
-pub tables_behind : (slots : List Slot) (es : List Entry) (old now : List ℕ → Option ℕ) (there : Option ℕ) (n : List ℕ) (next : ℕ) →
+pub tables_in_map : (slots : List Slot) (es : List Entry) (old now : List ℕ → Option ℕ) (there : Option ℕ) (n : List ℕ) (next : ℕ) →
     AreTables slots es old →
     ((k : ℕ) → k < length es → entry_name es k ≢ n) → (length es < MOST_NAMES → AreSlotsTaken slots (home slots n) MOST_STEPS) →
     IsPlaced there n next old now →
     AreTables slots es now
-tables_behind slots es old now there n next tables none taken placed = record {
+tables_in_map slots es old now there n next tables none taken placed = record {
   room = tables.room;
   known = tables.known;
   found = tables.found;
@@ -332,7 +332,7 @@ pub block_next : {A : Type 0} (none : A) (P : ℕ → A → Type 0) (start i : �
     P i x →
     ((s : ℕ) → s < i - start → P (start + s) (get_or xs s none)) → (s : ℕ) → s < i + 1 - start →
     P (start + s) (get_or (set xs (i - start) x) s none)
-block_next none P start i xs x behind within next before s lt = elim (cases_eq s (i - start)) [
+block_next none P start i xs x begun within next before s lt = elim (cases_eq s (i - start)) [
   | inl same ↦ (
       let here : start + s ≡ i = omega arith in
       rw (here, same, get_or-set_same xs (i - start) x none within) next)
@@ -405,9 +405,9 @@ own_named ls i k l own read =
     eqb-true l.name k (subst (λ (o : Option Large). is_of k o ≡ true) some own)
 
 -- of what an answer says, after it was read through a reference
-pub is_here : (behind ls : List Large) (i k : ℕ) (told answer : Bool) → behind ≡ ls → told ≡ is_of k (slice_get behind i) → told ≡ answer →
+pub is_here : (read ls : List Large) (i k : ℕ) (said answer : Bool) → read ≡ ls → said ≡ is_of k (slice_get read i) → said ≡ answer →
     is_of k (slice_get ls i) ≡ answer
-is_here behind ls i k told answer same is now = subst (λ (l : List Large). is_of k (slice_get l i) ≡ answer) same (sym is ∙ now)
+is_here read ls i k said answer same is now = subst (λ (l : List Large). is_of k (slice_get l i) ≡ answer) same (sym is ∙ now)
 
 -- a name of the list has a row, and one that has a large one leads to it, both within the vectors
 pub has_row : (ls : List Large) (rs : List KnownRow) (k wide : ℕ) → k < length (known_from ls 0 rs) → length rs ≡ wide → k < wide

@@ -93,12 +93,12 @@ pub record IsKnownWhole (fs : List ObjectValue) (name : List ℕ) (k : Known) : 
   pub not_weak : (k.not_weak ≡ true) ↔ ((p : Site) × not_weak fs name p)
 
 -- whether a name is bound to nothing, by what is known of it
-abbrev pub TellsUnbound : Known → Bool → Type 0
-TellsUnbound known unbound = (fs : List ObjectValue) (name : List ℕ) → IsKnownWhole fs name known → (unbound ≡ true) ↔ IsUnbound fs name
+abbrev pub SaysUnbound : Known → Bool → Type 0
+SaysUnbound known unbound = (fs : List ObjectValue) (name : List ℕ) → IsKnownWhole fs name known → (unbound ≡ true) ↔ IsUnbound fs name
 
 -- whether a GLOBAL definition of the name comes before a symbol, by what is known of the name
-abbrev pub TellsEarlier : Known → SymbolId → Bool → Type 0
-TellsEarlier known id earlier =
+abbrev pub SaysEarlier : Known → SymbolId → Bool → Type 0
+SaysEarlier known id earlier =
     (fs : List ObjectValue) (name : List ℕ) → IsKnownWhole fs name known → (earlier ≡ true) ↔ HasEarlier fs name id.file id.index
 
 -- what a bound name makes of what is known of it

@@ -123,11 +123,11 @@ IsEnd slots place n = (n ≡ MOST_STEPS) ⊎ ((slot_from slots place n).ordinal 
 
 -- what its slots say about a name: that it may take a free one; or its position; or that it is in none, and as long as there are ordinals
 -- all of them are taken
-abbrev pub SlotsTell : List Slot → List Entry → List ℕ → Seen → Type 0
-SlotsTell slots entries name (Free at) =
+abbrev pub SlotsSay : List Slot → List Entry → List ℕ → Seen → Type 0
+SlotsSay slots entries name (Free at) =
     (length entries < MOST_NAMES) × Sees slots entries (home slots name) (upper_of (name_hash name)) name (Free at)
-SlotsTell slots entries name (Here position) = Sees slots entries (home slots name) (upper_of (name_hash name)) name (Here position)
-SlotsTell slots entries name Taken = (length entries < MOST_NAMES → AreSlotsTaken slots (home slots name) MOST_STEPS)
+SlotsSay slots entries name (Here position) = Sees slots entries (home slots name) (upper_of (name_hash name)) name (Here position)
+SlotsSay slots entries name Taken = (length entries < MOST_NAMES → AreSlotsTaken slots (home slots name) MOST_STEPS)
     × ((n : ℕ) × IsEnd slots (home slots name) n × IsInNone slots entries (home slots name) (upper_of (name_hash name)) name n)
 
 -- a name is in one of its slots, by its ordinal, after slots that are taken

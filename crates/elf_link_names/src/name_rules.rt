@@ -1,6 +1,6 @@
 //! Rules 8 and 9: the definitions of a name.
 ghost use Rattle.std.specs.Prelude.{◌↔◌, ◌<◌, IsTrue, MatchOption, length};
-ghost use Rattle.elf_link_names.specs.KnownNames.{Makes, TellsUnbound, TellsEarlier};
+ghost use Rattle.elf_link_names.specs.KnownNames.{Makes, SaysUnbound, SaysEarlier};
 ghost use Rattle.elf_link_files.specs.Files.{IsEarlier};
 ghost use Rattle.elf_extent.specs.Extent.{Never};
 ghost use Rattle.elf_image_rules.specs.Rows.{fault_of};
@@ -31,7 +31,7 @@ pub enum Choice {
 
 /// Whether a name is bound to nothing: it has no definition and no common, and an entry that is not weak.
 pub(crate) fn is_unbound(known: Known) -> bool
-    ensures { TellsUnbound known result }
+    ensures { SaysUnbound known result }
 {
     if let Some(_) = known.strong {
         return false;
@@ -88,7 +88,7 @@ fn is_earlier(first: SymbolId, id: SymbolId) -> bool
 
 /// Whether a global definition of a name comes before a symbol, by what is known of the name.
 fn has_earlier(known: Known, id: SymbolId) -> bool
-    ensures { TellsEarlier known id result }
+    ensures { SaysEarlier known id result }
 {
     match known.strong {
         Some(first) => is_earlier(first, id),

@@ -8,7 +8,7 @@
 ghost use Rattle.std.specs.Prelude.{◌≡◌, ◌<◌, ◌≤◌, ◌+◌, MatchOption, length};
 ghost use Rattle.elf_link_names.specs.declared.long_symbols.TheConstants.{LONG_NAME};
 ghost use Rattle.elf_link_names.specs.Tables.{long_hash, name_hash, short_hash, place_among, upper_of as upper_of_hash, AreEntryOrdinals};
-ghost use Rattle.elf_link_names.specs.Tables.{IsOfName, LeadsTo, Sees, SlotsTell, ordinal_entry};
+ghost use Rattle.elf_link_names.specs.Tables.{IsOfName, LeadsTo, Sees, SlotsSay, ordinal_entry};
 
 use crate::long_symbols::LONG_NAME;
 use std::hash::{FoldHasher, Hasher};
@@ -169,7 +169,7 @@ pub(crate) fn look(slots: &[Slot], entries: &[Entry<'_>], hash: u64, name: &[u8]
     requires room { MOST_STEPS < length slots.now }
     requires known { AreEntryOrdinals slots.now (length entries.now) }
     requires hash { hash ≡ name_hash name.now }
-    ensures { SlotsTell slots.now entries.now name.now result }
+    ensures { SlotsSay slots.now entries.now name.now result }
 {
     let home = home_of(hash, slots.len() - MOST_STEPS);
     match look_from(slots, entries, home, upper_of(hash), name) {

@@ -429,19 +429,19 @@ split_none fs groups (heads, is, are) =
     )
 
 -- the first group of the rest has a member, and its kind is that of its opener
-pub split_first : (fs : List ObjectValue) (ms : List Site) (rest outputs behind : List (List Site)) →
-    AreSplit fs (ms ∷ rest) outputs behind →
+pub split_first : (fs : List ObjectValue) (ms : List Site) (rest outputs later : List (List Site)) →
+    AreSplit fs (ms ∷ rest) outputs later →
     (0 < length ms) × live fs (site_at ms 0)
-split_first fs ms rest outputs behind (heads, k, is, count, those, with, without) =
+split_first fs ms rest outputs later (heads, k, is, count, those, with, without) =
     let here = those 0 k (omega arith) (omega arith) in
     let (j, j_in, at) = here.all (site_at heads k) ((is.each k (omega arith)).0, (refl, refl, refl)) in
     (omega arith, (here.each 0 (omega arith)).0)
 
-pub split_bits : (fs : List ObjectValue) (ms : List Site) (rest outputs behind : List (List Site)) →
+pub split_bits : (fs : List ObjectValue) (ms : List Site) (rest outputs later : List (List Site)) →
     is_no_bits (section_at_site fs (site_at ms 0)).body ≡ false →
-    AreSplit fs (ms ∷ rest) outputs behind → AreSplit fs rest (outputs ++ ms ∷ []) behind
-split_bits fs ms rest outputs behind kind split =
-    let some = (split_first fs ms rest outputs behind split).0 in
+    AreSplit fs (ms ∷ rest) outputs later → AreSplit fs rest (outputs ++ ms ∷ []) later
+split_bits fs ms rest outputs later kind split =
+    let some = (split_first fs ms rest outputs later split).0 in
     let (heads, k, is, count, those, with, without) = split in
     let here = those 0 k (omega arith) (omega arith) in
     let its = sym (here.each 0 some).1.2 ∙ kind in (
@@ -451,14 +451,14 @@ split_bits fs ms rest outputs behind kind split =
       omega arith,
       (λ r i r_in at. those (suc r) i (omega arith) (omega arith)),
       kind_more fs heads k false ms outputs is (omega arith) its here with,
-      kind_past fs heads k true behind (λ other. true≢false (sym other ∙ its)) without,
+      kind_past fs heads k true later (λ other. true≢false (sym other ∙ its)) without,
     )
 
-pub split_no_bits : (fs : List ObjectValue) (ms : List Site) (rest outputs behind : List (List Site)) →
+pub split_no_bits : (fs : List ObjectValue) (ms : List Site) (rest outputs later : List (List Site)) →
     is_no_bits (section_at_site fs (site_at ms 0)).body ≡ true →
-    AreSplit fs (ms ∷ rest) outputs behind → AreSplit fs rest outputs (behind ++ ms ∷ [])
-split_no_bits fs ms rest outputs behind kind split =
-    let some = (split_first fs ms rest outputs behind split).0 in
+    AreSplit fs (ms ∷ rest) outputs later → AreSplit fs rest outputs (later ++ ms ∷ [])
+split_no_bits fs ms rest outputs later kind split =
+    let some = (split_first fs ms rest outputs later split).0 in
     let (heads, k, is, count, those, with, without) = split in
     let here = those 0 k (omega arith) (omega arith) in
     let its = sym (here.each 0 some).1.2 ∙ kind in (
@@ -468,7 +468,7 @@ split_no_bits fs ms rest outputs behind kind split =
       omega arith,
       (λ r i r_in at. those (suc r) i (omega arith) (omega arith)),
       kind_past fs heads k false outputs (λ other. true≢false (sym its ∙ other)) with,
-      kind_more fs heads k true ms behind is (omega arith) its here without,
+      kind_more fs heads k true ms later is (omega arith) its here without,
     )
 
 kind_all : (fs : List ObjectValue) (heads : List Site) (without : Bool) (ps : List Site) → Lists (λ p. live fs p × IsOpener fs p) heads →
@@ -478,9 +478,9 @@ kind_all fs heads without ps is picks =
     (λ p (row, kind). (row.0, (row.1, kind))) (λ p (there, (opener, kind)). ((there, opener), kind))
     (picked_done (λ p. live fs p × IsOpener fs p) heads (λ p. is_no_bits (section_at_site fs p).body ≡ without) ps is picks)
 
-pub split_all : (fs : List ObjectValue) (outputs behind : List (List Site)) → AreSplit fs [] outputs behind →
-    AreOutputs fs (outputs ++ behind)
-split_all fs outputs behind (heads, k, is, count, those, (ps, picks, are), (qs, picks_2, are_2)) =
+pub split_all : (fs : List ObjectValue) (outputs later : List (List Site)) → AreSplit fs [] outputs later →
+    AreOutputs fs (outputs ++ later)
+split_all fs outputs later (heads, k, is, count, those, (ps, picks, are), (qs, picks_2, are_2)) =
     let end : k ≡ length heads = omega arith in (
       ps ++ qs,
       (
@@ -490,5 +490,5 @@ split_all fs outputs behind (heads, k, is, count, those, (ps, picks, are), (qs, 
         kind_all fs heads true qs is (subst (λ n. Picks heads n (λ p. is_no_bits (section_at_site fs p).body ≡ true) qs) end picks_2),
         refl,
       ),
-      each_append fs ps qs outputs behind are are_2,
+      each_append fs ps qs outputs later are are_2,
     )

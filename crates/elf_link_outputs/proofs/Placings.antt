@@ -175,9 +175,9 @@ past_here parts from i cursor p lt is none (done, long, goes) =
     (done ++ rest, goes rest least, subst (λ (n : ℕ). 2 ^ 64 ≤ n) (sym (seam done rest i long)) past)
 
 -- and each part after one that starts past the last address, or ends there
-pub past_behind : (parts : List (ℕ × ℕ)) (from i t : ℕ) → i < t → t < length parts → StartsPast parts from i → StartsPast parts from t
-past_behind parts from i t lt within (places, least, past) =
-    let behind = above_earlier parts from places i t least.fits lt within in
+pub past_after : (parts : List (ℕ × ℕ)) (from i t : ℕ) → i < t → t < length parts → StartsPast parts from i → StartsPast parts from t
+past_after parts from i t lt within (places, least, past) =
+    let following = above_earlier parts from places i t least.fits lt within in
     (places, least, omega arith)
 
 size_at : (parts : List (ℕ × ℕ)) (i : ℕ) (p : ℕ × ℕ) → i < length parts → p ≡ get_or parts i p →
@@ -189,7 +189,7 @@ size_at (q ∷ parts) (suc i) p lt is = size_at parts i p (omega arith) is
 pub past_end : (parts : List (ℕ × ℕ)) (from i t x : ℕ) (p : ℕ × ℕ) → i < t → t < length parts → p ≡ get_or parts i p → 2 ^ 64 ≤ x + p.0 →
     StartsAt parts from i x → StartsPast parts from t
 past_end parts from i t x p lt within is past (places, least, at) =
-    let behind = above_earlier parts from places i t least.fits lt within in
+    let following = above_earlier parts from places i t least.fits lt within in
     let size = size_at parts i p (omega arith) is in
     (places, least, omega arith)
 

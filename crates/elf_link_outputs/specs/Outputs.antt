@@ -174,10 +174,10 @@ AreOfKind fs heads k without outputs =
 
 -- the groups of the first openers are split by kind, and the rest is left
 abbrev pub AreSplit : List ObjectValue → List (List Site) → List (List Site) → List (List Site) → Type 0
-AreSplit fs rest outputs behind =
+AreSplit fs rest outputs later =
     (heads : List Site) × (k : ℕ) × Lists (λ p. live fs p × IsOpener fs p) heads × (k + length rest ≡ length heads) ×
     ((r i : ℕ) → r < length rest → k + r ≡ i → Lists (members fs (site_at heads i)) (get_or rest r [])) ×
-    AreOfKind fs heads k false outputs × AreOfKind fs heads k true behind
+    AreOfKind fs heads k false outputs × AreOfKind fs heads k true later
 
 abbrev pub AreOutputs : List ObjectValue → List (List Site) → Type 0
 AreOutputs fs outputs = (ps : List Site) × AreOpeners fs ps × AreOutputMembers fs ps (length ps) outputs

@@ -191,16 +191,16 @@ fn bits_first<S: BuildHasher + Drop>(
     ensures { IfOk result (λ outputs. AreOutputs objects.now (map (λ ms. ms.items) outputs.items)) }
 {
     let mut outputs = Vec::new(alloc);
-    let mut behind = Vec::new(alloc);
+    let mut later = Vec::new(alloc);
     for members in groups.into_values() {
         let opener = members[0];
         if is_no_bits(&section_of(objects, opener.file, opener.index).body) {
-            behind.push(members)?;
+            later.push(members)?;
         } else {
             outputs.push(members)?;
         }
     }
-    outputs.append(&mut behind)?;
+    outputs.append(&mut later)?;
     Ok(outputs)
 }
 

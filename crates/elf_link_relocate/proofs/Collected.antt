@@ -19,7 +19,7 @@ use Rattle.elf_link_relocate.specs.Fields.{IsApplied, entry_at, HasField, no_rul
 use Rattle.elf_link_relocate.specs.Fields.{IsFieldOutOfRange, SharesEarlier, fields_overlap}
 use Rattle.elf_link_relocate.specs.Passes.{entry_site, AreFields, AreFieldsBefore, field_at, no_field, BreaksFieldTest, HasNone, IsFirst}
 use Rattle.elf_link_relocate.specs.Passes.{IsFirstOf, AreFoundBefore, IsValidatedField, first_of, AllWithin, HasNoOverlap}
-use Rattle.elf_link_relocate.specs.Passes.{IsFirstOverlappingField, SharesBefore, IsSeenOf, IsSeenNext, none_seen, IsLast, StandsBehind}
+use Rattle.elf_link_relocate.specs.Passes.{IsFirstOverlappingField, SharesBefore, IsSeenOf, IsSeenNext, none_seen, IsLast, StandsAfter}
 use Rattle.elf_link_relocate.specs.Passes.{AreAscending, IsFirstSite}
 use Rattle.elf_link_relocate.specs.declared.field.Field.{Field}
 use Rattle.elf_link_relocate.specs.declared.field.FieldTest.TheVariants.{FieldOutOfRange, Unplaced, ValueOutOfRange}
@@ -134,7 +134,7 @@ never_both p q (inr (file, rest)) (inl other) = omega arith
 never_both p q (inr (file, inl index)) (inr (other, inl again)) = omega arith
 never_both p q (inr (file, inl index)) (inr (other, inr (again, entry))) = omega arith
 never_both p q (inr (file, inr (index, entry))) (inr (other, inl again)) = omega arith
-never_both p q (inr (file, inr (index, entry))) (inr (other, inr (again, behind))) = omega arith
+never_both p q (inr (file, inr (index, entry))) (inr (other, inr (again, later))) = omega arith
 
 pub itself_next : (f s e : ℕ) → Before (entry_site f s e) (entry_site f s (e + 1))
 itself_next f s e = inr (refl, inr (refl, omega arith))
@@ -389,27 +389,27 @@ first_now P ds new before after broken next first is = rw next (first_more P ds 
 last_more : (ds : List Field) (new : Field) (now : Option Field) → now ≡ Some new → IsLast (ds ++ new ∷ []) now
 last_more ds new now is = rw is (length ds, longer ds new, last ds new (length ds) refl)
 
-follows : (ds : List Field) (new : Field) (before : Option Field) (k : ℕ) → IsLast ds before → IfSome before (λ d. StandsBehind d new) →
+follows : (ds : List Field) (new : Field) (before : Option Field) (k : ℕ) → IsLast ds before → IfSome before (λ d. StandsAfter d new) →
     length ds ≡ k + 1 →
-    StandsBehind (field_at ds k) new
-follows ds new None k none behind long = absurd (omega (arith, none))
-follows ds new (Some d) k (j, count, at) behind long =
+    StandsAfter (field_at ds k) new
+follows ds new None k none later long = absurd (omega (arith, none))
+follows ds new (Some d) k (j, count, at) later long =
     let same : j ≡ k = omega arith in
-    subst (λ (i : ℕ). StandsBehind (field_at ds i) new) same (subst (λ (e : Field). StandsBehind e new) (sym at) behind)
+    subst (λ (i : ℕ). StandsAfter (field_at ds i) new) same (subst (λ (e : Field). StandsAfter e new) (sym at) later)
 
 ascending_more : (ds : List Field) (new : Field) (before : Option Field) → AreAscending ds → IsLast ds before →
-    IfSome before (λ d. StandsBehind d new) →
+    IfSome before (λ d. StandsAfter d new) →
     AreAscending (ds ++ new ∷ [])
-ascending_more ds new before are is_last behind k lt =
+ascending_more ds new before are is_last later k lt =
     let long = longer ds new in
     let k_in : k < length ds = omega arith in
-    subst (λ (d : Field). StandsBehind d (field_at (ds ++ new ∷ []) (k + 1))) (sym (kept ds new k k_in))
+    subst (λ (d : Field). StandsAfter d (field_at (ds ++ new ∷ []) (k + 1))) (sym (kept ds new k k_in))
     (elim (cases_lt (k + 1) (length ds)) [
-      | inl below ↦ subst (λ (d : Field). StandsBehind (field_at ds k) d) (sym (kept ds new (k + 1) below)) (are k below)
+      | inl below ↦ subst (λ (d : Field). StandsAfter (field_at ds k) d) (sym (kept ds new (k + 1) below)) (are k below)
       | inr above ↦ (
           let end : length ds ≡ k + 1 = omega arith in
-          subst (λ (d : Field). StandsBehind (field_at ds k) d) (sym (last ds new (k + 1) end))
-          (follows ds new before k is_last behind end))
+          subst (λ (d : Field). StandsAfter (field_at ds k) d) (sym (last ds new (k + 1) end))
+          (follows ds new before k is_last later end))
     ])
 
 -- and where they ascend, so do all but the last, which is after the one before it
@@ -417,19 +417,19 @@ ascending_before : (ds : List Field) (new : Field) → AreAscending (ds ++ new �
 ascending_before ds new are k lt =
     let long = longer ds new in
     let k_in : k < length ds = omega arith in
-    subst (λ (d : Field). StandsBehind d (field_at ds (k + 1))) (kept ds new k k_in)
-    (subst (λ (d : Field). StandsBehind (field_at (ds ++ new ∷ []) k) d) (kept ds new (k + 1) lt) (are k (omega arith)))
+    subst (λ (d : Field). StandsAfter d (field_at ds (k + 1))) (kept ds new k k_in)
+    (subst (λ (d : Field). StandsAfter (field_at (ds ++ new ∷ []) k) d) (kept ds new (k + 1) lt) (are k (omega arith)))
 
 ascending_last : (ds : List Field) (new : Field) (before : Option Field) → IsLast ds before → AreAscending (ds ++ new ∷ []) →
-    IfSome before (λ d. StandsBehind d new)
+    IfSome before (λ d. StandsAfter d new)
 ascending_last ds new None none are = tt
 ascending_last ds new (Some d) (k, count, at) are =
     let long = longer ds new in
     let k_in : k < length ds = omega arith in
-    let behind = are k (omega arith) in
-    subst (λ (e : Field). StandsBehind e new) at
-    (subst (λ (e : Field). StandsBehind e new) (kept ds new k k_in)
-    (subst (λ (e : Field). StandsBehind (field_at (ds ++ new ∷ []) k) e) (last ds new (k + 1) count) behind))
+    let later = are k (omega arith) in
+    subst (λ (e : Field). StandsAfter e new) at
+    (subst (λ (e : Field). StandsAfter e new) (kept ds new k k_in)
+    (subst (λ (e : Field). StandsAfter (field_at (ds ++ new ∷ []) k) e) (last ds new (k + 1) count) later))
 
 -- What is seen of the fields: of none, and of one more.
 
@@ -455,7 +455,7 @@ seen_more fs m rules p ds seen j next is old step = record {
       (BreaksFieldTest fs m ValueOutOfRange) ds j.field seen.refused next.refused j.refused step.refused old.refused is.refused;
   last = last_more ds j.field next.last step.last;
   ascending = (
-    (λ yes. (let (before, behind) = step.ascending.0 yes in ascending_more ds j.field seen.last (old.ascending.0 before) old.last behind)),
+    (λ yes. (let (before, later) = step.ascending.0 yes in ascending_more ds j.field seen.last (old.ascending.0 before) old.last later)),
     (λ are. step.ascending.1 (old.ascending.1 (ascending_before ds j.field are), ascending_last ds j.field seen.last old.last are)),
   );
 }

@@ -137,7 +137,7 @@ load_of m j lt =
     let (k, within, is) = All-get_or (IsSome m) (loads m) j no_load lt (all_some m) in
     elim (cases_lt k (length m.outputs)) [
       | inl output ↦ inl (k, output, is ∙ rw (lt-ltb k (length m.outputs) output) refl)
-      | inr behind ↦ inr (is ∙ (let same : k ≡ length m.outputs = omega arith in
+      | inr past ↦ inr (is ∙ (let same : k ≡ length m.outputs = omega arith in
           ap (load_at m) same ∙ rw (le-ltb (length m.outputs) (length m.outputs) (omega arith)) refl))
     ]
 
@@ -197,7 +197,7 @@ pub commons_ascend : (fs : List ObjectValue) (m : LinkMapValue) (j k : ℕ) → 
     (common_at m.commons j).address ≤ (common_at m.commons k).address
 commons_ascend fs m j k stand le lt = elim (cases_lt j k) [
   | inl before ↦ (let apart = stand.commons_apart j k before lt in omega arith)
-  | inr behind ↦ (let same : j ≡ k = omega arith in let equal = ap (λ (i : ℕ). (common_at m.commons i).address) same in omega arith)
+  | inr past ↦ (let same : j ≡ k = omega arith in let equal = ap (λ (i : ℕ). (common_at m.commons i).address) same in omega arith)
 ]
 
 -- and ends where a later one ends, or before
@@ -205,7 +205,7 @@ pub commons_end : (fs : List ObjectValue) (m : LinkMapValue) (j k : ℕ) → Sta
     (common_at m.commons j).address + (common_at m.commons j).size ≤ (common_at m.commons k).address + (common_at m.commons k).size
 commons_end fs m j k stand le lt = elim (cases_lt j k) [
   | inl before ↦ (let apart = stand.commons_apart j k before lt in omega arith)
-  | inr behind ↦ (let same : j ≡ k = omega arith in
+  | inr past ↦ (let same : j ≡ k = omega arith in
       let equal = ap (λ (i : ℕ). (common_at m.commons i).address + (common_at m.commons i).size) same in omega arith)
 ]
 
@@ -235,7 +235,7 @@ module _ (fs : List ObjectValue) (m : LinkMapValue) (stand : StandApart fs m) (o
             rw (here, there) (omega arith))
         | inr ge ↦
             (let there = at_commons m l ge in
-            let behind =
+            let past =
             outputs.commons_behind k 0 (omega arith) (commons_some l m.commons (subst (λ (load : Load). 0 < load.size) there some)) in
             rw (here, there) (omega arith))
       ]

@@ -92,7 +92,7 @@ module _ (fs : List ObjectValue) (m : LinkMapValue) (rules : List RelocRule) (ds
             | inl section ↦ elim (cases_lt x (field_start fs p)) [
               | inl before ↦ inr (other none (λ at has. (let from = has.0 in omega arith)))
               | inr from ↦ elim (cases_lt x (field_start fs p + size_of (field_at ds n).rule.width)) [
-                | inr behind ↦ inr (other none (λ at has. (let below = has.1 in omega arith)))
+                | inr later ↦ inr (other none (λ at has. (let below = has.1 in omega arith)))
                 | inl below ↦ inl (n, omega arith, (file, section), (from, below))
               ]
             ]
@@ -152,7 +152,7 @@ module _ (fs : List ObjectValue) (m : LinkMapValue) (rules : List RelocRule) (ds
               ))
           | inr away ↦ elim away [
             | inl before ↦ omega arith
-            | inr behind ↦ omega arith
+            | inr later ↦ omega arith
           ]
         ]
 
@@ -302,7 +302,7 @@ module _ (fs : List ObjectValue) (m : LinkMapValue) (rules : List RelocRule) (st
     | inl one ↦ one
     | inr away ↦ elim away [
       | inl before ↦ absurd (omega arith)
-      | inr behind ↦ absurd (omega arith)
+      | inr later ↦ absurd (omega arith)
     ]
   ]
 
@@ -352,7 +352,7 @@ module _ (fs : List ObjectValue) (m : LinkMapValue) (rules : List RelocRule) (st
             is ∙ same_bytes p q r s k i y z one rule place (same_value y z (sym sum ∙ other)) ∙ sym was)
         | inr two ↦ elim two [
           | inl before ↦ absurd (apart q (s, had, (p, r, before, has, ((file, target), (field_start fs p + k, first, second)))))
-          | inr behind ↦ absurd (apart p (r, has, (q, s, behind, had, ((sym file, sym target), (field_start fs p + k, second, first)))))
+          | inr later ↦ absurd (apart p (r, has, (q, s, later, had, ((sym file, sym target), (field_start fs p + k, second, first)))))
         ]
       ]
 
@@ -435,7 +435,7 @@ offset_or fs p r x = elim (cases_lt x (field_start fs p)) [
   | inl before ↦ inr (λ (from, below). omega arith)
   | inr from ↦ elim (cases_lt x (field_end fs p r)) [
     | inl below ↦ inl (from, below)
-    | inr behind ↦ inr (λ (start, below). omega arith)
+    | inr later ↦ inr (λ (start, below). omega arith)
   ]
 ]
 

@@ -45,7 +45,7 @@ one_output : (fs : List ObjectValue) (m : LinkMapValue) (x j k : ℕ) → Output
 one_output fs m x j k outputs j_in k_in (from, to) (start, end) = elim (cases_lt j k) [
   | inl before ↦ absurd (let apart = outputs.apart j k before k_in in omega arith)
   | inr above ↦ elim (cases_lt k j) [
-    | inl behind ↦ absurd (let apart = outputs.apart k j behind j_in in omega arith)
+    | inl after ↦ absurd (let apart = outputs.apart k j after j_in in omega arith)
     | inr below ↦ omega arith
   ]
 ]
@@ -58,7 +58,7 @@ member_or fs m k i x =
       | inl before ↦ inr (λ (from, to). omega arith)
       | inr from ↦ elim (cases_lt x (member_address m p + length (content_in fs p.file p.section))) [
         | inl to ↦ inl (from, to)
-        | inr behind ↦ inr (λ (start, to). omega arith)
+        | inr after ↦ inr (λ (start, to). omega arith)
       ]
     ]
 
@@ -108,7 +108,7 @@ module _ (fs : List ObjectValue) (m : LinkMapValue) (rules : List RelocRule) (st
   zero_in_commons x (j, k, j_in, k_in, from, to) = zero_by x
       (λ (f, s, n, content). (
       let (l, i, member, (start, end)) = content_output x f s n content in
-      let behind = outputs.commons_behind l j member.0 j_in in
+      let after = outputs.commons_behind l j member.0 j_in in
       omega arith))
       (inr (j, k, j_in, k_in, from, to))
 

@@ -198,7 +198,7 @@ module _ (fs : List ObjectValue) (m : LinkMapValue) (ds : List Field) (n : ℕ) 
     | inl before ↦ inl before
     | inr from ↦ elim (cases_lt x (start + size)) [
       | inl inside ↦ absurd (are.apart n n_in (j, below, (at, (x, has, (from, inside)))))
-      | inr behind ↦ inr behind
+      | inr past ↦ inr past
     ]
   ]
 
@@ -207,7 +207,7 @@ module _ (fs : List ObjectValue) (m : LinkMapValue) (ds : List Field) (n : ℕ) 
     | inl before ↦ inl before
     | inr from ↦ elim (cases_lt x (start + size)) [
       | inl inside ↦ absurd (none (n, omega arith, (refl, refl), (from, inside)))
-      | inr behind ↦ inr behind
+      | inr past ↦ inr past
     ]
   ]
 

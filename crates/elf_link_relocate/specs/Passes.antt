@@ -165,14 +165,14 @@ abbrev pub IsLast : List Field → Option Field → Type 0
 IsLast ds last = MatchOption last (length ds ≡ 0) (λ d. (k : ℕ) × (length ds ≡ k + 1) × (field_at ds k ≡ d))
 
 -- a field is after another one: in a later file, in a later section of its file, or after its end in its section
-abbrev pub StandsBehind : Field → Field → Type 0
-StandsBehind d e =
+abbrev pub StandsAfter : Field → Field → Type 0
+StandsAfter d e =
     (d.site.file < e.site.file) ⊎
     ((d.site.file ≡ e.site.file) × ((d.target < e.target) ⊎ ((d.target ≡ e.target) × (d.offset + size_of d.rule.width ≤ e.offset))))
 
 -- each field but the first one is after the one before it
 abbrev pub AreAscending : List Field → Type 0
-AreAscending ds = (k : ℕ) → k + 1 < length ds → StandsBehind (field_at ds k) (field_at ds (k + 1))
+AreAscending ds = (k : ℕ) → k + 1 < length ds → StandsAfter (field_at ds k) (field_at ds (k + 1))
 
 -- of no field
 abbrev pub none_seen : Seen
@@ -192,7 +192,7 @@ pub record IsSeenNext (old : Seen) (j : Validated) (new : Seen) : Type 0 where
   pub out_of_range : new.out_of_range ≡ first_of old.out_of_range j.out_of_range j.field.site
   pub refused : new.refused ≡ first_of old.refused j.refused j.field.site
   pub last : new.last ≡ Some j.field
-  pub ascending : (new.ascending ≡ true) ↔ ((old.ascending ≡ true) × IfSome old.last (λ d. StandsBehind d j.field))
+  pub ascending : (new.ascending ≡ true) ↔ ((old.ascending ≡ true) × IfSome old.last (λ d. StandsAfter d j.field))
 
 -- Which bytes the first fields of a list have.
 

@@ -17,7 +17,7 @@ ghost use Rattle.elf_link_relocate.specs.Views.{IsAppliedEntry};
 use crate::copies::{all_copies, patch_field};
 use crate::field::{Entry, Field, Found, Seen, Validated};
 use crate::numbers::FieldOf;
-use crate::overlaps::is_behind;
+use crate::overlaps::is_after;
 use crate::rules::NO_RULE;
 use crate::values::{Linking, Values};
 use elf_link_field::{Form, rule_of};
@@ -100,7 +100,7 @@ impl Seen {
     {
         let field = validated.field;
         let follows = match self.last {
-            Some(last) => is_behind(last, field),
+            Some(last) => is_after(last, field),
             None => true,
         };
         Seen {

@@ -2,7 +2,7 @@
 ghost use Rattle.std.specs.Prelude.{◌≡◌, ◌↔◌, ◌+◌, ◌<◌, ◌≤◌, All, IfOk, IsTrue, MatchOption, length, map as map_list, false, ℕ};
 ghost use Rattle.elf_extent.specs.Extent.{Doubly};
 ghost use Rattle.elf_link_relocate.specs.Passes.{AreSorted, AreSpots, HasNoOverlap, HasShared, IsFirstOverlappingField, IsFirstSharer};
-ghost use Rattle.elf_link_relocate.specs.Passes.{IsFollowed, IsLastOfTarget, IsSpotIn, StandsBehind, field_extent};
+ghost use Rattle.elf_link_relocate.specs.Passes.{IsFollowed, IsLastOfTarget, IsSpotIn, StandsAfter, field_extent};
 
 use crate::field::{Field, FieldList};
 use elf_extent::{Extent, OutOfMemory, first_double};
@@ -164,8 +164,8 @@ impl<'f, 'v, 'l, 'a> FieldList<'f, 'v, 'l, 'a> {
 // The order of fields.
 
 /// Whether a field is after another one: in a later file or section, or after its end.
-pub(crate) fn is_behind(before: Field, field: Field) -> bool
-    ensures { IsTrue result ↔ StandsBehind before field }
+pub(crate) fn is_after(before: Field, field: Field) -> bool
+    ensures { IsTrue result ↔ StandsAfter before field }
 {
     if before.site.file != field.site.file {
         return before.site.file < field.site.file;

@@ -586,22 +586,22 @@ one_section_are = refl
 at_once : (cursor align : ℕ) → cursor % alignment align ≡ 0 → IsLeastPlace cursor align cursor
 at_once cursor align multiple = record { multiple = multiple; from = omega arith; least = λ y is le. le }
 
-table_behind_names : IsLeastPlace 116 8 120
-table_behind_names = record {
+table_after_names : IsLeastPlace 116 8 120
+table_after_names = record {
   multiple = refl;
   from = omega arith;
   least = λ y is le. (let whole : y % 8 ≡ 0 = is in omega arith);
 }
 
-symbols_behind_text : IsLeastPlace 65 8 72
-symbols_behind_text = record {
+symbols_after_text : IsLeastPlace 65 8 72
+symbols_after_text = record {
   multiple = refl;
   from = omega arith;
   least = λ y is le. (let whole : y % 8 ≡ 0 = is in omega arith);
 }
 
-table_behind_text_names : IsLeastPlace 130 8 136
-table_behind_text_names = record {
+table_after_text_names : IsLeastPlace 130 8 136
+table_after_text_names = record {
   multiple = refl;
   from = omega arith;
   least = λ y is le. (let whole : y % 8 ≡ 0 = is in omega arith);
@@ -615,7 +615,7 @@ empty_object_laid = record {
       least_cons (24, 8) _ 64 64 _ (at_once 64 8 refl)
       (least_cons (1, 1) _ 88 88 _ (at_once 88 1 refl)
       (least_cons (27, 1) _ 89 89 _ (at_once 89 1 refl)
-      (least_cons (256, 8) _ 116 120 _ table_behind_names (least_nil 376))));
+      (least_cons (256, 8) _ 116 120 _ table_after_names (least_nil 376))));
   bytes = empty_bytes;
 }
 
@@ -625,9 +625,9 @@ one_section_laid = record {
   places = 64 ∷ 72 ∷ 96 ∷ 97 ∷ 136 ∷ [];
   least =
       least_cons (1, 16) _ 64 64 _ (at_once 64 16 refl)
-      (least_cons (24, 8) _ 65 72 _ symbols_behind_text
+      (least_cons (24, 8) _ 65 72 _ symbols_after_text
       (least_cons (1, 1) _ 96 96 _ (at_once 96 1 refl)
       (least_cons (33, 1) _ 97 97 _ (at_once 97 1 refl)
-      (least_cons (320, 8) _ 130 136 _ table_behind_text_names (least_nil 456)))));
+      (least_cons (320, 8) _ 130 136 _ table_after_text_names (least_nil 456)))));
   bytes = one_section_are;
 }

@@ -604,7 +604,7 @@ by_section o places written P first own last (suc p) lt = elim (cases_lt p (leng
 -- chapter 4, Sections: sh_type.)
 
 -- what the type of a section says of its index: the symbols' tables are there once, and no type that objects don't have is
-pub record TellsIndex (o : ObjectValue) (i type : ℕ) : Type 0 where
+pub record SaysIndex (o : ObjectValue) (i type : ℕ) : Type 0 where
   pub symbols : type ≡ SHT_SYMTAB → i ≡ symbol_table_at o
   pub indexes : type ≡ SHT_SYMTAB_SHNDX → (has_index_table o ≡ true) × (i ≡ symbol_table_at o + 1)
   pub not_foreign : IsForeignType type → ⊥
@@ -635,8 +635,8 @@ body_not_foreign (relocs false target entries) right =
     not_foreign_type SHT_REL (λ same. omega arith) (λ same. omega arith) (λ same. omega arith) (λ same. omega arith)
 body_not_foreign (group comdat signature members) right = no_foreign_number SHT_GROUP SHT_GROUP refl (inr (omega arith))
 
-strings_tell : (o : ObjectValue) (i type : ℕ) → type ≡ SHT_STRTAB → TellsIndex o i type
-strings_tell o i type is =
+strings_say : (o : ObjectValue) (i type : ℕ) → type ≡ SHT_STRTAB → SaysIndex o i type
+strings_say o i type is =
     record {
       symbols = λ same. absurd (omega arith);
       indexes = λ same. absurd (omega arith);
@@ -644,8 +644,8 @@ strings_tell o i type is =
           no_foreign_number type SHT_STRTAB is (inl (omega arith));
     }
 
-symbols_tell : (o : ObjectValue) (i : ℕ) → i ≡ symbol_table_at o → TellsIndex o i SHT_SYMTAB
-symbols_tell o i at =
+symbols_say : (o : ObjectValue) (i : ℕ) → i ≡ symbol_table_at o → SaysIndex o i SHT_SYMTAB
+symbols_say o i at =
     record {
       symbols = λ same. at;
       indexes = λ same. absurd (omega arith);
@@ -653,34 +653,34 @@ symbols_tell o i at =
           no_foreign_number SHT_SYMTAB SHT_SYMTAB refl (inl (omega arith));
     }
 
-last_tells : (o : ObjectValue) (far : Bool) (k : ℕ) → has_index_table o ≡ far → k < last_count far →
-    TellsIndex o (symbol_table_at o + k) (get_or (last_sections o far) k no_plain).type
+last_says : (o : ObjectValue) (far : Bool) (k : ℕ) → has_index_table o ≡ far → k < last_count far →
+    SaysIndex o (symbol_table_at o + k) (get_or (last_sections o far) k no_plain).type
 unfolding last_sections
-last_tells o true zero is lt = symbols_tell o (symbol_table_at o + 0) (omega arith)
-last_tells o true (suc zero) is lt =
+last_says o true zero is lt = symbols_say o (symbol_table_at o + 0) (omega arith)
+last_says o true (suc zero) is lt =
     record {
       symbols = λ same. absurd (omega arith);
       indexes = λ same. (is, refl);
       not_foreign =
           no_foreign_number SHT_SYMTAB_SHNDX SHT_SYMTAB_SHNDX refl (inr (omega arith));
     }
-last_tells o true (suc (suc zero)) is lt = strings_tell o _ _ refl
-last_tells o true (suc (suc (suc zero))) is lt = strings_tell o _ _ refl
-last_tells o true (suc (suc (suc (suc k)))) is lt = absurd (omega arith)
-last_tells o false zero is lt = symbols_tell o (symbol_table_at o + 0) (omega arith)
-last_tells o false (suc zero) is lt = strings_tell o _ _ refl
-last_tells o false (suc (suc zero)) is lt = strings_tell o _ _ refl
-last_tells o false (suc (suc (suc k))) is lt = absurd (omega arith)
+last_says o true (suc (suc zero)) is lt = strings_say o _ _ refl
+last_says o true (suc (suc (suc zero))) is lt = strings_say o _ _ refl
+last_says o true (suc (suc (suc (suc k)))) is lt = absurd (omega arith)
+last_says o false zero is lt = symbols_say o (symbol_table_at o + 0) (omega arith)
+last_says o false (suc zero) is lt = strings_say o _ _ refl
+last_says o false (suc (suc zero)) is lt = strings_say o _ _ refl
+last_says o false (suc (suc (suc k))) is lt = absurd (omega arith)
 
-pub type_tells : (o : ObjectValue) (places : List ℕ) → IsWrittenAt o places → (i : ℕ) → i < count (written_sections o places) →
-    TellsIndex o i (section (written_sections o places) i).sh_type
-type_tells o places written =
+pub type_says : (o : ObjectValue) (places : List ℕ) → IsWrittenAt o places → (i : ℕ) → i < count (written_sections o places) →
+    SaysIndex o i (section (written_sections o places) i).sh_type
+type_says o places written =
     let f = written_sections o places in
     let far = has_index_table o in
-    by_section o places written (λ i. TellsIndex o i (section f i).sh_type) first own
-    (λ k lt. subst (TellsIndex o (symbol_table_at o + k)) (sym (last_at o places written far refl k lt).sh_type)
-    (last_tells o far k refl lt)) where
-      first : TellsIndex o 0 (section (written_sections o places) 0).sh_type
+    by_section o places written (λ i. SaysIndex o i (section f i).sh_type) first own
+    (λ k lt. subst (SaysIndex o (symbol_table_at o + k)) (sym (last_at o places written far refl k lt).sh_type)
+    (last_says o far k refl lt)) where
+      first : SaysIndex o 0 (section (written_sections o places) 0).sh_type
       first =
           let null = ap (λ (s : Shdr). s.sh_type) (written_first o places written) in
           record {
@@ -690,7 +690,7 @@ type_tells o places written =
                 no_foreign_number _ SHT_NULL null (inl (omega arith));
           }
 
-      own : (p : ℕ) → p < length o.sections → TellsIndex o (suc p) (section (written_sections o places) (suc p)).sh_type
+      own : (p : ℕ) → p < length o.sections → SaysIndex o (suc p) (section (written_sections o places) (suc p)).sh_type
       own p lt = record {
         symbols = λ same. absurd (own_type o places SHT_SYMTAB written symbols_no_body p lt same);
         indexes = λ same. absurd (own_type o places SHT_SYMTAB_SHNDX written indexes_no_body p lt same);

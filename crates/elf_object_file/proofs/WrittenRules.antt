@@ -1,5 +1,5 @@
 -- The file that an object is written as breaks none of its rules, neither its tables' own nor 70 to 79. Rules 70 to 74 follow here from its
--- header and the types of its sections (`type_tells`). The other runs of rules are from the files that prove them; tables go by induction
+-- header and the types of its sections (`type_says`). The other runs of rules are from the files that prove them; tables go by induction
 -- on the sections.
 use Rattle.std.proofs.Common.{◌≡◌, ◌≢◌, ◌<◌, ◌≤◌, ◌+◌, ◌*◌, ◌^◌, ℕ, suc, Bool, true, false, None, List, length, get_or, inl, inr, refl, sym}
 use Rattle.std.proofs.Common.{ap, ap₂, subst, ◌∙◌, arith, ◌⊎◌, zero, Option, Some}
@@ -17,7 +17,7 @@ use Rattle.elf_image_rules.specs.Rows.{FirstIn}
 use Rattle.elf_image_type.specs.WrittenFile.{long_number, short_index}
 use Rattle.elf_object_file.proofs.WrittenDenotes.{flags_word, group_flags_read, length-group_words, member_below, member_count_is}
 use Rattle.elf_object_file.proofs.WrittenDenotes.{member_read, symbol_entry_count, kind_back, kind_of_body}
-use Rattle.elf_object_file.proofs.WrittenFile.{HasSectionAt, own_at, symbols_at, written_order, by_section, last_at, indexes_at, type_tells}
+use Rattle.elf_object_file.proofs.WrittenFile.{HasSectionAt, own_at, symbols_at, written_order, by_section, last_at, indexes_at, type_says}
 use Rattle.elf_object_file.proofs.WrittenSections.{own_short, own_is_kept, own_of_kept, written_first, written_kept, written_symbol_table}
 use Rattle.elf_object_file.proofs.WrittenTableRules.{symbol_rules_kept, relocation_target, written_parts, by_entry, far_word}
 use Rattle.elf_object_file.proofs.WrittenTableRules.{relocation_rules_kept}
@@ -523,18 +523,18 @@ module _ (o : ObjectValue) (places : List ℕ) (written : IsWrittenAt o places) 
   -- ---- rules 70 to 74
 
   no_foreign_section : Never (foreign_section (written_sections o places))
-  no_foreign_section x (i, lt, foreign, here) = (type_tells o places written i lt).not_foreign foreign
+  no_foreign_section x (i, lt, foreign, here) = (type_says o places written i lt).not_foreign foreign
 
   no_second_symbol_table : Never (second_symbol_table (written_sections o places))
   no_second_symbol_table x (i, lt, (is, (k, before, other)), here) =
-      let second = (type_tells o places written i lt).symbols is in
-      let first = (type_tells o places written k (omega arith)).symbols other in
+      let second = (type_says o places written i lt).symbols is in
+      let first = (type_says o places written k (omega arith)).symbols other in
       omega arith
 
   no_stray_index_table : Never (stray_index_table (written_sections o places))
   no_stray_index_table x (i, lt, (is, stray), here) =
       let f = written_sections o places in
-      let (far, at) = (type_tells o places written i lt).indexes is in
+      let (far, at) = (type_says o places written i lt).indexes is in
       let link = ap (λ (k : ℕ). (section f k).sh_link) at ∙ (indexes_at o places written far).sh_link in
       stray (written_symbol_table o places written ∙ ap (λ (t : ℕ). Some t) (sym link))
 
@@ -578,9 +578,9 @@ module _ (o : ObjectValue) (places : List ℕ) (written : IsWrittenAt o places) 
 
   -- ---- all rules
 
-  behind_kept : (let f = written_sections o places in FirstIn (rules_behind (left_out f) f (symbol_table f)) None)
+  after_kept : (let f = written_sections o places in FirstIn (rules_behind (left_out f) f (symbol_table f)) None)
   unfolding rules_behind
-  behind_kept =
+  after_kept =
       let f = written_sections o places in
       let left = left_out f in
       let symbols =
@@ -591,4 +591,4 @@ module _ (o : ObjectValue) (places : List ℕ) (written : IsWrittenAt o places) 
 
   pub written_keeps_rules : FirstIn (file_rules (written_sections o places)) None
   unfolding file_rules
-  written_keeps_rules = FirstIn-later (front_rules (written_sections o places)) _ None front_kept behind_kept
+  written_keeps_rules = FirstIn-later (front_rules (written_sections o places)) _ None front_kept after_kept

@@ -153,8 +153,8 @@ each_own test n own (suc p) above below = own p (omega arith)
 pub filter_own : (test : ℕ → Bool) (n m : ℕ) → test 0 ≡ false → ((p : ℕ) → p < n → test (suc p) ≡ true) →
     ((i : ℕ) → n < i → i < 1 + n + m → test i ≡ false) →
     filter test (range_with_len 0 (suc (n + m))) ≡ range_with_len 1 n
-filter_own test n m first own behind =
-    rw first (filter_front test 1 n m (each_own test n own) (λ i above below. behind i (omega arith) below))
+filter_own test n m first own later =
+    rw first (filter_front test 1 n m (each_own test n own) (λ i above below. later i (omega arith) below))
 
 -- What an object keeps of the file that it is written as. Types of own sections go with a body, so the first symbol table and its index
 -- table are those after them. These two and the string tables are left out, and they are last; so section p + 1 is kept, at position p.
@@ -431,15 +431,15 @@ no_index_table_at : (far : Bool) (t i : ℕ) → i < t → is_at (if far then So
 no_index_table_at true t i below = ne_eqb t i (λ same. omega arith)
 no_index_table_at false t i below = refl
 
-strings_behind : (far : Bool) → 0 < (if far then 2 else 1)
-strings_behind true = omega arith
-strings_behind false = omega arith
+strings_after : (far : Bool) → 0 < (if far then 2 else 1)
+strings_after true = omega arith
+strings_after false = omega arith
 
 own_kept : (o : ObjectValue) (places : List ℕ) → IsWrittenAt o places → (p : ℕ) → p < length o.sections →
     is_kept (left_of o) (written_sections o places) (suc p) ≡ true
 unfolding is_kept
 own_kept o places written p lt =
-    let behind = strings_behind (has_index_table o) in
+    let later = strings_after (has_index_table o) in
     none_left_out _ _ _ _ _ _
     (ne_eqb (section (written_sections o places) (suc p)).sh_type SHT_NULL (own_typed o places written p lt))
     (ne_eqb (suc p) 0 (λ same. omega arith))
@@ -474,9 +474,9 @@ last_left_out o places k lt =
     (name_table_at o == i)
     (inr (which_last (symbol_table_at o) (has_index_table o) k lt))
 
-behind_left_out : (o : ObjectValue) (places : List ℕ) → IsWrittenAt o places → (i : ℕ) → length o.sections < i →
+after_left_out : (o : ObjectValue) (places : List ℕ) → IsWrittenAt o places → (i : ℕ) → length o.sections < i →
     is_kept (left_of o) (written_sections o places) i ≡ false
-behind_left_out o places written i above = elim (cases_lt i (count (written_sections o places))) [
+after_left_out o places written i above = elim (cases_lt i (count (written_sections o places))) [
   | inl below ↦ (
       let all = count_of_written o places written (has_index_table o) refl in
       let k = i - symbol_table_at o in
@@ -498,11 +498,11 @@ first_not_kept o places written =
     ap (λ (left : LeftOut). is_kept left (written_sections o places) 0) (written_left_out o places written) ∙
     first_left_out o places written
 
-pub behind_not_kept : (o : ObjectValue) (places : List ℕ) → IsWrittenAt o places → (i : ℕ) → length o.sections < i →
+pub after_not_kept : (o : ObjectValue) (places : List ℕ) → IsWrittenAt o places → (i : ℕ) → length o.sections < i →
     (let f = written_sections o places in is_kept (left_out f) f i ≡ false)
-behind_not_kept o places written i above =
+after_not_kept o places written i above =
     ap (λ (left : LeftOut). is_kept left (written_sections o places) i) (written_left_out o places written) ∙
-    behind_left_out o places written i above
+    after_left_out o places written i above
 
 -- a section that is kept is the own section at some position
 pub own_of_kept : (o : ObjectValue) (places : List ℕ) → IsWrittenAt o places → (i : ℕ) →
@@ -511,7 +511,7 @@ pub own_of_kept : (o : ObjectValue) (places : List ℕ) → IsWrittenAt o places
 own_of_kept o places written zero is = absurd (let both : true ≡ false = sym is ∙ first_not_kept o places written in true≢false both)
 own_of_kept o places written (suc p) is = elim (cases_lt p (length o.sections)) [
   | inl below ↦ (p, below, refl)
-  | inr above ↦ absurd (let both : true ≡ false = sym is ∙ behind_not_kept o places written (suc p) (omega arith) in true≢false both)
+  | inr above ↦ absurd (let both : true ≡ false = sym is ∙ after_not_kept o places written (suc p) (omega arith) in true≢false both)
 ]
 
 -- ---- positions
@@ -527,7 +527,7 @@ written_kept o places written =
     let same : count f ≡ suc (n + last_count (has_index_table o)) = omega arith in
     ap (λ (k : ℕ). filter test (range_with_len 0 k)) same
     ∙ filter_own test n (last_count (has_index_table o)) (first_not_kept o places written) (own_is_kept o places written)
-    (λ i above below. behind_not_kept o places written i above)
+    (λ i above below. after_not_kept o places written i above)
 
 -- section p + 1 is at position p
 pub written_position : (o : ObjectValue) (places : List ℕ) → IsWrittenAt o places → (p : ℕ) → p ≤ length o.sections →

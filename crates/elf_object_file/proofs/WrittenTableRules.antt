@@ -18,7 +18,7 @@ use Rattle.elf_image_rules.specs.Rows.{AtEntry, FirstIn, OfSome}
 use Rattle.elf_image_type.specs.WrittenFile.{long_number, short_index}
 use Rattle.elf_object_file.proofs.WrittenDenotes.{name_within, null_entry, null_word, symbol_entry_count, symbol_entry_read, symbol_word}
 use Rattle.elf_object_file.proofs.WrittenDenotes.{AreRelocations, relocation_count_is, relocation_read}
-use Rattle.elf_object_file.proofs.WrittenFile.{HasSectionAt, indexes_at, symbol_strings_at, symbols_at, written_order, type_tells}
+use Rattle.elf_object_file.proofs.WrittenFile.{HasSectionAt, indexes_at, symbol_strings_at, symbols_at, written_order, type_says}
 use Rattle.elf_object_file.proofs.WrittenFile.{index_short, own_at}
 use Rattle.elf_object_file.proofs.WrittenSections.{own_short, strings_short, written_index_table, symbols_short}
 use Rattle.elf_object_file.specs.ObjectFile.{IsWrittenAt, written_sections}
@@ -67,9 +67,9 @@ count_at_most test (x ∷ xs) =
 abbrev ArePassingFirst : {A : Type 0} → (A → Bool) → List A → A → Type 0
 ArePassingFirst test xs d = (i k : ℕ) → k < i → i < length xs → test (get_or xs i d) ≡ true → test (get_or xs k d) ≡ true
 
-none_behind : {A : Type 0} (test : A → Bool) (x : A) (xs : List A) (d : A) → ArePassingFirst test (x ∷ xs) d → test x ≡ false → (k : ℕ) →
+none_after : {A : Type 0} (test : A → Bool) (x : A) (xs : List A) (d : A) → ArePassingFirst test (x ∷ xs) d → test x ≡ false → (k : ℕ) →
     k < length xs → test (get_or xs k d) ≡ false
-none_behind test x xs d first fails k lt = elim (cases_Bool (test (get_or xs k d))) [
+none_after test x xs d first fails k lt = elim (cases_Bool (test (get_or xs k d))) [
   | inl passes ↦ absurd (true≢false (sym (first (suc k) 0 (omega arith) (omega arith) passes) ∙ fails))
   | inr other ↦ other
 ]
@@ -83,7 +83,7 @@ passing_first test (x ∷ xs) d first zero lt = elim (cases_Bool (test x)) [
       (let more : length (filter test (x ∷ xs)) ≡ suc (length (filter test xs)) = rw passes refl in
       ((λ below. passes), (λ past. absurd (omega arith))))
   | inr fails ↦ (
-      let none : length (filter test (x ∷ xs)) ≡ 0 = rw fails (count_none test xs d (none_behind test x xs d first fails)) in
+      let none : length (filter test (x ∷ xs)) ≡ 0 = rw fails (count_none test xs d (none_after test x xs d first fails)) in
       ((λ below. absurd (omega arith)), (λ past. fails)))
 ]
 passing_first test (x ∷ xs) d first (suc k) lt = elim (cases_Bool (test x)) [
@@ -92,8 +92,8 @@ passing_first test (x ∷ xs) d first (suc k) lt = elim (cases_Bool (test x)) [
       let rest = passing_first test xs d (λ i j below within is. first (suc i) (suc j) (omega arith) (omega arith) is) k (omega arith) in
       ((λ below. rest.0 (omega arith)), (λ past. rest.1 (omega arith))))
   | inr fails ↦ (
-      let none : length (filter test (x ∷ xs)) ≡ 0 = rw fails (count_none test xs d (none_behind test x xs d first fails)) in
-      ((λ below. absurd (omega arith)), (λ past. none_behind test x xs d first fails k (omega arith))))
+      let none : length (filter test (x ∷ xs)) ≡ 0 = rw fails (count_none test xs d (none_after test x xs d first fails)) in
+      ((λ below. absurd (omega arith)), (λ past. none_after test x xs d first fails k (omega arith))))
 ]
 
 locals_first : (o : ObjectValue) (places : List ℕ) → IsWrittenAt o places → ArePassingFirst is_local o.symbols no_symbol
@@ -240,7 +240,7 @@ module _ (o : ObjectValue) (places : List ℕ) (written : IsWrittenAt o places) 
         symbol_right k lt (inl (before, other)) =
             let info = are.info_is in
             other (eqb-true _ _ ((passing_first is_local o.symbols no_symbol (locals_first o places written) k lt).0 (omega arith)))
-        symbol_right k lt (inr (behind, is)) =
+        symbol_right k lt (inr (following, is)) =
             let info = are.info_is in
             true≢false (sym (eq-eqb _ _ is) ∙
             (passing_first is_local o.symbols no_symbol (locals_first o places written) k lt).1 (omega arith))
@@ -382,8 +382,8 @@ module _ (o : ObjectValue) (places : List ℕ) (written : IsWrittenAt o places) 
   -- rule 49
   no_second_index_table : Never (second_index_table (written_sections o places) (symbol_table_at o))
   no_second_index_table x (j, lt, (is, (k, below, other)), here) =
-      let last = ((type_tells o places written j lt).indexes is.0).1 in
-      let first = ((type_tells o places written k (omega arith)).indexes other.0).1 in
+      let last = ((type_says o places written j lt).indexes is.0).1 in
+      let first = ((type_says o places written k (omega arith)).indexes other.0).1 in
       omega arith
 
   -- rule 50

@@ -18,7 +18,7 @@ use Rattle.elf_field.specs.declared.shdr.Shdr.{Shdr}
 use Rattle.elf_image_rules.specs.Rules.{MAX_LEN}
 use Rattle.elf_image_rules.specs.Tables.{order_of}
 use Rattle.elf_image_type.proofs.Public.{length-relocatable_bytes}
-use Rattle.elf_image_type.specs.WrittenFile.{unaligned, all_headers, behind_header, offsets, section_table}
+use Rattle.elf_image_type.specs.WrittenFile.{unaligned, all_headers, after_header, offsets, section_table}
 use Rattle.elf_object_strings.proofs.Public.{holds_names}
 use Rattle.elf_object_strings.specs.StringTable.{name_offset, string_table}
 use Rattle.elf_object_type.specs.Object.{ObjectValue}
@@ -203,7 +203,7 @@ length-canonical_section_headers o places fits =
 
 -- each part is after the one before it, as a relocatable file wants it
 pub layout_order : (o : ObjectValue) (places : List ℕ) → Fits (layout_parts (plain_sections o)) EHDR_SIZE places →
-    Fits (map unaligned (behind_header (canonical_header o places) (canonical_section_headers o places) (contents_of o) (name_table_at o)))
+    Fits (map unaligned (after_header (canonical_header o places) (canonical_section_headers o places) (contents_of o) (name_table_at o)))
     EHDR_SIZE (offsets (canonical_header o places) (canonical_section_headers o places))
 unfolding layout_parts
 layout_order o places fits =
@@ -218,7 +218,7 @@ layout_order o places fits =
     let table_long : length (section_table h ss (name_table_at o)) ≡ SHDR_SIZE * count =
     (let all = length-table shdr_laws (order_of h.e_ident) (all_headers ss (name_table_at o)) in omega arith) in
     let loose = unaligned_parts sections (SHDR_SIZE * count) (section_table h ss (name_table_at o)) EHDR_SIZE places table_long fits in
-    subst (Fits (map unaligned (behind_header h ss (contents_of o) (name_table_at o))) EHDR_SIZE)
+    subst (Fits (map unaligned (after_header h ss (contents_of o) (name_table_at o))) EHDR_SIZE)
     (sym (offsets_are (name_offset (section_names o)) sections places places_long)) loose
 
 pub length-layout_bytes : (o : ObjectValue) (places : List ℕ) → Fits (layout_parts (plain_sections o)) EHDR_SIZE places →

@@ -122,13 +122,13 @@ last_sections o true =
 last_sections o false =
     symbol_table_section o ∷ strings (codes ".strtab") (symbol_names o) ∷ strings (codes ".shstrtab") (section_names o) ∷ []
 
-sections_behind : (o : ObjectValue) (far : Bool) →
+sections_after : (o : ObjectValue) (far : Bool) →
     (symbol_table_section o ∷ ((if far then index_table_section o ∷ [] else []) ++ (strings (codes ".strtab") (symbol_names o) ∷ []))) ++
     (strings (codes ".shstrtab") (section_names o) ∷ [])
     ≡ last_sections o far
 unfolding last_sections
-sections_behind o true = refl
-sections_behind o false = refl
+sections_after o true = refl
+sections_after o false = refl
 
 pub plain_sections_are : (o : ObjectValue) (far : Bool) → has_index_table o ≡ far →
     plain_sections o ≡ map (own_section o) o.sections ++ last_sections o far
@@ -136,7 +136,7 @@ unfolding plain_sections sections_before_names
 plain_sections_are o far is =
     append_assoc (map (own_section o) o.sections) _ (strings (codes ".shstrtab") (section_names o) ∷ [])
     ∙ ap (λ (ss : List PlainSection). map (own_section o) o.sections ++ ss)
-    (sections_behind o (has_index_table o) ∙ ap (last_sections o) is)
+    (sections_after o (has_index_table o) ∙ ap (last_sections o) is)
 
 -- ---- their parts
 
@@ -352,33 +352,33 @@ plain_last o far is k = last_found o far is k no_plain
 -- the index table if there is one, the string table and the name table.
 
 -- a section after the object's own
-behind_own : (o : ObjectValue) (far : Bool) (position k : ℕ) (d : PlainSection) → has_index_table o ≡ far →
+after_own : (o : ObjectValue) (far : Bool) (position k : ℕ) (d : PlainSection) → has_index_table o ≡ far →
     position ≡ length o.sections + k →
     get_or (plain_sections o) position d ≡ get_or (last_sections o far) k d
-behind_own o far position k d is at = ap (λ (x : ℕ). get_or (plain_sections o) x d) at ∙ last_found o far is k d
+after_own o far position k d is at = ap (λ (x : ℕ). get_or (plain_sections o) x d) at ∙ last_found o far is k d
 
 pub symbols_found : (o : ObjectValue) (position : ℕ) (d : PlainSection) → position ≡ length o.sections →
     get_or (plain_sections o) position d ≡ symbol_table_section o
 unfolding last_sections
 symbols_found o position d at = elim (either_way o) [
-  | inl near ↦ behind_own o false position 0 d near (omega arith)
-  | inr far ↦ behind_own o true position 0 d far (omega arith)
+  | inl near ↦ after_own o false position 0 d near (omega arith)
+  | inr far ↦ after_own o true position 0 d far (omega arith)
 ]
 
 pub names_found : (o : ObjectValue) (position : ℕ) (d : PlainSection) → position + 1 ≡ length (plain_sections o) →
     get_or (plain_sections o) position d ≡ strings (codes ".shstrtab") (section_names o)
 unfolding last_sections
 names_found o position d last = elim (either_way o) [
-  | inl near ↦ (let count = count_near o near in behind_own o false position 2 d near (omega arith))
-  | inr far ↦ (let count = count_far o far in behind_own o true position 3 d far (omega arith))
+  | inl near ↦ (let count = count_near o near in after_own o false position 2 d near (omega arith))
+  | inr far ↦ (let count = count_far o far in after_own o true position 3 d far (omega arith))
 ]
 
 pub strings_found : (o : ObjectValue) (position : ℕ) (d : PlainSection) → position + 2 ≡ length (plain_sections o) →
     get_or (plain_sections o) position d ≡ strings (codes ".strtab") (symbol_names o)
 unfolding last_sections
 strings_found o position d last = elim (either_way o) [
-  | inl near ↦ (let count = count_near o near in behind_own o false position 1 d near (omega arith))
-  | inr far ↦ (let count = count_far o far in behind_own o true position 2 d far (omega arith))
+  | inl near ↦ (let count = count_near o near in after_own o false position 1 d near (omega arith))
+  | inr far ↦ (let count = count_far o far in after_own o true position 2 d far (omega arith))
 ]
 
 pub index_table_found : (o : ObjectValue) (position : ℕ) (d : PlainSection) → length o.sections < position →
@@ -387,7 +387,7 @@ pub index_table_found : (o : ObjectValue) (position : ℕ) (d : PlainSection) �
 unfolding last_sections
 index_table_found o position d above below = elim (either_way o) [
   | inl near ↦ (let count = count_near o near in absurd (omega arith))
-  | inr far ↦ (let count = count_far o far in behind_own o true position 1 d far (omega arith))
+  | inr far ↦ (let count = count_far o far in after_own o true position 1 d far (omega arith))
 ]
 
 -- The names of an object's sections and symbols, in the code and in the object's value, are the same. So is the test whether a symbol needs
@@ -418,24 +418,24 @@ own_names : (o : ObjectValue) (sections : List SectionValue) → map (λ s. s.na
 own_names o [] = refl
 own_names o (s ∷ sections) = ap (λ (names : List (List ℕ)). s.name ∷ names) (own_names o sections)
 
-names_behind : (o : ObjectValue) (far : Bool) →
+names_after : (o : ObjectValue) (far : Bool) →
     map (λ (s : PlainSection). s.name)
     (symbol_table_section o ∷ ((if far then index_table_section o ∷ [] else []) ++ (strings (codes ".strtab") (symbol_names o) ∷ [])))
     ++ (codes ".shstrtab" ∷ []) ≡ last_names far
-names_behind o true = refl
-names_behind o false = refl
+names_after o true = refl
+names_after o false = refl
 
 pub section_names_are : (o : ObjectValue) (far : Bool) → has_index_table o ≡ far →
     section_names o ≡ map (λ s. s.name) o.sections ++ last_names far
 unfolding section_names sections_before_names
 section_names_are o far is =
-    let behind =
+    let later =
     symbol_table_section
     o ∷ ((if has_index_table o then index_table_section o ∷ [] else []) ++ (strings (codes ".strtab") (symbol_names o) ∷ [])) in
     ap (λ (names : List (List ℕ)). names ++ (codes ".shstrtab" ∷ []))
-    (map-append (λ (s : PlainSection). s.name) (map (own_section o) o.sections) behind)
-    ∙ append_assoc (map (λ s. s.name) (map (own_section o) o.sections)) (map (λ (s : PlainSection). s.name) behind) (codes ".shstrtab" ∷ [])
-    ∙ ap₂ (λ (front rest : List (List ℕ)). front ++ rest) (own_names o o.sections) (names_behind o (has_index_table o) ∙ ap last_names is)
+    (map-append (λ (s : PlainSection). s.name) (map (own_section o) o.sections) later)
+    ∙ append_assoc (map (λ s. s.name) (map (own_section o) o.sections)) (map (λ (s : PlainSection). s.name) later) (codes ".shstrtab" ∷ [])
+    ∙ ap₂ (λ (front rest : List (List ℕ)). front ++ rest) (own_names o o.sections) (names_after o (has_index_table o) ∙ ap last_names is)
 
 own_texts : (o : ObjectValue) (sections : List Section) (names : List (Bor (List ℕ))) → map section_value sections ≡ o.sections →
     names ≡ map (λ (s : Section). s.name) sections →
@@ -511,9 +511,9 @@ all_named [] all = tt
 all_named (s ∷ sections) all = (all.0, all_named sections all.1)
 
 module _ (o : ObjectValue) (object : IsObject o) where
-  behind : (far : Bool) → AllByRecursion (λ s. IsZeroFree s.name) (if far then index_table_section o ∷ [] else [])
-  behind true = (zero_free (codes ".symtab_shndx") (search arith), tt)
-  behind false = tt
+  later : (far : Bool) → AllByRecursion (λ s. IsZeroFree s.name) (if far then index_table_section o ∷ [] else [])
+  later true = (zero_free (codes ".symtab_shndx") (search arith), tt)
+  later false = tt
 
   before_names : AllByRecursion (λ s. IsZeroFree s.name) (sections_before_names o)
   unfolding sections_before_names
@@ -522,7 +522,7 @@ module _ (o : ObjectValue) (object : IsObject o) where
       (all_of_map (λ s. IsZeroFree s.name) (own_section o) o.sections no_section (own_section o no_section)
       (λ p lt. zero_free (section_at o p).name (no_zero_in_section_name o object p lt))) (
         zero_free (codes ".symtab") (search arith),
-        all_append (λ s. IsZeroFree s.name) (if has_index_table o then index_table_section o ∷ [] else []) _ (behind (has_index_table o))
+        all_append (λ s. IsZeroFree s.name) (if has_index_table o then index_table_section o ∷ [] else []) _ (later (has_index_table o))
             (zero_free (codes ".strtab") (search arith), tt),
       )
 

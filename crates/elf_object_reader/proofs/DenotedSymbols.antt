@@ -14,7 +14,7 @@ use Rattle.elf_field.specs.Abi.{STB_LOCAL}
 use Rattle.elf_field.specs.Entries.{sym_at}
 use Rattle.elf_field.specs.declared.number.Order.{Order}
 use Rattle.elf_field.specs.declared.sym.Sym.{Sym}
-use Rattle.elf_image_rules.proofs.Public.{FirstIn-behind, FirstIn-front}
+use Rattle.elf_image_rules.proofs.Public.{FirstIn-after, FirstIn-front}
 use Rattle.elf_image_rules.specs.Rows.{FirstIn}
 use Rattle.elf_field.specs.Strings.{string}
 use Rattle.elf_object_reader.proofs.FileRules.{places_sound, symbols_sound}
@@ -377,8 +377,8 @@ no_misplaced_binding : (f : Sections) (t : ℕ) → FirstIn (symbol_table_rules 
 unfolding symbol_table_rules rest_rules symbol_entry_rules
 no_misplaced_binding f t clean =
     let p = symbol_parts f t in
-    let behind = FirstIn-behind (linked_string_rules p.names p.names_start) _ (FirstIn-behind (own_rules SymbolTable f t) _ clean) in
-    (FirstIn-front (symbol_entry_rules p) _ behind).1.1.0
+    let later = FirstIn-after (linked_string_rules p.names p.names_start) _ (FirstIn-after (own_rules SymbolTable f t) _ clean) in
+    (FirstIn-front (symbol_entry_rules p) _ later).1.1.0
 
 locals_first : (f : Sections) (t i k : ℕ) → Never (misplaced_binding (symbol_parts f t)) → k < i → i < entry_count (content f t) →
     entry_binding (entry (order f) (content f t) i) ≡ STB_LOCAL → (entry_binding (entry (order f) (content f t) k) ≡ STB_LOCAL → ⊥) → ⊥

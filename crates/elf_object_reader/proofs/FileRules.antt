@@ -8,7 +8,7 @@ use Rattle.std.proofs.lemmas.Bool.{cases_lt}
 use Rattle.elf_extent.proofs.Public.{IsLowest-lower, IsLowest-same}
 use Rattle.elf_extent.specs.Extent.{IsLeast, Never, IsLowest, lower_of}
 use Rattle.elf_field.specs.Abi.{SHT_GROUP}
-use Rattle.elf_image_rules.proofs.Public.{FirstIn-behind, FirstIn-front, FirstIn-later, FirstIn-sooner}
+use Rattle.elf_image_rules.proofs.Public.{FirstIn-after, FirstIn-front, FirstIn-later, FirstIn-sooner}
 use Rattle.elf_image_rules.specs.Rows.{FirstIn, Ruled}
 use Rattle.elf_image_stream.specs.declared.fault.Fault.TheVariants.{OutOfMemory, Io, Rule}
 use Rattle.elf_image_stream.specs.declared.fault.Fault.{Fault}
@@ -30,13 +30,13 @@ pub front_sound : (f : Sections) → FirstIn (file_rules f) None → FirstIn (fr
 unfolding file_rules
 front_sound f clean = FirstIn-front (front_rules f) _ clean
 
-behind_sound : (f : Sections) → FirstIn (file_rules f) None → FirstIn (rules_behind (left_out f) f (symbol_table f)) None
+after_sound : (f : Sections) → FirstIn (file_rules f) None → FirstIn (rules_behind (left_out f) f (symbol_table f)) None
 unfolding file_rules
-behind_sound f clean = FirstIn-behind (front_rules f) _ clean
+after_sound f clean = FirstIn-after (front_rules f) _ clean
 
 pub symbol_run_sound : (f : Sections) → FirstIn (file_rules f) None → FirstIn (symbol_rules_in (left_out f) f (symbol_table f)) None
 unfolding rules_behind
-symbol_run_sound f clean = FirstIn-front (symbol_rules_in (left_out f) f (symbol_table f)) _ (behind_sound f clean)
+symbol_run_sound f clean = FirstIn-front (symbol_rules_in (left_out f) f (symbol_table f)) _ (after_sound f clean)
 
 pub symbols_sound : (f : Sections) → FirstIn (file_rules f) None → FirstIn (rules_of_symbols f (symbol_table f)) None
 unfolding symbol_rules_in
@@ -44,19 +44,19 @@ symbols_sound f clean = FirstIn-front (rules_of_symbols f (symbol_table f)) _ (s
 
 pub places_sound : (f : Sections) → FirstIn (file_rules f) None → FirstIn (symbol_outside_rules (left_out f) f (symbol_table f)) None
 unfolding symbol_rules_in
-places_sound f clean = FirstIn-behind (rules_of_symbols f (symbol_table f)) _ (symbol_run_sound f clean)
+places_sound f clean = FirstIn-after (rules_of_symbols f (symbol_table f)) _ (symbol_run_sound f clean)
 
 pub all_bodies_sound : (f : Sections) → FirstIn (file_rules f) None → FirstIn (rules_of_bodies f (kept (left_out f) f)) None
 unfolding rules_behind
 all_bodies_sound f clean =
     FirstIn-front (rules_of_bodies f (kept (left_out f) f)) _
-    (FirstIn-behind (symbol_rules_in (left_out f) f (symbol_table f)) _ (behind_sound f clean))
+    (FirstIn-after (symbol_rules_in (left_out f) f (symbol_table f)) _ (after_sound f clean))
 
 pub references_sound : (f : Sections) → FirstIn (file_rules f) None → FirstIn (reference_rules (left_out f) f) None
 unfolding rules_behind
 references_sound f clean =
-    FirstIn-behind (rules_of_bodies f (kept (left_out f) f)) _
-    (FirstIn-behind (symbol_rules_in (left_out f) f (symbol_table f)) _ (behind_sound f clean))
+    FirstIn-after (rules_of_bodies f (kept (left_out f) f)) _
+    (FirstIn-after (symbol_rules_in (left_out f) f (symbol_table f)) _ (after_sound f clean))
 
 -- Verdicts of runs of rules, joined, by cases on the result. After a run without a fault, the verdict of the next run is that of both. For
 -- all rules of a file, a fault of the first run or of a later one is the file's. Out of memory is shown to be a right verdict only if the
@@ -67,18 +67,18 @@ abbrev pub IsVerdict : List {1} (Ruled ℕ) → Result (Unit {0}) Fault → Type
 IsVerdict rules result = IsValidatedBehind [] rules (λ _. Unit {0}) result
 
 -- the first rule that is broken, as a verdict
-pub verdict_told : (rules : List {1} (Ruled ℕ)) (number at : ℕ) (result : Result (Unit {0}) Fault) → FirstIn rules (Some (number, at)) →
+pub verdict_found : (rules : List {1} (Ruled ℕ)) (number at : ℕ) (result : Result (Unit {0}) Fault) → FirstIn rules (Some (number, at)) →
     IsErrAnd result (λ error. error ≡ Rule number at) → IsVerdict rules result
-verdict_told rules number at (Ok value) found same = absurd same
-verdict_told rules number at (Err error) found same = subst (λ (e : Fault). IsVerdict rules (Err e)) (sym same) found
+verdict_found rules number at (Ok value) found same = absurd same
+verdict_found rules number at (Err error) found same = subst (λ (e : Fault). IsVerdict rules (Err e)) (sym same) found
 
 -- after a run without a fault is the verdict of the rules after it
 pub verdict_later : (xs ys : List {1} (Ruled ℕ)) (result : Result (Unit {0}) Fault) → FirstIn xs None → IsVerdict ys result →
     IsVerdict (xs ++ ys) result
 verdict_later xs ys (Ok value) clean (found, unit) = (FirstIn-later xs ys None clean found, tt)
 verdict_later xs ys (Err (Rule number at)) clean found = FirstIn-later xs ys (Some (number, at)) clean found
-verdict_later xs ys (Err OutOfMemory) clean told = tt
-verdict_later xs ys (Err (Io at)) clean told = absurd told
+verdict_later xs ys (Err OutOfMemory) clean said = tt
+verdict_later xs ys (Err (Io at)) clean said = absurd said
 
 -- ---- of a file, of which memory is taken only after the first run
 
@@ -93,25 +93,25 @@ front_fault {T} f Is number at (Err error) found same =
     (FirstIn-sooner (front_rules f) _ (number, at) found)
 
 -- what the rules after it find is what all find
-pub found_behind : (f : Sections) (left : LeftOut) (found : Option (ℕ × ℕ)) → left ≡ left_out f → FirstIn (front_rules f) None →
+pub found_after : (f : Sections) (left : LeftOut) (found : Option (ℕ × ℕ)) → left ≡ left_out f → FirstIn (front_rules f) None →
     FirstIn (rules_behind left f left.symbol_table) found → FirstIn (file_rules f) found
 unfolding file_rules
-found_behind f left found same clean behind =
-    FirstIn-later (front_rules f) _ found clean (subst (λ (l : LeftOut). FirstIn (rules_behind l f l.symbol_table) found) same behind)
+found_after f left found same clean past =
+    FirstIn-later (front_rules f) _ found clean (subst (λ (l : LeftOut). FirstIn (rules_behind l f l.symbol_table) found) same past)
 
 -- their fault
-pub fault_behind : {T : Type 0} (f : Sections) (left : LeftOut) (Is : T → Type 0) (fault : Fault) (result : Result T Fault) →
+pub fault_after : {T : Type 0} (f : Sections) (left : LeftOut) (Is : T → Type 0) (fault : Fault) (result : Result T Fault) →
     left ≡ left_out f →
     FirstIn (front_rules f) None → IsVerdict (rules_behind left f left.symbol_table) (Err fault) →
     IsErrAnd result (λ error. error ≡ fault) →
     IsValidatedBehind (front_rules f) (file_rules f) Is result
-fault_behind f left Is fault (Ok value) same clean told handed = absurd handed
-fault_behind {T} f left Is fault (Err error) same clean told handed =
-    subst (λ (e : Fault). IsValidatedBehind {T = T} (front_rules f) (file_rules f) Is (Err e)) (sym handed) (known fault told)
+fault_after f left Is fault (Ok value) same clean said handed = absurd handed
+fault_after {T} f left Is fault (Err error) same clean said handed =
+    subst (λ (e : Fault). IsValidatedBehind {T = T} (front_rules f) (file_rules f) Is (Err e)) (sym handed) (known fault said)
   where
     known : (fault : Fault) → IsVerdict (rules_behind left f left.symbol_table) (Err fault) →
         IsValidatedBehind {T = T} (front_rules f) (file_rules f) Is (Err fault)
-    known (Rule number at) found = found_behind f left (Some (number, at)) same clean found
+    known (Rule number at) found = found_after f left (Some (number, at)) same clean found
     known OutOfMemory found = clean
     known (Io at) found = absurd found
 
@@ -125,9 +125,9 @@ read_validated {T} f Is (Err error) clean is memory =
 
 pub memory_wanted : {T : Type 0} (f : Sections) (Is : T → Type 0) (result : Result T Fault) → FirstIn (file_rules f) None →
     IsErrAnd result (λ error. error ≡ OutOfMemory) → IsValidatedBehind (front_rules f) (file_rules f) Is result
-memory_wanted f Is (Ok value) clean told = absurd told
-memory_wanted {T} f Is (Err error) clean told =
-    subst (λ (e : Fault). IsValidatedBehind {T = T} (front_rules f) (file_rules f) Is (Err e)) (sym told) (front_sound f clean)
+memory_wanted f Is (Ok value) clean said = absurd said
+memory_wanted {T} f Is (Err error) clean said =
+    subst (λ (e : Fault). IsValidatedBehind {T = T} (front_rules f) (file_rules f) Is (Err e)) (sym said) (front_sound f clean)
 
 -- Steps of a loop over the sections. Invariant (`IsFoundByAll`): the first fault in the tables of the kept sections from i on is the first
 -- of all. A section that is left out, or kept without a fault, keeps it for i + 1. If the kept section i has a fault, that is the first one
@@ -179,7 +179,7 @@ no_symbols_kept left f (Some t) not_some = absurd (not_some t refl)
 -- with one, what is found by its rules and rule 75 is what all find
 on_table : (left : LeftOut) (f : Sections) (table : Option ℕ) (t : ℕ) (found : Option (ℕ × ℕ)) → table ≡ Some t →
     FirstIn (symbol_rules_in left f (Some t)) found → FirstIn (symbol_rules_in left f table) found
-on_table left f table t found is told = subst (λ (o : Option ℕ). FirstIn (symbol_rules_in left f o) found) (sym is) told
+on_table left f table t found is said = subst (λ (o : Option ℕ). FirstIn (symbol_rules_in left f o) found) (sym is) said
 
 -- the symbol table's own fault comes first
 own_fault : (left : LeftOut) (f : Sections) (t : ℕ) (fault : ℕ × ℕ) → FirstIn (symbol_table_rules f t) (Some fault) →

@@ -16,7 +16,7 @@ use Rattle.elf_field.specs.Abi.{SHT_NULL, SHT_SYMTAB, SHT_SYMTAB_SHNDX, SHT_GROU
 use Rattle.elf_field.specs.Abi.{SHF_INFO_LINK, relocation_size}
 use Rattle.elf_field.specs.declared.shdr.Shdr.{Shdr}
 use Rattle.elf_image_outline.specs.Image.{value_names, ImageValue, IsSoundImage, program_header_of, section_header_of}
-use Rattle.elf_image_rules.proofs.Public.{FirstIn-behind, FirstIn-front, rules_kept}
+use Rattle.elf_image_rules.proofs.Public.{FirstIn-after, FirstIn-front, rules_kept}
 use Rattle.elf_image_rules.specs.KeepsRules.{KeepsSectionRules}
 use Rattle.elf_image_rules.specs.Rows.{FirstIn}
 use Rattle.elf_field.specs.Strings.{string}
@@ -216,10 +216,10 @@ no_second_index_table : (f : Sections) (t : ℕ) → FirstIn (symbol_table_rules
 unfolding symbol_table_rules rest_rules index_table_rules
 no_second_index_table f t clean =
     let p = symbol_parts f t in
-    let behind =
-    FirstIn-behind (symbol_entry_rules p) _
-    (FirstIn-behind (linked_string_rules p.names p.names_start) _ (FirstIn-behind (own_rules SymbolTable f t) _ clean)) in
-    (FirstIn-front (index_table_rules f t p.index_table (entry_count p.table)) _ behind).0
+    let later =
+    FirstIn-after (symbol_entry_rules p) _
+    (FirstIn-after (linked_string_rules p.names p.names_start) _ (FirstIn-after (own_rules SymbolTable f t) _ clean)) in
+    (FirstIn-front (index_table_rules f t p.index_table (entry_count p.table)) _ later).0
 
 index_table_at : (f : Sections) (t i : ℕ) → Never (second_index_table f t) → i < count f → IsIndexTable f t i → index_table f t ≡ Some i
 unfolding index_table
@@ -324,7 +324,7 @@ body_in : (f : Sections) (is : List ℕ) (q : ℕ) → q < length is → FirstIn
 body_in f [] q lt clean = absurd (omega arith)
 body_in f (i ∷ is) zero lt clean = FirstIn-front (rules_of_body (body_kind (section f i).sh_type) f i) _ clean
 body_in f (i ∷ is) (suc q) lt clean =
-    body_in f is q (omega arith) (FirstIn-behind (rules_of_body (body_kind (section f i).sh_type) f i) _ clean)
+    body_in f is q (omega arith) (FirstIn-after (rules_of_body (body_kind (section f i).sh_type) f i) _ clean)
 
 pub table_sound : (f : Sections) (i : ℕ) → FirstIn (file_rules f) None → i < count f → is_kept (left_out f) f i ≡ true →
     FirstIn (rules_of_body (body_kind (section f i).sh_type) f i) None
@@ -387,27 +387,27 @@ asked file i kind found typed run =
     (subst (λ (v : ImageValue). FirstIn (table_rules (sections_of v) i) found) file.own_tables run)
 
 -- so are the rules of a section, by the kind of its body
-body_told : (s : FileSection) (body : BodyKind) (kind : TableKind) (found : Option (ℕ × ℕ)) → body_kind s.header.sh_type ≡ body →
+body_found : (s : FileSection) (body : BodyKind) (kind : TableKind) (found : Option (ℕ × ℕ)) → body_kind s.header.sh_type ≡ body →
     kind_of s.header.sh_type ≡ Some kind →
     (FirstIn (rules_of_kind (Some kind) (sections_of_file s.file.now) s.index) found →
     FirstIn (rules_of_body body (sections_of_file s.file.now) s.index) found) →
     FirstIn (table_rules (sections_of s.file.now.tables.image) s.index) found →
     (let f = sections_of_file s.file.now in FirstIn (rules_of_body (body_kind (section f s.index).sh_type) f s.index) found)
-body_told s body kind found is typed same run =
+body_found s body kind found is typed same run =
     let own = subst (λ (h : Shdr). kind_of h.sh_type ≡ Some kind) s.own_header typed in
     let here = subst (λ (h : Shdr). body_kind h.sh_type ≡ body) s.own_header is in
     subst (λ (k : BodyKind). FirstIn (rules_of_body k (sections_of_file s.file.now) s.index) found) (sym here)
     (same (asked s.file.now s.index kind found own run))
 
-pub relocs_told : (s : FileSection) (found : Option (ℕ × ℕ)) → body_kind s.header.sh_type ≡ Relocs →
+pub relocs_found : (s : FileSection) (found : Option (ℕ × ℕ)) → body_kind s.header.sh_type ≡ Relocs →
     FirstIn (table_rules (sections_of s.file.now.tables.image) s.index) found →
     (let f = sections_of_file s.file.now in FirstIn (rules_of_body (body_kind (section f s.index).sh_type) f s.index) found)
-relocs_told s found is run = body_told s Relocs RelocationTable found is (relocs_kind s.header.sh_type is) (λ told. told) run
+relocs_found s found is run = body_found s Relocs RelocationTable found is (relocs_kind s.header.sh_type is) (λ said. said) run
 
-pub group_told : (s : FileSection) (found : Option (ℕ × ℕ)) → body_kind s.header.sh_type ≡ Group →
+pub group_found : (s : FileSection) (found : Option (ℕ × ℕ)) → body_kind s.header.sh_type ≡ Group →
     FirstIn (table_rules (sections_of s.file.now.tables.image) s.index) found →
     (let f = sections_of_file s.file.now in FirstIn (rules_of_body (body_kind (section f s.index).sh_type) f s.index) found)
-group_told s found is run = body_told s Group SectionGroup found is (group_kind s.header.sh_type is) (λ told. told) run
+group_found s found is run = body_found s Group SectionGroup found is (group_kind s.header.sh_type is) (λ said. said) run
 
 -- ---- of a section that is kept
 
@@ -447,9 +447,9 @@ symbols_there file t is =
     }
 
 -- the verdict on it
-pub symbols_told : (file : ObjectFile) (t : ℕ) (found : Option (ℕ × ℕ)) → file.left.symbol_table ≡ Some t →
+pub symbol_run_found : (file : ObjectFile) (t : ℕ) (found : Option (ℕ × ℕ)) → file.left.symbol_table ≡ Some t →
     FirstIn (table_rules (sections_of file.tables.image) t) found → FirstIn (symbol_table_rules (sections_of_file file) t) found
-symbols_told file t found is run = asked file t SymbolTable found (symbols_there file t is).kind run
+symbol_run_found file t found is run = asked file t SymbolTable found (symbols_there file t is).kind run
 
 pub symbols_ready : (file : ObjectFile) (t : ℕ) → file.left.symbol_table ≡ Some t →
     FirstIn (symbol_table_rules (sections_of_file file) t) None →
@@ -561,13 +561,13 @@ fields_of left f i Bits sound broken =
 fields_of left f i NoBits sound broken =
     flag_agrees (section f i).sh_flags (section f i).sh_info _ (bit_and (section f i).sh_flags SHF_INFO_LINK == 0) refl broken
 fields_of left f i Relocs sound (inl (inl linked)) = linked refl
-fields_of left f i Relocs sound (inl (inr told)) = told refl
+fields_of left f i Relocs sound (inl (inr said)) = said refl
 fields_of left f i Relocs sound (inr (inl sized)) =
     sized (entries_sized RelocationTable f i (FirstIn-front (own_rules RelocationTable f i) _ sound) ∙
     size_of (has_addends (section f i).sh_type))
 fields_of left f i Relocs sound (inr (inr (rel, some))) = no_addends f i rel some
 fields_of left f i Group sound (inl (inl linked)) = linked refl
-fields_of left f i Group sound (inl (inr told)) = told refl
+fields_of left f i Group sound (inl (inr said)) = said refl
 fields_of left f i Group sound (inr sized) = sized (entries_sized SectionGroup f i (FirstIn-front (own_rules SectionGroup f i) _ sound))
 
 pub no_wrong_field : (f : Sections) (o : ObjectValue) → FirstIn (file_rules f) None → Denotes f o → Never (wrong_field o)

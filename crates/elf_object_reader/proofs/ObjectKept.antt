@@ -10,7 +10,7 @@ use Rattle.elf_field.specs.Abi.{SHF_GROUP, SHT_DYNSYM, SHT_GROUP, SHT_SYMTAB, SH
 use Rattle.elf_field.specs.Abi.{EI_OSABI}
 use Rattle.elf_field.specs.declared.number.Order.{Order}
 use Rattle.elf_image_outline.specs.Image.{ImageValue, IsSoundImage}
-use Rattle.elf_image_rules.proofs.Public.{FirstIn-behind, FirstIn-front}
+use Rattle.elf_image_rules.proofs.Public.{FirstIn-after, FirstIn-front}
 use Rattle.elf_image_rules.specs.Rows.{FirstIn}
 use Rattle.elf_object_reader.proofs.DenotedSymbols.{length_symbols_of, kept_there, no_misplaced_local, no_wrong_place}
 use Rattle.elf_object_reader.proofs.DenotedSymbols.{no_zero_in_symbol_name}
@@ -116,8 +116,8 @@ pub record IsMember (f : Sections) (i j m : ℕ) : Type 0 where
 no_wrong_member : (f : Sections) (i : ℕ) → FirstIn (group_section_rules f i) None → Never (wrong_member f i)
 unfolding group_section_rules group_rules group_member_rules
 no_wrong_member f i sound =
-    let rest = FirstIn-behind (symbol_table_rules f (section f i).sh_link) _ (FirstIn-behind (own_rules SectionGroup f i) _ sound) in
-    (FirstIn-behind (group_front_rules f i) _ rest).0
+    let rest = FirstIn-after (symbol_table_rules f (section f i).sh_link) _ (FirstIn-after (own_rules SectionGroup f i) _ sound) in
+    (FirstIn-after (group_front_rules f i) _ rest).0
 
 no_wrong_group_member : (f : Sections) → FirstIn (file_rules f) None → Never (wrong_group_member (left_out f) f)
 unfolding reference_rules
@@ -251,7 +251,7 @@ symbol_there symbols entries k false count lt is past = (let some = differs k 0 
 no_wrong_relocation_symbol : (f : Sections) (i : ℕ) → FirstIn (relocation_section_rules f i) None → Never (wrong_relocation_symbol f i)
 unfolding relocation_section_rules relocation_entry_rules
 no_wrong_relocation_symbol f i sound =
-    (FirstIn-behind (symbol_table_rules f (section f i).sh_link) _ (FirstIn-behind (own_rules RelocationTable f i) _ sound)).1.0
+    (FirstIn-after (symbol_table_rules f (section f i).sh_link) _ (FirstIn-after (own_rules RelocationTable f i) _ sound)).1.0
 
 entry_kept : (f : Sections) (o : ObjectValue) (i k : ℕ) → FirstIn (file_rules f) None → Denotes f o →
     FirstIn (relocation_section_rules f i) None →
@@ -287,7 +287,7 @@ entries_kept f o i clean denotes sound (k, x, lt, at, past) =
 no_wrong_signature : (f : Sections) (i : ℕ) → FirstIn (group_section_rules f i) None → Never (wrong_signature f i)
 unfolding group_section_rules group_rules group_front_rules
 no_wrong_signature f i sound =
-    let rest = FirstIn-behind (symbol_table_rules f (section f i).sh_link) _ (FirstIn-behind (own_rules SectionGroup f i) _ sound) in
+    let rest = FirstIn-after (symbol_table_rules f (section f i).sh_link) _ (FirstIn-after (own_rules SectionGroup f i) _ sound) in
     (FirstIn-front (group_front_rules f i) _ rest).1.1.0
 
 signature_kept : (f : Sections) (o : ObjectValue) (i : ℕ) → FirstIn (file_rules f) None → Denotes f o →
@@ -365,9 +365,9 @@ named_in_file f h m Group clean lt sound is (k, within, same) =
 
 -- ---- what rule 6 of objects asks of member j, section m, of the group in section i
 
-behind_group : (f : Sections) (i j m q : ℕ) → IsMember f i j m → is_kept (left_out f) f i ≡ true → position_of (left_out f) f i ≡ q →
+after_group : (f : Sections) (i j m q : ℕ) → IsMember f i j m → is_kept (left_out f) f i ≡ true → position_of (left_out f) f i ≡ q →
     position_of (left_out f) f m ≤ q → ⊥
-behind_group f i j m q fact is at le = (let below = places_ascend (is_kept (left_out f) f) i m fact.above is in absurd (omega arith))
+after_group f i j m q fact is at le = (let below = places_ascend (is_kept (left_out f) f) i m fact.above is in absurd (omega arith))
 
 named_once : (f : Sections) (i j m : ℕ) → FirstIn (file_rules f) None → i < count f → FirstIn (group_section_rules f i) None →
     j < member_count (content f i) →
@@ -445,7 +445,7 @@ member_right : (f : Sections) (o : ObjectValue) (i j m q : ℕ) → FirstIn (fil
     is_kept (left_out f) f i ≡ true →
     position_of (left_out f) f i ≡ q → q < length o.sections → FirstIn (group_section_rules f i) None → j < member_count (content f i) →
     IsMember f i j m → IsWrongAt o q (member_positions f i) j (position_of (left_out f) f m) → ⊥
-member_right f o i j m q clean denotes lt is at within sound inside fact (inl le) = behind_group f i j m q fact is at le
+member_right f o i j m q clean denotes lt is at within sound inside fact (inl le) = after_group f i j m q fact is at le
 member_right f o i j m q clean denotes lt is at within sound inside fact (inr (inl (inl named))) =
     named_once f i j m clean lt sound inside fact named
 member_right f o i j m q clean denotes lt is at within sound inside fact (inr (inl (inr named))) =

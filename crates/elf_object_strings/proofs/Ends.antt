@@ -56,14 +56,14 @@ length-closed k rest =
     omega arith
 
 -- after names of which none ends with it
-pub end_behind : (at : ℕ) (ks : List (List ℕ)) (k : List ℕ) (more : List (List ℕ)) (n : List ℕ) →
+pub end_after : (at : ℕ) (ks : List (List ℕ)) (k : List ℕ) (more : List (List ℕ)) (n : List ℕ) →
     list_any (is_suffix n) ks ≡ false → is_suffix n k ≡ true →
     end_from at (ks ++ (k ∷ more)) n ≡ at + length (flat_map closed ks) + length k
-end_behind at [] k more n none ends = rw ends (omega arith)
-end_behind at (j ∷ ks) k more n none ends =
+end_after at [] k more n none ends = rw ends (omega arith)
+end_after at (j ∷ ks) k more n none ends =
     let parts = or_parts (is_suffix n j) (list_any (is_suffix n) ks) none in
     let long : length (flat_map closed (j ∷ ks)) ≡ suc (length j) + length (flat_map closed ks) = length-closed j (flat_map closed ks) in
-    let rest = end_behind (at + suc (length j)) ks k more n parts.1 ends in
+    let rest = end_after (at + suc (length j)) ks k more n parts.1 ends in
     rw parts.0 (omega arith)
 
 -- the name is before x in the closed names, which begin at an offset, with a zero after it

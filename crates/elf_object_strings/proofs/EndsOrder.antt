@@ -253,17 +253,17 @@ pub owner_of_itself : (names sorted : List (List ℕ)) (indexes : List ℕ) → 
 owner_of_itself names sorted indexes numbered ordered position within run = record {
   first = record {
     below = numbered.below position within;
-    kept = λ j lt ends. behind j lt (subst (λ n. IsSuffix n (get_or names j [])) here ends);
+    kept = λ j lt ends. following j lt (subst (λ n. IsSuffix n (get_or names j [])) here ends);
   };
   ends = suffix_same (get_or sorted position []) (get_or names (get_or indexes position 0) []) here;
-  least = λ j first ends. (behind j first.below ends).1;
+  least = λ j first ends. (following j first.below ends).1;
 } where
   here : get_or names (get_or indexes position 0) [] ≡ get_or sorted position []
   here = numbered.named position within
 
-  behind : (j : ℕ) → j < length names → IsSuffix (get_or sorted position []) (get_or names j []) →
+  following : (j : ℕ) → j < length names → IsSuffix (get_or sorted position []) (get_or names j []) →
       (get_or names j [] ≡ get_or names (get_or indexes position 0) []) × (get_or indexes position 0 ≤ j)
-  behind j lt ends =
+  following j lt ends =
       let (q, q_lt, q_is, q_name) = place_of names sorted indexes numbered j lt in
       let at : Ends sorted position q = subst (λ n. IsSuffix (get_or sorted position []) n) (sym q_name) ends in
       elim (cases_lt q position) [

@@ -63,8 +63,8 @@ within : (k t : List ℕ) (y : ℕ) → y ≤ length k → drop y (k ++ (0 ∷ t
 within k t y le = drop-append-le y k (0 ∷ t) le
 
 -- after them
-behind : (k t : List ℕ) (y : ℕ) → drop (suc (length k) + y) (k ++ (0 ∷ t)) ≡ drop y t
-behind k t y =
+beyond : (k t : List ℕ) (y : ℕ) → drop (suc (length k) + y) (k ++ (0 ∷ t)) ≡ drop y t
+beyond k t y =
     let split : suc (length k) + y ≡ length (k ++ (0 ∷ [])) + y = (let both = length-append k (0 ∷ []) in omega arith) in
     let joined : k ++ (0 ∷ t) ≡ (k ++ (0 ∷ [])) ++ t = sym (append_assoc k (0 ∷ []) t) in
     ap₂ (λ (i : ℕ) (s : List ℕ). drop i s) split joined
@@ -93,7 +93,7 @@ stands_step : (k : List ℕ) (ks : List (List ℕ)) (n : List ℕ) (b : Bool) �
 stands_step k ks n true is rest any = stands_end k (flat_map closed ks) n is
 stands_step k ks n false is rest any =
     let there = rest (rw is at any) in
-    (there.0, behind k (flat_map closed ks) (place_in ks n) ∙ there.1)
+    (there.0, beyond k (flat_map closed ks) (place_in ks n) ∙ there.1)
 
 pub stands_in : (ks : List (List ℕ)) (n : List ℕ) → list_any (is_suffix n) ks ≡ true → StandsClosedAt (flat_map closed ks) n (place_in ks n)
 stands_in [] n any = absurd (true≢false (sym any))
@@ -119,7 +119,7 @@ least_rest : (k t n : List ℕ) (x y : ℕ) → IsZeroFree k → IsZeroFree n �
 least_rest k t n x y free other unlike rest stands (inl past) =
     let split : y ≡ suc (length k) + (y - suc (length k)) = omega arith in
     let there : drop (y - suc (length k)) t ≡ n ++ (0 ∷ stands.0) =
-    sym (ap (λ (i : ℕ). drop i (k ++ (0 ∷ t))) split ∙ behind k t (y - suc (length k))) ∙ stands.1 in
+    sym (ap (λ (i : ℕ). drop i (k ++ (0 ∷ t))) split ∙ beyond k t (y - suc (length k))) ∙ stands.1 in
     let le = rest.lowest (y - suc (length k)) (stands.0, there) in
     omega arith
 least_rest k t n x y free other unlike rest stands (inr le) =
@@ -130,7 +130,7 @@ least_rest k t n x y free other unlike rest stands (inr le) =
 at_rest : (k t n : List ℕ) (x : ℕ) → IsZeroFree k → IsZeroFree n → is_suffix n k ≡ false → IsLowestAt t n x →
     IsLowestAt (k ++ (0 ∷ t)) n (suc (length k) + x)
 at_rest k t n x free other unlike rest = record {
-  here = (rest.here.0, behind k t x ∙ rest.here.1);
+  here = (rest.here.0, beyond k t x ∙ rest.here.1);
   lowest = λ y stands. least_rest k t n x y free other unlike rest stands (cases_lt (length k) y);
 }
 
@@ -153,14 +153,14 @@ pub not_first : (n t bs : List ℕ) → IsZeroFree n → n ≢ [] → 0 ∷ t �
 not_first [] t bs free some = λ is. some refl
 not_first (c ∷ n) t bs free some = λ is. (let same = heads 0 c _ _ is in let above = free.0 in omega arith)
 
-least_behind : (t n : List ℕ) (x y : ℕ) → IsZeroFree n → n ≢ [] → IsLowestAt t n x → StandsClosedAt (0 ∷ t) n y → suc x ≤ y
-least_behind t n x zero free some is stands = absurd (not_first n t stands.0 free some stands.1)
-least_behind t n x (suc y) free some is stands = let le = is.lowest y (stands.0, stands.1) in omega arith
+least_after : (t n : List ℕ) (x y : ℕ) → IsZeroFree n → n ≢ [] → IsLowestAt t n x → StandsClosedAt (0 ∷ t) n y → suc x ≤ y
+least_after t n x zero free some is stands = absurd (not_first n t stands.0 free some stands.1)
+least_after t n x (suc y) free some is stands = let le = is.lowest y (stands.0, stands.1) in omega arith
 
-pub lowest_behind : (t n : List ℕ) (x : ℕ) → IsZeroFree n → n ≢ [] → IsLowestAt t n x → IsLowestAt (0 ∷ t) n (suc x)
-lowest_behind t n x free some is = record {
+pub lowest_after : (t n : List ℕ) (x : ℕ) → IsZeroFree n → n ≢ [] → IsLowestAt t n x → IsLowestAt (0 ∷ t) n (suc x)
+lowest_after t n x free some is = record {
   here = (is.here.0, is.here.1);
-  lowest = λ y stands. least_behind t n x y free some is stands;
+  lowest = λ y stands. least_after t n x y free some is stands;
 }
 
 pub lowest_empty : (t : List ℕ) → IsLowestAt (0 ∷ t) [] 0
@@ -485,14 +485,14 @@ last_is_zero ns =
 
 -- ---- what is read at a name's offset
 
-before_zero : (n : List ℕ) (behind : List ℕ) → HasNoZero n → before_first (λ byte. byte == 0) (n ++ (0 ∷ behind)) ≡ n
-before_zero [] behind all = refl
-before_zero (b ∷ n) behind all =
+before_zero : (n : List ℕ) (following : List ℕ) → HasNoZero n → before_first (λ byte. byte == 0) (n ++ (0 ∷ following)) ≡ n
+before_zero [] following all = refl
+before_zero (b ∷ n) following all =
     let one : (k : ℕ) → 1 + k ≡ suc k = λ k. omega arith in
     let other : b ≢ 0 = λ is. all (0, omega arith, is) in
     let rest : HasNoZero n = λ (k, lt, is). all (suc k, omega arith, is) in
     rw (ne_eqb b 0 other)
-    (ap (λ (k : ℕ). take k (b ∷ (n ++ (0 ∷ behind)))) (one _) ∙ ap (λ (s : List ℕ). b ∷ s) (before_zero n behind rest))
+    (ap (λ (k : ℕ). take k (b ∷ (n ++ (0 ∷ following)))) (one _) ∙ ap (λ (s : List ℕ). b ∷ s) (before_zero n following rest))
 
 record IsHeldAt (names : List (List ℕ)) (name : List ℕ) : Type 0 where
   within : name_offset names name < length (string_table names)
@@ -594,7 +594,7 @@ unfolding string_table
 lowest_of names [] b is free one any = rw (empty_at_zero names) (lowest_empty (flat_map closed (held names)))
 lowest_of names (c ∷ n) true is free one any =
     rw (place_is names (c ∷ n) is (any is))
-    (lowest_behind (flat_map closed (held names)) (c ∷ n) (place_in (held names) (c ∷ n)) one (some_of (c ∷ n) is)
+    (lowest_after (flat_map closed (held names)) (c ∷ n) (place_in (held names) (c ∷ n)) one (some_of (c ∷ n) is)
     (lowest_in (held names) (c ∷ n) (zero_free_held names free) one (any is)))
 lowest_of names (c ∷ n) false is free one any = absurd (true≢false is)
 
@@ -637,16 +637,16 @@ holds_each names =
 
 -- ---- none that holds them is shorter
 
-stands_behind : (t n : List ℕ) (x : ℕ) → IsZeroFree n → n ≢ [] → StandsClosedAt (0 ∷ t) n x → Stands t n
-stands_behind t n zero free some is = absurd (not_first n t is.0 free some is.1)
-stands_behind t n (suc x) free some is =
+stands_after : (t n : List ℕ) (x : ℕ) → IsZeroFree n → n ≢ [] → StandsClosedAt (0 ∷ t) n x → Stands t n
+stands_after t n zero free some is = absurd (not_first n t is.0 free some is.1)
+stands_after t n (suc x) free some is =
     record { front = take x t; behind = is.0; is = sym (take-append-drop x t) ∙ ap (λ (s : List ℕ). take x t ++ s) is.1 }
 
 each_stands : (names : List (List ℕ)) (t : List ℕ) → AreZeroFree names → AllByRecursion (λ n. (x : ℕ) × StandsClosedAt (0 ∷ t) n x) names →
     AllByRecursion (Stands t) (held names)
 each_stands names t free all =
     all_weaker _ (Stands t)
-    (λ n both. stands_behind t n both.0.1.0 both.0.0
+    (λ n both. stands_after t n both.0.1.0 both.0.0
     (some_of n (and_parts (is_named n) (not (list_any (is_proper_suffix n) names)) both.1).0) both.0.1.1) (held names)
     (all_held (λ n. IsZeroFree n × ((x : ℕ) × StandsClosedAt (0 ∷ t) n x)) names (all_both IsZeroFree _ names free all))
 

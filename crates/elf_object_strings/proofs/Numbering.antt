@@ -275,9 +275,9 @@ closed_end name tail k long is count =
     ∙ ap (λ (n : ℕ). n * 256 + digit) ends
 
 -- as a write over the last of the zeros leaves them
-behind_zeros : (a : ℕ) (digit : ℕ) (written : List ℕ) → a ≤ 7 →
+after_zeros : (a : ℕ) (digit : ℕ) (written : List ℕ) → a ≤ 7 →
     put_mid (suc a) (8 - suc a) (digit ∷ zeros 7) written ≡ digit ∷ (zeros a ++ written)
-behind_zeros a digit written within =
+after_zeros a digit written within =
     let short : length (drop a (zeros 7)) ≤ 8 - suc a = simp (length-drop, length-replicate) (omega arith) in
     let none_left : post_of (suc a) (8 - suc a) (digit ∷ zeros 7) ≡ [] = drop_all (8 - suc a) (drop a (zeros 7)) short in
     let front : take a (zeros 7) ≡ zeros a = take-replicate a 7 0 within in
@@ -291,7 +291,7 @@ padded_end name written count digit is digit_is made =
     let long : length written ≡ count = ap length all ∙ length-drop (length name - count) name ∙ omega arith in
     let ends : written ≡ drop (length name - length written) name = rw long all in
     let one : 8 - count ≡ suc (7 - count) = omega arith in
-    rw (one, behind_zeros (7 - count) digit written (omega arith), digit_is)
+    rw (one, after_zeros (7 - count) digit written (omega arith), digit_is)
     (closed_end name written (7 - count) (omega arith) ends (omega arith))
 
 -- ---- the number of a tail, and of a whole name

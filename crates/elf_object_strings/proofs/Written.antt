@@ -15,7 +15,7 @@ use Rattle.std.proofs.lemmas.Slice.Eq.{bytes_eq-Decides}
 use Rattle.std.proofs.lemmas.Bool.{and_from, and_parts, cases_eq, cases_lt, eq-eqb, false_from_ne_true, ne_eqb, not-true, not_from_false}
 use Rattle.std.proofs.lemmas.Bool.{or_from, true≢false}
 use Rattle.std.proofs.lemmas.List.Folds.{list_any-append, list_any_at, list_any_none}
-use Rattle.elf_object_strings.proofs.Ends.{end_behind, suffix_fits, suffix_from, suffix_named, suffix_same, suffix_test}
+use Rattle.elf_object_strings.proofs.Ends.{end_after, suffix_fits, suffix_from, suffix_named, suffix_same, suffix_test}
 use Rattle.elf_object_strings.specs.StringTable.{AreOwners, AreTheirOwn, HaveZeros, distinct, IsFirstOfHeld, IsOwner, IsSuffix, closed}
 use Rattle.elf_object_strings.specs.StringTable.{end_from, held, is_held, is_named, is_proper_suffix, is_suffix, name_offset, string_table}
 use Rattle.elf_object_strings.specs.StringTable.{HasEnds, held_to, is_written, with_name}
@@ -271,7 +271,7 @@ end_of_owner names n o is written =
     let split = held_split names o is.first.below written in
     let le : o ≤ o = omega arith in
     ap (λ (ks : List (List ℕ)). end_from 1 ks n) split.1
-    ∙ end_behind 1 (held_to names o) (get_or names o []) split.0 n (none_earlier names n o is o le)
+    ∙ end_after 1 (held_to names o) (get_or names o []) split.0 n (none_earlier names n o is o le)
     (suffix_test n (get_or names o []) is.ends)
 
 offset_is : (names : List (List ℕ)) (n ends : List ℕ) (o : ℕ) → IsOwner names n o → HasEnds names (length names) ends →

@@ -115,7 +115,7 @@ AreZeroFree names = AllByRecursion (AllByRecursion (λ byte. 0 < byte)) names
 
 -- the name is at the offset, with a zero after it
 abbrev pub StandsClosedAt : List ℕ → List ℕ → ℕ → Type 0
-StandsClosedAt table name offset = (behind : List ℕ) × (drop offset table ≡ name ++ (0 ∷ behind))
+StandsClosedAt table name offset = (later : List ℕ) × (drop offset table ≡ name ++ (0 ∷ later))
 
 -- the table begins with a zero byte, and every name is somewhere in it with a zero after it
 pub record HoldsEach (table : List ℕ) (names : List (List ℕ)) : Type 0 where

@@ -9,7 +9,7 @@ use Rattle.std.proofs.lemmas.Bool.{cases_order, cases_eq, cases_lt}
 use Rattle.std.proofs.lemmas.List.{get_or_default, get_or_past, length-set}
 use Rattle.elf_extent.specs.Extent.{IsLeast, Never}
 use Rattle.elf_field.specs.Abi.{WORD_SIZE, relocation_size}
-use Rattle.elf_image_rules.proofs.Public.{FirstIn-later, FirstIn-sooner, FirstIn-behind, FirstIn-front, above, equal, is_alignment}
+use Rattle.elf_image_rules.proofs.Public.{FirstIn-later, FirstIn-sooner, FirstIn-after, FirstIn-front, above, equal, is_alignment}
 use Rattle.elf_image_rules.specs.KeepsRules.{IsAlignment}
 use Rattle.elf_image_rules.specs.Rows.{FirstIn}
 use Rattle.elf_image_rules.specs.Rules.{IsWrongAlignment}
@@ -78,13 +78,13 @@ module _ (o : ObjectValue) (sound : IsObject o) where
 
   groups_and_symbols : FirstIn (object_group_rules o ++ object_symbol_rules o) None
   unfolding object_rules
-  groups_and_symbols = FirstIn-behind (object_section_rules o) _ sound
+  groups_and_symbols = FirstIn-after (object_section_rules o) _ sound
 
   groups_kept : FirstIn (object_group_rules o) None
   groups_kept = FirstIn-front (object_group_rules o) _ groups_and_symbols
 
   symbols_kept : FirstIn (object_symbol_rules o) None
-  symbols_kept = FirstIn-behind (object_group_rules o) _ groups_and_symbols
+  symbols_kept = FirstIn-after (object_group_rules o) _ groups_and_symbols
 
   -- rules 1 to 5 of objects
   pub no_zero_in_section_name : (p : ℕ) → p < length o.sections → HasZero (section_at o p).name → ⊥
@@ -202,7 +202,7 @@ module _ (o : ObjectValue) (never : (p : ℕ) → p < length o.sections → HasW
   once p j k within ltj ltk same = elim (cases_order j k) [
     | inl equal_places ↦ equal_places
     | inr (inl before) ↦ absurd (never p within (k, ltk, inr (inl (inl (j, before, same)))))
-    | inr (inr behind) ↦ absurd (never p within (j, ltj, inr (inl (inl (k, behind, sym same)))))
+    | inr (inr after) ↦ absurd (never p within (j, ltj, inr (inl (inl (k, after, sym same)))))
   ]
 
   of_one : (p q j k : ℕ) → p < length o.sections → q < length o.sections → j < length (group_members o p) → k < length (group_members o q) →
@@ -210,7 +210,7 @@ module _ (o : ObjectValue) (never : (p : ℕ) → p < length o.sections → HasW
   of_one p q j k withinp withinq ltj ltk same = elim (cases_order p q) [
     | inl equal_groups ↦ equal_groups
     | inr (inl before) ↦ absurd (never q withinq (k, ltk, inr (inl (inr (p, before, (j, ltj, same))))))
-    | inr (inr behind) ↦ absurd (never p withinp (j, ltj, inr (inl (inr (q, behind, (k, ltk, sym same))))))
+    | inr (inr after) ↦ absurd (never p withinp (j, ltj, inr (inl (inr (q, after, (k, ltk, sym same))))))
   ]
 
   right_members : HasRightMembers o

@@ -204,14 +204,14 @@ all_decided : (xs ys : List {1} (Ruled ℕ)) → AreDecided xs → AreDecided ys
 all_decided [] ys front rest = rest
 all_decided (r ∷ xs) ys front rest = (front.0, all_decided xs ys front.1 rest)
 
-behind : (r : Ruled ℕ) (rules : List {1} (Ruled ℕ)) (x : Option (ℕ × ℕ)) → Never r.row → FirstIn rules x → FirstIn (r ∷ rules) x
-behind r rules None never found = (never, found)
-behind r rules (Some fault) never found = inr (never, found)
+beyond : (r : Ruled ℕ) (rules : List {1} (Ruled ℕ)) (x : Option (ℕ × ℕ)) → Never r.row → FirstIn rules x → FirstIn (r ∷ rules) x
+beyond r rules None never found = (never, found)
+beyond r rules (Some fault) never found = inr (never, found)
 
 first_of : (rules : List {1} (Ruled ℕ)) → AreDecided rules → (x : Option (ℕ × ℕ)) × FirstIn rules x
 first_of [] decided = (None, tt)
 first_of (r ∷ rules) ((Some x, least), rest) = (Some (r.number, x), inl (refl, least))
-first_of (r ∷ rules) ((None, never), rest) = let (x, found) = first_of rules rest in (x, behind r rules x never found)
+first_of (r ∷ rules) ((None, never), rest) = let (x, found) = first_of rules rest in (x, beyond r rules x never found)
 
 of_sections : (o : ObjectValue) → AreDecided (object_section_rules o)
 unfolding object_section_rules

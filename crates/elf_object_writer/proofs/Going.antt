@@ -33,7 +33,7 @@ use Rattle.elf_object_layout.proofs.Public.{content_end}
 use Rattle.elf_object_writer.proofs.HeaderTables.{length-headers}
 use Rattle.elf_object_layout.specs.Laid.{index_of, rel_entry, rela_entry, relocation_bytes, layout_bytes, section_headers, IsLayoutOf}
 use Rattle.elf_object_layout.specs.Laid.{LayoutValue, PlainSection, name_table_at, plain_sections, section_names}
-use Rattle.elf_object_writer.specs.PlacedObject.{WritesBehind, header_table, IsPlacedObject, IsSectionAt, PlacedValue, plain_section}
+use Rattle.elf_object_writer.specs.PlacedObject.{WritesAfter, header_table, IsPlacedObject, IsSectionAt, PlacedValue, plain_section}
 use Rattle.elf_object_writer.specs.declared.placed_object.PlacedSection.TheVariants.{Names}
 use Rattle.elf_object_writer.specs.declared.placed_object.PlacedSection.{PlacedSection}
 use Rattle.std.proofs.Math.Seq.{drop-append-add, take-append-add}
@@ -180,7 +180,7 @@ moved a b whole at q ps k in_q in_ps going =
 
 pub part_sent : (a b c : Option (List ℕ)) (whole : List ℕ) (at end : ℕ) (q : List ℕ) (ps : List (List ℕ)) (k : ℕ) → k < length q →
     k < length ps →
-    IsGoing a b whole at (drop k q) (drop k ps) → WritesBehind at b c (replicate (get_or q k 0 - at) 0 ++ get_or ps k []) (Ok end) →
+    IsGoing a b whole at (drop k q) (drop k ps) → WritesAfter at b c (replicate (get_or q k 0 - at) 0 ++ get_or ps k []) (Ok end) →
     IsGoing a c whole end (drop (k + 1) q) (drop (k + 1) ps)
 part_sent a b c whole at end q ps k in_q in_ps going went =
     one_sent a b c whole at
@@ -188,7 +188,7 @@ part_sent a b c whole at end q ps k in_q in_ps going went =
 
 pub part_cut : (a b c : Option (List ℕ)) (whole : List ℕ) (at : ℕ) (fault : WriteFault) (q : List ℕ) (ps : List (List ℕ)) (k : ℕ) →
     k < length q → k < length ps →
-    IsGoing a b whole at (drop k q) (drop k ps) → WritesBehind at b c (replicate (get_or q k 0 - at) 0 ++ get_or ps k []) (Err fault) →
+    IsGoing a b whole at (drop k q) (drop k ps) → WritesAfter at b c (replicate (get_or q k 0 - at) 0 ++ get_or ps k []) (Err fault) →
     (fault.written < length whole) × Appends a c (take fault.written whole)
 part_cut a b c whole at fault q ps k in_q in_ps going failed =
     one_cut a b c whole at
@@ -303,12 +303,12 @@ IsGoingAt p a b at k =
 content_goes : (p : PlacedValue) (k at : ℕ) → k < length (plain_sections p.object) →
     (b c : Option (List ℕ)) (result : Result ℕ WriteFault) →
     ((d : PlainSection) →
-    WritesBehind at b c (replicate (get_or p.layout.places k 0 - at) 0 ++ (get_or (plain_sections p.object) k d).content) result) →
-    WritesBehind at b c (replicate (get_or p.layout.places k 0 - at) 0 ++ get_or (laid_parts p.object p.layout.places) k []) result
+    WritesAfter at b c (replicate (get_or p.layout.places k 0 - at) 0 ++ (get_or (plain_sections p.object) k d).content) result) →
+    WritesAfter at b c (replicate (get_or p.layout.places k 0 - at) 0 ++ get_or (laid_parts p.object p.layout.places) k []) result
 content_goes p k at lt b c result went =
     let d = plain_section p.object Names in
     let zeros : List ℕ = replicate (get_or p.layout.places k 0 - at) 0 in
-    subst (λ (s : List ℕ). WritesBehind at b c (zeros ++ s) result) (sym (content_at p.object p.layout.places k d lt)) (went d)
+    subst (λ (s : List ℕ). WritesAfter at b c (zeros ++ s) result) (sym (content_at p.object p.layout.places k d lt)) (went d)
 
 pub content_place : (p : PlacedValue) (a b : Option (List ℕ)) (at k : ℕ) → IsPlacedObject p → k ≤ length (plain_sections p.object) →
     IsGoingAt p a b at k → at ≤ get_or p.layout.places k 0
@@ -320,7 +320,7 @@ content_place p a b at k placed le going =
 pub content_sent : (p : PlacedValue) (a b c : Option (List ℕ)) (at end k : ℕ) → IsPlacedObject p → k < length (plain_sections p.object) →
     IsGoingAt p a b at k →
     ((d : PlainSection) →
-    WritesBehind at b c (replicate (get_or p.layout.places k 0 - at) 0 ++ (get_or (plain_sections p.object) k d).content) (Ok end)) →
+    WritesAfter at b c (replicate (get_or p.layout.places k 0 - at) 0 ++ (get_or (plain_sections p.object) k d).content) (Ok end)) →
     IsGoingAt p a c end (k + 1)
 content_sent p a b c at end k placed lt going went =
     let count = placed.layout.count in
@@ -331,7 +331,7 @@ content_sent p a b c at end k placed lt going went =
 pub content_cut : (p : PlacedValue) (a b c : Option (List ℕ)) (at k : ℕ) (fault : WriteFault) → IsPlacedObject p →
     k < length (plain_sections p.object) → IsGoingAt p a b at k →
     ((d : PlainSection) →
-    WritesBehind at b c (replicate (get_or p.layout.places k 0 - at) 0 ++ (get_or (plain_sections p.object) k d).content) (Err fault)) →
+    WritesAfter at b c (replicate (get_or p.layout.places k 0 - at) 0 ++ (get_or (plain_sections p.object) k d).content) (Err fault)) →
     (fault.written < length (layout_bytes p.object p.layout.places)) ×
     Appends a c (take fault.written (layout_bytes p.object p.layout.places))
 content_cut p a b c at k fault placed lt going failed =
@@ -343,11 +343,11 @@ content_cut p a b c at k fault placed lt going failed =
 
 -- the section header table is the last part
 table_goes : (p : PlacedValue) (k at : ℕ) → k ≡ length (plain_sections p.object) → (b c : Option (List ℕ)) (result : Result ℕ WriteFault) →
-    WritesBehind at
+    WritesAfter at
     b c (replicate (get_or p.layout.places (length (plain_sections p.object)) 0 - at) 0 ++ header_table p.object p.layout.places) result →
-    WritesBehind at b c (replicate (get_or p.layout.places k 0 - at) 0 ++ get_or (laid_parts p.object p.layout.places) k []) result
+    WritesAfter at b c (replicate (get_or p.layout.places k 0 - at) 0 ++ get_or (laid_parts p.object p.layout.places) k []) result
 table_goes p k at last b c result went =
-    let Q : ℕ → List ℕ → Type 0 = λ n s. WritesBehind at b c (replicate (get_or p.layout.places n 0 - at) 0 ++ s) result in
+    let Q : ℕ → List ℕ → Type 0 = λ n s. WritesAfter at b c (replicate (get_or p.layout.places n 0 - at) 0 ++ s) result in
     subst (λ (n : ℕ). Q n (get_or (laid_parts p.object p.layout.places) n [])) (sym last)
     (subst (Q (length (plain_sections p.object))) (sym (table_at p.object p.layout.places)) went)
 
@@ -359,7 +359,7 @@ table_place p a b at k placed last going =
 
 pub table_sent : (p : PlacedValue) (a b c : Option (List ℕ)) (at end k : ℕ) → IsPlacedObject p → k ≡ length (plain_sections p.object) →
     IsGoingAt p a b at k →
-    WritesBehind at
+    WritesAfter at
     b c (replicate (get_or p.layout.places (length (plain_sections p.object)) 0 - at) 0 ++ header_table p.object p.layout.places) (Ok end) →
     Appends a c (layout_bytes p.object p.layout.places)
 table_sent p a b c at end k placed last going went =
@@ -367,14 +367,14 @@ table_sent p a b c at end k placed last going went =
     let ps = laid_parts p.object q in
     let count = placed.layout.count in
     let parts = length-parts p.object q in
-    let behind = part_sent a b c _ at end q ps k (omega arith) (omega arith) going (table_goes p k at last b c (Ok end) went) in
+    let later = part_sent a b c _ at end q ps k (omega arith) (omega arith) going (table_goes p k at last b c (Ok end) went) in
     all_sent a c _ end (drop (k + 1) q)
     (subst (λ (rs : List (List ℕ)). IsGoing a c (layout_bytes p.object q) end (drop (k + 1) q) rs)
-    (drop_of_length-le ps {i = k + 1} (omega arith)) behind)
+    (drop_of_length-le ps {i = k + 1} (omega arith)) later)
 
 pub table_cut : (p : PlacedValue) (a b c : Option (List ℕ)) (at k : ℕ) (fault : WriteFault) → IsPlacedObject p →
     k ≡ length (plain_sections p.object) → IsGoingAt p a b at k →
-    WritesBehind at
+    WritesAfter at
     b c (replicate (get_or p.layout.places (length (plain_sections p.object)) 0 - at) 0 ++ header_table p.object p.layout.places)
     (Err fault) →
     (fault.written < length (layout_bytes p.object p.layout.places)) ×
@@ -412,23 +412,23 @@ part_end p k s placed lt at =
 -- ---- one part
 
 -- it joins the bytes that wait
-pub joined : (b : Option (List ℕ)) (w v bytes : List ℕ) (at end : ℕ) → WritesBehind at (Some w) (Some v) bytes (Ok end) →
-    WritesBehind at (append_known b w) (append_known b v) bytes (Ok end)
+pub joined : (b : Option (List ℕ)) (w v bytes : List ℕ) (at end : ℕ) → WritesAfter at (Some w) (Some v) bytes (Ok end) →
+    WritesAfter at (append_known b w) (append_known b v) bytes (Ok end)
 joined None w v bytes at end (is, went) = (is, tt)
 joined (Some ys) w v bytes at end (is, went) = (is, ap (λ (s : List ℕ). ys ++ s) went ∙ sym (append_assoc ys w bytes))
 
 -- and so it does not make them longer than all that is out or waits
-pub joined_long : (w v bytes : List ℕ) (at end : ℕ) → WritesBehind at (Some w) (Some v) bytes (Ok end) → length w ≤ at → length v ≤ end
+pub joined_long : (w v bytes : List ℕ) (at end : ℕ) → WritesAfter at (Some w) (Some v) bytes (Ok end) → length w ≤ at → length v ≤ end
 joined_long w v bytes at end (is, went) few = let long = ap length went ∙ length-append w bytes in omega arith
 
 -- a failed try is undone
-pub undone : (w v bytes : List ℕ) (at n : ℕ) (fault : WriteFault) → n ≡ length w → WritesBehind at (Some w) (Some v) bytes (Err fault) →
+pub undone : (w v bytes : List ℕ) (at n : ℕ) (fault : WriteFault) → n ≡ length w → WritesAfter at (Some w) (Some v) bytes (Err fault) →
     take n v ≡ w
 undone w v bytes at n fault long (low, below, went) = ap (take n) went ∙ take_at w (take (fault.written - at) bytes) n (sym long)
 
 -- what waits goes out, and the part after it
-pub passed : (b c d : Option (List ℕ)) (w bytes : List ℕ) (at end : ℕ) → Appends b c w → WritesBehind at c d bytes (Ok end) →
-    WritesBehind at (append_known b w) (append_known d []) bytes (Ok end)
+pub passed : (b c d : Option (List ℕ)) (w bytes : List ℕ) (at end : ℕ) → Appends b c w → WritesAfter at c d bytes (Ok end) →
+    WritesAfter at (append_known b w) (append_known d []) bytes (Ok end)
 passed None c d w bytes at end sent (is, went) = (is, tt)
 passed (Some ys) None d w bytes at end sent (is, went) = absurd sent
 passed (Some ys) (Some zs) None w bytes at end sent (is, went) = absurd went
@@ -436,7 +436,7 @@ passed (Some ys) (Some zs) (Some vs) w bytes at end sent (is, went) = (is, appen
 
 -- the part fails after it
 pub passed_cut : (b c d : Option (List ℕ)) (w bytes : List ℕ) (at : ℕ) (fault : WriteFault) → length w ≤ at → Appends b c w →
-    WritesBehind at c d bytes (Err fault) → WritesBehind (at - length w) b d (w ++ bytes) (Err fault)
+    WritesAfter at c d bytes (Err fault) → WritesAfter (at - length w) b d (w ++ bytes) (Err fault)
 passed_cut b c d w bytes at fault few sent (low, below, went) =
     let both = length-append w bytes in
     let written : fault.written - (at - length w) ≡ length w + (fault.written - at) = omega arith in
@@ -448,8 +448,8 @@ passed_cut b c d w bytes at fault few sent (low, below, went) =
     )
 
 -- what waits fails itself
-pub waiting_cut : (b c : Option (List ℕ)) (w bytes : List ℕ) (start : ℕ) (fault : WriteFault) → WritesBehind start b c w (Err fault) →
-    WritesBehind start b c (w ++ bytes) (Err fault)
+pub waiting_cut : (b c : Option (List ℕ)) (w bytes : List ℕ) (start : ℕ) (fault : WriteFault) → WritesAfter start b c w (Err fault) →
+    WritesAfter start b c (w ++ bytes) (Err fault)
 waiting_cut b c w bytes start fault (low, below, went) =
     let both = length-append w bytes in (
       low,
@@ -500,7 +500,7 @@ split xs ys w out at long few same =
 pub going_cut : (a b c : Option (List ℕ)) (w whole : List ℕ) (at x : ℕ) (fault : WriteFault) (q : List ℕ) (p : List ℕ)
     (ps : List (List ℕ)) →
     IsGoing a (append_known b w) whole at (x ∷ q) (p ∷ ps) → length w ≤ at →
-    WritesBehind (at - length w) b c (w ++ (replicate (x - at) 0 ++ p)) (Err fault) →
+    WritesAfter (at - length w) b c (w ++ (replicate (x - at) 0 ++ p)) (Err fault) →
     (fault.written < length whole) × Appends a c (take fault.written whole)
 going_cut a b c w whole at x fault q p ps going few failed = by a b going.sent failed where
   zeros : List ℕ
@@ -513,7 +513,7 @@ going_cut a b c w whole at x fault q p ps going few failed = by a b going.sent f
   whole_is = going.rest ∙ ap (λ (s : List ℕ). going.out ++ s) (sym (append_assoc zeros p rest))
 
   by : (a b : Option (List ℕ)) → Appends a (append_known b w) going.out →
-      WritesBehind (at - length w) b c (w ++ (zeros ++ p)) (Err fault) →
+      WritesAfter (at - length w) b c (w ++ (zeros ++ p)) (Err fault) →
       (fault.written < length whole) × Appends a c (take fault.written whole)
   by None b sent (low, below, went) =
       let all = ap length whole_is ∙ length-append going.out ((zeros ++ p) ++ rest) in
@@ -543,7 +543,7 @@ going_cut a b c w whole at x fault q p ps going few failed = by a b going.sent f
 -- a call fails within what waits and the content of the next section
 pub content_fails : (p : PlacedValue) (a b c : Option (List ℕ)) (w : List ℕ) (at k : ℕ) (fault : WriteFault) → IsPlacedObject p →
     k < length (plain_sections p.object) → IsGoingAt p a (append_known b w) at k → length w ≤ at →
-    ((d : PlainSection) → WritesBehind (at - length w) b c
+    ((d : PlainSection) → WritesAfter (at - length w) b c
     (w ++ (replicate (get_or p.layout.places k 0 - at) 0 ++ (get_or (plain_sections p.object) k d).content)) (Err fault)) →
     (fault.written < length (layout_bytes p.object p.layout.places)) ×
     Appends a c (take fault.written (layout_bytes p.object p.layout.places))
@@ -553,7 +553,7 @@ content_fails p a b c w at k fault placed lt going few failed =
     let d = plain_section p.object Names in
     let count = placed.layout.count in
     let parts = length-parts p.object q in
-    let part = subst (λ (s : List ℕ). WritesBehind (at - length w) b c (w ++ (replicate (get_or q k 0 - at) 0 ++ s)) (Err fault))
+    let part = subst (λ (s : List ℕ). WritesAfter (at - length w) b c (w ++ (replicate (get_or q k 0 - at) 0 ++ s)) (Err fault))
     (sym (content_at p.object q k d lt)) (failed d) in
     going_cut a b c w _ at (get_or q k 0) fault (drop (k + 1) q) (get_or ps k []) (drop (k + 1) ps)
     (moved a (append_known b w) _ at q ps k (omega arith) (omega arith) going) few part
@@ -561,7 +561,7 @@ content_fails p a b c w at k fault placed lt going few failed =
 -- or within what waits after all contents
 pub waiting_fails : (p : PlacedValue) (a b c : Option (List ℕ)) (w : List ℕ) (at k : ℕ) (fault : WriteFault) → IsPlacedObject p →
     k ≡ length (plain_sections p.object) → IsGoingAt p a (append_known b w) at k → length w ≤ at →
-    WritesBehind (at - length w) b c w (Err fault) →
+    WritesAfter (at - length w) b c w (Err fault) →
     (fault.written < length (layout_bytes p.object p.layout.places)) ×
     Appends a c (take fault.written (layout_bytes p.object p.layout.places))
 waiting_fails p a b c w at k fault placed last going few failed =

@@ -234,9 +234,9 @@ header_found name_at (s ∷ sections) (x ∷ places) (suc k) h d long lt =
     header_found name_at sections places k h d (omega arith) (omega arith)
 
 -- an entry after the first one
-pub behind_first : {A : Type 0} (x : A) (xs : List A) (i : ℕ) (d : A) → 0 < i → get_or (x ∷ xs) i d ≡ get_or xs (i - 1) d
-behind_first x xs zero d some = absurd (omega arith)
-behind_first x xs (suc i) d some = (let e : i ≡ suc i - 1 = omega arith in ap (λ (k : ℕ). get_or xs k d) e)
+pub after_first : {A : Type 0} (x : A) (xs : List A) (i : ℕ) (d : A) → 0 < i → get_or (x ∷ xs) i d ≡ get_or xs (i - 1) d
+after_first x xs zero d some = absurd (omega arith)
+after_first x xs (suc i) d some = (let e : i ≡ suc i - 1 = omega arith in ap (λ (k : ℕ). get_or xs k d) e)
 
 -- the header of the section that is at a position
 pub header_read : (o : ObjectValue) (layout : LayoutValue) (k name place : ℕ) (s : PlacedSection) (h : Shdr) (d : PlainSection) →

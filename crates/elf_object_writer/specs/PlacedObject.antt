@@ -102,8 +102,8 @@ IsLayoutWritten o before after result = MatchResult result (λ _. WritesLayout o
 -- ---- part by part
 
 -- bytes are written after so many others: all of them, and the result is where they end, or a fault that counts all that are written
-abbrev pub WritesBehind : ℕ → Option (List ℕ) → Option (List ℕ) → List ℕ → Result ℕ WriteFault → Type 0
-WritesBehind out before after bytes result = MatchResult result
+abbrev pub WritesAfter : ℕ → Option (List ℕ) → Option (List ℕ) → List ℕ → Result ℕ WriteFault → Type 0
+WritesAfter out before after bytes result = MatchResult result
     (λ end. (end ≡ out + length bytes) × Appends before after bytes)
     (λ fault. (out ≤ fault.written) × (fault.written < out + length bytes) × Appends before after (take (fault.written - out) bytes))
 

@@ -6,7 +6,7 @@
 ghost use Rattle.std.specs.Io.KnownBytes.{Appends, append_known};
 ghost use Rattle.std.specs.Prelude.{◌≡◌, ◌<◌, ◌≤◌, ◌-◌, ◌++◌, [], Err, IfErr, IfOk, IfSome, None, Ok, OnOk, Some, length, slice_index};
 ghost use Rattle.elf_object_layout.specs.Laid.{PlainSection, plain_sections};
-ghost use Rattle.elf_object_writer.specs.PlacedObject.{WritesBehind, next_bytes};
+ghost use Rattle.elf_object_writer.specs.PlacedObject.{WritesAfter, next_bytes};
 
 use crate::placed_object::{LaidSection, PlacedObject};
 use elf_image_stream::WriteFault;
@@ -36,7 +36,7 @@ pub(crate) fn write_waiting<W: Write>(
     requires { length waiting.old.items ≤ out }
     ensures none { OnOk result (waiting.new.items ≡ []) }
     ensures ok { OnOk result (Appends (W.contents writer.old) (W.contents writer.new) waiting.old.items) }
-    ensures err { IfErr result (λ fault. WritesBehind (out - length waiting.old.items) (W.contents writer.old) (W.contents writer.new)
+    ensures err { IfErr result (λ fault. WritesAfter (out - length waiting.old.items) (W.contents writer.old) (W.contents writer.new)
         waiting.old.items (Err fault)) }
 {
     let start = out - waiting.len() as u64;
@@ -61,7 +61,7 @@ pub(crate) struct NextPart<'p, 'o, 'a> {
     /// How many bytes of the layout are before it, of which the last may wait.
     pub out: u64,
     ghost there: { position < length (plain_sections placed.now.object) },
-    ghost behind: { out ≤ slice_index placed.now.layout.places position },
+    ghost ahead: { out ≤ slice_index placed.now.layout.places position },
 }
 
 impl NextPart<'_, '_, '_> {
@@ -81,7 +81,7 @@ impl NextPart<'_, '_, '_> {
     /// nothing is added.
     fn gather(&self, waiting: &mut Vec<u8>) -> Option<u64>
         ensures gathered { let part = self.now in IfSome result (λ end. (d : PlainSection) →
-            WritesBehind part.out (Some waiting.old.items) (Some waiting.new.items) (next_bytes part.placed.now part.position part.out d)
+            WritesAfter part.out (Some waiting.old.items) (Some waiting.new.items) (next_bytes part.placed.now part.position part.out d)
             (Ok end)) }
         ensures kept { result ≡ None → waiting.new.items ≡ waiting.old.items }
     {
@@ -107,12 +107,12 @@ impl NextPart<'_, '_, '_> {
     ) -> Result<u64, WriteFault>
         requires { length waiting.old.items ≤ self.now.out }
         ensures ok { let part = self.now in IfOk result (λ end. (d : PlainSection) →
-            WritesBehind part.out (append_known (W.contents writer.old) waiting.old.items)
+            WritesAfter part.out (append_known (W.contents writer.old) waiting.old.items)
             (append_known (W.contents writer.new) waiting.new.items)
             (next_bytes part.placed.now part.position part.out d) (Ok end)) }
         ensures few { IfOk result (λ end. length waiting.new.items ≤ end) }
         ensures err { let part = self.now in IfErr result (λ fault. (d : PlainSection) →
-            WritesBehind (part.out - length waiting.old.items) (W.contents writer.old) (W.contents writer.new)
+            WritesAfter (part.out - length waiting.old.items) (W.contents writer.old) (W.contents writer.new)
             (waiting.old.items ++ next_bytes part.placed.now part.position part.out d) (Err fault)) }
     {
         if let Some(end) = self.gather(waiting) {

@@ -3,7 +3,7 @@ ghost use Rattle.std.specs.Prelude.{◌≡◌, [], ◌<◌, ◌≤◌, ℕ, ◌+
 ghost use Rattle.elf_field.specs.Headers.{ehdr_bytes};
 ghost use Rattle.elf_image_stream.specs.Output.{Writes};
 ghost use Rattle.elf_object_layout.specs.Laid.{file_header, layout_bytes, PlainSection, plain_sections};
-ghost use Rattle.elf_object_writer.specs.PlacedObject.{WritesBehind, header_table, next_bytes, plain_section, IsLayoutWritten};
+ghost use Rattle.elf_object_writer.specs.PlacedObject.{WritesAfter, header_table, next_bytes, plain_section, IsLayoutWritten};
 ghost use Rattle.elf_image_rules.specs.Rules.{MAX_LEN};
 
 use crate::gathering::{NextPart, none_waiting, write_waiting};
@@ -71,7 +71,7 @@ fn write_header<W: Write>(placed: &PlacedObject<'_, '_>, writer: &mut W) -> Resu
 impl NextPart<'_, '_, '_> {
     /// Writes it at its place, where all bytes before it are written. The answer is where it ends.
     pub(crate) fn write<W: Write>(&self, writer: &mut W) -> Result<u64, WriteFault>
-        ensures { let part = self.now in (d : PlainSection) → WritesBehind part.out (W.contents writer.old) (W.contents writer.new)
+        ensures { let part = self.now in (d : PlainSection) → WritesAfter part.out (W.contents writer.old) (W.contents writer.new)
             (next_bytes part.placed.now part.position part.out d) result }
     {
         let placed = self.placed;
@@ -81,7 +81,7 @@ impl NextPart<'_, '_, '_> {
         let padding = placed.place(self.position) - self.out;
         let size = laid.content_size();
         let sent = laid.write_padded(padding, writer);
-        behind(self.out, padding + size, sent)
+        written_after(self.out, padding + size, sent)
     }
 }
 
@@ -113,13 +113,13 @@ fn write_table<W: Write>(
 ) -> Result<u64, WriteFault>
     requires { out ≤ slice_index placed.now.layout.places (length (plain_sections placed.now.object)) }
     ensures { let o = placed.now.object in let places = placed.now.layout.places in
-        WritesBehind out (W.contents writer.old) (W.contents writer.new)
+        WritesAfter out (W.contents writer.old) (W.contents writer.new)
         (replicate (slice_index places (length (plain_sections o)) - out) 0 ++ header_table o places) result }
 {
     let padding = placed.table() - out;
     let size = table_size(placed);
     let sent = write_padded_table(placed, padding, writer);
-    behind(out, padding + size, sent)
+    written_after(out, padding + size, sent)
 }
 
 /// The size of the section header table, which ends in time.
@@ -164,11 +164,11 @@ fn write_headers<W: Write>(placed: &PlacedObject<'_, '_>, writer: &mut W) -> Res
 }
 
 /// How many bytes are written when so many more are sent after others; a fault counts all of them.
-fn behind(out: u64, size: u64, sent: Result<(), WriteFault>) -> Result<u64, WriteFault>
+fn written_after(out: u64, size: u64, sent: Result<(), WriteFault>) -> Result<u64, WriteFault>
     requires fits { out + size < 2 ^ 64 }
     requires below { IfErr sent (λ fault. fault.written < size) }
     ensures { (before after : Option (List ℕ)) (bytes : List ℕ) → length bytes ≡ size → Writes before after bytes sent →
-        WritesBehind out before after bytes result }
+        WritesAfter out before after bytes result }
 {
     match sent {
         Ok(()) => Ok(out + size),

@@ -8,7 +8,7 @@ use Rattle.elf_field.proofs.RecordTableLaws.{record_of_part}
 use Rattle.elf_field.specs.Abi.{SHT_SYMTAB, DYN_SIZE, RELA_SIZE, REL_SIZE, SYM_SIZE, WORD_SIZE}
 use Rattle.elf_field.specs.Entries.{dyn_at, dyn_laws, rel_at, rel_laws, rela_at, rela_laws, sym_at, sym_laws, word_at, word_laws}
 use Rattle.elf_field.specs.declared.number.Order.{Order}
-use Rattle.elf_image_rules.proofs.Public.{FirstIn-behind, FirstIn-front, one_fault}
+use Rattle.elf_image_rules.proofs.Public.{FirstIn-after, FirstIn-front, one_fault}
 use Rattle.elf_image_rules.specs.Rows.{FirstIn}
 use Rattle.elf_image_rules.specs.Tables.{bytes_in}
 use Rattle.elf_table_all.specs.Tables.{AreAllIndexTables, index_tables_at, rules_of_kind, table_rules, AreVerdicts, HasSoundTable}
@@ -87,14 +87,14 @@ group_symbols f i sound =
 pub group_symbols_sound : (f : Sections) (i : ℕ) → FirstIn (group_section_rules f i) None →
     FirstIn (symbol_table_rules f (section f i).sh_link) None
 unfolding group_section_rules
-group_symbols_sound f i sound = FirstIn-front _ _ (FirstIn-behind (own_rules SectionGroup f i) _ sound)
+group_symbols_sound f i sound = FirstIn-front _ _ (FirstIn-after (own_rules SectionGroup f i) _ sound)
 
 -- and has the symbol that is the group's signature
 pub group_signature : (f : Sections) (i : ℕ) → FirstIn (group_section_rules f i) None →
     (section f i).sh_info < length (symbols_of f (section f i).sh_link)
 unfolding group_section_rules group_rules group_front_rules symbols_of
 group_signature f i sound =
-    let rest = FirstIn-behind (symbol_table_rules f (section f i).sh_link) _ (FirstIn-behind (own_rules SectionGroup f i) _ sound) in
+    let rest = FirstIn-after (symbol_table_rules f (section f i).sh_link) _ (FirstIn-after (own_rules SectionGroup f i) _ sound) in
     let front = FirstIn-front (group_front_rules f i) _ rest in
     elim (cases_lt (section f i).sh_info (entry_count (content f (section f i).sh_link))) [
       | inl there ↦ rw (length_symbols (order f) (content f (section f i).sh_link) _ _) there

@@ -147,7 +147,7 @@ chain_short next m a xs below within chain =
     omega arith
 
 -- Depths, jumps, starts and seen marks stay right with one more symbol, whose depth is one more than its chain word's. If a known chain
--- leads to `t`, a symbol on it that is no deeper than `t` is on the chain of `t` (`on_behind`). One as deep as the start is the start
+-- leads to `t`, a symbol on it that is no deeper than `t` is on the chain of `t` (`on_after`). One as deep as the start is the start
 -- (`on_same`), and a waiting symbol that is met again shows an endless chain.
 
 -- 0 has no chain
@@ -251,10 +251,10 @@ end_of_end (b ∷ bs) xs (j ∷ js) zs same le =
     end_of_end bs xs js zs tails le
 
 -- a symbol on a chain is after what the chain leads to, where its own chain is no longer than that one's
-pub on_behind : (next : ℕ → ℕ) (m : ℕ) (depth : List ℕ) (start t s : ℕ) → AreDepths next m depth → IsDepthKnown depth start →
+pub on_after : (next : ℕ → ℕ) (m : ℕ) (depth : List ℕ) (start t s : ℕ) → AreDepths next m depth → IsDepthKnown depth start →
     Leads next start t →
     get_or depth s 0 ≤ get_or depth t 0 → IsOn next start s → IsOn next t s
-on_behind next m depth start t s are known (js, path) deep (before, after, chain) =
+on_after next m depth start t s are known (js, path) deep (before, after, chain) =
     let depths = on_depths next m depth start s before after are known chain in
     let (zs, rest, long) = known_chain next m depth t are (known_along next m depth start t js are known path) in
     let same = one_chain next start (before ++ s ∷ after) (js ++ zs) chain (path_append next start t 0 js zs path rest) in

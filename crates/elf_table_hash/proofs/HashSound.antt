@@ -17,7 +17,7 @@ use Rattle.elf_extent.specs.Extent.{Never}
 use Rattle.elf_field.specs.Abi.{WORD_SIZE, SHT_HASH}
 use Rattle.elf_field.specs.declared.number.Order.{Order}
 use Rattle.elf_field.specs.declared.shdr.Shdr.{Shdr}
-use Rattle.elf_image_rules.proofs.Public.{FirstIn-behind, FirstIn-front}
+use Rattle.elf_image_rules.proofs.Public.{FirstIn-after, FirstIn-front}
 use Rattle.elf_image_rules.specs.Rows.{FirstIn}
 use Rattle.elf_image_rules.specs.Tables.{content_extent}
 use Rattle.elf_field.specs.Strings.{string}
@@ -157,10 +157,10 @@ pub valid_in_section : (f : Sections) (i : ℕ) → FirstIn (hash_table_rules f 
     Valid (hash_of_section f i).words (hash_of_section f i).names
 unfolding hash_table_rules hash_rules
 valid_in_section f i sound whole =
-    let linked = FirstIn-behind (own_rules HashTable f i) _ sound in
-    let rest = FirstIn-behind (symbol_table_rules f (section f i).sh_link) _ linked in
+    let linked = FirstIn-after (own_rules HashTable f i) _ sound in
+    let rest = FirstIn-after (symbol_table_rules f (section f i).sh_link) _ linked in
     valid_when (hash_parts f i) (length_words (order f) (content f i) ∙ ap (λ n. n / WORD_SIZE) whole)
-    (FirstIn-front (word_rules (hash_parts f i)) _ rest) (FirstIn-behind (word_rules (hash_parts f i)) _ rest)
+    (FirstIn-front (word_rules (hash_parts f i)) _ rest) (FirstIn-after (word_rules (hash_parts f i)) _ rest)
 
 -- and its section is of type HASH
 pub sound_hash_type : (f : Sections) (i : ℕ) → FirstIn (hash_table_rules f i) None → (section f i).sh_type ≡ SHT_HASH

@@ -12,7 +12,7 @@ use Rattle.std.specs.BTreeSet.{BTreeSet}
 use Rattle.elf_extent.specs.Extent.{IsLowest, IsLeast, Never}
 use Rattle.elf_field.specs.Abi.{DT_NULL, SHT_GROUP, WORD_SIZE}
 use Rattle.elf_field.specs.declared.number.Order.{Order}
-use Rattle.elf_image_rules.proofs.Public.{FirstIn-behind, FirstIn-front}
+use Rattle.elf_image_rules.proofs.Public.{FirstIn-after, FirstIn-front}
 use Rattle.elf_image_rules.specs.Rows.{AtEntry, FirstIn}
 use Rattle.elf_table_lists.specs.Dynamic.{IsNullEntry, dynamic_array_of, dynamic_entries, dynamic_entry, dynamic_entry_count, is_null_entry}
 use Rattle.elf_table_lists.specs.Dynamic.{no_dynamic_entry}
@@ -131,7 +131,7 @@ pub sound_group : (f : Sections) (i : ℕ) → FirstIn (group_section_rules f i)
 unfolding group_section_rules own_rules group_rules group_front_rules
 sound_group f i sound =
     let own = FirstIn-front (own_rules SectionGroup f i) _ sound in
-    let rest = FirstIn-behind (symbol_table_rules f (section f i).sh_link) _ (FirstIn-behind (own_rules SectionGroup f i) _ sound) in
+    let rest = FirstIn-after (symbol_table_rules f (section f i).sh_link) _ (FirstIn-after (own_rules SectionGroup f i) _ sound) in
     let front = FirstIn-front (group_front_rules f i) _ rest in
     record {
       typed = elim (cases_eq (section f i).sh_type SHT_GROUP)

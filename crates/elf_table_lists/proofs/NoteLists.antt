@@ -199,9 +199,9 @@ none_validated o table = record {
 -- ---- a note that is cut short
 
 -- a note is one of those before x, or begins at x or after it
-behind : (o : Order) (table : List ℕ) (x : ℕ) (unclosed : Option ℕ) (are : AreValidated o table x unclosed) (k : ℕ) → are.count ≤ k →
+later : (o : Order) (table : List ℕ) (x : ℕ) (unclosed : Option ℕ) (are : AreValidated o table x unclosed) (k : ℕ) → are.count ≤ k →
     x ≤ note_offset o table 0 k
-behind o table x unclosed are k le =
+later o table x unclosed are k le =
     let rises = place_rises o table 0 are.count (k - are.count) in
     let same : note_offset o table 0 (are.count + (k - are.count)) ≡ note_offset o table 0 k = ap (note_offset o table 0) (omega arith) in
     let here = are.here in
@@ -330,23 +330,23 @@ FindsUnclosed o table x found = MatchOption found (IsUnclosedNoteName o table x 
 lowest_more : (o : Order) (table : List ℕ) (x : ℕ) (unclosed found : Option ℕ) (are : AreValidated o table x unclosed) →
     FindsUnclosed o table x found →
     IsLowest (UnclosedBefore o table (suc are.count)) (option_or unclosed found)
-lowest_more o table x None None are told = λ y here. elim (one_further o table are.count y here) [
+lowest_more o table x None None are known = λ y here. elim (one_further o table are.count y here) [
   | inl before ↦ are.lowest y before
-  | inr last ↦ told (subst (IsUnclosedNoteName o table) are.here last.0)
+  | inr last ↦ known (subst (IsUnclosedNoteName o table) are.here last.0)
 ]
-lowest_more o table x None (Some last) are told = record {
+lowest_more o table x None (Some last) are known = record {
   holds = (
     are.count,
     omega arith,
-    subst (IsUnclosedNoteName o table) (sym are.here) told.0,
-    told.1 ∙ ap (name_last o table) (sym are.here),
+    subst (IsUnclosedNoteName o table) (sym are.here) known.0,
+    known.1 ∙ ap (name_last o table) (sym are.here),
   );
   lowest = λ y here. elim (one_further o table are.count y here) [
     | inl before ↦ absurd (are.lowest y before)
-    | inr same ↦ (let e = same.1 ∙ ap (name_last o table) are.here in let f = told.1 in omega arith)
+    | inr same ↦ (let e = same.1 ∙ ap (name_last o table) are.here in let f = known.1 in omega arith)
   ];
 }
-lowest_more o table x (Some low) found are told = record {
+lowest_more o table x (Some low) found are known = record {
   holds = wider o table are.count low are.lowest.holds;
   lowest = λ y here. elim (one_further o table are.count y here) [
     | inl before ↦ are.lowest.lowest y before
@@ -360,7 +360,7 @@ lowest_more o table x (Some low) found are told = record {
 
 pub validated_more : (o : Order) (table : List ℕ) (x : ℕ) (unclosed found : Option ℕ) → AreValidated o table x unclosed →
     note_end o table x ≤ length table → FindsUnclosed o table x found → AreValidated o table (note_end o table x) (option_or unclosed found)
-validated_more o table x unclosed found are whole told = record {
+validated_more o table x unclosed found are whole known = record {
   count = suc are.count;
   here = place_next o table 0 are.count ∙ ap (note_end o table) are.here;
   inside = whole;
@@ -368,7 +368,7 @@ validated_more o table x unclosed found are whole told = record {
     | inl before ↦ are.whole k before
     | inr after ↦ (let same : k ≡ are.count = omega arith in rw (same, are.here) whole)
   ];
-  lowest = lowest_more o table x unclosed found are told;
+  lowest = lowest_more o table x unclosed found are known;
 }
 
 -- ---- at the end
@@ -379,7 +379,7 @@ all_validated : (o : Order) (table : List ℕ) (x : ℕ) (unclosed : Option ℕ)
     note_offset o table 0 k < length table → k < are.count
 all_validated o table x unclosed are end k begins = elim (cases_lt k are.count) [
   | inl before ↦ before
-  | inr le ↦ (let at = behind o table x unclosed are k le in absurd (omega arith))
+  | inr le ↦ (let at = later o table x unclosed are k le in absurd (omega arith))
 ]
 
 never_broken : (o : Order) (table : List ℕ) (x : ℕ) (unclosed : Option ℕ) (P : ℕ → Type 0) (place : ℕ → ℕ) →

@@ -7,7 +7,7 @@ use Rattle.std.proofs.lemmas.Grind.{common_steps}
 use Rattle.std.proofs.lemmas.List.FromFn.{get_or-map-range_with_len, length-map-range_with_len}
 use Rattle.elf_field.specs.Abi.{SHT_GROUP, SHT_HASH, SHN_XINDEX, WORD_SIZE}
 use Rattle.elf_field.specs.declared.number.Order.{Order}
-use Rattle.elf_image_rules.proofs.Public.{FirstIn-behind, FirstIn-front}
+use Rattle.elf_image_rules.proofs.Public.{FirstIn-after, FirstIn-front}
 use Rattle.elf_image_rules.specs.Rows.{FirstIn}
 use Rattle.elf_table_symbols.specs.Sections.{own_rules, Sections, count, section, IsSymbolType, kind_of}
 use Rattle.elf_table_symbols.specs.SymbolView.{no_symbol_entry}
@@ -79,8 +79,8 @@ index_table_kept : (f : Sections) (i : ℕ) → FirstIn (symbol_table_rules f i)
 unfolding symbol_table_rules rest_rules
 index_table_kept f i sound =
     let p = symbol_parts f i in
-    FirstIn-behind (symbol_entry_rules p) _
-    (FirstIn-behind (linked_string_rules p.names p.names_start) _ (FirstIn-behind (own_rules SymbolTable f i) _ sound))
+    FirstIn-after (symbol_entry_rules p) _
+    (FirstIn-after (linked_string_rules p.names p.names_start) _ (FirstIn-after (own_rules SymbolTable f i) _ sound))
 
 -- its index table has a word for each symbol
 pub sound_words : (f : Sections) (i j : ℕ) → FirstIn (symbol_table_rules f i) None → index_table f i ≡ Some j →
@@ -102,7 +102,7 @@ pub sound_index_table : (f : Sections) (i j : ℕ) → FirstIn (symbol_table_rul
 unfolding place_rules
 sound_index_table f i j sound within extended = some (index_table f i) refl where
   places : FirstIn (place_rules (symbol_parts f i)) None
-  places = FirstIn-behind (index_table_rules f i (index_table f i) (entry_count (symbol_parts f i).table)) _ (index_table_kept f i sound)
+  places = FirstIn-after (index_table_rules f i (index_table f i) (entry_count (symbol_parts f i).table)) _ (index_table_kept f i sound)
 
   some : (found : Option ℕ) → index_table f i ≡ found → (k : ℕ) × (index_table f i ≡ Some k)
   some None is = absurd (places.0 _ (j, within, inl (extended, is), refl))

@@ -46,13 +46,13 @@ use Rattle.elf_tool_check.specs.declared.calls.Verdict.TheVariants.{Done, Refuse
 -- ---- of one file
 
 pub some_check : (b : List ℕ) → SaysSome (CheckSays b)
-some_check b none = some_fault (rules_in b) told where
-  told : (x : Option (ℕ × ℕ)) → ¬ FirstIn (rules_in b) x
-  told None clean = none Done (ok_line (length b) (file_sections b) (file_segments b)) (clean, refl)
-  told (Some (rule, at)) broken = none (Refused (File 0 rule at)) (refused_line rule at) (broken, refl, refl)
+some_check b none = some_fault (rules_in b) known where
+  known : (x : Option (ℕ × ℕ)) → ¬ FirstIn (rules_in b) x
+  known None clean = none Done (ok_line (length b) (file_sections b) (file_segments b)) (clean, refl)
+  known (Some (rule, at)) broken = none (Refused (File 0 rule at)) (refused_line rule at) (broken, refl, refl)
 
 pub some_show : (b : List ℕ) → IsBytes b → SaysSome (ShowSays b)
-some_show b bytes none = some_fault (rules_in b) told where
+some_show b bytes none = some_fault (rules_in b) known where
   of_image : (v : ImageValue) → IsImage v b → ⊥
   of_image v image =
       some_each None (λ i verdict. FirstIn (table_rules (sections_of v) i) verdict) (length v.sections)
@@ -60,9 +60,9 @@ some_show b bytes none = some_fault (rules_in b) told where
       (λ verdicts are. none Done (show_text b (record { image = v; verdicts = verdicts }))
       (record { image = v; verdicts = verdicts }, record { image = image; verdicts = record { long = are.count; right = are.each } }, refl))
 
-  told : (x : Option (ℕ × ℕ)) → ¬ FirstIn (rules_in b) x
-  told None clean = (let (v, image) = some_image b bytes clean in of_image v image)
-  told (Some (rule, at)) broken = none (Refused (File 0 rule at)) (refused_line rule at) (broken, refl, refl)
+  known : (x : Option (ℕ × ℕ)) → ¬ FirstIn (rules_in b) x
+  known None clean = (let (v, image) = some_image b bytes clean in of_image v image)
+  known (Some (rule, at)) broken = none (Refused (File 0 rule at)) (refused_line rule at) (broken, refl, refl)
 
 some_rewritten : (o : ObjectValue) → IsObject o → ObjectFits o → SaysSome (ObjectSays o)
 some_rewritten o kept fits none =
@@ -74,7 +74,7 @@ some_rewritten o kept fits none =
     ]
 
 pub some_rewrite : (b : List ℕ) → IsBytes b → SaysSome (RewriteSays b)
-some_rewrite b bytes none = some_fault (rules_in b) told where
+some_rewrite b bytes none = some_fault (rules_in b) known where
   of_file : (v : ImageValue) → IsImage v b → (x : Option (ℕ × ℕ)) → ¬ FirstIn (file_rules (sections_of v)) x
   of_file v image None first =
       let (o, denotes) = some_object (sections_of v) in
@@ -82,22 +82,22 @@ some_rewrite b bytes none = some_fault (rules_in b) told where
       some_rewritten o kept fits (λ verdict text says. none verdict text (inl (v, image, inl (first, (o, denotes, says)))))
   of_file v image (Some (rule, at)) first = none (Refused (File 0 rule at)) [] (inl (v, image, inr (first, refl, refl)))
 
-  told : (x : Option (ℕ × ℕ)) → ¬ FirstIn (rules_in b) x
-  told None clean = (let (v, image) = some_image b bytes clean in some_fault (file_rules (sections_of v)) (of_file v image))
-  told (Some (rule, at)) broken = none (Refused (File 0 rule at)) [] (inr (broken, refl, refl))
+  known : (x : Option (ℕ × ℕ)) → ¬ FirstIn (rules_in b) x
+  known None clean = (let (v, image) = some_image b bytes clean in some_fault (file_rules (sections_of v)) (of_file v image))
+  known (Some (rule, at)) broken = none (Refused (File 0 rule at)) [] (inr (broken, refl, refl))
 
 -- ---- the objects that files are
 
 -- a file is an object, or it is refused
 some_object_file : (b : List ℕ) → IsBytes b → ((o : ObjectValue) → ¬ IsObjectFile b o) → ¬ ((rule at : ℕ) → ¬ IsRefusedFile b rule at)
-some_object_file b bytes no_object no_refusal = some_fault (rules_in b) told where
+some_object_file b bytes no_object no_refusal = some_fault (rules_in b) known where
   of_file : (v : ImageValue) → IsImage v b → (x : Option (ℕ × ℕ)) → ¬ FirstIn (file_rules (sections_of v)) x
   of_file v image None first = (let (o, denotes) = some_object (sections_of v) in no_object o (v, image, first, denotes))
   of_file v image (Some (rule, at)) first = no_refusal rule at (inr (v, image, first))
 
-  told : (x : Option (ℕ × ℕ)) → ¬ FirstIn (rules_in b) x
-  told None clean = (let (v, image) = some_image b bytes clean in some_fault (file_rules (sections_of v)) (of_file v image))
-  told (Some (rule, at)) broken = no_refusal rule at (inl broken)
+  known : (x : Option (ℕ × ℕ)) → ¬ FirstIn (rules_in b) x
+  known None clean = (let (v, image) = some_image b bytes clean in some_fault (file_rules (sections_of v)) (of_file v image))
+  known (Some (rule, at)) broken = no_refusal rule at (inl broken)
 
 -- each of several is, or one is the first that is refused
 some_objects : (files : List (List ℕ)) → AreFilesOfBytes files → ((fs : List ObjectValue) → ¬ AreObjectFiles files fs) →
@@ -114,12 +114,12 @@ some_objects (b ∷ files) (here, rest) no_objects no_refusal =
 some_relocation : (rules : Option (List RelocRule)) (opt : Options) (fs : List ObjectValue) (m : LinkMapValue) → IsLinkMap opt fs m →
     FirstOfLink opt fs None → SaysSome (RelocationSays rules fs m)
 some_relocation None opt fs m is clean none = none Done (map_text fs m) refl
-some_relocation (Some rules) opt fs m is clean none = some_site (applied_entry_rules fs m rules) told where
-  told : (x : Option (ℕ × Site)) → ¬ FirstAmong (applied_entry_rules fs m rules) x
-  told None sound =
+some_relocation (Some rules) opt fs m is clean none = some_site (applied_entry_rules fs m rules) known where
+  known : (x : Option (ℕ × Site)) → ¬ FirstAmong (applied_entry_rules fs m rules) x
+  known None sound =
       some_linked fs m rules (any_options fs m (opt, is, clean)) sound
       (λ l linked. none Done (map_text fs m ++ bytes_lines l) (l, linked, refl))
-  told (Some (rule, p)) first =
+  known (Some (rule, p)) first =
       none (Refused (Link rule p.file p.index p.entry)) (link_refused_line rule p.file p.index p.entry) (first, refl)
 
 pub some_map : (opt : Options) (rules : Option (List RelocRule)) (files : List (List ℕ)) → AreFilesOfBytes files →

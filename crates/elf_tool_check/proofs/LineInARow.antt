@@ -14,14 +14,14 @@ abbrev pub to_the_end : List (List ℕ) → List ℕ
 to_the_end [] = codes "\n"
 to_the_end (w ∷ ws) = blank ∷ (w ++ to_the_end ws)
 
-behind_to_the_end : (ws : List (List ℕ)) → to_the_end ws ≡ further_words ws ++ codes "\n"
-behind_to_the_end [] = refl
-behind_to_the_end (w ∷ ws) =
-    ap (λ (s : List ℕ). blank ∷ (w ++ s)) (behind_to_the_end ws) ∙ sym (append_assoc (blank ∷ w) (further_words ws) (codes "\n"))
+further_to_the_end : (ws : List (List ℕ)) → to_the_end ws ≡ further_words ws ++ codes "\n"
+further_to_the_end [] = refl
+further_to_the_end (w ∷ ws) =
+    ap (λ (s : List ℕ). blank ∷ (w ++ s)) (further_to_the_end ws) ∙ sym (append_assoc (blank ∷ w) (further_words ws) (codes "\n"))
 
 pub line_in_a_row : (w : List ℕ) (ws : List (List ℕ)) → w ++ to_the_end ws ≡ line (w ∷ ws)
 unfolding line
 line_in_a_row w ws =
-    ap (λ (s : List ℕ). w ++ s) (behind_to_the_end ws)
+    ap (λ (s : List ℕ). w ++ s) (further_to_the_end ws)
     ∙ sym (append_assoc w (further_words ws) (codes "\n"))
     ∙ ap (λ (s : List ℕ). s ++ codes "\n") (sym (joined_words w ws))

@@ -16,9 +16,9 @@ use Rattle.elf_tool_check.specs.declared.calls.Verdict.{Verdict}
 pub of_answer : {A : Type 0} (Is : A → Type 0) (verdict : A → Verdict) (text : A → List ℕ) (Says : Verdict → List ℕ → Type 0) →
     ((a b : A) → Is a → Is b → a ≡ b) → ((v : Verdict) (s : List ℕ) → Says v s → (a : A) × Is a × (v ≡ verdict a) × (s ≡ text a)) →
     SaysOne Says
-of_answer Is verdict text Says one told v w s t here there =
-    let (a, is, verdict_is, text_is) = told v s here in
-    let (b, are, verdict_also, text_also) = told w t there in
+of_answer Is verdict text Says one known v w s t here there =
+    let (a, is, verdict_is, text_is) = known v s here in
+    let (b, are, verdict_also, text_also) = known w t there in
     let same = one a b is are in
     (verdict_is ∙ ap verdict same ∙ sym verdict_also, text_is ∙ ap text same ∙ sym text_also)
 
@@ -38,13 +38,13 @@ pub or_refused : {A : Type 0} (IsFirst : A → Type 0) (verdict : A → Verdict)
     ((a b : A) → IsFirst a → IsFirst b → a ≡ b) →
     ((v : Verdict) (s : List ℕ) → Refuses v s → (a : A) × IsFirst a × (v ≡ verdict a) × (s ≡ text a)) →
     ((v : Verdict) (s : List ℕ) (a : A) → Says v s → IsFirst a → ⊥) → SaysOne (λ v s. Says v s ⊎ Refuses v s)
-or_refused IsFirst verdict text Says Refuses says one told apart v w s t (inl here) (inl there) = says v w s t here there
-or_refused IsFirst verdict text Says Refuses says one told apart v w s t (inl here) (inr there) =
-    (let (a, first, verdict_is, text_is) = told w t there in absurd (apart v s a here first))
-or_refused IsFirst verdict text Says Refuses says one told apart v w s t (inr here) (inl there) =
-    (let (a, first, verdict_is, text_is) = told v s here in absurd (apart w t a there first))
-or_refused IsFirst verdict text Says Refuses says one told apart v w s t (inr here) (inr there) =
-    of_answer IsFirst verdict text Refuses one told v w s t here there
+or_refused IsFirst verdict text Says Refuses says one known apart v w s t (inl here) (inl there) = says v w s t here there
+or_refused IsFirst verdict text Says Refuses says one known apart v w s t (inl here) (inr there) =
+    (let (a, first, verdict_is, text_is) = known w t there in absurd (apart v s a here first))
+or_refused IsFirst verdict text Says Refuses says one known apart v w s t (inr here) (inl there) =
+    (let (a, first, verdict_is, text_is) = known v s here in absurd (apart w t a there first))
+or_refused IsFirst verdict text Says Refuses says one known apart v w s t (inr here) (inr there) =
+    of_answer IsFirst verdict text Refuses one known v w s t here there
 
 -- Of a list of rules there is at most one that is broken first, with one offset, and none where no rule is broken.
 
@@ -67,13 +67,13 @@ abbrev line_of : List ℕ → Option (ℕ × ℕ) → List ℕ
 line_of b None = ok_line (length b) (file_sections b) (file_segments b)
 line_of b (Some fault) = refused_line fault.0 fault.1
 
-told : (b : List ℕ) (v : Verdict) (s : List ℕ) → CheckSays b v s →
+known : (b : List ℕ) (v : Verdict) (s : List ℕ) → CheckSays b v s →
     (found : Option (ℕ × ℕ)) × IsFault b found × (v ≡ verdict_of found) × (s ≡ line_of b found)
-told b Done s (clean, line) = (None, clean, refl, line)
-told b (Refused (File file rule at)) s (fault, zero_is, line) =
+known b Done s (clean, line) = (None, clean, refl, line)
+known b (Refused (File file rule at)) s (fault, zero_is, line) =
     (Some (rule, at), fault, ap (λ (n : ℕ). Refused (File n rule at)) zero_is, line)
-told b (Refused (Link rule file index entry)) s never = absurd never
-told b (Refused TooLong) s never = absurd never
+known b (Refused (Link rule file index entry)) s never = absurd never
+known b (Refused TooLong) s never = absurd never
 
 pub one_check : IsOneReport CheckSays
-one_check b = of_answer (IsFault b) verdict_of (line_of b) (CheckSays b) (one_fault (rules_in b)) (told b)
+one_check b = of_answer (IsFault b) verdict_of (line_of b) (CheckSays b) (one_fault (rules_in b)) (known b)

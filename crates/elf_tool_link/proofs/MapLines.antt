@@ -13,17 +13,17 @@ abbrev pub to_a_blank : List (List ℕ) → List ℕ
 to_a_blank [] = blank ∷ []
 to_a_blank (w ∷ ws) = blank ∷ (w ++ to_a_blank ws)
 
-behind_to_a_blank : (ws : List (List ℕ)) → to_a_blank ws ≡ further_words ws ++ blank ∷ []
-behind_to_a_blank [] = refl
-behind_to_a_blank (w ∷ ws) =
-    ap (λ (s : List ℕ). blank ∷ (w ++ s)) (behind_to_a_blank ws) ∙ sym (append_assoc (blank ∷ w) (further_words ws) (blank ∷ []))
+further_to_a_blank : (ws : List (List ℕ)) → to_a_blank ws ≡ further_words ws ++ blank ∷ []
+further_to_a_blank [] = refl
+further_to_a_blank (w ∷ ws) =
+    ap (λ (s : List ℕ). blank ∷ (w ++ s)) (further_to_a_blank ws) ∙ sym (append_assoc (blank ∷ w) (further_words ws) (blank ∷ []))
 
-pub line_behind : {T : Type 0} (a c : Option (List ℕ)) (o q : Output) (front w : List ℕ) (ws : List (List ℕ)) (v : List ℕ)
+pub line_after : {T : Type 0} (a c : Option (List ℕ)) (o q : Output) (front w : List ℕ) (ws : List (List ℕ)) (v : List ℕ)
     (result : Result T WriteFault)
     → front ≡ w ++ to_a_blank ws → IsPassed a c o q (front ++ (v ++ codes "\n")) result →
     IsPassed a c o q (line (w ∷ (ws ++ v ∷ []))) result
-line_behind a c o q front w ws v result is passed =
-    line_of_last a c o q front w ws v result (is ∙ ap (λ (s : List ℕ). w ++ s) (behind_to_a_blank ws)) passed
+line_after a c o q front w ws v result is passed =
+    line_of_last a c o q front w ws v result (is ∙ ap (λ (s : List ℕ). w ++ s) (further_to_a_blank ws)) passed
 
 -- ---- a line that ends with a name, which may be put together with what comes before it
 
@@ -47,4 +47,4 @@ pub line_named : {T : Type 0} (a c : Option (List ℕ)) (o q : Output) (put w : 
 line_named a c o q put w ws true name result is passed =
     line_at_once a c o q put w (ws ++ name_text name ∷ []) result (is ∙ ap (λ (s : List ℕ). w ++ s) (whole ws (name_text name))) passed
 line_named a c o q put w ws false name result is passed =
-    line_behind a c o q put w ws (name_text name) result (is ∙ ap (λ (s : List ℕ). w ++ s) (without ws)) passed
+    line_after a c o q put w ws (name_text name) result (is ∙ ap (λ (s : List ℕ). w ++ s) (without ws)) passed

@@ -91,13 +91,13 @@ module _ (fs : List ObjectValue) (m : LinkMapValue) (rules : List RelocRule) whe
   one_answer is (inr x) (inl n) one other = absurd (none_among (applied_entry_rules fs m rules) x other.sound one)
   one_answer is (inr x) (inr y) one other = ap inr (one_among (applied_entry_rules fs m rules) x y one other)
 
-  told : (v : Verdict) (s : List ℕ) → RelocationSays (Some rules) fs m v s →
+  known : (v : Verdict) (s : List ℕ) → RelocationSays (Some rules) fs m v s →
       (x : LinkedValue ⊎ (ℕ × Site)) × Is x × (v ≡ verdict_of x) × (s ≡ text_of x)
-  told Done s (l, linked, text) = (inl l, linked, refl, text)
-  told (Refused (Link rule file index entry)) s (first, line) =
+  known Done s (l, linked, text) = (inl l, linked, refl, text)
+  known (Refused (Link rule file index entry)) s (first, line) =
       (inr (rule, record { file = file; index = index; entry = entry }), first, refl, line)
-  told (Refused (File file rule at)) s never = absurd never
-  told (Refused TooLong) s never = absurd never
+  known (Refused (File file rule at)) s never = absurd never
+  known (Refused TooLong) s never = absurd never
 
 of_relocation : (rules : Option (List RelocRule)) (fs : List ObjectValue) (m : LinkMapValue) → IsMapOfSome fs m →
     SaysOne (RelocationSays rules fs m)
@@ -106,7 +106,7 @@ of_relocation None fs m is (Refused refusal) w s t here there = absurd here
 of_relocation None fs m is v (Refused refusal) s t here there = absurd there
 of_relocation (Some rules) fs m is v w s t here there =
     of_answer (Is fs m rules) (verdict_of fs m rules) (text_of fs m rules) (RelocationSays (Some rules) fs m) (one_answer fs m rules is)
-    (told fs m rules) v w s t
+    (known fs m rules) v w s t
     here there
 
 -- ---- the link map, or the first of rules 1 to 11 that is broken

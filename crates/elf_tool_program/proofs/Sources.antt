@@ -75,18 +75,18 @@ is_line (Err broken) = (refl, refl)
 source_says : (content : Option (List ℕ)) (validated : Result OutlineValue (Broken ℕ)) →
     ((b : List ℕ) → content ≡ Some b → IsScanned b validated)
     → SourceSays content (verdict_of (fault_of validated)) (line_of_scan validated)
-source_says content validated told = (is_line validated, λ b same. check_says b validated (told b same))
+source_says content validated scanned = (is_line validated, λ b same. check_says b validated (scanned b same))
 
 -- what is said when the line is out, and when only its first bytes are
 module _ (content old new : Option (List ℕ)) (validated : Result OutlineValue (Broken ℕ)) (bytes : List ℕ)
     (is : bytes ≡ line_of_scan validated)
-    (told : (b : List ℕ) → content ≡ Some b → IsScanned b validated) where
+    (scanned : (b : List ℕ) → content ≡ Some b → IsScanned b validated) where
   pub said_whole : (verdict : Verdict) → verdict ≡ verdict_of (fault_of validated) → Appends old new bytes →
       Prints (SourceSays content) old new (Ok verdict)
-  said_whole verdict same out = (bytes, rw (same, is) (source_says content validated told), out)
+  said_whole verdict same out = (bytes, rw (same, is) (source_says content validated scanned), out)
 
   pub said_in_part : (written : ℕ) → IsCutAt old new bytes written → Prints (SourceSays content) old new (Err (Write written))
-  said_in_part written cut = (verdict_of (fault_of validated), bytes, rw is (source_says content validated told), cut)
+  said_in_part written cut = (verdict_of (fault_of validated), bytes, rw is (source_says content validated scanned), cut)
 
 -- of a source that reports its bytes, one thing is said: what `check` says of these
 pub one_source : IsOneReport (λ b. SourceSays (Some b))

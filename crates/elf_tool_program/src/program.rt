@@ -153,7 +153,7 @@ fn rewrite_file<O: Opener, W: Write, E: Write>(
         (W.contents out.old) (W.contents out.new) result }
 {
     match files.reader(file) {
-        Ok(mut input) => told_status(rewrite(alloc, &mut input, out), err),
+        Ok(mut input) => printed_status(rewrite(alloc, &mut input, out), err),
         Err(fault) => unopened(fault, file, err),
     }
 }
@@ -251,7 +251,7 @@ fn no_rules<E: Write>(fault: NoRules, file: &str, err: &mut E) -> Status
 }
 
 // How it ends after an engine that writes no line on what it refuses: the line goes to standard error.
-fn told_status<E: Write>(answer: Result<Verdict, ToolFault>, err: &mut E) -> Status
+fn printed_status<E: Write>(answer: Result<Verdict, ToolFault>, err: &mut E) -> Status
     ensures { result ≡ ending_of answer }
 {
     if let Ok(Verdict::Refused(refusal)) = &answer {
@@ -267,5 +267,5 @@ fn linked_status<E: Write>(answer: Result<Verdict, ToolFault>, err: &mut E) -> S
     if let Ok(Verdict::Refused(Refusal::File { file, .. })) = &answer {
         let _ = write!(err, "file {file} ");
     }
-    told_status(answer, err)
+    printed_status(answer, err)
 }

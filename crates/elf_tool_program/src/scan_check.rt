@@ -44,7 +44,7 @@ fn validated_by_scan<S: Source>(
     ensures kept { S.content source.new ≡ S.content source.old }
     ensures failures { Remembers (check_failure result) (S.failures source.old) (S.failures source.new) }
     ensures stopped { IfErr result IsScanStopped }
-    ensures told { (b : List ℕ) → S.content source.old ≡ Some b → IfOk result (IsScanned b) }
+    ensures known { (b : List ℕ) → S.content source.old ≡ Some b → IfOk result (IsScanned b) }
 {
     match scan(alloc, source) {
         Ok(outline) => Ok(Ok(outline)),

@@ -25,10 +25,10 @@ use Rattle.elf_tool_rule_file.specs.RuleFile.{AreRules, BeginsWithRule}
 -- Bytes are cut in one way.
 
 -- bytes with no b are not cut
-pub no_cut : (b : ℕ) (bytes before behind : List ℕ) → HasNo b bytes → bytes ≡ before ++ b ∷ behind → ⊥
-no_cut b bytes before behind none is =
-    none (length before) (omega (arith, ap length is, length-append before (b ∷ behind)))
-    (ap (λ (xs : List ℕ). get_or xs (length before) 0) is ∙ get_or-append_seam before b behind 0)
+pub no_cut : (b : ℕ) (bytes before following : List ℕ) → HasNo b bytes → bytes ≡ before ++ b ∷ following → ⊥
+no_cut b bytes before following none is =
+    none (length before) (omega (arith, ap length is, length-append before (b ∷ following)))
+    (ap (λ (xs : List ℕ). get_or xs (length before) 0) is ∙ get_or-append_seam before b following 0)
 
 tail_has_no : (b c : ℕ) (cs : List ℕ) → HasNo b (c ∷ cs) → HasNo b cs
 tail_has_no b c cs none k below = none (suc k) (omega arith)
@@ -78,10 +78,10 @@ none_in_cons b c cs other none zero below = other
 none_in_cons b c cs other none (suc k) below = none k (omega arith)
 
 none_in_both : (b : ℕ) (xs ys : List ℕ) → HasNo b xs → HasNo b ys → HasNo b (xs ++ ys)
-none_in_both b xs ys before behind k below = elim (cases_lt k (length xs)) [
+none_in_both b xs ys before following k below = elim (cases_lt k (length xs)) [
   | inl in_xs ↦ λ is. before k in_xs (sym (get_or_append_left xs ys 0 k in_xs) ∙ is)
   | inr past ↦
-      λ is. behind (k - length xs) (omega (arith, length-append xs ys)) (sym (get_or-append_right xs ys (length xs) k 0 refl past) ∙ is)
+      λ is. following (k - length xs) (omega (arith, length-append xs ys)) (sym (get_or-append_right xs ys (length xs) k 0 refl past) ∙ is)
 ]
 
 abbrev is_above : ℕ → Bool
@@ -125,38 +125,38 @@ no_feed line rule is =
     (blank (form ++ 32 ∷ (width ++ 32 ∷ range)) second))
 
 -- what is after the words of a rule's line
-abbrev pub behind_form : RelocRule → List ℕ
-behind_form rule = width_word rule.width ++ 32 ∷ range_word rule.range
+abbrev pub after_form : RelocRule → List ℕ
+after_form rule = width_word rule.width ++ 32 ∷ range_word rule.range
 
-abbrev pub behind_kind : RelocRule → List ℕ
-behind_kind rule = form_word rule.form ++ 32 ∷ behind_form rule
+abbrev pub after_kind : RelocRule → List ℕ
+after_kind rule = form_word rule.form ++ 32 ∷ after_form rule
 
 module _ (rule : RelocRule) where
   -- the words of a rule's line are those that are between its blanks
-  pub cut_kind : (line : List ℕ) (is : IsRuleLine line rule) → AreCut 32 line is.0 (behind_kind rule)
+  pub cut_kind : (line : List ℕ) (is : IsRuleLine line rule) → AreCut 32 line is.0 (after_kind rule)
   cut_kind line is = (is.2, none_in_digits 32 is.0 (omega arith) is.1.0.1)
 
-  pub cut_form : AreCut 32 (behind_kind rule) (form_word rule.form) (behind_form rule)
+  pub cut_form : AreCut 32 (after_kind rule) (form_word rule.form) (after_form rule)
   cut_form = (refl, none_in_form 32 rule.form (omega arith))
 
-  pub cut_width : AreCut 32 (behind_form rule) (width_word rule.width) (range_word rule.range)
+  pub cut_width : AreCut 32 (after_form rule) (width_word rule.width) (range_word rule.range)
   cut_width = (refl, none_in_width 32 rule.width (omega arith))
 
   module _ (line kind rest : List ℕ) (first : AreCut 32 line kind rest) (is : IsRuleLine line rule) where
     pub kind_is : IsKindWord kind rule.kind
-    kind_is = subst (λ word. IsKindWord word rule.kind) (one_cut 32 line is.0 (behind_kind rule) kind rest (cut_kind line is) first).0 is.1
+    kind_is = subst (λ word. IsKindWord word rule.kind) (one_cut 32 line is.0 (after_kind rule) kind rest (cut_kind line is) first).0 is.1
 
-    pub rest_is : rest ≡ behind_kind rule
-    rest_is = (one_cut 32 line kind rest is.0 (behind_kind rule) first (cut_kind line is)).1
+    pub rest_is : rest ≡ after_kind rule
+    rest_is = (one_cut 32 line kind rest is.0 (after_kind rule) first (cut_kind line is)).1
 
     module _ (form last : List ℕ) (second : AreCut 32 rest form last) where
-      both : (form ≡ form_word rule.form) × (last ≡ behind_form rule)
-      both = one_cut 32 rest form last (form_word rule.form) (behind_form rule) second (rw rest_is cut_form)
+      both : (form ≡ form_word rule.form) × (last ≡ after_form rule)
+      both = one_cut 32 rest form last (form_word rule.form) (after_form rule) second (rw rest_is cut_form)
 
       pub form_is : form ≡ form_word rule.form
       form_is = both.0
 
-      pub last_is : last ≡ behind_form rule
+      pub last_is : last ≡ after_form rule
       last_is = both.1
 
       module _ (width range : List ℕ) (third : AreCut 32 last width range) where
@@ -199,9 +199,9 @@ rules_more before line rules rule are is below =
     (lines ++ line ∷ [], lines_more lines rules line rule are.1 is, rw (are.2, joined_more lines line) refl, long)
 
 -- bytes whose rest begins with a line
-pub line_passed : (bytes before rest line behind : List ℕ) → bytes ≡ before ++ rest → rest ≡ line ++ 10 ∷ behind →
-    bytes ≡ (before ++ (line ++ 10 ∷ [])) ++ behind
-line_passed bytes before rest line behind is begins = rw (is, begins) (simp append_assoc)
+pub line_passed : (bytes before rest line following : List ℕ) → bytes ≡ before ++ rest → rest ≡ line ++ 10 ∷ following →
+    bytes ≡ (before ++ (line ++ 10 ∷ [])) ++ following
+line_passed bytes before rest line following is begins = rw (is, begins) (simp append_assoc)
 
 lead_on : (lines : List (List ℕ)) (rules : List RelocRule) (rest : List ℕ) → AreRuleLines lines rules → BeginsWithRule rest →
     BeginsWithRule (concat (map with_feed lines) ++ rest)

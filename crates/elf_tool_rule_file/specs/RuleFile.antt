@@ -20,7 +20,7 @@ HasNo b bytes = (k : ℕ) → k < length bytes → slice_index bytes k ≢ b
 
 -- what is before the first b, and after it
 abbrev pub AreCut : ℕ → List ℕ → List ℕ → List ℕ → Type 0
-AreCut b bytes before behind = (bytes ≡ before ++ b ∷ behind) × HasNo b before
+AreCut b bytes before later = (bytes ≡ before ++ b ∷ later) × HasNo b before
 
 -- The line of a relocation rule: `KIND abs|pc|none 1|2|4|8 signed|unsigned|wrap`.
 

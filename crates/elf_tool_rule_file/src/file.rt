@@ -123,13 +123,13 @@ pub fn read_rules(alloc: Global, bytes: &[u8]) -> Result<Vec<RelocRule>, RulesFa
         if line > MOST_RULES {
             return Err(RulesFault::BadLine { line });
         }
-        let Some((rule, behind)) = first_rule(rest) else {
+        let Some((rule, later)) = first_rule(rest) else {
             return Err(RulesFault::BadLine { line });
         };
         let Ok(()) = rules.push(rule) else {
             return Err(RulesFault::OutOfMemory);
         };
-        rest = behind;
+        rest = later;
     }
     Ok(rules)
 }

@@ -51,13 +51,13 @@ one_answer b (inl x) (inr f) one other = absurd (none_first (rules_in b) f one.i
 one_answer b (inr f) (inl y) one other = absurd (none_first (rules_in b) f other.image.clean one)
 one_answer b (inr f) (inr g) one other = ap inr (one_first (rules_in b) f g one other)
 
-told : (b : List ℕ) (v : Verdict) (s : List ℕ) → ShowSays b v s →
+known : (b : List ℕ) (v : Verdict) (s : List ℕ) → ShowSays b v s →
     (x : TablesValue ⊎ (ℕ × ℕ)) × Is b x × (v ≡ show_verdict_of x) × (s ≡ text_of b x)
-told b Done s (tables, are, text) = (inl tables, are, refl, text)
-told b (Refused (File file rule at)) s (fault, zero_is, line) =
+known b Done s (tables, are, text) = (inl tables, are, refl, text)
+known b (Refused (File file rule at)) s (fault, zero_is, line) =
     (inr (rule, at), fault, ap (λ (n : ℕ). Refused (File n rule at)) zero_is, line)
-told b (Refused (Link rule file index entry)) s never = absurd never
-told b (Refused TooLong) s never = absurd never
+known b (Refused (Link rule file index entry)) s never = absurd never
+known b (Refused TooLong) s never = absurd never
 
 pub one_show : IsOneReport ShowSays
-one_show b = of_answer (Is b) show_verdict_of (text_of b) (ShowSays b) (one_answer b) (told b)
+one_show b = of_answer (Is b) show_verdict_of (text_of b) (ShowSays b) (one_answer b) (known b)

@@ -54,11 +54,11 @@ module _ (a b c : Option (List ℕ)) (o p q r : Output) (bytes : List ℕ) (pend
 
 -- ---- one piece after the other
 
-pub passed_behind : {T : Type 0} (a b c : Option (List ℕ)) (o p q : Output) (s t : List ℕ) (result : Result T WriteFault) →
+pub passed_after : {T : Type 0} (a b c : Option (List ℕ)) (o p q : Output) (s t : List ℕ) (result : Result T WriteFault) →
     Buffers a b o p s
     → IsPassed b c p q t result → IsPassed a c o q (s ++ t) result
-passed_behind a b c o p q s t (Ok done) first second = buffers_both a b c o p q s t first second
-passed_behind a b c o p q s t (Err fault) first second = cut_later a b c o p s t (Write fault.written) first second
+passed_after a b c o p q s t (Ok done) first second = buffers_both a b c o p q s t first second
+passed_after a b c o p q s t (Err fault) first second = cut_later a b c o p s t (Write fault.written) first second
 
 -- what stops with others before it and after it
 pub stopped_between : (a b c : Option (List ℕ)) (o p : Output) (s t u : List ℕ) (written : ℕ) → Buffers a b o p s

@@ -130,8 +130,8 @@ IsRefusedBy words BadNumber = Gives words (λ name rows. CommandRefuses name row
 IsRefusedBy words OutOfMemory = Unit {0}
 
 -- an error of clap as a fault: out of memory is a fault of its own
-abbrev pub Tells : Error → WordsFault → Type 0
-Tells error (Words e) = (e ≡ error) × (kind_of error ≢ kind.OutOfMemory)
-Tells error TooManyFiles = ⊥
-Tells error BadNumber = ⊥
-Tells error OutOfMemory = kind_of error ≡ kind.OutOfMemory
+abbrev pub IsReportedAs : Error → WordsFault → Type 0
+IsReportedAs error (Words e) = (e ≡ error) × (kind_of error ≢ kind.OutOfMemory)
+IsReportedAs error TooManyFiles = ⊥
+IsReportedAs error BadNumber = ⊥
+IsReportedAs error OutOfMemory = kind_of error ≡ kind.OutOfMemory

@@ -147,9 +147,9 @@ impl<T: Drop> From<AllocFailed<T>> for WordsFault {
 }
 
 impl From<Error> for WordsFault {
-    ghost use Rattle.elf_tool_words.specs.Words.{Tells};
+    ghost use Rattle.elf_tool_words.specs.Words.{IsReportedAs};
 
-    ghost from_gives = { Tells };
+    ghost from_gives = { IsReportedAs };
 
     fn from(error: Error) -> WordsFault {
         if error.kind() == ErrorKind::OutOfMemory {

@@ -58,8 +58,8 @@ pub(crate) fn name_of(digits: &[u8], file: u8, index: u8) -> &[u8] {
 
 /// Where a section is, by its number.
 pub(crate) fn address_of(base: u64, number: u16) -> u64 {
-    let behind = 0x1000 * (number % OUTPUTS) as u64 + 16 * (number / OUTPUTS) as u64;
-    base.wrapping_add(behind)
+    let distance = 0x1000 * (number % OUTPUTS) as u64 + 16 * (number / OUTPUTS) as u64;
+    base.wrapping_add(distance)
 }
 
 /// A definition of a file: symbol `i` has the value `i`, in section `i mod 4`. That of the long name is weak.

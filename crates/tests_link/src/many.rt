@@ -50,9 +50,9 @@ fn groups(alloc: Global, order: Order, value: u64) -> Result<Vec<u8>, AllocError
 fn push_entries(group: usize, entries: &mut Vec<Relocation>) -> Result<(), AllocError>
     requires { group < 10000 }
 {
-    for (kind, behind) in [(1, 0), (2, 1), (3, 3), (4, 7)] {
+    for (kind, distance) in [(1, 0), (2, 1), (3, 3), (4, 7)] {
         entries.push(Relocation {
-            offset: (SIZE * group as u64).wrapping_add(behind),
+            offset: (SIZE * group as u64).wrapping_add(distance),
             symbol: Some(0),
             kind,
             addend: 0,

@@ -171,8 +171,8 @@ const PLACES: [(u64, usize); 10] = [
 /// Writes a section header.
 fn set_section(file: &mut [u8], order: Order, at: u64, fields: &[u64; 10]) {
     for k in 0..10 {
-        let (behind, width) = PLACES[k];
-        set(file, order, &[(at.wrapping_add(behind), width, fields[k])]);
+        let (distance, width) = PLACES[k];
+        set(file, order, &[(at.wrapping_add(distance), width, fields[k])]);
     }
 }
 

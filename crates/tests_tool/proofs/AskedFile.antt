@@ -21,9 +21,9 @@ rows_of (Some p) = p.1
 abbrev ChecksFile : Text → Text → List Row → Type 0
 ChecksFile file name rows = (name ≡ codes "check") × (file ≡ text_of (codes "FILE") rows) × (is_set (codes "seek") rows ≡ false)
 
-behind_dashes : (name file : Text) → Gives (name ∷ codes "check" ∷ codes "--" ∷ file ∷ []) (ChecksFile file)
+after_dashes : (name file : Text) → Gives (name ∷ codes "check" ∷ codes "--" ∷ file ∷ []) (ChecksFile file)
 unfolding check show rewrite map_command link_command elfmap walked bundle_met walk_fault flags_fault defaults_fault
-behind_dashes name file = record {
+after_dashes name file = record {
   taken = refl;
   name = codes "check";
   rows = rows_of (subcommand_of elfmap (name ∷ codes "check" ∷ codes "--" ∷ file ∷ []));
@@ -53,4 +53,4 @@ alone name (b ∷ bs) plain = record {
 
 pub same_file : (words : List Text) (file : Bor Text) → AsksFor words file.now → IsAskedBy words (Check file)
 same_file words file (inl (name, are, plain)) = subst (λ (ws : List Text). IsAskedBy ws (Check file)) (sym are) (alone name file.now plain)
-same_file words file (inr (name, are)) = subst (λ (ws : List Text). IsAskedBy ws (Check file)) (sym are) (behind_dashes name file.now)
+same_file words file (inr (name, are)) = subst (λ (ws : List Text). IsAskedBy ws (Check file)) (sym are) (after_dashes name file.now)

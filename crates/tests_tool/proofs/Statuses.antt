@@ -40,12 +40,12 @@ read_is_all bytes given (Some left) short taken (inr long) =
     absurd (omega arith)
 
 -- what a status says about the bytes
-pub record Tells (status : Status) (b : List ℕ) : Type 0 where
+pub record StatusSays (status : Status) (b : List ℕ) : Type 0 where
   pub done : code_of status ≡ 0 → IsFault b None
   pub refused : code_of status ≡ 1 → IsBroken b
 
 -- any other status says nothing
-neither : (status : Status) (b : List ℕ) (code : ℕ) → (code ≡ 0 → ⊥) → (code ≡ 1 → ⊥) → code_of status ≡ code → Tells status b
+neither : (status : Status) (b : List ℕ) (code : ℕ) → (code ≡ 0 → ⊥) → (code ≡ 1 → ⊥) → code_of status ≡ code → StatusSays status b
 neither status b code some many is = record {
   done = λ zero. absurd (some (sym is ∙ zero));
   refused = λ one. absurd (many (sym is ∙ one));
@@ -82,7 +82,7 @@ module _ (report : Report) (means : (b : List ℕ) (verdict : Verdict) (text : L
   -- the statuses 0 and 1 say it
   status_says : (bytes : List ℕ) (input rest old new : Option (List ℕ)) (answer : Result Verdict ToolFault) (status : Status) →
       length bytes ≤ 2 ^ 30
-      → input ≡ Some bytes → IsFileCall report input rest old new answer → status ≡ ending_of answer → Tells status bytes
+      → input ≡ Some bytes → IsFileCall report input rest old new answer → status ≡ ending_of answer → StatusSays status bytes
   status_says bytes input rest old new (Ok Done) status short known call is = record {
     done = λ zero. answered_says bytes input rest old new Done short known call;
     refused = λ one. let e : 0 ≡ 1 = sym (ap code_of is) ∙ one in absurd (omega arith);
@@ -132,7 +132,7 @@ no_link name one other = let both : codes "check" ≡ codes "link" = sym one ∙
 
 -- the whole program says it
 checked_says : (bytes : List ℕ) (old new : Option (List ℕ)) (status : Status) → length bytes ≤ 2 ^ 30
-    → EndsRun check_words (λ name. Some bytes) (λ name. true) old new status → Tells status bytes
+    → EndsRun check_words (λ name. Some bytes) (λ name. true) old new status → StatusSays status bytes
 checked_says bytes old new status short (inl (Check file, asked, inl (input, rest, answer, known, call, is))) =
     status_says CheckSays check_says bytes input rest old new answer status short known call.answered is
 checked_says bytes old new status short (inl (CheckSource file, asked, ends)) =
@@ -160,7 +160,7 @@ checked_says bytes old new status short (inr (words_fault.OutOfMemory, refused, 
 
 pub run_says : (words : List Text) (bytes : List ℕ) (old new : Option (List ℕ)) (status : Status) → words ≡ check_words →
     length bytes ≤ 2 ^ 30
-    → EndsRun words (λ name. Some bytes) (λ name. true) old new status → Tells status bytes
+    → EndsRun words (λ name. Some bytes) (λ name. true) old new status → StatusSays status bytes
 run_says words bytes old new status same short ends =
     checked_says bytes old new status short
     (subst (λ (ws : List Text). EndsRun ws (λ name. Some bytes) (λ name. true) old new status) same ends)
@@ -185,7 +185,7 @@ no_show : (name : Text) → name ≡ codes "check" → name ≡ codes "show" →
 no_show name one other = let both : codes "check" ≡ codes "show" = sym one ∙ other in cc
 
 source_says : (bytes : List ℕ) (content after old new : Option (List ℕ)) (answer : Result Verdict ToolFault) (status : Status)
-    → content ≡ Some bytes → IsSourceChecked content after old new answer → status ≡ ending_of answer → Tells status bytes
+    → content ≡ Some bytes → IsSourceChecked content after old new answer → status ≡ ending_of answer → StatusSays status bytes
 source_says bytes content after old new (Ok Done) status known (kept, said) is = record {
   done = λ zero. check_says bytes Done said.0 (said.1.1 bytes known);
   refused = λ one. let e : 0 ≡ 1 = sym (ap code_of is) ∙ one in absurd (omega arith);
@@ -198,7 +198,7 @@ source_says bytes content after old new (Err fault) status known call is =
     neither status bytes 3 (λ e. omega arith) (λ e. omega arith) (ap code_of is)
 
 sought_says : (bytes : List ℕ) (old new : Option (List ℕ)) (status : Status)
-    → EndsRun seek_words (λ name. Some bytes) (λ name. true) old new status → Tells status bytes
+    → EndsRun seek_words (λ name. Some bytes) (λ name. true) old new status → StatusSays status bytes
 sought_says bytes old new status (inl (Check file, asked, ends)) = absurd (seeks_not asked.name asked.rows asked.entered asked.holds.2)
 sought_says bytes old new status (inl (CheckSource file, asked, inl (content, after, answer, known, call, is))) =
     source_says bytes content after old new answer status known call is
@@ -222,6 +222,6 @@ sought_says bytes old new status (inr (words_fault.OutOfMemory, refused, ends)) 
     neither status bytes 3 (λ e. omega arith) (λ e. omega arith) (ap code_of ends.0)
 
 pub seek_run_says : (words : List Text) (bytes : List ℕ) (old new : Option (List ℕ)) (status : Status) → words ≡ seek_words
-    → EndsRun words (λ name. Some bytes) (λ name. true) old new status → Tells status bytes
+    → EndsRun words (λ name. Some bytes) (λ name. true) old new status → StatusSays status bytes
 seek_run_says words bytes old new status same ends =
     sought_says bytes old new status (subst (λ (ws : List Text). EndsRun ws (λ name. Some bytes) (λ name. true) old new status) same ends)

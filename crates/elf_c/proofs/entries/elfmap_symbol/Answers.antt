@@ -5,9 +5,9 @@ use Rattle.elf_field.specs.declared.number.Order.{Order}
 use Rattle.elf_table_symbols.specs.declared.table_section.TableKind.TheVariants.{SymbolTable}
 use Rattle.elf_table_symbols.specs.Sections.{order, sections_in}
 use Rattle.elf_table_symbols.specs.Symbols.{entry}
-use Rattle.elf_c.specs.Tables.{symbol_record, symbol_told, slot_bytes}
+use Rattle.elf_c.specs.Tables.{symbol_record, reported_symbol, slot_bytes}
 use Rattle.elf_c.proofs.Listed.{put_there, put_value}
-use Rattle.elf_c.proofs.ReadFiles.{put_told}
+use Rattle.elf_c.proofs.ReadFiles.{put_reported}
 use Rattle.elf_c.proofs.ReadEntries.{symbol_by_numbers, symbol_there}
 use Rattle.elf_c.proofs.ReadTables.{table_content, table_order}
 use Rattle.elf_c.proofs.entries.elfmap_symbol.Goals as goal
@@ -23,7 +23,7 @@ returns-clause-value c i is =
     let t = c.args.table.now in
     let b = c.args.bytes.now in
     let there = put_there _ _ _ _ c.symbol_of.ensures.read c.put.ensures.there in
-    put_told (symbol_told b) _ c.symbol_of.result c.put.result c.put.new.given c.put.ensures.there c.put.ensures.value
+    put_reported (reported_symbol b) _ c.symbol_of.result c.put.result c.put.new.given c.put.ensures.there c.put.ensures.value
     (λ yes. rw (← symbol_by_numbers t b i c.args.index is (there.0 yes).1) c.symbol_of.ensures.value)
 
 pub returns-clause-record : goal.returns-clause-record

@@ -2,7 +2,7 @@ use Rattle.std.proofs.Common.{◌≡◌, ◌-◌, ◌+◌, ap, arith, ◌∙◌}
 use Rattle.std.specs.Prelude.{slice_index}
 use Rattle.elf_field.specs.declared.phdr.Phdr.{Phdr}
 use Rattle.elf_image_type.specs.ImageView.{loaded}
-use Rattle.elf_c.proofs.ReadFiles.{inside_segment, loaded_behind, loaded_inside}
+use Rattle.elf_c.proofs.ReadFiles.{inside_segment, loaded_after, loaded_inside}
 use Rattle.elf_c.proofs.file.loaded_byte.Goals as goal
 
 pub returns-then-k-segment : goal.returns-then-k-segment
@@ -10,7 +10,7 @@ returns-then-k-segment c is =
     let b = c.args.bytes.now in
     let x = c.args.address in
     let (j, first, same) = c.in_ok-segment.ensures.first is in
-    (j, first, loaded_behind b c.in_ok-segment.segment x c.if-k-segment.true ∙ ap (λ (s : Phdr). loaded b s x) same)
+    (j, first, loaded_after b c.in_ok-segment.segment x c.if-k-segment.true ∙ ap (λ (s : Phdr). loaded b s x) same)
 
 pub returns-in_err-offset : goal.returns-in_err-offset
 returns-in_err-offset c is =

@@ -1,16 +1,16 @@
 -- By the numbers of a note section, the offset found is where the note of this index begins (`same_offset`). The note is read there exactly
 -- if the index is below the number of notes, and it is that of the list (`note_there`, `note_by_numbers`). If no offset is found, an
--- earlier note is cut, so there are fewer notes (`none_behind`).
+-- earlier note is cut, so there are fewer notes (`none_after`).
 use Rattle.std.proofs.Common.{◌≡◌, ◌<◌, ◌≤◌, ◌+◌, ◌↔◌, ℕ, List, ap, length, subst, sym, ◌∙◌}
 use Rattle.elf_field.specs.declared.number.Order.{Order}
 use Rattle.elf_table_symbols.specs.declared.table_section.TableKind.TheVariants.{NoteSection}
 use Rattle.elf_table_symbols.specs.Sections.{content, order, sections_in}
 use Rattle.elf_table_lists.specs.Notes.{note_at, note_end, note_offset, notes_of}
-use Rattle.elf_c.specs.Tables.{note_told, slot_bytes, whole_notes}
+use Rattle.elf_c.specs.Tables.{reported_note, slot_bytes, whole_notes}
 use Rattle.elf_c.specs.Files.{order_named}
 use Rattle.elf_c.specs.declared.shapes.Note.{Note}
 use Rattle.elf_c.proofs.ReadFiles.{none_there, some_same}
-use Rattle.elf_c.proofs.ReadEntries.{note_offset_after, none_behind, note_by_numbers, note_there}
+use Rattle.elf_c.proofs.ReadEntries.{note_offset_after, none_after, note_by_numbers, note_there}
 use Rattle.elf_c.proofs.ReadTables.{table_content, table_kind, table_order}
 use Rattle.elf_c.proofs.WholeNotes.{none_whole, whole_there}
 use Rattle.elf_c.proofs.notes.note_of_index.Goals as goal
@@ -34,7 +34,7 @@ returns-in_err-offset-clause-there c i is =
     let cut = cut_by_numbers c.args.index _ (order_named t.ei_data) _
     (slot_bytes b t.content) c.order_of.ensures c.bytes_of-content.ensures.content
     c.in_err-offset.ensures.cut in
-    none_there _ _ c.from_residual.ensures (none_behind t b i cut.0 c.args.index is cut.1 cut.2)
+    none_there _ _ c.from_residual.ensures (none_after t b i cut.0 c.args.index is cut.1 cut.2)
 
 pub returns-in_err-offset-clause-lies : goal.returns-in_err-offset-clause-lies
 returns-in_err-offset-clause-lies c =
@@ -68,7 +68,7 @@ returns-clause-value c i is =
     let place = same_offset c.order_of.result o c.bytes_of-content.result.now s c.in_ok-offset.offset c.args.index
     c.in_ok-offset.ensures.found
     c.order_of.ensures c.bytes_of-content.ensures.content in
-    some_same (note_told b) _ _ c.note_of.result c.note_of.ensures.value
+    some_same (reported_note b) _ _ c.note_of.result c.note_of.ensures.value
     (λ some. ap (note_at o s) place
     ∙ note_by_numbers t b i c.args.index is (subst (λ (x : ℕ). note_end o s x ≤ length s) place (c.note_of.ensures.there.0 some).1))
 

@@ -6,5 +6,5 @@ pub returns-in_err-read_exactly-clause-failures : goal.returns-in_err-read_exact
 returns-in_err-read_exactly-clause-failures g c =
     let failed = c.in_err-read_exactly.ensures in
     read_failed _ _ _ c.args.at _ c.in_err-read_exactly.field-0.0.at _
-    (λ b told. subst (λ (n : ℕ). c.args.at + n ≤ length b) (sym failed.same) (c.requires.within b told)) failed.reads
+    (λ b known. subst (λ (n : ℕ). c.args.at + n ≤ length b) (sym failed.same) (c.requires.within b known)) failed.reads
     c.from_residual.ensures.1

@@ -3,7 +3,7 @@
 -- source (`parts_read`).
 use Rattle.std.proofs.Common.{◌∙◌}
 use Rattle.elf_image_outline.proofs.Theorem.{joined_is_image}
-use Rattle.elf_image_outline.proofs.PartsOut.{failed_fits, parts_all, parts_behind, parts_failed, parts_more, parts_read}
+use Rattle.elf_image_outline.proofs.PartsOut.{failed_fits, parts_all, parts_after, parts_failed, parts_more, parts_read}
 use Rattle.elf_image_outline.proofs.copying.copy_image.Goals as goal
 
 pub returns-in-Err-clause-copies : goal.returns-in-Err-clause-copies
@@ -15,7 +15,7 @@ returns-in-Err-clause-copies g c =
     c.loop-part-test.true before.kept before.out c.in-Err.ensures.copies)
 
 pub returns-in-Err-clause-image : goal.returns-in-Err-clause-image
-returns-in-Err-clause-image g c b told = joined_is_image _ (c.requires.of b told)
+returns-in-Err-clause-image g c b known = joined_is_image _ (c.requires.of b known)
 
 pub loop-part-preserved : goal.loop-part-preserved
 loop-part-preserved g c =
@@ -30,7 +30,7 @@ loop-part-preserved g c =
     }
 
 pub returns-clause-image : goal.returns-clause-image
-returns-clause-image g c b told = joined_is_image _ (c.requires.of b told)
+returns-clause-image g c b known = joined_is_image _ (c.requires.of b known)
 
 pub after-requires : goal.after-requires
 after-requires g c =
@@ -38,12 +38,12 @@ after-requires g c =
     c.parts-part-items.ensures.value
     c.loop-part-test.true c.in-Err.ensures.copies
 
-pub returns-in-Err-clause-behind : goal.returns-in-Err-clause-behind
-returns-in-Err-clause-behind g c =
+pub returns-in-Err-clause-after : goal.returns-in-Err-clause-after
+returns-in-Err-clause-after g c =
     rw c.after.ensures
-    (parts_behind _ c.args.outline.now c.parts-part-items.result.now c.loop-part.part-index _ c.in-Err.fault c.prove_stands.ensures
+    (parts_after _ c.args.outline.now c.parts-part-items.result.now c.loop-part.part-index _ c.in-Err.fault c.prove_stands.ensures
     c.parts-part-items.ensures.value
-    c.loop-part-test.true c.in-Err.ensures.behind)
+    c.loop-part-test.true c.in-Err.ensures.after)
 
 pub returns-clause-copies : goal.returns-clause-copies
 returns-clause-copies g c =
@@ -55,4 +55,4 @@ pub returns-in-Err-clause-reads : goal.returns-in-Err-clause-reads
 returns-in-Err-clause-reads g c =
     rw c.after.ensures
     (parts_read _ c.args.outline.now c.parts-part-items.result.now c.loop-part.part-index _ c.in-Err.fault c.parts-part-items.ensures.value
-    c.loop-part-test.true c.in-Err.ensures.behind c.in-Err.ensures.reads)
+    c.loop-part-test.true c.in-Err.ensures.after c.in-Err.ensures.reads)

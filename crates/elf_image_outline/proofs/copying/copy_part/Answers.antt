@@ -1,6 +1,6 @@
 -- By the owner of the part: a record's bytes, or zeros of a gap, come from the outline; other bytes are copied from the source. In each
 -- case they are the part's bytes, or a beginning of them if the call fails. A range that is copied lies in the source's bytes
--- (`told_within`).
+-- (`known_within`).
 use Rattle.std.proofs.Common.{[], ◌∷◌, ◌∙◌, sym, true}
 use Rattle.std.specs.Prelude.{replicate}
 use Rattle.std.specs.List.{flat_map}
@@ -9,7 +9,7 @@ use Rattle.elf_field.specs.Headers.{ehdr_bytes, phdr_bytes, shdr_bytes}
 use Rattle.elf_image_rules.specs.Tables.{order_of}
 use Rattle.elf_image_outline.specs.Outline.{blank_image, image_in, placed_part}
 use Rattle.elf_image_outline.proofs.PartsOut.{copies_as, copies_own, out_own, content_part, gap_part, header_part, own_whole, part_fits}
-use Rattle.elf_image_outline.proofs.PartsOut.{sections_part, segments_part, told_within, zeroed_part}
+use Rattle.elf_image_outline.proofs.PartsOut.{sections_part, segments_part, known_within, zeroed_part}
 use Rattle.elf_image_outline.proofs.copying.copy_part.Goals as goal
 
 pub returns-in_err-write_records-in-Header-clause-copies : goal.returns-in_err-write_records-in-Header-clause-copies
@@ -81,10 +81,10 @@ pub copy_range-requires-clause-fits : goal.copy_range-requires-clause-fits
 copy_range-requires-clause-fits g c = part_fits c.args.outline.now c.requires.part.0 c.args.part c.requires.sound c.requires.part.1
 
 pub copy_range-requires-clause-within : goal.copy_range-requires-clause-within
-copy_range-requires-clause-within g c b told =
+copy_range-requires-clause-within g c b known =
     let o = c.args.outline.now in
-    let of = c.requires.of b told in
-    told_within o b c.requires.part.0 c.args.part of c.requires.part.1
+    let of = c.requires.of b known in
+    known_within o b c.requires.part.0 c.args.part of c.requires.part.1
     (content_part o b c.requires.part.0 _ c.args.part of c.requires.part.1 c.in-Content.is)
 
 pub returns-in_err-write_zeros-in-Gap-clause-copies : goal.returns-in_err-write_zeros-in-Gap-clause-copies
@@ -100,14 +100,14 @@ pub copy_range-requires-in-Gap-2-clause-fits : goal.copy_range-requires-in-Gap-2
 copy_range-requires-in-Gap-2-clause-fits g c = part_fits c.args.outline.now c.requires.part.0 c.args.part c.requires.sound c.requires.part.1
 
 pub copy_range-requires-in-Gap-2-clause-within : goal.copy_range-requires-in-Gap-2-clause-within
-copy_range-requires-in-Gap-2-clause-within g c b told =
+copy_range-requires-in-Gap-2-clause-within g c b known =
     let o = c.args.outline.now in
-    told_within o b c.requires.part.0 c.args.part (c.requires.of b told) c.requires.part.1
+    known_within o b c.requires.part.0 c.args.part (c.requires.of b known) c.requires.part.1
     (gap_part o b c.args.part (sym c.is_zeroed.ensures ∙ c.if-is_zeroed.false) c.in-Gap-2.is)
 
 pub returns-in-Content-clause-copies : goal.returns-in-Content-clause-copies
 returns-in-Content-clause-copies g c =
     let o = c.args.outline.now in
     copies_as _ _ _ _ _ _ _
-    (λ b told. content_part o b c.requires.part.0 _ c.args.part (c.requires.of b told) c.requires.part.1 c.in-Content.is)
+    (λ b known. content_part o b c.requires.part.0 _ c.args.part (c.requires.of b known) c.requires.part.1 c.in-Content.is)
     c.copy_range.ensures.copies

@@ -9,6 +9,6 @@ loop-i-preserved g c =
     record {
       many = search rules;
       valid = λ all. rw push.items (all_more g.T.Record.IsValid c.loop-i.records.items _ (before.valid all) c.fits.ensures);
-      told = extends_on (λ i. g.T.Record.at c.args.order c.args.bytes.now (g.T.Record.SIZE * i)) c.loop-i.i _ _ _ _ before.told
+      known = extends_on (λ i. g.T.Record.at c.args.order c.args.bytes.now (g.T.Record.SIZE * i)) c.loop-i.i _ _ _ _ before.known
           (search rules) push.items;
     }

@@ -8,5 +8,5 @@ abbrev pub invariant-loop-i : goal.invariant-loop-i
 invariant-loop-i g l = record {
   many : length l.records.items ≡ length l.initial.records.items + l.i;
   valid : AllByRecursion g.T.Record.IsValid l.initial.records.items → AllByRecursion g.T.Record.IsValid l.records.items;
-  told : Extends (λ i. g.T.Record.at l.order l.bytes (g.T.Record.SIZE * i)) l.i l.initial.records.items l.records.items;
+  known : Extends (λ i. g.T.Record.at l.order l.bytes (g.T.Record.SIZE * i)) l.i l.initial.records.items l.records.items;
 }

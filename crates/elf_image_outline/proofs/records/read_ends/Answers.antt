@@ -17,8 +17,8 @@ returns-then-len-eq1-clause-reads g c =
       subst (λ (n : ℕ). (table : List ℕ) × AreEnds (record { len = n; first = byte; last = byte }) table × IsBytes table) (sym one)
           (one_byte_table byte small),
       refl,
-      λ b told within. ends_in b c.args.start c.args.len byte byte (omega arith) within (read.1 b told)
-          (read.1 b told ∙ ap (λ (n : ℕ). take 1 (drop n b)) here),
+      λ b known within. ends_in b c.args.start c.args.len byte byte (omega arith) within (read.1 b known)
+          (read.1 b known ∙ ap (λ (n : ℕ). take 1 (drop n b)) here),
     )
 
 pub returns-clause-reads : goal.returns-clause-reads
@@ -32,6 +32,6 @@ returns-clause-reads g c =
       last.reads.0 ∙ first.reads.0,
       some_table c.args.len c.in_ok-first.first c.in_ok-last.last many small small_last,
       refl,
-      λ b told within. ends_in b c.args.start c.args.len c.in_ok-first.first c.in_ok-last.last (omega arith) within (first.reads.1 b told)
-          (last.reads.1 b (first.kept ∙ told) ∙ ap (λ (n : ℕ). take 1 (drop n b)) here),
+      λ b known within. ends_in b c.args.start c.args.len c.in_ok-first.first c.in_ok-last.last (omega arith) within (first.reads.1 b known)
+          (last.reads.1 b (first.kept ∙ known) ∙ ap (λ (n : ℕ). take 1 (drop n b)) here),
     )

@@ -11,7 +11,7 @@ invariant-loop-next g l = record {
   failures : g.S.Source.failures l.source ≡ g.S.Source.failures l.initial.source;
   many : length l.records.items ≡ l.next;
   valid : AllByRecursion g.T.Record.IsValid l.records.items;
-  told : (b : List ℕ) → g.S.Source.content l.initial.source ≡ Some b →
+  known : (b : List ℕ) → g.S.Source.content l.initial.source ≡ Some b →
       l.records.items ≡ table_at (g.T.Record.at l.order) g.T.Record.SIZE b l.at l.next;
 }
 

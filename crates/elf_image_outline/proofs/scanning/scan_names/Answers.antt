@@ -9,8 +9,8 @@ use Rattle.elf_image_outline.specs.Scanning.{IsEndIn, names_place}
 use Rattle.elf_image_outline.proofs.Scanned.{end_read, ends_there, names_are, place_is, scans_fault}
 use Rattle.elf_image_outline.proofs.scanning.scan_names.Goals as goal
 
-pub returns-clause-told : goal.returns-clause-told
-returns-clause-told g c b told says has records =
+pub returns-clause-known : goal.returns-clause-known
+returns-clause-known g c b known says has records =
     let t = c.args.tables.now in
     let ends = c.in_ok-read_ends.field-0 in
     let extent = c.extent_of_names-extent.result in
@@ -20,10 +20,10 @@ returns-clause-told g c b told says has records =
     ∙ ap (bytes_in b) (sym c.extent_of_names-extent.ensures) in
     subst (AreEnds ends) (sym named)
     (ends_there b ends extent c.args.len c.min-there.result says there c.in_ok-read_ends.ensures.reads.2
-    (c.in_ok-read_ends.ensures.reads.3 b told))
+    (c.in_ok-read_ends.ensures.reads.3 b known))
 
-pub returns-in_err-read_ends-clause-told : goal.returns-in_err-read_ends-clause-told
-returns-in_err-read_ends-clause-told g c b told says has records =
+pub returns-in_err-read_ends-clause-known : goal.returns-in_err-read_ends-clause-known
+returns-in_err-read_ends-clause-known g c b known says has records =
     let t = c.args.tables.now in
     let extent = c.extent_of_names-extent.result in
     let failed = c.in_err-read_ends.field-0.0 in

@@ -1,6 +1,6 @@
 use Rattle.std.proofs.Common.{[]}
 use Rattle.elf_image_stream.specs.Reading.{IsReadBehind}
-use Rattle.elf_image_stream.proofs.Sources.{behind_nothing}
+use Rattle.elf_image_stream.proofs.Sources.{after_nothing}
 use Rattle.elf_image_stream.proofs.reading.read_to_end.Goals as goal
 
 pub returns-clause-taken : goal.returns-clause-taken
@@ -11,6 +11,6 @@ returns-clause-taken g c =
 
 pub returns-clause-whole : goal.returns-clause-whole
 returns-clause-whole g c =
-    behind_nothing
+    after_nothing
     (g.R.Read.remaining c.args.reader.now) c.resume.result c.args.buf.now.items c.resume.new.buf.items 1073741825 c.requires
     c.resume.ensures.whole

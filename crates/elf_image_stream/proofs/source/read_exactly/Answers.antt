@@ -13,7 +13,7 @@ loop-filled-preserved g c =
       same = search rules;
       kept = read.kept ∙ before.kept;
       failures = read.failures.1 (λ dry. absurd (let none = dry.2 in omega arith)) ∙ before.failures;
-      bytes = λ b told. filled_on b _ _ c.args.at n c.in-Ok.count read.front (before.bytes b told)
+      bytes = λ b known. filled_on b _ _ c.args.at n c.in-Ok.count read.front (before.bytes b known)
           (subst (λ (content : Option (List ℕ)). IfSome content (λ b. GivesAt b (c.args.at + n) c.in-Ok.count (drop n c.read_more.new.buf)))
-          (before.kept ∙ told) read.bytes);
+          (before.kept ∙ known) read.bytes);
     }

@@ -16,7 +16,7 @@ returns-in_err-outline-clause-err c =
     let b = c.args.bytes.now in
     stopped (IsParseFault b) _ _
     (stops_parse OutlineValue b _ c.in_ok-validate_records.ensures.kept c.in_err-outline.ensures.failures
-    (c.in_err-outline.ensures.told b refl))
+    (c.in_err-outline.ensures.known b refl))
     c.from_residual-in_err-outline.ensures.1
 
 pub new-requires : goal.new-requires
@@ -34,7 +34,7 @@ returns-clause-ok c =
     let contents : map (λ content. content.now) c.in_ok-contents.contents.items ≡ contents_in o b =
     c.in_ok-contents.ensures ∙ ap (map (λ (s : Shdr). bytes_in b (content_extent s))) c.sections.ensures in
     subst (λ (v : ImageValue). IsImage v b) (sym (c.new.ensures ∙ ap (λ (cs : List (List ℕ)). image_of o cs b) contents))
-    (c.in_ok-outline.ensures.told b refl)
+    (c.in_ok-outline.ensures.known b refl)
 
 pub returns-clause-one_image : goal.returns-clause-one_image
 returns-clause-one_image c other image = one_image other _ c.args.bytes.now image (returns-clause-ok c)

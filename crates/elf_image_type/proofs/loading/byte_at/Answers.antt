@@ -45,6 +45,6 @@ returns c =
     let ps = c.parts-part-items.result.now in
     let f = bytes_in_parts c.args.outline.now (map (λ content. content.now) c.args.contents.now) c.args.file.now in
     let all = ap (λ (qs : _). length (flat_map f qs)) (take_all c.loop-part.part-index ps c.loop-part-test.false) in
-    let behind : length (flat_map f ps) ≤ c.args.offset = omega arith in
-    let end = in_some_part c.args.outline.now _ c.args.file.now ps c.args.offset c.requires.sound c.parts-part-items.ensures.value behind in
+    let after : length (flat_map f ps) ≤ c.args.offset = omega arith in
+    let end = in_some_part c.args.outline.now _ c.args.file.now ps c.args.offset c.requires.sound c.parts-part-items.ensures.value after in
     absurd (omega arith)

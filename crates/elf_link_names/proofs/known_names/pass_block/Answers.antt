@@ -19,7 +19,7 @@ lookup_by_earlier-lookup-requires-clause-lookup c =
     let start = c.len-start.result in
     let first = name_position c.args.names.now.positions in
     let lookup = get_or c.block_lookups-lookups.result (i - start) no_lookup in
-    let behind = c.loop-index.invariant.behind in
+    let begun = c.loop-index.invariant.begun in
     let below = c.loop-index-test.true in
     let here : start + (i - start) ≡ i = omega arith in
     lookup_kept fs f i lookup first (name_position c.loop-index.names.positions) c.loop-index.invariant.kept
@@ -35,7 +35,7 @@ loop-index-preserved c =
     let passed = c.in_ok-pass_symbol.ensures in
     let before = c.loop-index.invariant in
     record {
-      behind = (let behind = before.behind in omega arith);
+      begun = (let begun = before.begun in omega arith);
       names = passed.names;
       indexes = rw c.in_ok-push.ensures.items
           (each_more 0 (IsNameIndex fs now f) c.loop-index.index c.loop-index.row.items c.in_ok-pass_symbol.field-0 passed.index

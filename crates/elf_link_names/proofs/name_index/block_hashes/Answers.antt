@@ -8,11 +8,11 @@ pub loop-index-preserved : goal.loop-index-preserved
 loop-index-preserved c =
     let before = c.loop-index.invariant in
     let step = c.loop-index.index - c.args.start in
-    let within : step < length c.loop-index.hashes = (let behind = before.behind in let room = before.room in omega arith) in
+    let within : step < length c.loop-index.hashes = (let begun = before.begun in let room = before.room in omega arith) in
     record {
-      behind = (let behind = before.behind in omega arith);
+      begun = (let begun = before.begun in omega arith);
       room = length-set c.loop-index.hashes step c.symbol_hash.result ∙ before.room;
       hashes = block_next 0
           (IsSymbolHash c.args.inputs.now c.args.file) c.args.start c.loop-index.index c.loop-index.hashes c.symbol_hash.result
-          before.behind within c.symbol_hash.ensures before.hashes;
+          before.begun within c.symbol_hash.ensures before.hashes;
     }

@@ -6,7 +6,7 @@ use Rattle.elf_link_names.proofs.name_index.block_hashes.Given as goal
 -- the hashes so far
 abbrev pub invariant-loop-index : goal.invariant-loop-index
 invariant-loop-index l = record {
-  behind : l.start ≤ l.index;
+  begun : l.start ≤ l.index;
   room : length l.hashes ≡ BLOCK;
   hashes : AreBlockHashes l.inputs l.file l.start (l.index - l.start) l.hashes;
 }

@@ -11,15 +11,15 @@ loop-index-preserved c =
     let before = c.loop-index.invariant in
     let fs = c.args.inputs.now in
     let step = c.loop-index.index - c.args.start in
-    let here : c.args.start + step ≡ c.loop-index.index = (let behind = before.behind in omega arith) in
+    let here : c.args.start + step ≡ c.loop-index.index = (let begun = before.begun in omega arith) in
     let hash = subst (λ (i : ℕ). IsSymbolHash fs c.args.file i (get_or c.block_hashes-hashes.result step 0)) here
-    (c.block_hashes-hashes.ensures step (let behind = before.behind in omega arith)) in
-    let within : step < length c.loop-index.lookups = (let behind = before.behind in let room = before.room in omega arith) in
+    (c.block_hashes-hashes.ensures step (let begun = before.begun in omega arith)) in
+    let within : step < length c.loop-index.lookups = (let begun = before.begun in let room = before.room in omega arith) in
     record {
-      behind = (let behind = before.behind in omega arith);
+      begun = (let begun = before.begun in omega arith);
       room = length-set c.loop-index.lookups step c.look_up_short.result ∙ before.room;
       lookups = block_next no_lookup (IsSymbolLookup fs (name_position c.args.positions.now) c.args.file) c.args.start c.loop-index.index
-          c.loop-index.lookups c.look_up_short.result before.behind within
+          c.loop-index.lookups c.look_up_short.result before.begun within
           (λ not_local. (
             c.look_up_short.ensures.hash ∙ hash not_local,
             subst (λ (n : List ℕ). IfSome c.look_up_short.result.position (λ p. name_position c.args.positions.now n ≡ Some p))

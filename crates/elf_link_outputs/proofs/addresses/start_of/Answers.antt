@@ -3,7 +3,7 @@ use Rattle.std.proofs.Common.{inl, inr, ◌≡◌, ℕ, ◌+◌, ◌<◌, ◌≤
 use Rattle.std.proofs.lemmas.Bool.{cases_lt}
 use Rattle.std.proofs.lemmas.List.{get_or_default}
 use Rattle.elf_link_outputs.specs.Addresses.{IsCursor}
-use Rattle.elf_link_outputs.proofs.Placings.{cursor_more, past_behind, past_end, past_here, starts_here, starts_match}
+use Rattle.elf_link_outputs.proofs.Placings.{cursor_more, past_after, past_end, past_here, starts_here, starts_match}
 use Rattle.elf_link_outputs.proofs.addresses.start_of.Goals as goal
 
 pub returns-in_default : goal.returns-in_default
@@ -12,7 +12,7 @@ returns-in_default c =
     let i = c.loop-i.i in
     let p = get_or parts i (0, 0) in
     let below : i < length parts = omega arith in
-    past_behind parts c.args.from i c.args.t c.loop-i-test.true c.requires
+    past_after parts c.args.from i c.args.t c.loop-i-test.true c.requires
     (past_here parts c.args.from i c.loop-i.cursor p below (get_or_default parts i (0, 0) p below) c.in_default.ensures c.loop-i.invariant)
 
 pub returns-in_default-checked_add : goal.returns-in_default-checked_add

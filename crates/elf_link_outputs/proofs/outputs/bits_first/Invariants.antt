@@ -6,4 +6,4 @@ abbrev pub invariant-loop-members : goal.invariant-loop-members
 invariant-loop-members g l =
     (goal.iterator-loop-members g).can_next l.members-iterator × (goal.iterator-loop-members g).is_finite l.members-iterator ×
     AreSplit l.objects (map (λ ms. ms.items) l.members-iterator) (map (λ ms. ms.items) l.outputs.items)
-    (map (λ ms. ms.items) l.behind.items)
+    (map (λ ms. ms.items) l.later.items)

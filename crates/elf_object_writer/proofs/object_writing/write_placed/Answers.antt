@@ -20,8 +20,8 @@ loop-position-init g c = rw c.requires (record {
   few = omega arith;
 })
 
-pub invariant_of-part-clause-behind : goal.invariant_of-part-clause-behind
-invariant_of-part-clause-behind g c =
+pub invariant_of-part-clause-ahead : goal.invariant_of-part-clause-ahead
+invariant_of-part-clause-ahead g c =
     let count = c.section_count-position-end.ensures.value in
     content_place c.args.placed.now _ _ c.loop-position.out c.loop-position.position c.prove_placed.ensures
     (omega arith) c.loop-position.invariant.going

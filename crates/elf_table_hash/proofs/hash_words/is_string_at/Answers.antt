@@ -13,7 +13,7 @@ returns c =
     let read = rw rest at c.string_at.ensures in
     let long = length-drop c.args.offset table in
     let near : c.min-2.result ≡ min (length (drop c.args.offset table)) (length name + 1) = omega arith in
-    let told = bytes_eq-Decides c.string_at.result.now name in (
-      λ equal. near_same (drop c.args.offset table) name c.min-2.result near (sym read ∙ told.0 (sym c.eq.ensures ∙ equal)),
-      λ same. c.eq.ensures ∙ told.1 (read ∙ near_back (drop c.args.offset table) name c.min-2.result near same),
+    let known = bytes_eq-Decides c.string_at.result.now name in (
+      λ equal. near_same (drop c.args.offset table) name c.min-2.result near (sym read ∙ known.0 (sym c.eq.ensures ∙ equal)),
+      λ same. c.eq.ensures ∙ known.1 (read ∙ near_back (drop c.args.offset table) name c.min-2.result near same),
     )

@@ -100,18 +100,18 @@ same_rule p q kind form width range =
     ∙ ap (λ (w : Width). record { kind = q.kind; form = q.form; width = w; range = p.range }) width
     ∙ ap (λ (r : Range). record { kind = q.kind; form = q.form; width = q.width; range = r }) range
 
-abbrev behind_form : RelocRule → List ℕ
-behind_form p = width_word p.width ++ 32 ∷ range_word p.range
+abbrev after_form : RelocRule → List ℕ
+after_form p = width_word p.width ++ 32 ∷ range_word p.range
 
-abbrev behind_kind : RelocRule → List ℕ
-behind_kind p = form_word p.form ++ 32 ∷ behind_form p
+abbrev after_kind : RelocRule → List ℕ
+after_kind p = form_word p.form ++ 32 ∷ after_form p
 
 one_line : (line : List ℕ) (p q : RelocRule) → IsRuleLine line p → IsRuleLine line q → p ≡ q
 one_line line p q (word, kind, is) (other, number, are) =
     let (same_kind, forms) =
-    same_ends 32 word other (behind_kind p) (behind_kind q) (digits_above word kind.0.1) (digits_above other number.0.1) (sym is ∙ are) in
+    same_ends 32 word other (after_kind p) (after_kind q) (digits_above word kind.0.1) (digits_above other number.0.1) (sym is ∙ are) in
     let (same_form, widths) =
-    same_ends 32 (form_word p.form) (form_word q.form) (behind_form p) (behind_form q) (form_above p.form) (form_above q.form) forms in
+    same_ends 32 (form_word p.form) (form_word q.form) (after_form p) (after_form q) (form_above p.form) (form_above q.form) forms in
     let (same_width, same_range) =
     same_ends 32 (width_word p.width) (width_word q.width) (range_word p.range) (range_word q.range) (width_above p.width)
     (width_above q.width) widths in
@@ -128,10 +128,10 @@ no_feed line p (word, kind, is) =
     let widths =
     above_both 10 (width_word p.width) (32 ∷ range_word p.range) (above_lower 10 32 (width_word p.width) low (width_above p.width))
     (low, last) in
-    let forms = above_both 10 (form_word p.form) (32 ∷ behind_form p) (above_lower 10 32 (form_word p.form) low (form_above p.form))
+    let forms = above_both 10 (form_word p.form) (32 ∷ after_form p) (above_lower 10 32 (form_word p.form) low (form_above p.form))
     (low, widths) in
     subst (Above 10) (sym is)
-    (above_both 10 word (32 ∷ behind_kind p) (above_lower 10 32 word low (digits_above word kind.0.1)) (low, forms))
+    (above_both 10 word (32 ∷ after_kind p) (above_lower 10 32 word low (digits_above word kind.0.1)) (low, forms))
 
 -- ---- two lists of lines at the beginning of the same bytes
 
@@ -143,48 +143,48 @@ joined lines = concat (map with_feed lines)
 
 -- the rules are the same with the same after them; or one list has further rules, and the other bytes begin with the next of these
 abbrev Meet : List RelocRule → List ℕ → List RelocRule → List ℕ → Type 0
-Meet ps rest qs behind =
-    ((ps ≡ qs) × (rest ≡ behind))
-    ⊎ ((BeginsWithRule rest × (length ps < length qs)) ⊎ (BeginsWithRule behind × (length qs < length ps)))
+Meet ps rest qs tail =
+    ((ps ≡ qs) × (rest ≡ tail))
+    ⊎ ((BeginsWithRule rest × (length ps < length qs)) ⊎ (BeginsWithRule tail × (length qs < length ps)))
 
-meet_more : (p q : RelocRule) (ps qs : List RelocRule) (rest behind : List ℕ) → p ≡ q → Meet ps rest qs behind →
-    Meet (p ∷ ps) rest (q ∷ qs) behind
-meet_more p q ps qs rest behind same (inl (rules, e)) = inl (cc, e)
-meet_more p q ps qs rest behind same (inr (inl (begins, fewer))) = inr (inl (begins, omega arith))
-meet_more p q ps qs rest behind same (inr (inr (begins, fewer))) = inr (inr (begins, omega arith))
+meet_more : (p q : RelocRule) (ps qs : List RelocRule) (rest tail : List ℕ) → p ≡ q → Meet ps rest qs tail →
+    Meet (p ∷ ps) rest (q ∷ qs) tail
+meet_more p q ps qs rest tail same (inl (rules, e)) = inl (cc, e)
+meet_more p q ps qs rest tail same (inr (inl (begins, fewer))) = inr (inl (begins, omega arith))
+meet_more p q ps qs rest tail same (inr (inr (begins, fewer))) = inr (inr (begins, omega arith))
 
 line_first : (line : List ℕ) (lines : List (List ℕ)) (rest : List ℕ) → joined (line ∷ lines) ++ rest ≡ line ++ 10 ∷ (joined lines ++ rest)
 line_first line lines rest = simp append_assoc refl
 
-meet : (lines others : List (List ℕ)) (ps qs : List RelocRule) (rest behind : List ℕ) → AreRuleLines lines ps → AreRuleLines others qs →
-    joined lines ++ rest ≡ joined others ++ behind → Meet ps rest qs behind
-meet [] [] [] [] rest behind are also e = inl (refl, e)
-meet [] [] (p ∷ ps) qs rest behind are also e = absurd are
-meet [] [] [] (q ∷ qs) rest behind are also e = absurd also
-meet [] (o ∷ others) (p ∷ ps) qs rest behind are also e = absurd are
-meet [] (o ∷ others) [] [] rest behind are also e = absurd also
-meet [] (o ∷ others) [] (q ∷ qs) rest behind are also e =
-    inr (inl ((q, joined others ++ behind, (o, also.0, e ∙ line_first o others behind)), omega arith))
-meet (l ∷ lines) [] [] qs rest behind are also e = absurd are
-meet (l ∷ lines) [] (p ∷ ps) (q ∷ qs) rest behind are also e = absurd also
-meet (l ∷ lines) [] (p ∷ ps) [] rest behind are also e =
+meet : (lines others : List (List ℕ)) (ps qs : List RelocRule) (rest tail : List ℕ) → AreRuleLines lines ps → AreRuleLines others qs →
+    joined lines ++ rest ≡ joined others ++ tail → Meet ps rest qs tail
+meet [] [] [] [] rest tail are also e = inl (refl, e)
+meet [] [] (p ∷ ps) qs rest tail are also e = absurd are
+meet [] [] [] (q ∷ qs) rest tail are also e = absurd also
+meet [] (o ∷ others) (p ∷ ps) qs rest tail are also e = absurd are
+meet [] (o ∷ others) [] [] rest tail are also e = absurd also
+meet [] (o ∷ others) [] (q ∷ qs) rest tail are also e =
+    inr (inl ((q, joined others ++ tail, (o, also.0, e ∙ line_first o others tail)), omega arith))
+meet (l ∷ lines) [] [] qs rest tail are also e = absurd are
+meet (l ∷ lines) [] (p ∷ ps) (q ∷ qs) rest tail are also e = absurd also
+meet (l ∷ lines) [] (p ∷ ps) [] rest tail are also e =
     inr (inr ((p, joined lines ++ rest, (l, are.0, sym e ∙ line_first l lines rest)), omega arith))
-meet (l ∷ lines) (o ∷ others) [] qs rest behind are also e = absurd are
-meet (l ∷ lines) (o ∷ others) (p ∷ ps) [] rest behind are also e = absurd also
-meet (l ∷ lines) (o ∷ others) (p ∷ ps) (q ∷ qs) rest behind are also e =
+meet (l ∷ lines) (o ∷ others) [] qs rest tail are also e = absurd are
+meet (l ∷ lines) (o ∷ others) (p ∷ ps) [] rest tail are also e = absurd also
+meet (l ∷ lines) (o ∷ others) (p ∷ ps) (q ∷ qs) rest tail are also e =
     let (line, later) =
-    same_ends 10 l o (joined lines ++ rest) (joined others ++ behind) (no_feed l p are.0) (no_feed o q also.0)
-    (sym (line_first l lines rest) ∙ e ∙ line_first o others behind) in
-    meet_more p q ps qs rest behind (one_line o p q (subst (λ (x : List ℕ). IsRuleLine x p) line are.0) also.0)
-    (meet lines others ps qs rest behind are.1 also.1 later)
+    same_ends 10 l o (joined lines ++ rest) (joined others ++ tail) (no_feed l p are.0) (no_feed o q also.0)
+    (sym (line_first l lines rest) ∙ e ∙ line_first o others tail) in
+    meet_more p q ps qs rest tail (one_line o p q (subst (λ (x : List ℕ). IsRuleLine x p) line are.0) also.0)
+    (meet lines others ps qs rest tail are.1 also.1 later)
 
 -- rules at the beginning of the same bytes
-both : (bytes before rest front behind : List ℕ) (ps qs : List RelocRule) → bytes ≡ before ++ rest → AreRules before ps →
-    bytes ≡ front ++ behind →
-    AreRules front qs → Meet ps rest qs behind
-both bytes before rest front behind ps qs is (lines, are, joined_is, few) also (others, further, joined_also, short) =
-    meet lines others ps qs rest behind are further
-    (sym (ap (λ (b : List ℕ). b ++ rest) joined_is) ∙ sym is ∙ also ∙ ap (λ (b : List ℕ). b ++ behind) joined_also)
+both : (bytes before rest front tail : List ℕ) (ps qs : List RelocRule) → bytes ≡ before ++ rest → AreRules before ps →
+    bytes ≡ front ++ tail →
+    AreRules front qs → Meet ps rest qs tail
+both bytes before rest front tail ps qs is (lines, are, joined_is, few) also (others, further, joined_also, short) =
+    meet lines others ps qs rest tail are further
+    (sym (ap (λ (b : List ℕ). b ++ rest) joined_is) ∙ sym is ∙ also ∙ ap (λ (b : List ℕ). b ++ tail) joined_also)
 
 none_begin : BeginsWithRule [] → ⊥
 none_begin (rule, rest, (line, is, e)) = omega (arith, ap length e, length-append line (10 ∷ rest))
@@ -214,11 +214,11 @@ rules_not_bad bytes ps n are (before, rest, qs, is, also, number, some, bad) =
     ]
 
 one_bad_line : (bytes : List ℕ) (m n : ℕ) → IsBadLine bytes m → IsBadLine bytes n → m ≡ n
-one_bad_line bytes m n (before, rest, ps, is, are, number, some, bad) (front, behind, qs, also, further, count, any, wrong) =
-    elim (both bytes before rest front behind ps qs is are also further) [
+one_bad_line bytes m n (before, rest, ps, is, are, number, some, bad) (front, tail, qs, also, further, count, any, wrong) =
+    elim (both bytes before rest front tail ps qs is are also further) [
       | inl same ↦ omega (arith, ap length same.0)
       | inr (inl more) ↦ absurd (not_bad rest ps qs m more.0 more.1 (let few = further.2 in omega arith) number bad)
-      | inr (inr more) ↦ absurd (not_bad behind qs ps n more.0 more.1 (let few = are.2 in omega arith) count wrong)
+      | inr (inr more) ↦ absurd (not_bad tail qs ps n more.0 more.1 (let few = are.2 in omega arith) count wrong)
     ]
 
 pub returns-clause-rules : goal.returns-clause-rules

@@ -1,7 +1,7 @@
 use Rattle.std.proofs.Common.{[], ◌∷◌, codes, rules}
 use Rattle.std.specs.Fmt.{decimal}
 use Rattle.elf_tool_link.specs.Map.{bytes_line}
-use Rattle.elf_tool_link.proofs.MapLines.{line_behind}
+use Rattle.elf_tool_link.proofs.MapLines.{line_after}
 use Rattle.elf_tool_text.specs.Line.{bytes_text}
 use Rattle.elf_tool_link.proofs.map_lines.pass_bytes_line.Goals as goal
 
@@ -9,5 +9,5 @@ pub returns : goal.returns
 unfolding bytes_line
 returns g c =
     let m = c.args.member in
-    line_behind _ _ _ _ c.as_bytes.result.now (codes "bytes") (decimal m.file ∷ decimal m.section ∷ []) (bytes_text c.args.bytes.now)
+    line_after _ _ _ _ c.as_bytes.result.now (codes "bytes") (decimal m.file ∷ decimal m.section ∷ []) (bytes_text c.args.bytes.now)
     c.pass_line_of_bytes.result (search rules) c.pass_line_of_bytes.ensures

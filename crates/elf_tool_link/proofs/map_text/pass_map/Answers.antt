@@ -4,7 +4,7 @@ use Rattle.std.proofs.Common.{◌++◌}
 use Rattle.std.proofs.lemmas.Result.{err_from_is_err_and}
 use Rattle.elf_tool_check.specs.declared.calls.ToolFault.TheVariants.{Write}
 use Rattle.elf_tool_link.specs.Map.{common_lines, discarded_lines, map_text, name_lines, output_lines}
-use Rattle.elf_tool_text.proofs.Public.{cut_later, cut_longer, passed_behind, stopped_between}
+use Rattle.elf_tool_text.proofs.Public.{cut_later, cut_longer, passed_after, stopped_between}
 use Rattle.elf_tool_link.proofs.map_text.pass_map.Goals as goal
 
 pub returns-in_err-pass_outputs : goal.returns-in_err-pass_outputs
@@ -54,9 +54,9 @@ returns g c =
     let fs = c.args.objects.now in
     let r = c.pass_names.result in
     let q = c.pass_names.new.text in
-    passed_behind _ _ _ c.args.text.now c.pass_outputs.new.text q (output_lines fs m)
+    passed_after _ _ _ c.args.text.now c.pass_outputs.new.text q (output_lines fs m)
     (common_lines m ++ (discarded_lines fs m ++ name_lines fs m)) r c.in_ok-pass_outputs.ensures
-    (passed_behind _ _ _ c.pass_outputs.new.text c.pass_commons.new.text q (common_lines m)
+    (passed_after _ _ _ c.pass_outputs.new.text c.pass_commons.new.text q (common_lines m)
     (discarded_lines fs m ++ name_lines fs m) r c.in_ok-pass_commons.ensures
-    (passed_behind _ _ _ c.pass_commons.new.text c.pass_discarded.new.text q (discarded_lines fs m)
+    (passed_after _ _ _ c.pass_commons.new.text c.pass_discarded.new.text q (discarded_lines fs m)
     (name_lines fs m) r c.in_ok-pass_discarded.ensures c.pass_names.ensures))

@@ -6,7 +6,7 @@ use Rattle.elf_link_outputs.specs.Placed.{output_value}
 use Rattle.elf_tool_check.specs.declared.calls.ToolFault.TheVariants.{Write}
 use Rattle.elf_tool_link.specs.Map.{member_text, output_line}
 use Rattle.elf_tool_text.specs.Buffered.{IsPassed}
-use Rattle.elf_tool_text.proofs.Public.{cut_longer, passed_behind}
+use Rattle.elf_tool_text.proofs.Public.{cut_longer, passed_after}
 use Rattle.elf_tool_link.proofs.map_text.pass_output.Goals as goal
 
 pub returns-in_err-pass_output_line : goal.returns-in_err-pass_output_line
@@ -25,6 +25,6 @@ returns g c =
     let members =
     subst (λ (ms : List Member). IsPassed (g.W.Write.contents c.pass_output_line.new.writer) (g.W.Write.contents c.pass_members.new.writer)
     c.pass_output_line.new.text c.pass_members.new.text (lines ms) c.pass_members.result) c.deref.ensures.value c.pass_members.ensures in
-    passed_behind _ _ _ c.args.text.now c.pass_output_line.new.text c.pass_members.new.text (output_line o)
+    passed_after _ _ _ c.args.text.now c.pass_output_line.new.text c.pass_members.new.text (output_line o)
     (lines o.members) c.pass_members.result
     c.in_ok-pass_output_line.ensures members

@@ -5,9 +5,9 @@ use Rattle.elf_tool_link.proofs.mapping.answer_relocations.Goals as goal
 pub returns-in-Err : goal.returns-in-Err
 returns-in-Err g c =
     let mapped = c.args.mapped.now in
-    let told = rw c.into.ensures at c.tell_unlinked.ensures in
+    let known = rw c.into.ensures at c.tell_unlinked.ensures in
     at_once _ _ _ _ c.tell_unlinked.result
-    (λ v text said. relocation_refused c.args.rules.now mapped.objects mapped.map c.in-Err.fault v text c.in-Err.ensures.err said) told
+    (λ v text said. relocation_refused c.args.rules.now mapped.objects mapped.map c.in-Err.fault v text c.in-Err.ensures.err said) known
 
 pub returns-in-Ok : goal.returns-in-Ok
 returns-in-Ok g c =

@@ -7,7 +7,7 @@ returns-in_default-push-clause-err c =
     let l = c.loop-rest in
     let found = c.in-Some in
     begins_with_rule c.args.bytes.now l.invariant.0 l.rest.now l.rules.items l.invariant.1 l.invariant.2
-    (found.rule, found.behind.now, found.ensures)
+    (found.rule, found.later.now, found.ensures)
 
 pub loop-rest-preserved : goal.loop-rest-preserved
 loop-rest-preserved c =
@@ -18,5 +18,5 @@ loop-rest-preserved c =
     let more = rules_more l.invariant.0 line l.rules.items found.rule l.invariant.1 found.ensures.1 below in (
       l.invariant.0 ++ (line ++ 10 ∷ []),
       rw c.in-Ok.ensures.items more,
-      line_passed c.args.bytes.now l.invariant.0 l.rest.now line found.behind.now l.invariant.2 found.ensures.2,
+      line_passed c.args.bytes.now l.invariant.0 l.rest.now line found.later.now l.invariant.2 found.ensures.2,
     )

@@ -1,6 +1,6 @@
 -- If a line is refused, it is the line of no rule. A rule's line would be cut at its blanks into the rule's own words (`Words`). Then the
 -- cut or the word that failed would not have failed.
-use Rattle.elf_tool_rule_file.proofs.RuleFiles.{no_cut, behind_form, form_is, kind_is, last_is, range_is, rest_is, width_is}
+use Rattle.elf_tool_rule_file.proofs.RuleFiles.{no_cut, after_form, form_is, kind_is, last_is, range_is, rest_is, width_is}
 use Rattle.elf_tool_rule_file.specs.RuleFile.{form_word, range_word, width_word}
 use Rattle.elf_tool_rule_file.proofs.file.rule_in.Goals as goal
 
@@ -11,7 +11,7 @@ pub returns-in_err-form : goal.returns-in_err-form
 returns-in_err-form c =
     rw c.from_residual-in_err-form.ensures (λ rule is.
     let rest = rest_is rule c.args.line.now c.in_ok-kind.kind.now c.in_ok-kind.rest.now c.in_ok-kind.ensures is in
-    no_cut 32 c.in_ok-kind.rest.now (form_word rule.form) (behind_form rule) c.in_err-form.ensures rest)
+    no_cut 32 c.in_ok-kind.rest.now (form_word rule.form) (after_form rule) c.in_err-form.ensures rest)
 
 pub returns-in_err-width : goal.returns-in_err-width
 returns-in_err-width c =

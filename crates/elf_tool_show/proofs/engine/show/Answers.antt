@@ -12,8 +12,8 @@ shown : (input rest old new : Option (List ℕ)) (bytes items : List ℕ) (count
     IsShown input rest old new result
 shown input rest old new bytes items count result same long taken limit whole (inl (none, kept)) =
     record { bytes = bytes; taken = rw same taken; limit = rw long limit; answered = inl (rw none kept) }
-shown input rest old new bytes items count result same long taken limit whole (inr told) =
-    record { bytes = bytes; taken = rw same taken; limit = rw long limit; answered = inr (rw long whole, told) }
+shown input rest old new bytes items count result same long taken limit whole (inr known) =
+    record { bytes = bytes; taken = rw same taken; limit = rw long limit; answered = inr (rw long whole, known) }
 
 pub returns-clause-said : goal.returns-clause-said
 returns-clause-said g c =

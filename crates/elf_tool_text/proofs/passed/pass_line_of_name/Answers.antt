@@ -1,7 +1,7 @@
 use Rattle.std.proofs.Common.{◌++◌, codes}
 use Rattle.std.proofs.lemmas.Result.{err_from_is_err_and}
 use Rattle.elf_tool_text.specs.Line.{name_text}
-use Rattle.elf_tool_text.proofs.PassedText.{passed_behind, stopped_between}
+use Rattle.elf_tool_text.proofs.PassedText.{passed_after, stopped_between}
 use Rattle.elf_tool_text.proofs.passed.pass_line_of_name.Goals as goal
 
 pub returns-in_err-pass_name : goal.returns-in_err-pass_name
@@ -14,7 +14,7 @@ returns-in_err-pass_name g c =
 
 pub returns : goal.returns
 returns g c =
-    passed_behind _ _ _ c.args.output.now c.pass.new.self c.pass-2.new.self c.args.front.now
+    passed_after _ _ _ c.args.output.now c.pass.new.self c.pass-2.new.self c.args.front.now
     (name_text c.args.name.now ++ codes "\n") c.pass-2.result c.in_ok-pass.ensures
-    (passed_behind _ _ _ c.pass.new.self c.pass_name.new.output c.pass-2.new.self (name_text c.args.name.now)
+    (passed_after _ _ _ c.pass.new.self c.pass_name.new.output c.pass-2.new.self (name_text c.args.name.now)
     (codes "\n") c.pass-2.result c.in_ok-pass_name.ensures c.pass-2.ensures)

@@ -1,7 +1,7 @@
 use Rattle.std.proofs.Common.{◌≡◌, ◌∙◌, ◌==◌, ℕ, List, [], ◌∷◌, ◌++◌, Bool, false, ap, codes, if◌then◌else◌, length, sym}
 use Rattle.hex.specs.Hex.{encode_lower}
 use Rattle.elf_tool_text.specs.Line.{is_plain, name_text}
-use Rattle.elf_tool_text.proofs.PassedText.{passed_behind}
+use Rattle.elf_tool_text.proofs.PassedText.{passed_after}
 use Rattle.elf_tool_text.proofs.passed.pass_name.Goals as goal
 
 -- a name that is neither empty nor plain
@@ -13,6 +13,6 @@ digits_of (b ∷ bs) some other = ap (λ (plain : Bool). if plain then b ∷ bs 
 pub returns : goal.returns
 returns g c =
     let is = digits_of c.args.name.now (sym c.is_empty.ensures ∙ c.if-is_empty.false) (sym c.is_plain.ensures ∙ c.if-is_plain.false) in
-    rw is (passed_behind _ _ _ c.args.output.now c.pass-2.new.self c.pass_hexadecimal.new.output (codes "#")
+    rw is (passed_after _ _ _ c.args.output.now c.pass-2.new.self c.pass_hexadecimal.new.output (codes "#")
     (encode_lower c.args.name.now) c.pass_hexadecimal.result
     c.in_ok-pass.ensures c.pass_hexadecimal.ensures)

@@ -11,7 +11,7 @@ use Rattle.clap.specs.Walk.{Text}
 use Rattle.clap.specs.declared.error.Error.{Error}
 use Rattle.clap.specs.declared.error.kind.ErrorKind.TheVariants as kind
 use Rattle.elf_tool_words.specs.Command.{check, elfmap, link_command, map_command, rewrite, show}
-use Rattle.elf_tool_words.specs.Words.{IsRefusedBy, Tells}
+use Rattle.elf_tool_words.specs.Words.{IsRefusedBy, IsReportedAs}
 use Rattle.elf_tool_words.specs.declared.words.WordsFault.{WordsFault}
 use Rattle.elf_tool_words.specs.declared.words.WordsFault.TheVariants.{Words, TooManyFiles, BadNumber, OutOfMemory}
 use Rattle.elf_tool_words.proofs.words.matches_of.Goals as goal
@@ -44,21 +44,21 @@ false_from_not_true false not = refl
 -- an error of clap refuses the arguments as its fault reports it: other than out of memory it comes only where clap does not take them
 refused_by : (a : App) (words : List Text) (error : Error) (fault : WordsFault) → a ≡ elfmap →
     (takes a words ≡ true → kind_of error ≡ kind.OutOfMemory) →
-    HasKind (fault_of a words) error → Tells error fault → IsRefusedBy words fault
-refused_by a words error OutOfMemory is_elfmap passes kind tells = tt
-refused_by a words error TooManyFiles is_elfmap passes kind tells = absurd tells
-refused_by a words error BadNumber is_elfmap passes kind tells = absurd tells
-refused_by a words error (Words e) is_elfmap passes (inl refused) tells = absurd (tells.1 refused)
-refused_by a words error (Words e) is_elfmap passes (inr among) tells =
+    HasKind (fault_of a words) error → IsReportedAs error fault → IsRefusedBy words fault
+refused_by a words error OutOfMemory is_elfmap passes kind says = tt
+refused_by a words error TooManyFiles is_elfmap passes kind says = absurd says
+refused_by a words error BadNumber is_elfmap passes kind says = absurd says
+refused_by a words error (Words e) is_elfmap passes (inl refused) says = absurd (says.1 refused)
+refused_by a words error (Words e) is_elfmap passes (inr among) says =
     let of_elfmap = subst (λ (x : App). IsAmong (kind_of error) (fault_of x words)) is_elfmap among in (
-      subst (λ (x : App). takes x words ≡ false) is_elfmap (false_from_not_true (takes a words) (λ taken. tells.1 (passes taken))),
-      subst (λ (x : Error). IsAmong (kind_of x) (fault_of elfmap words)) (sym tells.0) of_elfmap,
+      subst (λ (x : App). takes x words ≡ false) is_elfmap (false_from_not_true (takes a words) (λ taken. says.1 (passes taken))),
+      subst (λ (x : Error). IsAmong (kind_of x) (fault_of elfmap words)) (sym says.0) of_elfmap,
     )
 
 pub returns-in_err-matches-clause-err : goal.returns-in_err-matches-clause-err
 returns-in_err-matches-clause-err g c =
     let is_elfmap = c.in_ok-command.ensures in
     let kinds = c.in_err-matches.ensures.kinds (ap is_simple_and_free is_elfmap ∙ simple_and_free) in
-    let told = err_from_is_err_and c.from_residual-in_err-matches.result c.from_residual-in_err-matches.ensures.1 in
-    rw told.1 (refused_by (app_of c.in_ok-command.command)
-    (map g.S.AsStr.text c.args.words.now) c.in_err-matches.field-0.0 told.0 is_elfmap c.in_err-matches.ensures.passes kinds told.2)
+    let known = err_from_is_err_and c.from_residual-in_err-matches.result c.from_residual-in_err-matches.ensures.1 in
+    rw known.1 (refused_by (app_of c.in_ok-command.command)
+    (map g.S.AsStr.text c.args.words.now) c.in_err-matches.field-0.0 known.0 is_elfmap c.in_err-matches.ensures.passes kinds known.2)

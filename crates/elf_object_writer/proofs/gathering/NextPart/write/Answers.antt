@@ -17,11 +17,11 @@ overflow_add-padding g c =
     let size = c.content_size-size.ensures in
     omega arith
 
-pub behind-requires-clause-fits : goal.behind-requires-clause-fits
-behind-requires-clause-fits g c =
+pub written_after-requires-clause-fits : goal.written_after-requires-clause-fits
+written_after-requires-clause-fits g c =
     let end = part_end c.args.self.now.placed.now c.args.self.now.position c.section-section.result c.prove_placed.ensures
     c.args.self.now.there c.section-section.ensures in
     let place = c.place.ensures in
     let size = c.content_size-size.ensures in
-    let before = c.args.self.now.behind in
+    let before = c.args.self.now.ahead in
     omega arith

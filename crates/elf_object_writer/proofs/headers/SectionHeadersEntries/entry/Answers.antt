@@ -5,7 +5,7 @@ use Rattle.elf_object_strings.specs.StringTable.{name_offset}
 use Rattle.elf_object_writer.specs.PlacedObject.{plain_section}
 use Rattle.elf_object_layout.specs.Laid.{name_table_at, plain_sections, section_names}
 use Rattle.elf_object_writer.specs.declared.placed_object.PlacedSection.TheVariants.{Names}
-use Rattle.elf_object_writer.proofs.HeaderTables.{behind_first, first_one, header_found, length-headers}
+use Rattle.elf_object_writer.proofs.HeaderTables.{after_first, first_one, header_found, length-headers}
 use Rattle.elf_object_writer.proofs.headers.SectionHeadersEntries.entry.Goals as goal
 
 pub header_at-requires : goal.header_at-requires
@@ -33,6 +33,6 @@ returns-else-index-eq0 c =
     let d = plain_section o Names in
     let some = c.if-index-eq0.false in
     c.header_at.ensures d
-    ∙ sym (behind_first _ _ c.args.index c.header_at.result (omega arith)
+    ∙ sym (after_first _ _ c.args.index c.header_at.result (omega arith)
     ∙ header_found (name_offset (section_names o)) (plain_sections o) p.layout.places
     (c.args.index - 1) c.header_at.result d c.prove_placed.ensures.layout.count (omega arith))

@@ -12,5 +12,5 @@ pub returns-clause-file : goal.returns-clause-file
 returns-clause-file c =
     let v = c.self.inside.image.now in
     let f = sections_of v in
-    let told = rw (← c.self.view_is) at (returns-clause-fault c) in
-    rw (← c.self.view_is) (f, its_file v c.prove_stands.ensures, (one_fault (table_rules f c.args.i), told))
+    let known = rw (← c.self.view_is) at (returns-clause-fault c) in
+    rw (← c.self.view_is) (f, its_file v c.prove_stands.ensures, (one_fault (table_rules f c.args.i), known))

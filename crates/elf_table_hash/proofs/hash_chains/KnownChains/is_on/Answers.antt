@@ -1,11 +1,11 @@
 -- The result is whether `s` is on the known chain of `start`: not at depth 0, and always if it was first met from there. Otherwise the walk
--- leaps down; if `s` is on the chain, it is on that of `here` (`on_behind`). At its depth, `s` is on the chain exactly if it is `here`
+-- leaps down; if `s` is on the chain, it is on that of `here` (`on_after`). At its depth, `s` is on the chain exactly if it is `here`
 -- (`on_same`).
 use Rattle.std.proofs.Common.{◌≢◌, get_or, ap, eq-eqb, subst, arith, ◌<◌, inr, refl, sym, ◌∙◌}
 use Rattle.std.proofs.lemmas.Bool.{eqb-true, false≢true}
 use Rattle.elf_table_hash.specs.ChainDepths.{Leads}
 use Rattle.elf_table_hash.specs.HashTable.{Ends, chain}
-use Rattle.elf_table_hash.proofs.Chains.{on_from_path, known_along, known_ends, leads_join, on_behind, on_same, on_some, zero_depth}
+use Rattle.elf_table_hash.proofs.Chains.{on_from_path, known_along, known_ends, leads_join, on_after, on_same, on_some, zero_depth}
 use Rattle.elf_table_hash.proofs.hash_chains.KnownChains.is_on.Goals as goal
 
 pub returns-then-symbol-eq0 : goal.returns-then-symbol-eq0
@@ -36,7 +36,7 @@ steps-preserved c =
     let step = c.leap-here.ensures.leads in
     record {
       leads = leads;
-      on = λ on. on_behind _ _ _ c.steps.here c.leap-here.result c.args.s c.prove_known.ensures.depths was.known c.leap-here.ensures.leads
+      on = λ on. on_after _ _ _ c.steps.here c.leap-here.result c.args.s c.prove_known.ensures.depths was.known c.leap-here.ensures.leads
           above (was.on on);
       known = known_along _ _ _ c.steps.here c.leap-here.result step.0 c.prove_known.ensures.depths was.known step.1;
       inside = c.leap-here.ensures.inside;
