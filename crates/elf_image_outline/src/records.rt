@@ -107,7 +107,7 @@ impl From<RecordsFault> for Fault {
     }
 }
 
-/// The record at an offset, read as [`read_exactly`] reads its bytes, whose fault it answers. Takes no memory.
+/// The record at an offset, read as [`read_exactly`] reads its bytes, whose fault it returns. Takes no memory.
 pub fn read_record<T: Record, S: Source>(
     source: &mut S,
     order: Order,

@@ -137,7 +137,7 @@ impl<'a> NameIndex<'a> {
         Lookup { hash, position }
     }
 
-    /// The position of a name that has one, which stays; a further name gets this one, and the answer is None. The error comes only if
+    /// The position of a name that has one, which stays; a further name gets this one, and None is returned. The error comes only if
     /// an allocation fails, and leaves each name where it was. Takes a look at a few slots for most names, and log n comparisons for any.
     pub fn place(&mut self, name: &'a [u8], next: usize) -> Result<Option<usize>, AllocError>
         ensures old { IfOk result (λ old. old ≡ name_position self.old name.now) }
@@ -148,7 +148,7 @@ impl<'a> NameIndex<'a> {
         self.place_hashed(hash, name, next)
     }
 
-    /// What [`place`](NameIndex::place) does, of a name that was looked up: the same answer, and the same error. It takes no time if
+    /// What [`place`](NameIndex::place) does, of a name that was looked up: it returns the same, and fails alike. It takes no time if
     /// the lookup has the position; the name is not hashed again.
     pub fn place_looked_up(
         &mut self,

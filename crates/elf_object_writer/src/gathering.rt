@@ -98,7 +98,7 @@ impl NextPart<'_, '_, '_> {
         }
     }
 
-    /// Puts it after the bytes before it: it waits with them if it is short, and else it goes out after them. The answer is where it ends;
+    /// Puts it after the bytes before it: it waits with them if it is short, and else it goes out after them. Returns where it ends;
     /// a fault counts the bytes that are written.
     pub(crate) fn pass<W: Write>(
         &self,

@@ -180,7 +180,7 @@ impl<'s, 'a> Iterator for HashIter<'s, 'a> {
 // Looking up a name in words that may be any (gABI chapter 5, Hash Table).
 
 /// What [`Hash::find`](crate::Hash::find) returns, of a hash table with this content, whose symbol table and string table have these: the
-/// first symbol of this name on the chain of the name's bucket. Of contents that break a rule it answers some symbol or none. It takes no
+/// first symbol of this name on the chain of the name's bucket. Of contents that break a rule it returns some symbol or none. It takes no
 /// memory, and no more steps than there are symbols.
 pub fn find_in(
     order: Order,

@@ -119,7 +119,7 @@ file_line_short h fits =
     by_order Little = omega arith
     by_order Big = omega arith
 
--- the names of an owner, of which a section's has an index
+-- the section's index in an owner fits into 64 bits
 abbrev IsIndexed : Owner → Type 0
 IsIndexed Header = Unit {0}
 IsIndexed ProgramTable = Unit {0}

@@ -47,7 +47,7 @@ fn main(rt: HostRuntime) -> io::Result<ExitCode> {
     }
 }
 
-/// Does what these words ask for. Returns the exit status; or that of what failed, and why it did.
+/// Does what these arguments ask for. Returns the exit status; or that of what failed, and why it did.
 fn run(rt: &HostRuntime, words: &[String]) -> Result<u8, Failed> {
     match words {
         [_, way, words @ ..] if way.as_str() == "--seek" => {
@@ -68,7 +68,7 @@ fn run(rt: &HostRuntime, words: &[String]) -> Result<u8, Failed> {
     Ok(0)
 }
 
-/// The index of a section and its flags, which these words are.
+/// The index of a section and its flags, which these arguments are.
 fn numbers(section: &str, flags: &str) -> Result<(usize, u64), Failed> {
     match (section.parse(), flags.parse()) {
         (Ok(section), Ok(flags)) => Ok((section, flags)),
@@ -81,7 +81,7 @@ fn read(rt: &HostRuntime, name: &str) -> Result<Vec<u8>, Failed> {
     fs::read(rt, name).map_err(|_| UNREAD)
 }
 
-/// Writes the image of these bytes; or answers the exit status, and why.
+/// Writes the image of these bytes; or returns the exit status, and why.
 fn write_back<W: Write>(alloc: Global, bytes: &[u8], out: &mut W) -> Result<(), Failed>
     // What was written is what was read.
     ensures { OnOk result (Appends (W.contents out.old) (W.contents out.new) bytes.now) }
@@ -93,7 +93,7 @@ fn write_back<W: Write>(alloc: Global, bytes: &[u8], out: &mut W) -> Result<(), 
     }
 }
 
-/// Writes the image of these bytes with zeros in its gaps and these flags of a section; or answers the exit status, and why.
+/// Writes the image of these bytes with zeros in its gaps and these flags of a section; or returns the exit status, and why.
 fn edit<W: Write>(
     alloc: Global,
     bytes: &[u8],
