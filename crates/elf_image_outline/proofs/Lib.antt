@@ -1,5 +1,6 @@
 -- The lemmas of this crate.
 pub mod EntriesOut
+mod InMemory
 mod RecordsOfSource
 pub mod Scanned
 pub mod Edited

@@ -45,7 +45,10 @@ use Rattle.elf_image_rules.specs.Rows.{Broken}
 use Rattle.elf_image_rules.specs.declared.name_rules.TableEnds.{TableEnds}
 use Rattle.elf_image_rules.specs.declared.tables.Counts.{Counts}
 use Rattle.elf_image_outline.specs.Records.{table_at}
-use Rattle.elf_image_stream.specs.declared.fault.Fault.TheVariants.{Rule, Io, OutOfMemory}
+use Rattle.elf_image_stream.specs.Faults.{bytes_fault}
+use Rattle.elf_image_stream.specs.declared.fault.BytesFault.TheVariants.{OutOfMemory as NoRoom, Rule as Breaks}
+use Rattle.elf_image_stream.specs.declared.fault.BytesFault.{BytesFault}
+use Rattle.elf_image_stream.specs.declared.fault.Fault.TheVariants.{Rule}
 use Rattle.elf_image_stream.specs.declared.fault.Fault.{Fault}
 
 -- Records that are read one after the other.
@@ -209,13 +212,13 @@ entries_run len h c ss xs gs ys names found has sections segments run =
 
 -- a rule of 1 to 32 that is broken is what all rules find
 pub rule_broken : (len : ℕ) (h : Ehdr) (ss : List Shdr) (gs : List Phdr) (names : List ℕ) (number at : ℕ) →
-    Finds len h ss gs names (Some (number, at)) → BreaksTables len h ss gs names (Rule number at)
+    Finds len h ss gs names (Some (number, at)) → BreaksTables len h ss gs names (Breaks number at)
 unfolding image_rules
 rule_broken len h ss gs names number at run =
     FirstIn-sooner (record_rules len h (section_header_of ss) (program_header_of gs) names) _ (number, at) run
 
 -- what stopped a part of a call stops the call
-pub stopped : {T : Type 0} (Stops : Fault → Type 0) (fault : Fault) (result : Result T Fault) → Stops fault →
+pub stopped : {T E : Type 0} (Stops : E → Type 0) (fault : E) (result : Result T E) → Stops fault →
     IsErrAnd result (λ other. other ≡ fault) →
     IfErr result Stops
 stopped Stops fault (Ok t) stops same = tt
@@ -229,14 +232,13 @@ tables_extents len h c ss gs has =
     (has.segment_count ∙ ap (λ (k : Counts). k.segments) has.counts))
 
 -- the lowest byte that two of the extents hold is what all rules find where rules 1 to 32 are kept
-pub sharing_broken : (len : ℕ) (h : Ehdr) (c : Counts) (ss : List Shdr) (gs : List Phdr) (names : List ℕ) (fault : Fault) →
+pub sharing_broken : (len : ℕ) (h : Ehdr) (c : Counts) (ss : List Shdr) (gs : List Phdr) (names : List ℕ) (fault : BytesFault) →
     HasTables len h c ss gs →
     Finds len h ss gs names None → IsSharedFault (value_extents h ss gs) fault → BreaksTables len h ss gs names fault
 unfolding image_rules
-sharing_broken len h c ss gs names OutOfMemory has kept shared = kept
-sharing_broken len h c ss gs names (Io at) has kept shared = absurd shared
-sharing_broken len h c ss gs names (Rule number at) has kept (is, lowest) =
-    subst (λ (n : ℕ). BreaksTables len h ss gs names (Rule n at)) (sym is)
+sharing_broken len h c ss gs names NoRoom has kept shared = kept
+sharing_broken len h c ss gs names (Breaks number at) has kept (is, lowest) =
+    subst (λ (n : ℕ). BreaksTables len h ss gs names (Breaks n at)) (sym is)
     (FirstIn-later (record_rules len h (section_header_of ss) (program_header_of gs) names) _ (Some (33, at)) kept
     (inl (refl, subst (λ (xs : List Extent). IsLowest (Doubly xs) (Some at)) (tables_extents len h c ss gs has) lowest)))
 
@@ -427,13 +429,13 @@ verdict_of_tables len b h c ss gs found says has records run =
     subst (Finds (length b)) records.header (subst (λ (n : ℕ). Finds n h) says moved)
 
 -- what stops the validation of tables that were read of a file stops the scan
-pub stops_of_tables : (len : ℕ) (b : List ℕ) (h : Ehdr) (c : Counts) (ss : List Shdr) (gs : List Phdr) (fault : Fault) → len ≡ length b →
-    HasTables len h c ss gs → AreRecordsIn b h ss gs → BreaksTables len h ss gs (names b h) fault → Stops b fault
-stops_of_tables len b h c ss gs OutOfMemory says has records breaks =
+pub stops_of_tables : (len : ℕ) (b : List ℕ) (h : Ehdr) (c : Counts) (ss : List Shdr) (gs : List Phdr) (fault : BytesFault) →
+    len ≡ length b →
+    HasTables len h c ss gs → AreRecordsIn b h ss gs → BreaksTables len h ss gs (names b h) fault → Stops b (bytes_fault fault)
+stops_of_tables len b h c ss gs NoRoom says has records breaks =
     table_rules_kept b len h (section_header_of ss 0) says records.header has.head (sym (first_same len b h c ss gs has records))
     has.section_table has.program_table
-stops_of_tables len b h c ss gs (Io at) says has records breaks = absurd breaks
-stops_of_tables len b h c ss gs (Rule number at) says has records breaks =
+stops_of_tables len b h c ss gs (Breaks number at) says has records breaks =
     verdict_of_tables len b h c ss gs (Some (number, at)) says has records breaks
 
 -- tables and parts that were read of a file that breaks no rule make its image

@@ -13,11 +13,13 @@ use Rattle.elf_field.specs.declared.shdr.Shdr.{Shdr}
 use Rattle.elf_image_outline.specs.Image.{part_piece, value_extents}
 use Rattle.elf_image_outline.specs.declared.outline.Part.{Part}
 use Rattle.elf_image_rules.specs.Rows.{FirstIn}
-use Rattle.elf_image_rules.specs.Rules.{IsFault, MAX_LEN, header_rules, ident_rules, length_rules, image_rules, record_rules}
+use Rattle.elf_image_rules.specs.Rules.{IsFault, KeepsRecordRules, MAX_LEN, header_rules, ident_rules, length_rules, image_rules, record_rules}
 use Rattle.elf_image_rules.specs.Rules.{program_table_rules, section_table_rules}
 use Rattle.elf_image_rules.specs.Tables.{bytes_in, content_extent, counts_in, file_counts, header, phdr_offset, program_header_of}
 use Rattle.elf_image_rules.specs.Tables.{section_header_of, sections, shdr_offset}
 use Rattle.elf_image_rules.specs.declared.tables.Counts.{Counts}
+use Rattle.elf_image_stream.specs.declared.fault.BytesFault.TheVariants.{OutOfMemory as NoRoom, Rule as Breaks}
+use Rattle.elf_image_stream.specs.declared.fault.BytesFault.{BytesFault}
 use Rattle.elf_image_stream.specs.declared.fault.Fault.TheVariants.{OutOfMemory, Io, Rule}
 use Rattle.elf_image_stream.specs.declared.fault.Fault.{Fault}
 
@@ -94,10 +96,9 @@ pub record HasTables (len : ℕ) (h : Ehdr) (c : Counts) (ss : List Shdr) (gs : 
   pub valid_segments : AllByRecursion IsPhdr gs
 
 -- of such tables and a name table: the first rule that they break; memory is asked for where they keep rules 1 to 32
-abbrev pub BreaksTables : ℕ → Ehdr → List Shdr → List Phdr → List ℕ → Fault → Type 0
-BreaksTables len h ss gs names OutOfMemory = FirstIn (record_rules len h (section_header_of ss) (program_header_of gs) names) None
-BreaksTables len h ss gs names (Io at) = ⊥
-BreaksTables len h ss gs names (Rule number at) =
+abbrev pub BreaksTables : ℕ → Ehdr → List Shdr → List Phdr → List ℕ → BytesFault → Type 0
+BreaksTables len h ss gs names NoRoom = FirstIn (record_rules len h (section_header_of ss) (program_header_of gs) names) None
+BreaksTables len h ss gs names (Breaks number at) =
     FirstIn (image_rules len h (section_header_of ss) (program_header_of gs) names) (Some (number, at))
 
 -- they break none, and these are the parts of a file that has them
@@ -106,7 +107,11 @@ pub record KeepTables (len : ℕ) (h : Ehdr) (ss : List Shdr) (gs : List Phdr) (
   pub accounts : Accounts (value_extents h ss gs) len 0 (map part_piece ps)
 
 -- of these extents: rule 33 with the lowest byte that two of them hold; or out of memory
-abbrev pub IsSharedFault : List Extent → Fault → Type 0
-IsSharedFault es OutOfMemory = Unit {0}
-IsSharedFault es (Io at) = ⊥
-IsSharedFault es (Rule number at) = (number ≡ 33) × IsLowest (Doubly es) (Some at)
+abbrev pub IsSharedFault : List Extent → BytesFault → Type 0
+IsSharedFault es NoRoom = Unit {0}
+IsSharedFault es (Breaks number at) = (number ≡ 33) × IsLowest (Doubly es) (Some at)
+
+-- of a file in memory: the first rule that it breaks, at its lowest offset; out of memory comes only where it keeps rules 1 to 32
+abbrev pub StopsInMemory : List ℕ → BytesFault → Type 0
+StopsInMemory b NoRoom = KeepsRecordRules b
+StopsInMemory b (Breaks number at) = IsFault b (Some (number, at))

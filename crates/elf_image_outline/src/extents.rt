@@ -11,7 +11,7 @@ use elf_field::abi::{EHDR_SIZE, PHDR_SIZE, SHDR_SIZE};
 use elf_field::{Ehdr, Phdr, Shdr};
 use elf_image_rules::rules::SHARED_BYTE;
 use elf_image_rules::tables::extent_of_content;
-use elf_image_stream::Fault;
+use elf_image_stream::BytesFault;
 use std::alloc::{AllocError, Global};
 
 /// The parts of a file of `len` bytes with this header and these tables, if no byte lies in two of them; otherwise rule 33, at the lowest
@@ -22,7 +22,7 @@ pub(crate) fn unshared_parts(
     header: &Ehdr,
     sections: &[Shdr],
     segments: &[Phdr],
-) -> Result<Vec<Part>, Fault>
+) -> Result<Vec<Part>, BytesFault>
     requires sections { SHDR_SIZE * length sections.now < 2 ^ 64 }
     requires segments { PHDR_SIZE * length segments.now < 2 ^ 64 }
     requires within { AreWithin (value_extents header.now sections.now segments.now) len }
@@ -34,7 +34,7 @@ pub(crate) fn unshared_parts(
     let extents = extents_of(alloc, header, sections, segments)?;
     let sorted = SortedExtents::new(alloc, &extents)?;
     match sorted.first_double() {
-        Some(at) => Err(Fault::Rule {
+        Some(at) => Err(BytesFault::Rule {
             rule: SHARED_BYTE,
             at,
         }),

@@ -9,7 +9,7 @@ use crate::extents::unshared_parts;
 use crate::outline::Part;
 use crate::scanning::Tables;
 use elf_image_rules::{TableEnds, TableRecords, validate_entries};
-use elf_image_stream::Fault;
+use elf_image_stream::BytesFault;
 use std::alloc::Global;
 
 /// The parts of a file of `len` bytes with these tables, and a section name string table with these ends; otherwise the first of rules
@@ -19,7 +19,7 @@ pub(crate) fn validated_parts(
     len: u64,
     tables: &Tables,
     ends: TableEnds,
-) -> Result<Vec<Part>, Fault>
+) -> Result<Vec<Part>, BytesFault>
     requires tables { HasTables len tables.now.header tables.now.counts tables.now.sections.items tables.now.segments.items }
     requires some { (names : List ℕ) × AreEnds ends names }
     requires place { 0 < ends.len → (section_header_of tables.now.sections.items tables.now.counts.name_table).sh_offset + ends.len ≤ len }

@@ -63,6 +63,96 @@ impl From<OutOfMemory> for Fault {
     }
 }
 
+// What can stop a call that only does a part of this: one that looks at bytes in memory, or one that only reads. A public call returns it as
+// the [`Fault`] that it is.
+
+/// Why a call on bytes in memory failed. Nothing is read there.
+#[derive(Clone, Copy, Debug, PartialEq, Eq)]
+pub enum BytesFault {
+    /// An allocation failed.
+    OutOfMemory,
+    /// The bytes break the refusal rule of this number, first at this offset in the file.
+    Rule { rule: u16, at: u64 },
+}
+
+impl From<AllocError> for BytesFault {
+    ghost use Rattle.elf_image_stream.specs.declared.fault.BytesFault.TheVariants.{OutOfMemory};
+
+    ghost from_gives = { λ _ fault. fault ≡ OutOfMemory };
+
+    fn from(_refused: AllocError) -> BytesFault {
+        BytesFault::OutOfMemory
+    }
+}
+
+impl<T: Drop> From<AllocFailed<T>> for BytesFault {
+    ghost use Rattle.elf_image_stream.specs.declared.fault.BytesFault.TheVariants.{OutOfMemory};
+
+    ghost from_gives = { λ _ fault. fault ≡ OutOfMemory };
+
+    fn from(_refused: AllocFailed<T>) -> BytesFault {
+        BytesFault::OutOfMemory
+    }
+}
+
+impl From<OutOfMemory> for BytesFault {
+    ghost use Rattle.elf_image_stream.specs.declared.fault.BytesFault.TheVariants.{OutOfMemory};
+
+    ghost from_gives = { λ _ fault. fault ≡ OutOfMemory };
+
+    fn from(_refused: OutOfMemory) -> BytesFault {
+        BytesFault::OutOfMemory
+    }
+}
+
+impl From<Broken<u64>> for BytesFault {
+    ghost use Rattle.elf_image_stream.specs.declared.fault.BytesFault.TheVariants.{Rule};
+
+    ghost from_gives = { λ broken fault. fault ≡ Rule broken.rule broken.at };
+
+    fn from(broken: Broken<u64>) -> BytesFault {
+        BytesFault::Rule {
+            rule: broken.rule,
+            at: broken.at,
+        }
+    }
+}
+
+impl From<BytesFault> for Fault {
+    ghost use Rattle.elf_image_stream.specs.Faults.{bytes_fault};
+
+    ghost from_gives = { λ refused fault. fault ≡ bytes_fault refused };
+
+    fn from(refused: BytesFault) -> Fault {
+        match refused {
+            BytesFault::OutOfMemory => Fault::OutOfMemory,
+            BytesFault::Rule { rule, at } => Fault::Rule { rule, at },
+        }
+    }
+}
+
+/// Why a call that only reads failed. It tests no rule.
+#[derive(Clone, Copy, Debug, PartialEq, Eq)]
+pub enum InputFault {
+    /// An allocation failed.
+    OutOfMemory,
+    /// A call of the reader failed, after it had given `at` bytes.
+    Io { at: u64 },
+}
+
+impl From<InputFault> for Fault {
+    ghost use Rattle.elf_image_stream.specs.Faults.{input_fault};
+
+    ghost from_gives = { λ failed fault. fault ≡ input_fault failed };
+
+    fn from(failed: InputFault) -> Fault {
+        match failed {
+            InputFault::OutOfMemory => Fault::OutOfMemory,
+            InputFault::Io { at } => Fault::Io { at },
+        }
+    }
+}
+
 /// A call of the writer failed, or took none of the bytes that it was offered.
 #[derive(Clone, Copy, Debug, PartialEq, Eq, Error)]
 #[error("write failed after {written}")]

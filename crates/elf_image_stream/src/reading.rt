@@ -2,9 +2,9 @@
 ghost use Rattle.std.specs.Prelude.{◌≡◌, ◌+◌, ◌-◌, ◌<◌, ◌≤◌, ◌⊎◌, [], ◌++◌, length, take, drop, vec_len, IfErr, IfOk, IfSome, OnErr, OnOk};
 ghost use Rattle.std.specs.Io.KnownBytes.{Consumes, IsAtEnd, Keeps};
 ghost use Rattle.elf_image_rule_names.specs.Longest.{MAX_LEN};
-ghost use Rattle.elf_image_stream.specs.Reading.{IsReadBehind, IsReadFault};
+ghost use Rattle.elf_image_stream.specs.Reading.{IsInputFailure, IsReadBehind, IsReadFault};
 
-use crate::fault::Fault;
+use crate::fault::{Fault, InputFault};
 use std::alloc::AllocError;
 use std::io;
 use std::io::Read;
@@ -43,7 +43,22 @@ pub fn read_to_end<R: Read>(reader: &mut R, buf: &mut Vec<u8>) -> Result<(), Fau
     ensures whole { OnOk result (IfSome (R.remaining reader.old)
         (λ bytes. buf.new.items ≡ take (MAX_LEN + 1) bytes)) }
 {
-    resume(reader, buf)
+    Ok(read_all(reader, buf)?)
+}
+
+/// Reads as [`read_to_end`] does, whose fault is the public form of this one.
+pub fn read_all<R: Read>(reader: &mut R, buf: &mut Vec<u8>) -> Result<(), InputFault>
+    requires { buf.old.items ≡ [] }
+    ensures taken { Consumes (R.remaining reader.old) (R.remaining reader.new) buf.new.items }
+    ensures limit { vec_len buf.new ≤ MAX_LEN + 1 }
+    ensures ok { OnOk result (IsAtEnd (R.remaining reader.new) ⊎ (vec_len buf.new ≡ MAX_LEN + 1)) }
+    ensures fault { IfErr result (λ e. IsInputFailure e (vec_len buf.new)) }
+
+    // A reader that reports its bytes gives them all, up to the limit.
+    ensures whole { OnOk result (IfSome (R.remaining reader.old)
+        (λ bytes. buf.new.items ≡ take (MAX_LEN + 1) bytes)) }
+{
+    read_on(reader, buf)
 }
 
 /// Reads on, after what `buf` holds, at most 2^30 + 1 bytes at the call, until a read gives 0 bytes or `buf` holds 2^30 + 1 bytes. So a
@@ -64,30 +79,43 @@ pub fn resume<R: Read>(reader: &mut R, buf: &mut Vec<u8>) -> Result<(), Fault>
     ensures whole { OnOk result (IfSome (R.remaining reader.old)
         (λ bytes. buf.new.items ≡ buf.old.items ++ take (MAX_LEN + 1 - length buf.old.items) bytes)) }
 {
+    Ok(read_on(reader, buf)?)
+}
+
+// Reads on as [`resume`] does.
+fn read_on<R: Read>(reader: &mut R, buf: &mut Vec<u8>) -> Result<(), InputFault>
+    requires room { vec_len buf.old ≤ MAX_LEN + 1 }
+    ensures taken { IsReadBehind (R.remaining reader.old) (R.remaining reader.new) buf.old.items buf.new.items }
+    ensures limit { vec_len buf.new ≤ MAX_LEN + 1 }
+    ensures ok { OnOk result (IsAtEnd (R.remaining reader.new) ⊎ (vec_len buf.new ≡ MAX_LEN + 1)) }
+    ensures fault { IfErr result (λ e. IsInputFailure e (vec_len buf.new)) }
+    ensures whole { OnOk result (IfSome (R.remaining reader.old)
+        (λ bytes. buf.new.items ≡ buf.old.items ++ take (MAX_LEN + 1 - length buf.old.items) bytes)) }
+{
     let (filled, result) = fill(reader, buf);
     buf.truncate(filled);
     result
 }
 
 // What `buf` held and the bytes read, as the front of `buf`, whose rest is free: how many these are, and why it stopped.
-fn fill<R: Read>(reader: &mut R, buf: &mut Vec<u8>) -> (usize, Result<(), Fault>)
+fn fill<R: Read>(reader: &mut R, buf: &mut Vec<u8>) -> (usize, Result<(), InputFault>)
     requires room { vec_len buf.old ≤ MAX_LEN + 1 }
     ensures within { result.0 ≤ vec_len buf.new }
     ensures taken { IsReadBehind (R.remaining reader.old) (R.remaining reader.new) buf.old.items (take result.0 buf.new.items) }
     ensures limit { result.0 ≤ MAX_LEN + 1 }
     ensures ok { OnOk result.1 (IsAtEnd (R.remaining reader.new) ⊎ (result.0 ≡ MAX_LEN + 1)) }
-    ensures fault { IfErr result.1 (λ e. IsReadFault e result.0) }
+    ensures fault { IfErr result.1 (λ e. IsInputFailure e result.0) }
 {
     let mut filled = buf.len();
     while filled < MOST_BYTES {
         // Memory is taken first, so that a failed allocation loses no byte.
         let Ok(()) = make_room(buf, filled) else {
-            return (filled, Err(Fault::OutOfMemory));
+            return (filled, Err(InputFault::OutOfMemory));
         };
         match read_at(reader, buf, filled) {
             Ok(0) => return (filled, Ok(())),
             Ok(count) => filled += count,
-            Err(_) => return (filled, Err(Fault::Io { at: filled as u64 })),
+            Err(_) => return (filled, Err(InputFault::Io { at: filled as u64 })),
         }
     }
     (filled, Ok(()))

@@ -6,6 +6,7 @@ use Rattle.elf_image_outline.specs.Image.{IsImage}
 use Rattle.elf_image_outline.specs.Outline.{OutlineValue, image_in}
 use Rattle.elf_image_outline.proofs.Scanned.{image_of_tables, stops_of_tables, scans_fault}
 use Rattle.elf_image_outline.proofs.Theorem.{image_is_sound}
+use Rattle.elf_image_stream.specs.Faults.{bytes_fault}
 use Rattle.elf_image_outline.proofs.scanning.scan.Goals as goal
 
 pub returns-in_err-parts-clause-known : goal.returns-in_err-parts-clause-known
@@ -15,7 +16,7 @@ returns-in_err-parts-clause-known g c b known =
     let (says, is) = c.in_ok-head.ensures.known b known in
     let records = c.in_ok-tables.ensures.known b (c.in_ok-head.ensures.kept ∙ known) says is in
     let ends = c.in_ok-ends.ensures.known b (c.in_ok-tables.ensures.kept ∙ c.in_ok-head.ensures.kept ∙ known) says has records in
-    scans_fault b _ c.in_err-parts.field-0.0 _
+    scans_fault b _ (bytes_fault c.in_err-parts.field-0.0) _
     (stops_of_tables c.in_ok-head.head.len b t.header t.counts t.sections.items t.segments.items c.in_err-parts.field-0.0 says has records
     (c.in_err-parts.ensures.err _ ends))
     c.from_residual-in_err-parts.ensures.1

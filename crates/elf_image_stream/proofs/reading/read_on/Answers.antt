@@ -1,6 +1,6 @@
 use Rattle.std.proofs.Common.{rules}
 use Rattle.elf_image_stream.proofs.Sources.{gives_up_to}
-use Rattle.elf_image_stream.proofs.reading.resume.Goals as goal
+use Rattle.elf_image_stream.proofs.reading.read_on.Goals as goal
 
 pub returns-clause-whole : goal.returns-clause-whole
 returns-clause-whole g c =
