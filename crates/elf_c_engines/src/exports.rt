@@ -2,20 +2,20 @@
 ghost use Rattle.std.specs.Prelude.{◌≡◌, [], MatchResult, option_copied};
 ghost use Rattle.elf_tool_rewrite.specs.Rewrite.{RewriteSays};
 ghost use Rattle.elf_tool_show.specs.Show.{RefusedTablesSay, ShowSays};
-ghost use Rattle.elf_c_engines.specs.Calls.{IsEngineCall, IsWantOfMemory, AreLinkOptions, LacksFile, LinkCallFails, LinkCallSays};
-ghost use Rattle.elf_c_engines.specs.Calls.{MapCallFails, MapCallSays, SaysOfFiles, map_options};
+ghost use Rattle.elf_c_engines.specs.Calls.{IsEngineCall, IsSaid, IsWantOfMemory, AreLinkOptions, LacksFile, LinkCallFails, LinkCallSays, MapCallFails, MapCallSays, SaysOfFiles, map_options};
 ghost use Rattle.elf_tool_link.specs.Link.{FilesLink};
 ghost use Rattle.elf_tool_link.specs.Map.{MapSays};
 ghost use Rattle.elf_link_files.specs.declared.fault.Options.{Options as AnOptions};
 
 use crate::calls::{CallFault, Outcome, files_in, give_up, rules_in, small_room, tell};
+use crate::said::{Bounded, Said, answer};
 use elf_c_parts::Slot;
 use elf_link_field::RelocRule;
 use elf_link_map::Options;
-use elf_tool_check::Verdict;
+use elf_tool_check::{ToolFault, Verdict};
 use elf_tool_link::{link_files, map_files};
 use elf_tool_rewrite::rewrite_within;
-use elf_tool_show::{push_refused_tables, show_bytes};
+use elf_tool_show::{push_refused_tables, show_bytes, show_length};
 use std::alloc::Global;
 
 // What a file holds, and its object in canonical layout.
@@ -30,11 +30,26 @@ pub extern "C" fn elfmap_show(
 ) -> u32
     ensures { IsEngineCall (ShowSays bytes.now) IsWantOfMemory room.old room.new outcome.new result }
 {
-    let mut text = Vec::new(alloc);
-    match show_bytes(alloc, bytes, &mut text) {
-        Ok(verdict) => tell(verdict, text.as_slice(), room, outcome),
-        // A vector takes all that there is memory for.
-        Err(_) => give_up(CallFault::OutOfMemory, outcome),
+    let said = show_within(alloc, bytes, room.len());
+    answer(said, room, outcome)
+}
+
+// Its text is kept if it has at most `most` bytes.
+fn show_within(alloc: Global, bytes: &[u8], most: usize) -> Result<Said, CallFault>
+    ensures { MatchResult result (IsSaid (ShowSays bytes.now) most) IsWantOfMemory }
+{
+    if most > 0 {
+        let mut text = Bounded::new(alloc, most);
+        match show_bytes(alloc, bytes, &mut text) {
+            Ok(verdict) => return Ok(Said::whole(verdict, text)),
+            Err(ToolFault::OutOfMemory) => return Err(CallFault::OutOfMemory),
+            // The text passes `most` bytes, or there was no memory for it.
+            Err(_) => {}
+        }
+    }
+    match show_length(alloc, bytes) {
+        Ok((verdict, length)) => Said::unkept(alloc, verdict, length, most),
+        Err(_) => Err(CallFault::OutOfMemory),
     }
 }
 

@@ -1,7 +1,7 @@
 -- How `map` prints: a text at once, or line by line as it is made. Of a text that is shorter than 2^64 bytes both count exactly.
-use Rattle.std.proofs.Common.{◌≡◌, ◌<◌, ◌^◌, ℕ, List, [], Option, Result, Ok, Err, length, refl, subst, sym}
+use Rattle.std.proofs.Common.{◌≡◌, ◌∙◌, ◌<◌, ◌^◌, ◌++◌, ℕ, List, [], Option, Result, Ok, Err, ap, length, refl, subst, sym}
 use Rattle.std.proofs.lemmas.List.{append-nil}
-use Rattle.std.specs.Prelude.{⊤}
+use Rattle.std.specs.Io.KnownBytes.{Appends}
 use Rattle.elf_tool_check.specs.Engine.{IsCutAt, Prints}
 use Rattle.elf_tool_check.specs.declared.calls.ToolFault.TheVariants.{Read, Write, OutOfMemory}
 use Rattle.elf_tool_check.specs.declared.calls.ToolFault.{ToolFault}
@@ -10,7 +10,7 @@ use Rattle.elf_tool_check.specs.declared.calls.Verdict.{Verdict}
 use Rattle.elf_tool_link.specs.Map.{PrintsMap}
 use Rattle.elf_tool_text.specs.Buffered.{Buffers, IsCutBy, IsCutShort}
 use Rattle.elf_tool_text.specs.declared.output.Output.{Output}
-use Rattle.elf_tool_text.proofs.Public.{all_cut, all_out, cut_later}
+use Rattle.elf_tool_text.proofs.Public.{all_cut, buffers_both, cut_later}
 
 cut_at_once : (verdict : Verdict) (old new : Option (List ℕ)) (text : List ℕ) (written : ℕ) → IsCutAt old new text written →
     IsCutBy verdict old new text written
@@ -62,5 +62,7 @@ module _ (Says : Verdict → List ℕ → Type 0) (a : Option (List ℕ)) (o : O
   pub lines_written : (b c : Option (List ℕ)) (p q : Output) → Buffers a b o p text → Buffers b c p q [] → q.pending.items ≡ [] →
       PrintsMap Says a c (Ok Done)
   lines_written b c p q sent flushed gone =
-      let done : Result ⊤ ToolFault = Ok tt in
-      (text, is, all_out a b c o p q text done empty none sent flushed gone)
+      let whole = subst (Buffers a c o q) (append-nil text) (buffers_both a b c o p q text [] sent flushed) in
+      let out : whole.out ≡ text =
+      sym (append-nil whole.out) ∙ ap (λ (s : List ℕ). whole.out ++ s) (sym gone) ∙ whole.rest ∙ ap (λ (s : List ℕ). s ++ text) empty in
+      (text, is, subst (Appends a c) out whole.went)
