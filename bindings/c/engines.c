@@ -713,8 +713,22 @@ static void check_small_rooms(void) {
     if (!bytes)
         stop("malloc");
     make_many(bytes);
+    struct elfmap_extent file = {0, MANY_SIZE};
     struct call call = a_call(SHOW, bytes, MANY_SIZE);
     check_memory(&call, "long lines of symbols are not kept by show");
+    call.engine = MAP;
+    call.files = &file;
+    call.count = 1;
+    check_memory(&call, "nor are long names by map");
+    make_object(bytes);
+    file.len = OBJECT_SIZE;
+    call.len = OBJECT_SIZE;
+    call.engine = LINK;
+    call.entry = (const uint8_t *) "start";
+    call.entry_len = 5;
+    call.options.base = 0;
+    call.options.page = UINT64_C(1) << 23;
+    check_memory(&call, "nor a file with 8 MB of zeros by link");
     free(bytes);
 }
 #endif

@@ -52,8 +52,8 @@ INTO_A_VECTOR = {
     "push_refused_tables",
     "put_verdicts",
     "rewrite_within",
-    "map_files",
-    "link_files",
+    "map_length",
+    "link_length",
     "link_verdict",
 }
 OF_CRATE = "crates/elf_c_engines/"
