@@ -1,5 +1,6 @@
 -- The calls of the library for C that run a command on files in memory.
-use Rattle.std.specs.Prelude.{◌≡◌, ◌<◌, ◌≤◌, ◌+◌, ◌-◌, ◌^◌, ℕ, List, [], ◌∷◌, ◌++◌, length, map, ◌≢◌, ◌⊎◌, None, Option, Some, option_copied, drop, Result, Ok, Err}
+use Rattle.std.specs.Prelude.{◌≡◌, ◌<◌, ◌≤◌, ◌+◌, ◌-◌, ◌^◌, ℕ, List, [], ◌∷◌, ◌++◌, length, map, ◌≢◌, ◌⊎◌, None, Option, Some}
+use Rattle.std.specs.Prelude.{option_copied, drop, Result, Ok, Err}
 use Rattle.std.specs.List.{All}
 use Rattle.elf_c_engines.specs.declared.calls.CallFault.TheVariants.{BadRules, BadFiles, OutOfMemory}
 use Rattle.elf_c_engines.specs.declared.calls.CallFault.{CallFault}
@@ -174,7 +175,8 @@ abbrev pub IsSaid : (Verdict → List ℕ → Type 0) → ℕ → Said → Type 
 IsSaid Says most said =
     (text : List ℕ) × Says said.verdict text × (said.length ≡ length text) × (said.length ≤ most → said.text.items ≡ text)
 
--- a verdict and the length of a text of which nothing is kept: it is longer than `most`, or there is nothing to keep; and 64 bits can say it
+-- a verdict and the length of a text of which nothing is kept: it is longer than `most`, or there is nothing to keep; and 64 bits can say
+-- it
 pub record IsUnkept (verdict : Verdict) (n most : ℕ) (said : Said) : Type 0 where
   pub verdict_is : said.verdict ≡ verdict
   pub length_is : said.length ≡ n

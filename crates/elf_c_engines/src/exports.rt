@@ -2,7 +2,8 @@
 ghost use Rattle.std.specs.Prelude.{MatchResult, map, option_copied};
 ghost use Rattle.elf_tool_rewrite.specs.Rewrite.{RewriteSays};
 ghost use Rattle.elf_tool_show.specs.Show.{RefusedTablesSay, ShowSays};
-ghost use Rattle.elf_c_engines.specs.Calls.{IsEngineCall, IsSaid, IsWantOfMemory, AreLinkOptions, LacksFile, LinkCallFails, LinkCallSays, MapCallFails, MapCallSays, SaysOfFiles, map_options};
+ghost use Rattle.elf_c_engines.specs.Calls.{IsEngineCall, IsSaid, IsWantOfMemory, AreLinkOptions, LacksFile, LinkCallFails, LinkCallSays};
+ghost use Rattle.elf_c_engines.specs.Calls.{MapCallFails, MapCallSays, SaysOfFiles, map_options};
 ghost use Rattle.elf_tool_link.specs.Link.{FilesLink};
 ghost use Rattle.elf_tool_link.specs.Map.{MapSays};
 ghost use Rattle.elf_link_files.specs.declared.fault.Options.{Options as AnOptions};
@@ -168,7 +169,8 @@ fn map_by(
     most: usize,
 ) -> Result<Said, CallFault>
     ensures { MatchResult result
-        (IsSaid (SaysOfFiles (MapSays (map_options options.now) (option_copied rules.entry)) bytes.now files.now) most) (LacksFile bytes.now files.now) }
+        (IsSaid (SaysOfFiles (MapSays (map_options options.now) (option_copied rules.entry)) bytes.now files.now) most)
+        (LacksFile bytes.now files.now) }
 {
     let contents = files_in(alloc, bytes, files)?;
     let options = Options {
@@ -186,7 +188,8 @@ fn map_contents(
     rules: Option<&[RelocRule]>,
     most: usize,
 ) -> Result<Said, CallFault>
-    ensures { MatchResult result (IsSaid (MapSays options.now (option_copied rules.entry) (map (λ f. f.now) files.now)) most) IsWantOfMemory }
+    ensures { MatchResult result
+        (IsSaid (MapSays options.now (option_copied rules.entry) (map (λ f. f.now) files.now)) most) IsWantOfMemory }
 {
     if most > 0 {
         let mut text = Bounded::new(alloc, most);

@@ -1,7 +1,8 @@
 -- The executable of a sound link is an image whose entry is the map's and that loads the link's memory. No other list of bytes is its
 -- executable (`one_exec`). Its header and segments are read as they were written (`exec_read`). These give memory's bytes and no others
 -- (`loads_memory`, `memory_loads`).
-use Rattle.std.proofs.Common.{◌≡◌, ◌<◌, ◌≤◌, ◌+◌, ◌-◌, ◌^◌, ℕ, Bool, true, false, List, [], length, get_or, refl, sym, ap, subst, ◌∙◌, inl, inr, arith, ap₂, Ok, Err}
+use Rattle.std.proofs.Common.{◌≡◌, ◌<◌, ◌≤◌, ◌+◌, ◌-◌, ◌^◌, ℕ, Bool, true, false, List, [], length, get_or, refl, sym, ap, subst, ◌∙◌, inl}
+use Rattle.std.proofs.Common.{inr, arith, ap₂, Ok, Err}
 use Rattle.std.specs.Prelude.{◌⊎◌, if◌then◌else◌, nat_lt, slice_index, ◌↔◌, MatchOption, None, Option, Some}
 use Rattle.std.proofs.lemmas.Bool.{le-ltb, lt-ltb}
 use Rattle.std.proofs.lemmas.List.{ext_get_or}
@@ -9,8 +10,10 @@ use Rattle.std.specs.Io.KnownBytes.{Appends}
 use Rattle.elf_exec.proofs.ExecFile.{content_byte, content_long, outputs, segment_is, segments_long, size_with_bits, stand, exec_accepted}
 use Rattle.elf_exec.proofs.ExecFile.{exec_is_bytes, exec_read}
 use Rattle.elf_exec.proofs.ExecText.{exec_laid, length-exec, sent_text, text_is}
-use Rattle.elf_link_relocate.proofs.Public.{load_of, load_there, at_commons, at_output, commons_ascend, commons_end, commons_some, any_options, field_in_content, memory_in, memory_zero, one_byte, some_byte}
-use Rattle.elf_exec.specs.ExecWriting.{HasExecOf, IsExec, exec_end, load_contents, IsLoadable, WritesExec, exec_text, IsPlacedExec, PlacedExecValue}
+use Rattle.elf_link_relocate.proofs.Public.{load_of, load_there, at_commons, at_output, commons_ascend, commons_end, commons_some}
+use Rattle.elf_link_relocate.proofs.Public.{any_options, field_in_content, memory_in, memory_zero, one_byte, some_byte}
+use Rattle.elf_exec.specs.ExecWriting.{HasExecOf, IsExec, exec_end, load_contents, IsLoadable, WritesExec, exec_text, IsPlacedExec}
+use Rattle.elf_exec.specs.ExecWriting.{PlacedExecValue}
 use Rattle.elf_link_relocate.specs.Loads.{load_at, load_in, loads}
 use Rattle.elf_exec.specs.Executable.{program_headers, IsExecFile, IsSoundLink, AreLoadBytes, ExecLaid, bytes_from, exec_bytes, load_parts}
 use Rattle.elf_exec.specs.Executable.{IsExecutable}
@@ -253,7 +256,8 @@ executable fs m rules b link file = record {
           (λ memory. subst (λ (gs : List Phdr). Loads b gs x w) (sym same) (memory_loads fs m rules link b file x w memory)),
         )
 
--- What is written is the executable of the link, or exactly its first bytes if the writer fails; it is as long as its parts. The text sent is that of the definition
+-- What is written is the executable of the link, or exactly its first bytes if the writer fails; it is as long as its parts. The text sent
+-- is that of the definition
 -- (`text_is`), short enough, and so an image that loads the memory of the link (`executable`).
 
 abbrev pub HasSoundLink : LinkedValue → Type 0

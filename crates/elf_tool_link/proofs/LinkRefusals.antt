@@ -1,5 +1,6 @@
 -- What `link` reads, and what it refuses.
-use Rattle.std.proofs.Common.{◌≡◌, ◌∙◌, ℕ, ◌<◌, ◌≤◌, List, [], ◌∷◌, ◌++◌, ap, arith, get_or, length, map, subst, sym, MatchResult, Option, Result, Ok, Err, inl, inr, refl}
+use Rattle.std.proofs.Common.{◌≡◌, ◌∙◌, ℕ, ◌<◌, ◌≤◌, List, [], ◌∷◌, ◌++◌, ap, arith, get_or, length, map, subst, sym, MatchResult, Option}
+use Rattle.std.proofs.Common.{Result, Ok, Err, inl, inr, refl}
 use Rattle.std.proofs.lemmas.List.{get_or-map, length-map}
 use Rattle.std.proofs.KnownBytes.{Appends-nil, Keeps-refl}
 use Rattle.elf_link_field.specs.declared.rule.RelocRule.{RelocRule}
@@ -9,7 +10,8 @@ use Rattle.elf_link_map.specs.LinkMap.{LinkMapValue}
 use Rattle.elf_link_relocate.specs.Fields.{IsRelocationFault}
 use Rattle.elf_object_type.specs.Object.{ObjectValue}
 use Rattle.elf_tool_link.specs.Link.{FilesLink, MapLinks, unlinked_length, unlinked_verdict}
-use Rattle.elf_tool_link.specs.ObjectFiles.{AreObjectFiles, BeginAsObjects, IsFirstRefused, IsObjectFile, IsRefusedFile, IsUnlinked, link_unlinked}
+use Rattle.elf_tool_link.specs.ObjectFiles.{AreObjectFiles, BeginAsObjects, IsFirstRefused, IsObjectFile, IsRefusedFile, IsUnlinked}
+use Rattle.elf_tool_link.specs.ObjectFiles.{link_unlinked}
 use Rattle.elf_tool_link.specs.declared.mapped.Unlinked.TheVariants.{Refused, OutOfMemory}
 use Rattle.elf_tool_link.specs.declared.mapped.Unlinked.{Unlinked}
 use Rattle.elf_tool_check.specs.Engine.{HasLength, Prints}
@@ -89,14 +91,16 @@ pub length_as : {E : Type 0} {Fails : E → Type 0} (P Q : Verdict → List ℕ 
 length_as P Q (Ok said) into (t, says, long) = (t, into said.0 t says, long)
 length_as P Q (Err fault) into fails = fails
 
-pub no_file_length : (opt : Options) (rules : List RelocRule) (files : List (List ℕ)) (unlinked : Unlinked) → IsUnlinked opt files unlinked →
+pub no_file_length : (opt : Options) (rules : List RelocRule) (files : List (List ℕ)) (unlinked : Unlinked) →
+    IsUnlinked opt files unlinked →
     MatchResult (unlinked_length unlinked) (HasLength (FilesLink opt rules files)) (λ out. out ≡ fault.OutOfMemory)
 no_file_length opt rules files (Refused (File file rule at)) is = ([], inr (is, refl), refl)
 no_file_length opt rules files (Refused (Link rule file index entry)) (fs, are, stands) = ([], inl (fs, are, inr (stands, refl)), refl)
 no_file_length opt rules files (Refused TooLong) is = absurd is
 no_file_length opt rules files OutOfMemory is = refl
 
-pub no_exec_length : (rules : List RelocRule) (fs : List ObjectValue) (m : LinkMapValue) (fault : LinkFault) → IsRelocationFault fs m rules fault →
+pub no_exec_length : (rules : List RelocRule) (fs : List ObjectValue) (m : LinkMapValue) (fault : LinkFault) →
+    IsRelocationFault fs m rules fault →
     MatchResult (unlinked_length (link_unlinked fault)) (HasLength (MapLinks rules fs m)) (λ out. out ≡ fault.OutOfMemory)
 no_exec_length rules fs m (link.Rule rule file index entry) is = ([], inr (is, refl), refl)
 no_exec_length rules fs m link.OutOfMemory is = refl

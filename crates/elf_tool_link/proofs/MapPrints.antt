@@ -57,4 +57,5 @@ module _ (Says : Verdict → List ℕ → Type 0) (a : Option (List ℕ)) (o : O
   -- or all are written, and counted
   pub lines_written : (b c : Option (List ℕ)) (p q : Output) (count : ℕ) → Buffers a b o p text → Buffers b c p q [] → q.pending.items ≡ []
       → count ≡ q.written → count < 2 ^ 64 → CountsMap Says a c (Ok (Done, count))
-  lines_written b c p q count sent flushed gone same fits = (text, is, all_counted a b c o p q text count empty none sent flushed gone same fits)
+  lines_written b c p q count sent flushed gone same fits =
+      (text, is, all_counted a b c o p q text count empty none sent flushed gone same fits)

@@ -47,7 +47,8 @@ pub fn link_length(
     options: &Options<'_>,
     rules: &[RelocRule],
 ) -> Result<(Verdict, u64), ToolFault>
-    ensures { MatchResult result (HasLength (FilesLink options.now rules.now (map_list (λ f. f.now) files.now))) (λ fault. fault ≡ OutOfMemory) }
+    ensures { MatchResult result (HasLength (FilesLink options.now rules.now (map_list (λ f. f.now) files.now)))
+        (λ fault. fault ≡ OutOfMemory) }
 {
     match mapped_files(alloc, files, options) {
         Ok(mapped) => mapped_length(alloc, &mapped, rules),

@@ -1,6 +1,7 @@
 //! `map`: where the sections and names of files are in their link.
 ghost use Rattle.std.specs.Prelude.{◌≡◌, ◌≤◌, ◌++◌, ℕ, List, length, None, Some, option_copied, map as map_list};
-ghost use Rattle.elf_tool_link.specs.Map.{bytes_lines, CountsLine, CountsMap, IsMapped, IsMappedExactly, IsThis, MapSays, PrintsMap, RelocationSays, TellsUnlinked, map_text, refusal_line};
+ghost use Rattle.elf_tool_link.specs.Map.{bytes_lines, CountsLine, CountsMap, IsMapped, IsMappedExactly, IsThis, MapSays, PrintsMap};
+ghost use Rattle.elf_tool_link.specs.Map.{RelocationSays, TellsUnlinked, map_text, refusal_line};
 ghost use Rattle.elf_tool_check.specs.Engine.{Prints, SaysOne};
 
 use crate::inputs::read_inputs;
@@ -92,7 +93,8 @@ fn answer_map<W: Write>(
     rules: Option<&[RelocRule]>,
     writer: &mut W,
 ) -> Result<(Verdict, u64), ToolFault>
-    ensures { CountsMap (RelocationSays (option_copied rules.entry) mapped.now.objects mapped.now.map) (W.contents writer.old) (W.contents writer.new) result }
+    ensures { CountsMap (RelocationSays (option_copied rules.entry) mapped.now.objects mapped.now.map) (W.contents writer.old)
+        (W.contents writer.new) result }
 {
     match rules {
         Some(rules) => answer_relocations(alloc, mapped, rules, writer),
@@ -106,7 +108,8 @@ fn answer_relocations<W: Write>(
     rules: &[RelocRule],
     writer: &mut W,
 ) -> Result<(Verdict, u64), ToolFault>
-    ensures { CountsMap (RelocationSays (Some rules.now) mapped.now.objects mapped.now.map) (W.contents writer.old) (W.contents writer.new) result }
+    ensures { CountsMap (RelocationSays (Some rules.now) mapped.now.objects mapped.now.map) (W.contents writer.old)
+        (W.contents writer.new) result }
 {
     match mapped.relocated(alloc, rules) {
         Ok(linked) => tell_relocated(alloc, mapped, &linked, writer),
@@ -135,7 +138,8 @@ fn tell_relocated<W: Write>(
     linked: &Linked<'_, '_>,
     writer: &mut W,
 ) -> Result<(Verdict, u64), ToolFault>
-    ensures { CountsMap (IsThis Verdict.Done (map_text mapped.now.objects mapped.now.map ++ bytes_lines linked.now)) (W.contents writer.old) (W.contents writer.new) result }
+    ensures { CountsMap (IsThis Verdict.Done (map_text mapped.now.objects mapped.now.map ++ bytes_lines linked.now)) (W.contents writer.old)
+        (W.contents writer.new) result }
 {
     let mut text = Text::with_room(alloc)?;
     pass_map(mapped.objects(), mapped.map(), &mut text, writer)?;

@@ -147,7 +147,8 @@ fn show_image<W: Write>(
     writer: &mut W,
 ) -> Result<u64, ToolFault>
     requires { tables.now.image ≡ image.now }
-    ensures { WritesCounted (show_text bytes.now (record { image = image.now; verdicts = tables.now.verdicts })) (W.contents writer.old) (W.contents writer.new) result }
+    ensures { WritesCounted (show_text bytes.now (record { image = image.now; verdicts = tables.now.verdicts })) (W.contents writer.old)
+        (W.contents writer.new) result }
 {
     let mut output = Output::new(alloc);
     push_file_line(&mut output.pending, &image.header())?;

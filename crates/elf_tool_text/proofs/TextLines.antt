@@ -347,12 +347,14 @@ cut_here a o text = (0, omega arith, Appends-nil a)
 -- ---- a whole text
 
 -- nothing was pending, and nothing is: what is out is the text
-all_out : (a c : Option (List ℕ)) (o q : Output) (text : List ℕ) (sent : Buffers a c o q text) → o.pending.items ≡ [] → q.pending.items ≡ [] → sent.out ≡ text
+all_out : (a c : Option (List ℕ)) (o q : Output) (text : List ℕ) (sent : Buffers a c o q text) → o.pending.items ≡ [] →
+    q.pending.items ≡ [] → sent.out ≡ text
 all_out a c o q text sent empty gone =
     sym (append-nil sent.out) ∙ ap (λ (s : List ℕ). sent.out ++ s) (sym gone) ∙ sent.rest ∙ ap (λ (s : List ℕ). s ++ text) empty
 
 -- a last flush lets all of it out, and the count is its length
-pub all_counted : (a b c : Option (List ℕ)) (o p q : Output) (text : List ℕ) (count : ℕ) → o.pending.items ≡ [] → o.written ≡ 0 → Buffers a b o p text
+pub all_counted : (a b c : Option (List ℕ)) (o p q : Output) (text : List ℕ) (count : ℕ) → o.pending.items ≡ [] → o.written ≡ 0 →
+    Buffers a b o p text
     → Buffers b c p q [] → q.pending.items ≡ [] → count ≡ q.written → count < 2 ^ 64 → IsCounted text a c count
 all_counted a b c o p q text count empty none sent flushed gone is fits =
     let whole = buffers_flushed a b c o p q text sent flushed in

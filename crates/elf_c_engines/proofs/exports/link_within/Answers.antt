@@ -8,7 +8,8 @@ use Rattle.elf_c_engines.specs.Calls.{LacksFile, LinkCallFails}
 use Rattle.elf_c_engines.proofs.Kept.{said_as}
 use Rattle.elf_c_engines.proofs.exports.link_within.Goals as goal
 
-fails : (b : List ℕ) (places : List Slot) (text : List ℕ) (rules : List RelocRule) → AreRules text rules → (fault : CallFault) → LacksFile b places fault →
+fails : (b : List ℕ) (places : List Slot) (text : List ℕ) (rules : List RelocRule) → AreRules text rules → (fault : CallFault) →
+    LacksFile b places fault →
     LinkCallFails b places text fault
 fails b places text rules are OutOfMemory lacking = tt
 fails b places text rules are (BadRules line) lacking = absurd lacking

@@ -9,7 +9,8 @@ use Rattle.elf_c_engines.proofs.Kept.{said_as}
 use Rattle.elf_c_engines.proofs.exports.map_within.Goals as goal
 
 -- a file that is lacking is so by the rules of the text
-fails : (b : List ℕ) (places : List Slot) (options : LinkOptions) (text : List ℕ) (rules : Option (List RelocRule)) → UsesRules options text rules →
+fails : (b : List ℕ) (places : List Slot) (options : LinkOptions) (text : List ℕ) (rules : Option (List RelocRule)) →
+    UsesRules options text rules →
     (fault : CallFault) → LacksFile b places fault → MapCallFails b places options text fault
 fails b places options text rules used OutOfMemory lacking = tt
 fails b places options text rules used (BadRules line) lacking = absurd lacking
@@ -25,4 +26,5 @@ returns c =
     let table = c.as_slice.result.now in
     let used : UsesRules c.args.options.now c.args.rules.now (Some table) =
     inr (c.if-options-eq0.false, (table, rw c.as_slice.ensures.value c.in_ok-table.ensures, refl)) in
-    said_as _ _ _ _ _ c.map_by-2.result (λ v t says. (Some table, used, says)) (fails _ _ c.args.options.now _ (Some table) used) c.map_by-2.ensures
+    said_as _ _ _ _ _ c.map_by-2.result (λ v t says. (Some table, used, says))
+    (fails _ _ c.args.options.now _ (Some table) used) c.map_by-2.ensures

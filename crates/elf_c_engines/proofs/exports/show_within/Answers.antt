@@ -10,4 +10,5 @@ returns-in-Ok c =
     (shown_text _ _ _ c.in-Ok.verdict c.new-text.ensures c.in-Ok.ensures)
 
 pub returns-in-Ok-show_length : goal.returns-in-Ok-show_length
-returns-in-Ok-show_length c = exact_told IsWantOfMemory (ShowSays c.args.bytes.now) _ _ _ tt c.unkept.result c.in-Ok-show_length.ensures c.unkept.ensures
+returns-in-Ok-show_length c =
+    exact_told IsWantOfMemory (ShowSays c.args.bytes.now) _ _ _ tt c.unkept.result c.in-Ok-show_length.ensures c.unkept.ensures

@@ -25,11 +25,13 @@ pub overflow_add : goal.overflow_add
 overflow_add c =
     let p = c.args.placed.now in
     let count = c.count.ensures.value in
-    let end = end_is p c.last c.place.result c.file_size.result c.load.result (omega arith) c.place.ensures c.load.ensures c.file_size.ensures in
+    let end = end_is p c.last c.place.result c.file_size.result c.load.result
+    (omega arith) c.place.ensures c.load.ensures c.file_size.ensures in
     let short = c.count.ensures.placed.short in
     omega arith
 
 pub returns : goal.returns
 returns c =
     let count = c.count.ensures.value in
-    end_is c.args.placed.now c.last c.place.result c.file_size.result c.load.result (omega arith) c.place.ensures c.load.ensures c.file_size.ensures
+    end_is c.args.placed.now c.last c.place.result c.file_size.result c.load.result
+    (omega arith) c.place.ensures c.load.ensures c.file_size.ensures

@@ -27,4 +27,5 @@ returns-in-Ok c =
 pub returns-in-Err : goal.returns-in-Err
 returns-in-Err c =
     let mapped = c.args.mapped.now in
-    rw (c.refused_length.ensures, c.into.ensures) (no_exec_length c.args.rules.now mapped.objects mapped.map c.in-Err.fault c.in-Err.ensures.err)
+    rw (c.refused_length.ensures, c.into.ensures)
+    (no_exec_length c.args.rules.now mapped.objects mapped.map c.in-Err.fault c.in-Err.ensures.err)

@@ -16,8 +16,10 @@ use Rattle.elf_tool_check.specs.declared.calls.Verdict.TheVariants.{Done, Refuse
 use Rattle.elf_tool_show.proofs.engine.show_counted.Goals as goal
 
 -- the count of a beginning of a short text is exact
-exactly : (text : List ℕ) (old new : Option (List ℕ)) (fault : ToolFault) → length text < 2 ^ 64 → IsBeginning text old new fault → WritesPrefix text old new fault
-exactly text old new (Write written) short (count, below, out, same) = subst (λ (n : ℕ). IsCutAt old new text n) (sym (same short)) (below, out)
+exactly : (text : List ℕ) (old new : Option (List ℕ)) (fault : ToolFault) → length text < 2 ^ 64 → IsBeginning text old new fault →
+    WritesPrefix text old new fault
+exactly text old new (Write written) short (count, below, out, same) =
+    subst (λ (n : ℕ). IsCutAt old new text n) (sym (same short)) (below, out)
 exactly text old new OutOfMemory short begun = begun
 exactly text old new (Read at) short begun = begun
 
@@ -25,7 +27,8 @@ pub returns-in_err-length-in-Ok-clause-said : goal.returns-in_err-length-in-Ok-c
 returns-in_err-length-in-Ok-clause-said g c =
     let q = err_from_is_err_and c.from_residual-in_err-length-in-Ok.result c.from_residual-in_err-length-in-Ok.ensures.1 in
     let t : TablesValue = record { image = c.in-Ok.image; verdicts = c.in_ok-tables-in-Ok.tables.verdicts } in
-    let fit = subst (λ (v : ImageValue). VerdictsFit (length v.sections) t.verdicts) c.in_ok-tables-in-Ok.ensures.image c.prove_verdicts.ensures in
+    let fit = subst
+    (λ (v : ImageValue). VerdictsFit (length v.sections) t.verdicts) c.in_ok-tables-in-Ok.ensures.image c.prove_verdicts.ensures in
     let short = show_short c.in-Ok.image c.args.bytes.now c.in-Ok.ensures.ok t.verdicts fit in
     rw (q.1, q.2) (inr (record {
       verdict = Done;
@@ -49,7 +52,8 @@ returns-in_ok-length-in-Ok-clause-said g c =
 pub returns-in_ok-length-in-Ok-clause-length : goal.returns-in_ok-length-in-Ok-clause-length
 returns-in_ok-length-in-Ok-clause-length g c =
     let t : TablesValue = record { image = c.in-Ok.image; verdicts = c.in_ok-tables-in-Ok.tables.verdicts } in
-    let fit = subst (λ (v : ImageValue). VerdictsFit (length v.sections) t.verdicts) c.in_ok-tables-in-Ok.ensures.image c.prove_verdicts.ensures in
+    let fit = subst
+    (λ (v : ImageValue). VerdictsFit (length v.sections) t.verdicts) c.in_ok-tables-in-Ok.ensures.image c.prove_verdicts.ensures in
     let short = show_short c.in-Ok.image c.args.bytes.now c.in-Ok.ensures.ok t.verdicts fit in
     let count = c.in_ok-length-in-Ok.ensures.0 in (
       show_text c.args.bytes.now t,
@@ -73,5 +77,8 @@ returns-in_err-length-in-Err-Rule-clause-said g c =
 pub returns-in_ok-length-in-Err-Rule-clause-length : goal.returns-in_ok-length-in-Err-Rule-clause-length
 returns-in_ok-length-in-Err-Rule-clause-length g c =
     let rule = c.in-Err-Rule.rule in
-    let at = c.in-Err-Rule.at in
-    (refused_line rule at, (rw c.in-Err-Rule.field-0-is at c.in-Err-Rule.ensures.err, refl, refl), c.in_ok-length-in-Err-Rule.ensures.length)
+    let at = c.in-Err-Rule.at in (
+      refused_line rule at,
+      (rw c.in-Err-Rule.field-0-is at c.in-Err-Rule.ensures.err, refl, refl),
+      c.in_ok-length-in-Err-Rule.ensures.length,
+    )

@@ -121,7 +121,8 @@ returns-in_err-show_tables g c =
 -- all lines are sent
 sent : (a x y z w : Option (List ℕ)) (o p q r s e : Output) (b : List ℕ) (v : ImageValue) (tables : TablesValue) (h : Ehdr) (ps : List Part)
     → h ≡ v.header → p.pending.items ≡ o.pending.items ++ file_line h → p.written ≡ o.written
-    → ps ≡ map (λ (l : PlacedPart). l.part) v.parts → tables.image ≡ v → Buffers a x p q (flat_map (part_line b) ps) → Buffers x y q r (section_lines v)
+    → ps ≡ map (λ (l : PlacedPart). l.part) v.parts → tables.image ≡ v → Buffers a x p q (flat_map (part_line b) ps) →
+    Buffers x y q r (section_lines v)
     → Buffers y z r s (segment_lines v) → Buffers z w s e (all_table_lines tables)
     → Buffers a w o e (show_text b (record { image = v; verdicts = tables.verdicts }))
 unfolding show_text
@@ -129,7 +130,8 @@ sent a x y z w o p q r s e b v tables h ps header pushed count same of parts sec
     let t : TablesValue = record { image = v; verdicts = tables.verdicts } in
     buffers_both a a w o p e (file_line v.header) (part_lines b v ++ (section_lines v ++ (segment_lines v ++ all_table_lines t)))
     (file_buffered a o p h v.header header pushed count)
-    (buffers_both a x w p q e (part_lines b v) (section_lines v ++ (segment_lines v ++ all_table_lines t)) (subst (Buffers a x p q) (parts_text b v ps same) parts)
+    (buffers_both a x w p q e (part_lines b v) (section_lines v ++ (segment_lines v ++ all_table_lines t))
+    (subst (Buffers a x p q) (parts_text b v ps same) parts)
     (buffers_both x y w q r e (section_lines v) (segment_lines v ++ all_table_lines t) sections
     (buffers_both y z w r s e (segment_lines v) (all_table_lines t) segments
     (subst (λ (n : TablesValue). Buffers z w s e (all_table_lines n)) (same_tables tables v of) last))))
@@ -144,8 +146,10 @@ returns-in_err-flush g c =
     let fault = c.in_err-flush.field-0.0 in
     rw (f.1, f.2) (all_cut _ _ o (show_text c.args.bytes.now t) fault c.new-output.ensures.pending c.new-output.ensures.written
     (cut_flushed _ _ _ o c.show_tables.new.output (show_text c.args.bytes.now t) fault
-    (sent _ _ _ _ _ o p _ _ _ _ c.args.bytes.now v c.args.tables.now c.header.result c.parts.result.now c.header.ensures c.in_ok-push_file_line.ensures refl
-    c.parts.ensures.value c.requires c.in_ok-show_parts.ensures c.in_ok-show_sections.ensures c.in_ok-show_segments.ensures c.in_ok-show_tables.ensures)
+    (sent _ _ _ _ _ o p _ _ _ _ c.args.bytes.now v c.args.tables.now c.header.result c.parts.result.now c.header.ensures
+    c.in_ok-push_file_line.ensures refl
+    c.parts.ensures.value c.requires c.in_ok-show_parts.ensures c.in_ok-show_sections.ensures c.in_ok-show_segments.ensures
+    c.in_ok-show_tables.ensures)
     c.in_err-flush.ensures.buffered))
 
 pub returns : goal.returns
@@ -154,7 +158,10 @@ returns g c =
     let t : TablesValue = record { image = v; verdicts = c.args.tables.now.verdicts } in
     let o = c.new-output.result in
     let p : Output = record { pending = c.push_file_line.new.text; written = o.written } in
-    all_counted _ _ _ o c.show_tables.new.output c.flush.new.self (show_text c.args.bytes.now t) c.count_written.result c.new-output.ensures.pending c.new-output.ensures.written
-    (sent _ _ _ _ _ o p _ _ _ _ c.args.bytes.now v c.args.tables.now c.header.result c.parts.result.now c.header.ensures c.in_ok-push_file_line.ensures refl
-    c.parts.ensures.value c.requires c.in_ok-show_parts.ensures c.in_ok-show_sections.ensures c.in_ok-show_segments.ensures c.in_ok-show_tables.ensures)
+    all_counted _ _ _ o c.show_tables.new.output c.flush.new.self
+    (show_text c.args.bytes.now t) c.count_written.result c.new-output.ensures.pending c.new-output.ensures.written
+    (sent _ _ _ _ _ o p _ _ _ _ c.args.bytes.now v c.args.tables.now c.header.result c.parts.result.now c.header.ensures
+    c.in_ok-push_file_line.ensures refl
+    c.parts.ensures.value c.requires c.in_ok-show_parts.ensures c.in_ok-show_sections.ensures c.in_ok-show_segments.ensures
+    c.in_ok-show_tables.ensures)
     c.in_ok-flush.ensures.buffered c.in_ok-flush.ensures.empty c.count_written.ensures.value c.count_written.ensures.fits
