@@ -415,7 +415,8 @@ bool elfmap_find(const struct elfmap_table *table, const uint8_t *bytes, size_t 
  * - If the status is ELFMAP_DONE, ELFMAP_REFUSED, ELFMAP_NOT_LINKED or ELFMAP_TOO_LONG, the first `outcome->length` bytes of the buffer are
  *   the whole output, and the bytes after them are unchanged.
  * - If it is ELFMAP_SMALL_ROOM, the output is longer than the buffer: `outcome->length` is how long the buffer has to be, and it is
- *   unchanged. To ask for this length, pass a size of 0; the pointer may be null.
+ *   unchanged. To ask for this length, pass a size of 0; the pointer may be null. Then `elfmap_show`, `elfmap_rewrite`, `elfmap_map` and
+ *   `elfmap_link` take no memory for the output.
  * - If it is any other, there is no output, and the buffer is unchanged.
  *
  *     struct elfmap_outcome outcome;
@@ -427,10 +428,12 @@ bool elfmap_find(const struct elfmap_table *table, const uint8_t *bytes, size_t 
  *     }
  *
  * The engines take memory by the three functions at the end of this file; a program that calls no engine needs none of them. A call holds
- * the records and tables of a file, or the objects of several files, their link map and copies of sections with bits, and its output, but
- * no copy of the files. It frees all of that before it returns, whatever the status. It keeps no state, so calls may run at the same time
- * in several threads if these three functions may. After an allocation that failed a call may ask again, before it ends with
- * ELFMAP_NO_MEMORY.
+ * the records and tables of a file, or the objects of several files, their link map and copies of sections with bits, but no copy of the
+ * files. Of its output it holds as many bytes as the buffer has, or twice as many while they grow. If the output is longer, these are freed,
+ * and its length is found without it: that takes as much time again as without a buffer. `elfmap_rewrite` finds the length first, and
+ * `elfmap_refused_tables` holds its whole output. A call frees all its memory before it returns, whatever the status. It keeps no state, so
+ * calls may run at the same time in several threads if these three functions may. After an allocation that failed a call may ask again,
+ * before it ends with ELFMAP_NO_MEMORY.
  */
 
 /* What an engine returns, a `uint32_t`. */

@@ -45,31 +45,46 @@ static long held; /* how many blocks are held */
 #ifndef OVER_MALLOC
 static unsigned long requests; /* how many blocks were asked for */
 static unsigned long refused;  /* the number of the request that is refused, from 1; 0 for none */
+static size_t in_use, most;    /* how many bytes the blocks have, and the most that they had at once */
 
-static struct elfmap_block block_at(void *start) {
-    struct elfmap_block block = {start != NULL, start != NULL ? start : &requests};
+/* What is in front of a block: how many bytes it has. An alignment divides 16. */
+union front {
+    size_t size;
+    char room[16];
+};
+
+static struct elfmap_block block_of(union front *front, size_t size) {
+    struct elfmap_block block = {front != NULL, front != NULL ? (void *) (front + 1) : (void *) &requests};
+    if (front) {
+        front->size = size;
+        in_use += size;
+        most = in_use > most ? in_use : most;
+    }
     return block;
 }
 
 struct elfmap_block elfmap_alloc(size_t size, size_t align) {
     check(align != 0 && 16 % align == 0, "an alignment divides 16");
-    if (++requests == refused)
-        return block_at(NULL);
-    void *start = malloc(size != 0 ? size : align);
-    held += start != NULL;
-    return block_at(start);
+    union front *front = ++requests == refused ? NULL : malloc(sizeof *front + size);
+    held += front != NULL;
+    return block_of(front, size);
 }
 
 struct elfmap_block elfmap_realloc(void *start, size_t kept, size_t size, size_t align) {
+    check(align != 0 && 16 % align == 0, "an alignment divides 16");
     check(kept <= size, "what is kept fits");
-    if (++requests == refused)
-        return block_at(NULL);
-    return block_at(realloc(start, size != 0 ? size : align));
+    union front *front = (union front *) start - 1;
+    size_t before = front->size;
+    front = ++requests == refused ? NULL : realloc(front, sizeof *front + size);
+    in_use -= front != NULL ? before : 0;
+    return block_of(front, size);
 }
 
 void elfmap_dealloc(void *start) {
+    union front *front = (union front *) start - 1;
     held--;
-    free(start);
+    in_use -= front->size;
+    free(front);
 }
 #endif
 
@@ -641,6 +656,83 @@ static void check_null(void) {
     check(elfmap_table_verdicts(bytes, HEADER_SIZE, 0, NULL, 0, &outcome) == ELFMAP_DONE && outcome.length == 0, "and takes no verdicts");
 }
 
+#ifndef OVER_MALLOC
+/* ---- A room that is too small costs no memory for what is said. */
+
+/* A room of this size: how much memory is taken at most, and that the length is this one. */
+static size_t memory_in(const struct call *it, size_t size, uint32_t status, uint64_t length, const char *what) {
+    most = 0;
+    struct answer answer = call_in(it, size);
+    check(answer.status == status && answer.outcome.length == length, what);
+    free(answer.text);
+    return most;
+}
+
+/* The engine says more than 4 MB, with little memory beside: a room that is too small takes no more than a MB. */
+static void check_memory(const struct call *it, const char *what) {
+    struct answer answer = call_in(it, 0);
+    uint64_t length = answer.outcome.length;
+    free(answer.text);
+    check(length > 4000000, what);
+    check(memory_in(it, 0, ELFMAP_SMALL_ROOM, length, what) < 1000000, what);
+    check(memory_in(it, 1000, ELFMAP_SMALL_ROOM, length, what) < 1000000, what);
+    check(memory_in(it, 100000, ELFMAP_SMALL_ROOM, length, what) < 1000000, what);
+    check(memory_in(it, length - 1, ELFMAP_SMALL_ROOM, length, what) < 2 * length + 1000000, what);
+    check(memory_in(it, length, ELFMAP_DONE, length, what) >= length, what);
+}
+
+/* An object with many global symbols in its text, whose names are one name without its first bytes. Its end is that of make_object. */
+enum { MANY = 1500, MANY_NAME = 5000, MANY_SIZE = OBJECT_SIZE + MANY * SYMBOL_SIZE + MANY_NAME };
+
+static void make_many(uint8_t *bytes) {
+    uint8_t object[OBJECT_SIZE];
+    make_object(object);
+    memset(bytes, 0, MANY_SIZE);
+    size_t symbols_len = (size_t) (MANY + 1) * SYMBOL_SIZE;
+    size_t strings_at = SYMBOLS_AT + symbols_len, names_at = strings_at + MANY_NAME + 1;
+    size_t table_at = names_at + sizeof names + (8 - (names_at + sizeof names) % 8) % 8;
+    memcpy(bytes, object, SYMBOLS_AT + SYMBOL_SIZE);
+    put(bytes + 40, 8, table_at);
+    for (size_t k = 0; k < MANY; k++) {
+        uint8_t *symbol = bytes + SYMBOLS_AT + (k + 1) * SYMBOL_SIZE;
+        memcpy(symbol, object + SYMBOLS_AT + SYMBOL_SIZE, SYMBOL_SIZE);
+        put(symbol, 4, k + 1);
+    }
+    memset(bytes + strings_at + 1, 'n', MANY_NAME - 1);
+    memcpy(bytes + names_at, names, sizeof names);
+    uint8_t *table = bytes + table_at;
+    memcpy(table, object + TABLE_AT, 5 * SECTION_SIZE);
+    put(table + 2 * SECTION_SIZE + 32, 8, symbols_len);
+    put(table + 3 * SECTION_SIZE + 24, 8, strings_at);
+    put(table + 3 * SECTION_SIZE + 32, 8, MANY_NAME + 1);
+    put(table + 4 * SECTION_SIZE + 24, 8, names_at);
+}
+
+static void check_small_rooms(void) {
+    uint8_t *bytes = malloc(MANY_SIZE);
+    if (!bytes)
+        stop("malloc");
+    make_many(bytes);
+    struct elfmap_extent file = {0, MANY_SIZE};
+    struct call call = a_call(SHOW, bytes, MANY_SIZE);
+    check_memory(&call, "long lines of symbols are not kept by show");
+    call.engine = MAP;
+    call.files = &file;
+    call.count = 1;
+    check_memory(&call, "nor are long names by map");
+    make_object(bytes);
+    file.len = OBJECT_SIZE;
+    call.len = OBJECT_SIZE;
+    call.engine = LINK;
+    call.entry = (const uint8_t *) "start";
+    call.entry_len = 5;
+    call.options.base = 0;
+    call.options.page = UINT64_C(1) << 23;
+    check_memory(&call, "nor a file with 8 MB of zeros by link");
+    free(bytes);
+}
+#endif
+
 /* ---- What an engine answers for files. */
 
 /* Appends the bytes of a file to those that are there. */
@@ -717,6 +809,9 @@ int main(int count, char **words) {
     check_link_verdict();
     check_too_many();
     check_null();
+#ifndef OVER_MALLOC
+    check_small_rooms();
+#endif
     printf("%d passed, %d failed\n", passed, failed);
     return failed == 0 ? 0 : 1;
 }

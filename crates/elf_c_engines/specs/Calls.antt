@@ -1,10 +1,12 @@
 -- The calls of the library for C that run a command on files in memory.
-use Rattle.std.specs.Prelude.{◌≡◌, ◌<◌, ◌≤◌, ◌+◌, ℕ, List, [], ◌∷◌, ◌++◌, length, map, ◌≢◌, ◌⊎◌, None, Option, Some, option_copied, drop}
+use Rattle.std.specs.Prelude.{◌≡◌, ◌<◌, ◌≤◌, ◌+◌, ◌-◌, ◌^◌, ℕ, List, [], ◌∷◌, ◌++◌, length, map, ◌≢◌, ◌⊎◌, None, Option, Some}
+use Rattle.std.specs.Prelude.{option_copied, drop, Result, Ok, Err}
 use Rattle.std.specs.List.{All}
 use Rattle.elf_c_engines.specs.declared.calls.CallFault.TheVariants.{BadRules, BadFiles, OutOfMemory}
 use Rattle.elf_c_engines.specs.declared.calls.CallFault.{CallFault}
 use Rattle.elf_c_engines.specs.declared.calls.Outcome.{Outcome}
 use Rattle.elf_c_engines.specs.declared.exports.LinkOptions.{LinkOptions}
+use Rattle.elf_c_engines.specs.declared.said.Said.{Said}
 use Rattle.elf_c_parts.specs.Slots.{extent_in}
 use Rattle.elf_c_parts.specs.declared.room.Slot.{Slot}
 use Rattle.elf_image_rules.specs.Tables.{bytes_in}
@@ -165,6 +167,33 @@ abbrev pub IsEngineCall : (Verdict → List ℕ → Type 0) → (CallFault → T
 IsEngineCall Says Fails old new outcome status =
     ((verdict : Verdict) × (text : List ℕ) × Says verdict text × IsTold verdict text old new outcome status)
     ⊎ ((fault : CallFault) × Fails fault × IsWithoutAnswer fault old new outcome status)
+
+-- What an engine says whose text is kept only if it has room in the buffer.
+
+-- its verdict, the length of its text, and its text, if that is no longer than `most`
+abbrev pub IsSaid : (Verdict → List ℕ → Type 0) → ℕ → Said → Type 0
+IsSaid Says most said =
+    (text : List ℕ) × Says said.verdict text × (said.length ≡ length text) × (said.length ≤ most → said.text.items ≡ text)
+
+-- a verdict and the length of a text of which nothing is kept: it is longer than `most`, or there is nothing to keep; and 64 bits can say
+-- it
+pub record IsUnkept (verdict : Verdict) (n most : ℕ) (said : Said) : Type 0 where
+  pub verdict_is : said.verdict ≡ verdict
+  pub length_is : said.length ≡ n
+  pub text : said.text.items ≡ []
+  pub exact : n < 2 ^ 64 - 1
+  pub long : n ≤ most → n ≡ 0
+
+-- it is returned: a text that is longer than the buffer by its length, and another one as what is kept
+abbrev pub IsToldSaid : Said → List ℕ → List ℕ → Outcome → ℕ → Type 0
+IsToldSaid said old new outcome status =
+    ((length old < said.length) × (new ≡ old) × (status ≡ small_room_status) × (outcome ≡ length_alone said.length))
+    ⊎ ((said.length ≤ length old) × IsTold said.verdict said.text.items old new outcome status)
+
+-- or why nothing is said
+abbrev pub IsAnswered : Result Said CallFault → List ℕ → List ℕ → Outcome → ℕ → Type 0
+IsAnswered (Ok said) old new outcome status = IsToldSaid said old new outcome status
+IsAnswered (Err fault) old new outcome status = IsWithoutAnswer fault old new outcome status
 
 -- the only fault is out of memory
 abbrev pub IsWantOfMemory : CallFault → Type 0

@@ -1,21 +1,22 @@
 //! The calls of the library for C that run a command on files in memory.
-ghost use Rattle.std.specs.Prelude.{◌≡◌, [], MatchResult, option_copied};
+ghost use Rattle.std.specs.Prelude.{MatchResult, map, option_copied};
 ghost use Rattle.elf_tool_rewrite.specs.Rewrite.{RewriteSays};
 ghost use Rattle.elf_tool_show.specs.Show.{RefusedTablesSay, ShowSays};
-ghost use Rattle.elf_c_engines.specs.Calls.{IsEngineCall, IsWantOfMemory, AreLinkOptions, LacksFile, LinkCallFails, LinkCallSays};
+ghost use Rattle.elf_c_engines.specs.Calls.{IsEngineCall, IsSaid, IsWantOfMemory, AreLinkOptions, LacksFile, LinkCallFails, LinkCallSays};
 ghost use Rattle.elf_c_engines.specs.Calls.{MapCallFails, MapCallSays, SaysOfFiles, map_options};
 ghost use Rattle.elf_tool_link.specs.Link.{FilesLink};
 ghost use Rattle.elf_tool_link.specs.Map.{MapSays};
 ghost use Rattle.elf_link_files.specs.declared.fault.Options.{Options as AnOptions};
 
 use crate::calls::{CallFault, Outcome, files_in, give_up, rules_in, small_room, tell};
+use crate::said::{Bounded, Said, answer};
 use elf_c_parts::Slot;
 use elf_link_field::RelocRule;
 use elf_link_map::Options;
-use elf_tool_check::Verdict;
-use elf_tool_link::{link_files, map_files};
+use elf_tool_check::ToolFault;
+use elf_tool_link::{link_files, link_length, map_files, map_length};
 use elf_tool_rewrite::rewrite_within;
-use elf_tool_show::{push_refused_tables, show_bytes};
+use elf_tool_show::{push_refused_tables, show_bytes, show_length};
 use std::alloc::Global;
 
 // What a file holds, and its object in canonical layout.
@@ -30,11 +31,26 @@ pub extern "C" fn elfmap_show(
 ) -> u32
     ensures { IsEngineCall (ShowSays bytes.now) IsWantOfMemory room.old room.new outcome.new result }
 {
-    let mut text = Vec::new(alloc);
-    match show_bytes(alloc, bytes, &mut text) {
-        Ok(verdict) => tell(verdict, text.as_slice(), room, outcome),
-        // A vector takes all that there is memory for.
-        Err(_) => give_up(CallFault::OutOfMemory, outcome),
+    let said = show_within(alloc, bytes, room.len());
+    answer(said, room, outcome)
+}
+
+// Its text is kept if it has at most `most` bytes.
+fn show_within(alloc: Global, bytes: &[u8], most: usize) -> Result<Said, CallFault>
+    ensures { MatchResult result (IsSaid (ShowSays bytes.now) most) IsWantOfMemory }
+{
+    if most > 0 {
+        let mut text = Bounded::new(alloc, most);
+        match show_bytes(alloc, bytes, &mut text) {
+            Ok(verdict) => return Ok(Said::whole(verdict, text)),
+            Err(ToolFault::OutOfMemory) => return Err(CallFault::OutOfMemory),
+            // The text passes `most` bytes, or there was no memory for it.
+            Err(_) => {}
+        }
+    }
+    match show_length(alloc, bytes) {
+        Ok((verdict, length)) => Said::unkept(alloc, verdict, length, most),
+        Err(_) => Err(CallFault::OutOfMemory),
     }
 }
 
@@ -102,11 +118,8 @@ pub extern "C" fn elfmap_map(
     ensures { IsEngineCall (MapCallSays bytes.now files.now options.now rules.now) (MapCallFails bytes.now files.now options.now rules.now)
         room.old room.new outcome.new result }
 {
-    let mut text = Vec::new(alloc);
-    match map_into(alloc, bytes, files, options, rules, &mut text) {
-        Ok(verdict) => tell(verdict, text.as_slice(), room, outcome),
-        Err(fault) => give_up(fault, outcome),
-    }
+    let said = map_within(alloc, bytes, files, options, rules, room.len());
+    answer(said, room, outcome)
 }
 
 /// What `elfmap link` writes of the files that lie in these bytes.
@@ -124,30 +137,27 @@ pub extern "C" fn elfmap_link(
     ensures { IsEngineCall (LinkCallSays bytes.now files.now options.now entry.now rules.now) (LinkCallFails bytes.now files.now rules.now)
         room.old room.new outcome.new result }
 {
-    let mut file = Vec::new(alloc);
-    match link_into(alloc, bytes, files, options, entry, rules, &mut file) {
-        Ok(verdict) => tell(verdict, file.as_slice(), room, outcome),
-        Err(fault) => give_up(fault, outcome),
-    }
+    let said = link_within(alloc, bytes, files, options, entry, rules, room.len());
+    answer(said, room, outcome)
 }
 
-fn map_into(
+// The text is kept if it has at most `most` bytes.
+fn map_within(
     alloc: Global,
     bytes: &[u8],
     files: &[Slot],
     options: &LinkOptions,
     rules: &[u8],
-    text: &mut Vec<u8>,
-) -> Result<Verdict, CallFault>
-    requires { text.old.items ≡ [] }
-    ensures { MatchResult result (λ verdict. MapCallSays bytes.now files.now options.now rules.now verdict text.new.items)
+    most: usize,
+) -> Result<Said, CallFault>
+    ensures { MatchResult result (IsSaid (MapCallSays bytes.now files.now options.now rules.now) most)
         (MapCallFails bytes.now files.now options.now rules.now) }
 {
     if options.uses_rules == 0 {
-        return map_by(alloc, bytes, files, options, None, text);
+        return map_by(alloc, bytes, files, options, None, most);
     }
     let table = rules_in(alloc, rules)?;
-    map_by(alloc, bytes, files, options, Some(table.as_slice()), text)
+    map_by(alloc, bytes, files, options, Some(table.as_slice()), most)
 }
 
 fn map_by(
@@ -156,11 +166,10 @@ fn map_by(
     files: &[Slot],
     options: &LinkOptions,
     rules: Option<&[RelocRule]>,
-    text: &mut Vec<u8>,
-) -> Result<Verdict, CallFault>
-    requires { text.old.items ≡ [] }
+    most: usize,
+) -> Result<Said, CallFault>
     ensures { MatchResult result
-        (λ verdict. SaysOfFiles (MapSays (map_options options.now) (option_copied rules.entry)) bytes.now files.now verdict text.new.items)
+        (IsSaid (SaysOfFiles (MapSays (map_options options.now) (option_copied rules.entry)) bytes.now files.now) most)
         (LacksFile bytes.now files.now) }
 {
     let contents = files_in(alloc, bytes, files)?;
@@ -169,27 +178,49 @@ fn map_by(
         page: options.page,
         entry: None,
     };
-    match map_files(alloc, contents.as_slice(), &options, rules, text) {
-        Ok(verdict) => Ok(verdict),
+    map_contents(alloc, contents.as_slice(), &options, rules, most)
+}
+
+fn map_contents(
+    alloc: Global,
+    files: &[&[u8]],
+    options: &Options<'_>,
+    rules: Option<&[RelocRule]>,
+    most: usize,
+) -> Result<Said, CallFault>
+    ensures { MatchResult result
+        (IsSaid (MapSays options.now (option_copied rules.entry) (map (λ f. f.now) files.now)) most) IsWantOfMemory }
+{
+    if most > 0 {
+        let mut text = Bounded::new(alloc, most);
+        match map_files(alloc, files, options, rules, &mut text) {
+            Ok(verdict) => return Ok(Said::whole(verdict, text)),
+            Err(ToolFault::OutOfMemory) => return Err(CallFault::OutOfMemory),
+            // The text passes `most` bytes, or there was no memory for it.
+            Err(_) => {}
+        }
+    }
+    match map_length(alloc, files, options, rules) {
+        Ok((verdict, length)) => Said::unkept(alloc, verdict, length, most),
         Err(_) => Err(CallFault::OutOfMemory),
     }
 }
 
-fn link_into(
+// The file is kept if it has at most `most` bytes.
+fn link_within(
     alloc: Global,
     bytes: &[u8],
     files: &[Slot],
     options: &LinkOptions,
     entry: &[u8],
     rules: &[u8],
-    file: &mut Vec<u8>,
-) -> Result<Verdict, CallFault>
-    requires { file.old.items ≡ [] }
-    ensures { MatchResult result (λ verdict. LinkCallSays bytes.now files.now options.now entry.now rules.now verdict file.new.items)
+    most: usize,
+) -> Result<Said, CallFault>
+    ensures { MatchResult result (IsSaid (LinkCallSays bytes.now files.now options.now entry.now rules.now) most)
         (LinkCallFails bytes.now files.now rules.now) }
 {
     let table = rules_in(alloc, rules)?;
-    link_by(alloc, bytes, files, options, entry, table.as_slice(), file)
+    link_by(alloc, bytes, files, options, entry, table.as_slice(), most)
 }
 
 fn link_by(
@@ -199,12 +230,11 @@ fn link_by(
     options: &LinkOptions,
     entry: &[u8],
     rules: &[RelocRule],
-    file: &mut Vec<u8>,
-) -> Result<Verdict, CallFault>
-    requires { file.old.items ≡ [] }
+    most: usize,
+) -> Result<Said, CallFault>
     ensures { MatchResult result
-        (λ verdict. (opt : AnOptions) × AreLinkOptions options.now entry.now opt
-        × SaysOfFiles (FilesLink opt rules.now) bytes.now files.now verdict file.new.items)
+        (IsSaid (λ verdict file. (opt : AnOptions) × AreLinkOptions options.now entry.now opt
+        × SaysOfFiles (FilesLink opt rules.now) bytes.now files.now verdict file) most)
         (LacksFile bytes.now files.now) }
 {
     let contents = files_in(alloc, bytes, files)?;
@@ -213,8 +243,29 @@ fn link_by(
         page: options.page,
         entry: Some(entry),
     };
-    match link_files(alloc, contents.as_slice(), &options, rules, file) {
-        Ok(verdict) => Ok(verdict),
+    link_contents(alloc, contents.as_slice(), &options, rules, most)
+}
+
+fn link_contents(
+    alloc: Global,
+    files: &[&[u8]],
+    options: &Options<'_>,
+    rules: &[RelocRule],
+    most: usize,
+) -> Result<Said, CallFault>
+    ensures { MatchResult result (IsSaid (FilesLink options.now rules.now (map (λ f. f.now) files.now)) most) IsWantOfMemory }
+{
+    if most > 0 {
+        let mut file = Bounded::new(alloc, most);
+        match link_files(alloc, files, options, rules, &mut file) {
+            Ok(verdict) => return Ok(Said::whole(verdict, file)),
+            Err(ToolFault::OutOfMemory) => return Err(CallFault::OutOfMemory),
+            // The file passes `most` bytes, or there was no memory for it.
+            Err(_) => {}
+        }
+    }
+    match link_length(alloc, files, options, rules) {
+        Ok((verdict, length)) => Said::unkept(alloc, verdict, length, most),
         Err(_) => Err(CallFault::OutOfMemory),
     }
 }

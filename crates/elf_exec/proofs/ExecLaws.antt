@@ -1,8 +1,8 @@
 -- The executable of a sound link is an image whose entry is the map's and that loads the link's memory. No other list of bytes is its
 -- executable (`one_exec`). Its header and segments are read as they were written (`exec_read`). These give memory's bytes and no others
 -- (`loads_memory`, `memory_loads`).
-use Rattle.std.proofs.Common.{◌≡◌, ◌<◌, ◌≤◌, ◌+◌, ◌-◌, ℕ, Bool, true, false, List, [], length, get_or, refl, sym, ap, subst, ◌∙◌, inl, inr}
-use Rattle.std.proofs.Common.{arith, ap₂, Ok, Err}
+use Rattle.std.proofs.Common.{◌≡◌, ◌<◌, ◌≤◌, ◌+◌, ◌-◌, ◌^◌, ℕ, Bool, true, false, List, [], length, get_or, refl, sym, ap, subst, ◌∙◌, inl}
+use Rattle.std.proofs.Common.{inr, arith, ap₂, Ok, Err}
 use Rattle.std.specs.Prelude.{◌⊎◌, if◌then◌else◌, nat_lt, slice_index, ◌↔◌, MatchOption, None, Option, Some}
 use Rattle.std.proofs.lemmas.Bool.{le-ltb, lt-ltb}
 use Rattle.std.proofs.lemmas.List.{ext_get_or}
@@ -12,7 +12,8 @@ use Rattle.elf_exec.proofs.ExecFile.{exec_is_bytes, exec_read}
 use Rattle.elf_exec.proofs.ExecText.{exec_laid, length-exec, sent_text, text_is}
 use Rattle.elf_link_relocate.proofs.Public.{load_of, load_there, at_commons, at_output, commons_ascend, commons_end, commons_some}
 use Rattle.elf_link_relocate.proofs.Public.{any_options, field_in_content, memory_in, memory_zero, one_byte, some_byte}
-use Rattle.elf_exec.specs.ExecWriting.{IsExec, load_contents, IsLoadable, WritesExec, exec_text, IsPlacedExec, PlacedExecValue}
+use Rattle.elf_exec.specs.ExecWriting.{HasExecOf, IsExec, exec_end, load_contents, IsLoadable, WritesExec, exec_text, IsPlacedExec}
+use Rattle.elf_exec.specs.ExecWriting.{PlacedExecValue}
 use Rattle.elf_link_relocate.specs.Loads.{load_at, load_in, loads}
 use Rattle.elf_exec.specs.Executable.{program_headers, IsExecFile, IsSoundLink, AreLoadBytes, ExecLaid, bytes_from, exec_bytes, load_parts}
 use Rattle.elf_exec.specs.Executable.{IsExecutable}
@@ -30,7 +31,7 @@ use Rattle.elf_link_field.specs.declared.rule.RelocRule.{RelocRule}
 use Rattle.elf_link_files.specs.Files.{section_in}
 use Rattle.elf_link_files.specs.Rows.{FirstAmong}
 use Rattle.elf_link_map.specs.LinkMap.{LinkMapValue}
-use Rattle.elf_link_map.specs.Standing.{member_at, output_at}
+use Rattle.elf_link_map.specs.Standing.{AreObjects, ObjectsFit, member_at, output_at}
 use Rattle.elf_link_outputs.specs.Outputs.{is_no_bits, memory_size}
 use Rattle.elf_link_outputs.specs.Placed.{common_at}
 use Rattle.elf_link_relocate.specs.Fields.{content_of, applied_entry_rules}
@@ -255,8 +256,15 @@ executable fs m rules b link file = record {
           (λ memory. subst (λ (gs : List Phdr). Loads b gs x w) (sym same) (memory_loads fs m rules link b file x w memory)),
         )
 
--- What is written is the executable of the link, or exactly its first bytes if the writer fails. The text sent is that of the definition
+-- What is written is the executable of the link, or exactly its first bytes if the writer fails; it is as long as its parts. The text sent
+-- is that of the definition
 -- (`text_is`), short enough, and so an image that loads the memory of the link (`executable`).
+
+abbrev pub HasSoundLink : LinkedValue → Type 0
+HasSoundLink l = IsSoundLink l.objects l.map l.rules
+
+pub sound_link : (l : LinkedValue) → IsReadyLink l → AreObjects l.objects → ObjectsFit l.objects → l.map.page < 2 ^ 64 → HasSoundLink l
+sound_link l ready kept fit page = record { objects = kept; widths = fit; map = ready.map; page = page; relocated = ready.linked.sound }
 
 module _ (p : PlacedExecValue) (placed : IsPlacedExec p) (link : IsSoundLink p.linked.objects p.linked.map p.linked.rules) where
   loadable : IsLoadable p.linked (exec_text p)
@@ -281,3 +289,7 @@ module _ (p : PlacedExecValue) (placed : IsPlacedExec p) (link : IsSoundLink p.l
       let short = placed.short in
       let of_text = subst (λ (s : List ℕ). StoppedIn a b 0 s written) (sym (text_is p placed)) stopped in
       (exec_text p, loadable, stopped_whole a b (exec_text p) written (omega arith) of_text)
+
+  -- and so long it is
+  pub exec_long : (n : ℕ) → n ≡ exec_end p.linked.map p.places → HasExecOf p.linked n
+  exec_long n end = (exec_text p, loadable, end ∙ sym (length-exec p.linked p.places placed.ready placed.least))

@@ -471,6 +471,21 @@ exec_is fs m places contents many =
     ap (λ (n : ℕ). h ++ (replicate (64 - n) 0 ++ (t ++ spread (64 + length t) places contents))) first
     ∙ ap (λ (n : ℕ). h ++ (t ++ spread n places contents)) second
 
+-- it ends with the bytes of its last segment, or with the program header table
+pub last_end : (m : LinkMapValue) (places : List ℕ) (k : ℕ) → k + 1 ≡ length (loads m) →
+    exec_end m places ≡ slice_index places k + file_size (load_in m k)
+last_end m places k last =
+    let parts = many_parts m in
+    let end = end_some (load_parts m) (bytes_from m) places (omega arith) in
+    let same : length (load_parts m) - 1 ≡ k = omega arith in
+    let at = ap (end_of (load_parts m) places) same in
+    let size : get_or (map (λ (p : ℕ × ℕ). p.0) (load_parts m)) k 0 ≡ file_size (load_in m k) =
+    get_or-map (λ (p : ℕ × ℕ). p.0) (load_parts m) k (0, 0) 0 (omega arith) ∙ part_size m k (omega arith) in
+    omega arith
+
+pub no_end : (m : LinkMapValue) (places : List ℕ) → length (loads m) ≡ 0 → exec_end m places ≡ bytes_from m
+no_end m places none = (let parts = many_parts m in end_none (load_parts m) (bytes_from m) places (omega arith))
+
 after_length : (l : LinkedValue) (places : List ℕ) → IsReadyLink l → Least (load_parts l.map) (bytes_from l.map) places →
     bytes_from l.map + length (spread (bytes_from l.map) places (load_contents l)) ≡ exec_end l.map places
 after_length l places ready least =

@@ -36,6 +36,10 @@ IsTooLong l = IsTooLongFor l.objects l.map l.rules
 abbrev pub IsLoadable : LinkedValue → List ℕ → Type 0
 IsLoadable l b = IsExecFile l.objects l.map l.rules b × IsExecutable l.objects l.map l.rules b
 
+-- it is so long
+abbrev pub HasExecOf : LinkedValue → ℕ → Type 0
+HasExecOf l n = (b : List ℕ) × IsLoadable l b × (n ≡ length b)
+
 -- the bytes of the executable go out, or exactly the first of them and then the writer fails
 abbrev pub WritesExec : LinkedValue → Option (List ℕ) → Option (List ℕ) → Result Unit WriteFault → Type 0
 WritesExec l before after result = (b : List ℕ) × IsLoadable l b × Writes before after b result

@@ -1,14 +1,14 @@
 //! The executable of relocated bytes onto a writer.
-ghost use Rattle.std.specs.Prelude.{◌≡◌, ◌++◌};
+ghost use Rattle.std.specs.Prelude.{◌≡◌, ◌++◌, MatchResult};
 ghost use Rattle.elf_exec.specs.declared.exec_writing.ExecFault.TheVariants.{OutOfMemory};
 ghost use Rattle.elf_image_stream.specs.Output.{Sends, Writes};
 ghost use Rattle.elf_field.specs.Abi.{EHDR_SIZE};
-ghost use Rattle.elf_exec.specs.ExecWriting.{loads_text, placed_header, placed_table, IsExecWritten};
+ghost use Rattle.elf_exec.specs.ExecWriting.{loads_text, placed_header, placed_table, HasExecOf, IsExecWritten, IsPlacingFault};
 ghost use Rattle.elf_link_relocate.specs.Linked.{IsReadyLink};
 
 use crate::headers::{ProgramHeaders, exec_header};
 use crate::pieces::send_loads;
-use crate::placed_exec::{PlacedExec, table_end};
+use crate::placed_exec::{PlacedExec, file_len, table_end};
 use elf_field::abi::*;
 use elf_image_outline::{write_entries, write_records};
 use elf_image_stream::WriteFault;
@@ -134,4 +134,19 @@ pub fn write_exec<W: Write>(
             written: fault.written,
         }),
     }
+}
+
+/// How long the executable is that [`write_exec`] writes of these relocated bytes, in bytes. Nothing is written.
+///
+/// [`ExecFault::TooLong`] comes exactly if there are 0xffff segments or more, or the file would be longer than 2^30 bytes.
+/// [`ExecFault::OutOfMemory`] comes only if an allocation fails. There is no other fault.
+///
+/// Memory is taken for the segments and their places alone. Linear in the outputs.
+pub fn exec_length(alloc: Global, linked: &Linked<'_, '_>) -> Result<u64, ExecFault>
+    requires { IsReadyLink linked.now }
+    ensures { MatchResult result (HasExecOf linked.now) (IsPlacingFault linked.now) }
+{
+    linked.prove_objects();
+    let placed = PlacedExec::new(alloc, linked)?;
+    Ok(file_len(&placed))
 }

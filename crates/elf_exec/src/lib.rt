@@ -1,7 +1,7 @@
 //! The executable of a link (gABI chapter 4, ELF Header; chapter 5, Program Header): one file whose segments of type `PT_LOAD` are the
 //! memory of the link. Which segments there are, and where their bytes are, is this project's profile.
 //!
-//! [`write_exec`] writes it for relocated bytes. That of no files is a header alone:
+//! [`write_exec`] writes it for relocated bytes, and [`exec_length`] says how long it is. That of no files is a header alone:
 //!
 //! ```
 //! let map = map(alloc, &objects, &options, hasher)?;
@@ -19,5 +19,5 @@ mod pieces;
 mod placed_exec;
 
 pub use elf_link_relocate::Load;
-pub use exec_writing::{ExecFault, write_exec};
+pub use exec_writing::{ExecFault, exec_length, write_exec};
 pub use laws::{executable, one_exec, prove_loaded, some_exec};

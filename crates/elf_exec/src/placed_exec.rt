@@ -175,3 +175,15 @@ impl<'l, 'm, 'a> PlacedExec<'l, 'm, 'a> {
         self.places[k]
     }
 }
+
+/// How long the file is: it ends with the bytes of its last segment.
+pub(crate) fn file_len(placed: &PlacedExec<'_, '_, '_>) -> u64
+    ensures { result ≡ exec_end placed.now.linked.map placed.now.places }
+{
+    let count = placed.count();
+    if count == 0 {
+        return table_end(count);
+    }
+    let last = count - 1;
+    placed.place(last) + file_size(placed.load(last))
+}

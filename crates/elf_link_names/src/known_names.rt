@@ -123,7 +123,8 @@ fn lookup_by_earlier(
     requires lookup { IsSymbolLookup symbol.now.inputs.now (name_position positions.now) symbol.now.id.file symbol.now.id.index lookup }
     ensures { IsSymbolLookup symbol.now.inputs.now (name_position positions.now) symbol.now.id.file symbol.now.id.index result }
 {
-    if lookup.position.is_some() || symbol.symbol().name.len() <= LONG_NAME {
+    // Few links have a long name: then no symbol is looked at here.
+    if long.is_empty() || lookup.position.is_some() || symbol.symbol().name.len() <= LONG_NAME {
         return lookup;
     }
     match long.index_of(positions, rows, row, symbol.id) {

@@ -97,6 +97,11 @@ impl<'i, 'l, 'a> LongSymbols<'i, 'l, 'a> {
         })
     }
 
+    /// Whether there are none.
+    pub(crate) fn is_empty(&self) -> bool {
+        self.sites.is_empty()
+    }
+
     /// The first symbol of the same name as this one, if this is one of them.
     fn first_of(&self, id: SymbolId) -> Option<SymbolId>
         ensures { IfSome result (HasSameName self.now.inputs.now id) }

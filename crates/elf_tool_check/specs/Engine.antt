@@ -1,5 +1,6 @@
 -- What an engine does between its reader and its writer: the definitions that all engines share.
 use Rattle.std.specs.Prelude.{◌≡◌, ◌⊎◌, ℕ, ◌+◌, ◌<◌, ◌≤◌, List, length, take, Option, Result, Ok, Err, IfOk, MatchResult, ◌++◌, codes}
+use Rattle.std.specs.Io.Iter.{u64_saturate}
 use Rattle.std.specs.Io.KnownBytes.{Appends, Consumes, IsAtEnd, Keeps}
 use Rattle.std.specs.Fmt.{decimal}
 use Rattle.elf_image_rules.specs.Rules.{MAX_LEN}
@@ -81,6 +82,21 @@ pub record IsFileCallAllocatingFirst (report : Report) (input rest old new : Opt
     (result : Result Verdict ToolFault) : Type 0 where
   pub answered : IsFileCall report input rest old new result
   pub memory : result ≡ Err OutOfMemory → Keeps old new
+
+-- How long a text is, beside the verdict that is said with it.
+
+-- a verdict, and the length of the text that is said with it
+abbrev pub HasLength : (Verdict → List ℕ → Type 0) → Verdict × ℕ → Type 0
+HasLength Says said = (text : List ℕ) × Says said.0 text × (said.1 ≡ length text)
+
+-- the same of a text that may be longer than 64 bits can say: the number is 2^64 - 1 then
+abbrev pub IsMeasured : (Verdict → List ℕ → Type 0) → Verdict × ℕ → Type 0
+IsMeasured Says said = (text : List ℕ) × Says said.0 text × (said.1 ≡ u64_saturate (length text))
+
+-- what an engine returns that counts what it writes, without the count
+abbrev pub uncounted : Result (Verdict × ℕ) ToolFault → Result Verdict ToolFault
+uncounted (Ok said) = Ok said.0
+uncounted (Err fault) = Err fault
 
 -- What a refusal and a fault of an engine print.
 

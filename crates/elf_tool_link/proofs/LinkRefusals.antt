@@ -1,6 +1,6 @@
 -- What `link` reads, and what it refuses.
-use Rattle.std.proofs.Common.{◌≡◌, ◌∙◌, ℕ, ◌<◌, ◌≤◌, List, [], ◌∷◌, ◌++◌, ap, arith, get_or, length, map, subst, sym, Option, inl, inr}
-use Rattle.std.proofs.Common.{refl}
+use Rattle.std.proofs.Common.{◌≡◌, ◌∙◌, ℕ, ◌<◌, ◌≤◌, List, [], ◌∷◌, ◌++◌, ap, arith, get_or, length, map, subst, sym, MatchResult, Option}
+use Rattle.std.proofs.Common.{Result, Ok, Err, inl, inr, refl}
 use Rattle.std.proofs.lemmas.List.{get_or-map, length-map}
 use Rattle.std.proofs.KnownBytes.{Appends-nil, Keeps-refl}
 use Rattle.elf_link_field.specs.declared.rule.RelocRule.{RelocRule}
@@ -9,13 +9,15 @@ use Rattle.elf_link_files.specs.declared.fault.Options.{Options}
 use Rattle.elf_link_map.specs.LinkMap.{LinkMapValue}
 use Rattle.elf_link_relocate.specs.Fields.{IsRelocationFault}
 use Rattle.elf_object_type.specs.Object.{ObjectValue}
-use Rattle.elf_tool_link.specs.Link.{FilesLink, MapLinks, unlinked_verdict}
+use Rattle.elf_tool_link.specs.Link.{FilesLink, MapLinks, unlinked_length, unlinked_verdict}
 use Rattle.elf_tool_link.specs.ObjectFiles.{AreObjectFiles, BeginAsObjects, IsFirstRefused, IsObjectFile, IsRefusedFile, IsUnlinked}
 use Rattle.elf_tool_link.specs.ObjectFiles.{link_unlinked}
 use Rattle.elf_tool_link.specs.declared.mapped.Unlinked.TheVariants.{Refused, OutOfMemory}
 use Rattle.elf_tool_link.specs.declared.mapped.Unlinked.{Unlinked}
-use Rattle.elf_tool_check.specs.Engine.{Prints}
+use Rattle.elf_tool_check.specs.Engine.{HasLength, Prints}
 use Rattle.elf_tool_check.specs.declared.calls.Refusal.TheVariants.{File, Link, TooLong}
+use Rattle.elf_tool_check.specs.declared.calls.ToolFault.TheVariants as fault
+use Rattle.elf_tool_check.specs.declared.calls.Verdict.{Verdict}
 use Rattle.elf_link_files.specs.declared.fault.LinkFault.TheVariants as link
 
 -- Files as objects, file by file. A file that is an object is one more; the first that is not is refused, with all before it objects;
@@ -81,3 +83,24 @@ pub relocation_refused : (rules : List RelocRule) (fs : List ObjectValue) (m : L
     IsRelocationFault fs m rules fault → Prints (MapLinks rules fs m) held held (unlinked_verdict (link_unlinked fault))
 relocation_refused rules fs m (link.Rule rule file index entry) held is = ([], inr (is, refl), Appends-nil held)
 relocation_refused rules fs m link.OutOfMemory held is = Keeps-refl held
+
+-- How long what is said is, said of other words; nothing is as long as 0 bytes.
+
+pub length_as : {E : Type 0} {Fails : E → Type 0} (P Q : Verdict → List ℕ → Type 0) (result : Result (Verdict × ℕ) E) →
+    ((v : Verdict) (t : List ℕ) → P v t → Q v t) → MatchResult result (HasLength P) Fails → MatchResult result (HasLength Q) Fails
+length_as P Q (Ok said) into (t, says, long) = (t, into said.0 t says, long)
+length_as P Q (Err fault) into fails = fails
+
+pub no_file_length : (opt : Options) (rules : List RelocRule) (files : List (List ℕ)) (unlinked : Unlinked) →
+    IsUnlinked opt files unlinked →
+    MatchResult (unlinked_length unlinked) (HasLength (FilesLink opt rules files)) (λ out. out ≡ fault.OutOfMemory)
+no_file_length opt rules files (Refused (File file rule at)) is = ([], inr (is, refl), refl)
+no_file_length opt rules files (Refused (Link rule file index entry)) (fs, are, stands) = ([], inl (fs, are, inr (stands, refl)), refl)
+no_file_length opt rules files (Refused TooLong) is = absurd is
+no_file_length opt rules files OutOfMemory is = refl
+
+pub no_exec_length : (rules : List RelocRule) (fs : List ObjectValue) (m : LinkMapValue) (fault : LinkFault) →
+    IsRelocationFault fs m rules fault →
+    MatchResult (unlinked_length (link_unlinked fault)) (HasLength (MapLinks rules fs m)) (λ out. out ≡ fault.OutOfMemory)
+no_exec_length rules fs m (link.Rule rule file index entry) is = ([], inr (is, refl), refl)
+no_exec_length rules fs m link.OutOfMemory is = refl

@@ -1,16 +1,14 @@
 -- How `map` prints: a text at once, or line by line as it is made. Of a text that is shorter than 2^64 bytes both count exactly.
 use Rattle.std.proofs.Common.{◌≡◌, ◌<◌, ◌^◌, ℕ, List, [], Option, Result, Ok, Err, length, refl, subst, sym}
-use Rattle.std.proofs.lemmas.List.{append-nil}
-use Rattle.std.specs.Prelude.{⊤}
 use Rattle.elf_tool_check.specs.Engine.{IsCutAt, Prints}
 use Rattle.elf_tool_check.specs.declared.calls.ToolFault.TheVariants.{Read, Write, OutOfMemory}
 use Rattle.elf_tool_check.specs.declared.calls.ToolFault.{ToolFault}
 use Rattle.elf_tool_check.specs.declared.calls.Verdict.TheVariants.{Done, Refused}
 use Rattle.elf_tool_check.specs.declared.calls.Verdict.{Verdict}
-use Rattle.elf_tool_link.specs.Map.{PrintsMap}
+use Rattle.elf_tool_link.specs.Map.{CountsLine, CountsMap, PrintsMap}
 use Rattle.elf_tool_text.specs.Buffered.{Buffers, IsCutBy, IsCutShort}
 use Rattle.elf_tool_text.specs.declared.output.Output.{Output}
-use Rattle.elf_tool_text.proofs.Public.{all_cut, all_out, cut_later}
+use Rattle.elf_tool_text.proofs.Public.{all_counted, all_cut, cut_flushed}
 
 cut_at_once : (verdict : Verdict) (old new : Option (List ℕ)) (text : List ℕ) (written : ℕ) → IsCutAt old new text written →
     IsCutBy verdict old new text written
@@ -18,16 +16,16 @@ cut_at_once Done old new text written (below, out) = (written, below, out, λ sh
 cut_at_once (Refused refusal) old new text written cut = cut
 
 -- what is printed at once, said of other words
-pub at_once : (P Q : Verdict → List ℕ → Type 0) (old new : Option (List ℕ)) (result : Result Verdict ToolFault) →
-    ((v : Verdict) (t : List ℕ) → P v t → Q v t) → Prints P old new result → PrintsMap Q old new result
-at_once P Q old new (Ok v) into (t, says, out) = (t, into v t says, out)
+pub at_once : (P Q : Verdict → List ℕ → Type 0) (old new : Option (List ℕ)) (result : Result (Verdict × ℕ) ToolFault) →
+    ((v : Verdict) (t : List ℕ) → P v t → Q v t) → CountsLine P old new result → CountsMap Q old new result
+at_once P Q old new (Ok said) into (t, says, out) = (t, into said.0 t says, out)
 at_once P Q old new (Err (Read at)) into says = absurd says
 at_once P Q old new (Err (Write written)) into (v, t, says, cut) = (v, t, into v t says, cut_at_once v old new t written cut)
 at_once P Q old new (Err OutOfMemory) into says = says
 
-pub mapped_as : (P Q : Verdict → List ℕ → Type 0) (old new : Option (List ℕ)) (result : Result Verdict ToolFault) →
-    ((v : Verdict) (t : List ℕ) → P v t → Q v t) → PrintsMap P old new result → PrintsMap Q old new result
-mapped_as P Q old new (Ok v) into (t, says, out) = (t, into v t says, out)
+pub mapped_as : (P Q : Verdict → List ℕ → Type 0) (old new : Option (List ℕ)) (result : Result (Verdict × ℕ) ToolFault) →
+    ((v : Verdict) (t : List ℕ) → P v t → Q v t) → CountsMap P old new result → CountsMap Q old new result
+mapped_as P Q old new (Ok said) into (t, says, out) = (t, into said.0 t says, out)
 mapped_as P Q old new (Err (Read at)) into says = absurd says
 mapped_as P Q old new (Err (Write written)) into (v, t, says, cut) = (v, t, into v t says, cut)
 mapped_as P Q old new (Err OutOfMemory) into says = says
@@ -54,13 +52,10 @@ module _ (Says : Verdict → List ℕ → Type 0) (a : Option (List ℕ)) (o : O
   -- or do so when the last of them are written
   pub last_stopped : (b c : Option (List ℕ)) (p : Output) (written : ℕ) → Buffers a b o p text → IsCutShort b c p [] (Write written)
       → PrintsMap Says a c (Err (Write written))
-  last_stopped b c p written sent stop =
-      lines_stopped c written
-      (subst (λ (s : List ℕ). IsCutShort a c o s (Write written)) (append-nil text) (cut_later a b c o p text [] (Write written) sent stop))
+  last_stopped b c p written sent stop = lines_stopped c written (cut_flushed a b c o p text (Write written) sent stop)
 
-  -- or all are written
-  pub lines_written : (b c : Option (List ℕ)) (p q : Output) → Buffers a b o p text → Buffers b c p q [] → q.pending.items ≡ [] →
-      PrintsMap Says a c (Ok Done)
-  lines_written b c p q sent flushed gone =
-      let done : Result ⊤ ToolFault = Ok tt in
-      (text, is, all_out a b c o p q text done empty none sent flushed gone)
+  -- or all are written, and counted
+  pub lines_written : (b c : Option (List ℕ)) (p q : Output) (count : ℕ) → Buffers a b o p text → Buffers b c p q [] → q.pending.items ≡ []
+      → count ≡ q.written → count < 2 ^ 64 → CountsMap Says a c (Ok (Done, count))
+  lines_written b c p q count sent flushed gone same fits =
+      (text, is, all_counted a b c o p q text count empty none sent flushed gone same fits)

@@ -65,6 +65,11 @@ abbrev pub unlinked_verdict : Unlinked → Result Verdict ToolFault
 unlinked_verdict (unlinked.Refused refusal) = Ok (Refused refusal)
 unlinked_verdict unlinked.OutOfMemory = Err OutOfMemory
 
+-- and of nothing, which is written then, the length
+abbrev pub unlinked_length : Unlinked → Result (Verdict × ℕ) ToolFault
+unlinked_length (unlinked.Refused refusal) = Ok (Refused refusal, 0)
+unlinked_length unlinked.OutOfMemory = Err OutOfMemory
+
 -- a call of `link`: its readers, which had `inputs` left and have `rests`; and its writer, which held `old` and holds `new`
 abbrev pub IsLinkCall : Options → List RelocRule → List (Option (List ℕ)) → List (Option (List ℕ)) → Option (List ℕ) → Option (List ℕ) →
     Result Verdict ToolFault → Type 0

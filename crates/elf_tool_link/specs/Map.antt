@@ -22,7 +22,7 @@ use Rattle.elf_tool_link.specs.declared.mapped.Unlinked.{Unlinked}
 use Rattle.elf_tool_check.specs.Engine.{Prints}
 use Rattle.elf_tool_link.specs.Inputs.{AreRead, FailsReading}
 use Rattle.elf_tool_check.specs.FileLines.{line}
-use Rattle.elf_tool_text.specs.Buffered.{IsCutBy}
+use Rattle.elf_tool_text.specs.Buffered.{IsCounted, IsCutBy}
 use Rattle.elf_tool_text.specs.Line.{bytes_text, hexadecimal, name_text}
 use Rattle.elf_tool_check.specs.declared.calls.Refusal.TheVariants.{File, Link, TooLong}
 use Rattle.elf_tool_check.specs.declared.calls.Refusal.{Refusal}
@@ -197,6 +197,16 @@ PrintsMap Says old new (Err (Read at)) = ⊥
 PrintsMap Says old new (Err (Write written)) =
     (verdict : Verdict) × (text : List ℕ) × Says verdict text × IsCutBy verdict old new text written
 PrintsMap Says old new (Err OutOfMemory) = Keeps old new
+
+-- the same where the length of the text is counted, up to 2^64 - 1
+abbrev pub CountsMap : (Verdict → List ℕ → Type 0) → Option (List ℕ) → Option (List ℕ) → Result (Verdict × ℕ) ToolFault → Type 0
+CountsMap Says old new (Ok said) = (text : List ℕ) × Says said.0 text × IsCounted text old new said.1
+CountsMap Says old new (Err fault) = PrintsMap Says old new (Err fault)
+
+-- and of a text that is written at once
+abbrev pub CountsLine : (Verdict → List ℕ → Type 0) → Option (List ℕ) → Option (List ℕ) → Result (Verdict × ℕ) ToolFault → Type 0
+CountsLine Says old new (Ok said) = (text : List ℕ) × Says said.0 text × IsCounted text old new said.1
+CountsLine Says old new (Err fault) = Prints Says old new (Err fault)
 
 -- a call of `map`: its readers, which had `inputs` left and have `rests`; and its writer, which held `old` and holds `new`
 abbrev pub IsMapped : Options → Option (List RelocRule) → List (Option (List ℕ)) → List (Option (List ℕ)) → Option (List ℕ) →

@@ -1,7 +1,7 @@
 //! The engines of `elfmap map` and `elfmap link`, over any readers and any writer. [`map`] reads each file whole, links them without
 //! writing a linked file, and writes where each part would be, and with relocation rules the bytes of each; [`map_files`] has the files'
 //! bytes. [`link`] reads each file whole, links them, and writes the executable; [`link_files`] has the files' bytes; [`link_verdict`] says
-//! of these whether they link.
+//! of these whether they link. [`map_length`] and [`link_length`] say how long what is written of them is.
 //!
 //! Both begin with `mapped_files`. It returns the objects with their link map, or what is refused, in an `Unlinked`.
 //!
@@ -17,6 +17,7 @@
 
 mod inputs;
 pub mod laws;
+mod lengths;
 mod linking;
 mod map_lines;
 mod map_text;
@@ -26,6 +27,7 @@ mod verdicts;
 
 pub use elf_link_map::Options;
 pub use elf_tool_check::{Refusal, ToolFault, Verdict};
+pub use lengths::{link_length, map_length};
 pub use linking::{link, link_files};
 pub use mapping::{map, map_files};
 pub use verdicts::link_verdict;

@@ -1,7 +1,7 @@
 //! `map`: where the sections and names of files are in their link.
 ghost use Rattle.std.specs.Prelude.{◌≡◌, ◌≤◌, ◌++◌, ℕ, List, length, None, Some, option_copied, map as map_list};
-ghost use Rattle.elf_tool_link.specs.Map.{bytes_lines, IsMapped, IsMappedExactly, IsThis, MapSays, PrintsMap, RelocationSays};
-ghost use Rattle.elf_tool_link.specs.Map.{TellsUnlinked, map_text, refusal_line};
+ghost use Rattle.elf_tool_link.specs.Map.{bytes_lines, CountsLine, CountsMap, IsMapped, IsMappedExactly, IsThis, MapSays, PrintsMap};
+ghost use Rattle.elf_tool_link.specs.Map.{RelocationSays, TellsUnlinked, map_text, refusal_line};
 ghost use Rattle.elf_tool_check.specs.Engine.{Prints, SaysOne};
 
 use crate::inputs::read_inputs;
@@ -64,6 +64,23 @@ pub fn map_files<W: Write>(
     ensures few { length files.now ≤ 64 → Prints (MapSays options.now (option_copied rules.entry) (map_list (λ f. f.now) files.now))
         (W.contents writer.old) (W.contents writer.new) result }
 {
+    match map_counted(alloc, files, options, rules, writer) {
+        Ok((verdict, _)) => Ok(verdict),
+        Err(fault) => Err(fault),
+    }
+}
+
+/// Writes it, and returns how long it is, up to `u64::MAX`.
+pub(crate) fn map_counted<W: Write>(
+    alloc: Global,
+    files: &[&[u8]],
+    options: &Options<'_>,
+    rules: Option<&[RelocRule]>,
+    writer: &mut W,
+) -> Result<(Verdict, u64), ToolFault>
+    ensures { CountsMap (MapSays options.now (option_copied rules.entry) (map_list (λ f. f.now) files.now)) (W.contents writer.old)
+        (W.contents writer.new) result }
+{
     match mapped_files(alloc, files, options) {
         Ok(mapped) => answer_map(alloc, &mapped, rules, writer),
         Err(unlinked) => tell_unlinked(alloc, unlinked, writer),
@@ -75,8 +92,8 @@ fn answer_map<W: Write>(
     mapped: &Mapped<'_>,
     rules: Option<&[RelocRule]>,
     writer: &mut W,
-) -> Result<Verdict, ToolFault>
-    ensures { PrintsMap (RelocationSays (option_copied rules.entry) mapped.now.objects mapped.now.map) (W.contents writer.old)
+) -> Result<(Verdict, u64), ToolFault>
+    ensures { CountsMap (RelocationSays (option_copied rules.entry) mapped.now.objects mapped.now.map) (W.contents writer.old)
         (W.contents writer.new) result }
 {
     match rules {
@@ -90,8 +107,8 @@ fn answer_relocations<W: Write>(
     mapped: &Mapped<'_>,
     rules: &[RelocRule],
     writer: &mut W,
-) -> Result<Verdict, ToolFault>
-    ensures { PrintsMap (RelocationSays (Some rules.now) mapped.now.objects mapped.now.map) (W.contents writer.old)
+) -> Result<(Verdict, u64), ToolFault>
+    ensures { CountsMap (RelocationSays (Some rules.now) mapped.now.objects mapped.now.map) (W.contents writer.old)
         (W.contents writer.new) result }
 {
     match mapped.relocated(alloc, rules) {
@@ -105,13 +122,13 @@ fn tell_map<W: Write>(
     alloc: Global,
     mapped: &Mapped<'_>,
     writer: &mut W,
-) -> Result<Verdict, ToolFault>
-    ensures { PrintsMap (RelocationSays None mapped.now.objects mapped.now.map) (W.contents writer.old) (W.contents writer.new) result }
+) -> Result<(Verdict, u64), ToolFault>
+    ensures { CountsMap (RelocationSays None mapped.now.objects mapped.now.map) (W.contents writer.old) (W.contents writer.new) result }
 {
     let mut text = Text::with_room(alloc)?;
     pass_map(mapped.objects(), mapped.map(), &mut text, writer)?;
     text.write_pending(writer)?;
-    Ok(Verdict::Done)
+    Ok((Verdict::Done, text.count_written()))
 }
 
 // Writes them, and those of the relocated bytes after them.
@@ -120,15 +137,15 @@ fn tell_relocated<W: Write>(
     mapped: &Mapped<'_>,
     linked: &Linked<'_, '_>,
     writer: &mut W,
-) -> Result<Verdict, ToolFault>
-    ensures { PrintsMap (IsThis Verdict.Done (map_text mapped.now.objects mapped.now.map ++ bytes_lines linked.now)) (W.contents writer.old)
+) -> Result<(Verdict, u64), ToolFault>
+    ensures { CountsMap (IsThis Verdict.Done (map_text mapped.now.objects mapped.now.map ++ bytes_lines linked.now)) (W.contents writer.old)
         (W.contents writer.new) result }
 {
     let mut text = Text::with_room(alloc)?;
     pass_map(mapped.objects(), mapped.map(), &mut text, writer)?;
     pass_relocated(linked, &mut text, writer)?;
     text.write_pending(writer)?;
-    Ok(Verdict::Done)
+    Ok((Verdict::Done, text.count_written()))
 }
 
 // Says why files are not linked.
@@ -136,8 +153,8 @@ fn tell_unlinked<W: Write>(
     alloc: Global,
     unlinked: Unlinked,
     writer: &mut W,
-) -> Result<Verdict, ToolFault>
-    ensures { Prints (TellsUnlinked unlinked) (W.contents writer.old) (W.contents writer.new) result }
+) -> Result<(Verdict, u64), ToolFault>
+    ensures { CountsLine (TellsUnlinked unlinked) (W.contents writer.old) (W.contents writer.new) result }
 {
     match unlinked {
         Unlinked::Refused(refusal) => tell_refusal(alloc, refusal, writer),
@@ -150,18 +167,22 @@ fn tell_refusal<W: Write>(
     alloc: Global,
     refusal: Refusal,
     writer: &mut W,
-) -> Result<Verdict, ToolFault>
-    ensures { Prints (IsThis (Verdict.Refused refusal) (refusal_line refusal)) (W.contents writer.old) (W.contents writer.new) result }
+) -> Result<(Verdict, u64), ToolFault>
+    ensures { CountsLine (IsThis (Verdict.Refused refusal) (refusal_line refusal)) (W.contents writer.old) (W.contents writer.new) result }
 {
     let mut text = Vec::new(alloc);
     push_refusal_line(&mut text, refusal)?;
     tell(Verdict::Refused(refusal), &text, writer)
 }
 
-// Writes what is said, and returns its verdict.
-fn tell<W: Write>(verdict: Verdict, text: &[u8], writer: &mut W) -> Result<Verdict, ToolFault>
-    ensures { Prints (IsThis verdict text.now) (W.contents writer.old) (W.contents writer.new) result }
+// Writes what is said, and returns its verdict and its length.
+fn tell<W: Write>(
+    verdict: Verdict,
+    text: &[u8],
+    writer: &mut W,
+) -> Result<(Verdict, u64), ToolFault>
+    ensures { CountsLine (IsThis verdict text.now) (W.contents writer.old) (W.contents writer.new) result }
 {
     write_whole(writer, text)?;
-    Ok(verdict)
+    Ok((verdict, text.len() as u64))
 }

@@ -1,9 +1,9 @@
 -- The text of `show` is shorter than 2^64 bytes. An image has at most 2^30 bytes, so each name in it is as short, and each line that ends
 -- with a name has less than 2^33 bytes. No entry of a table is without a byte of its own, and contents share none: so there are at most
 -- 2^30 entries and 2^24 sections.
-use Rattle.std.proofs.Common.{◌≡◌, ◌∙◌, ◌<◌, ◌≤◌, ◌+◌, ◌-◌, ◌*◌, ◌/◌, ◌^◌, ◌++◌, ◌==◌, ℕ, ℤ, zero, suc, pos, negsuc, Bool, true, false}
-use Rattle.std.proofs.Common.{List, [], ◌∷◌, None, Option, Some, FitsSigned, ap, arith, codes, drop, get_or, if◌then◌else◌, length}
-use Rattle.std.proofs.Common.{length-append, map, nat_lt, refl, subst, sym, take, slice_get, zero-add}
+use Rattle.std.proofs.Common.{◌≡◌, ◌∙◌, ◌<◌, ◌≤◌, ◌+◌, ◌*◌, ◌/◌, ◌^◌, ◌++◌, ◌==◌, ℕ, ℤ, zero, suc, pos, negsuc, Bool, true, false, List, []}
+use Rattle.std.proofs.Common.{◌∷◌, None, Option, Some, FitsSigned, ap, arith, codes, drop, get_or, if◌then◌else◌, length, length-append}
+use Rattle.std.proofs.Common.{map, nat_lt, refl, subst, sym, take, slice_get, zero-add}
 use Rattle.std.specs.List.{AllByRecursion, flat_map, range_with_len, sum_by}
 use Rattle.std.specs.Int.{w64}
 use Rattle.std.specs.Fmt.{decimal, signed_decimal}

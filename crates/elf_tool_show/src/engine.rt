@@ -1,8 +1,9 @@
 //! `show`: the header, the parts, the sections, the segments and the tables of a file.
-ghost use Rattle.std.specs.Prelude.{◌≡◌, List, length, map};
+ghost use Rattle.std.specs.Prelude.{◌≡◌, IfOk, List, MatchResult, length, map};
 ghost use Rattle.std.specs.List.{flat_map};
-ghost use Rattle.elf_tool_check.specs.Engine.{IsOneReport, WritesText};
-ghost use Rattle.elf_tool_text.specs.Buffered.{IsBuffered, WritesPieces};
+ghost use Rattle.elf_tool_check.specs.Engine.{HasLength, IsOneReport, WritesText, uncounted};
+ghost use Rattle.elf_tool_check.specs.declared.calls.ToolFault.TheVariants.{OutOfMemory};
+ghost use Rattle.elf_tool_text.specs.Buffered.{IsBuffered, WritesCounted};
 ghost use Rattle.elf_tool_check.specs.FileLines.{refused_line as refused_line_of};
 ghost use Rattle.elf_image_rules.specs.Rows.{fault_of};
 ghost use Rattle.elf_tool_show.specs.Show.{IsShown, IsShownOf, IsVerdictShort, ShowSays, VerdictsFit, section_lines, segment_lines};
@@ -19,7 +20,7 @@ use elf_tool_check::{Refusal, ToolFault, Verdict, read_input, refused_line};
 use elf_tool_text::Output;
 use elf_tool_text::lines::{Lines, show_lines};
 use std::alloc::{AllocError, Global};
-use std::io::{Read, Write};
+use std::io::{Read, Write, sink};
 
 /// Reads a whole file and writes a line on its header, and one on each of its parts, its sections, its
 /// segments and the entries of its tables, in this order. A table in section I that is refused has one
@@ -58,17 +59,46 @@ pub fn show_bytes<W: Write>(
 ) -> Result<Verdict, ToolFault>
     ensures { IsShownOf bytes.now (W.contents writer.old) (W.contents writer.new) result }
 {
+    match show_counted(alloc, bytes, writer) {
+        Ok((verdict, _)) => Ok(verdict),
+        Err(fault) => Err(fault),
+    }
+}
+
+/// How long that text is, in bytes, beside its verdict. Nothing is written or kept of it but one piece.
+///
+/// The only fault is [`ToolFault::OutOfMemory`]. Memory and time are those of [`show_bytes`].
+pub fn show_length(alloc: Global, bytes: &[u8]) -> Result<(Verdict, u64), ToolFault>
+    ensures { MatchResult result (HasLength (ShowSays bytes.now)) (λ fault. fault ≡ OutOfMemory) }
+{
+    match show_counted(alloc, bytes, &mut sink()) {
+        Ok(said) => Ok(said),
+        // A sink takes all that it is given.
+        Err(_) => Err(ToolFault::OutOfMemory),
+    }
+}
+
+// Writes the text, and returns its length too.
+fn show_counted<W: Write>(
+    alloc: Global,
+    bytes: &[u8],
+    writer: &mut W,
+) -> Result<(Verdict, u64), ToolFault>
+    ensures said { IsShownOf bytes.now (W.contents writer.old) (W.contents writer.new) (uncounted result) }
+    ensures length { IfOk result (HasLength (ShowSays bytes.now)) }
+{
     match parse(alloc, bytes) {
         Ok(image) => {
             // Validated before the first line is written.
             let tables = Tables::new(alloc, &image)?;
             prove_verdicts(&tables);
-            show_image(alloc, bytes, &image, &tables, writer)?;
-            Ok(Verdict::Done)
+            let length = show_image(alloc, bytes, &image, &tables, writer)?;
+            Ok((Verdict::Done, length))
         }
         Err(Fault::Rule { rule, at }) => {
-            show_refusal(alloc, rule, at, writer)?;
-            Ok(Verdict::Refused(Refusal::File { file: 0, rule, at }))
+            let length = show_refusal(alloc, rule, at, writer)?;
+            let refusal = Refusal::File { file: 0, rule, at };
+            Ok((Verdict::Refused(refusal), length))
         }
         Err(Fault::OutOfMemory) => Err(ToolFault::OutOfMemory),
         // No reader is called while bytes are validated.
@@ -76,17 +106,19 @@ pub fn show_bytes<W: Write>(
     }
 }
 
+// Returns how long the line is.
 fn show_refusal<W: Write>(
     alloc: Global,
     rule: u16,
     at: u64,
     writer: &mut W,
-) -> Result<(), ToolFault>
-    ensures { WritesText (refused_line_of rule at) (W.contents writer.old) (W.contents writer.new) result }
+) -> Result<u64, ToolFault>
+    ensures written { WritesText (refused_line_of rule at) (W.contents writer.old) (W.contents writer.new) result }
+    ensures length { IfOk result (λ count. count ≡ length (refused_line_of rule at)) }
 {
     let line = refused_line(alloc, rule, at)?;
     write_whole(writer, line.as_bytes())?;
-    Ok(())
+    Ok(line.len() as u64)
 }
 
 /// Proves that the numbers of each verdict fit their types: a contract does not see the type of a number in a list. It does nothing.
@@ -106,16 +138,16 @@ fn prove_verdict(verdict: Result<(), Broken<u64>>)
     }
 }
 
-// The lines on an image whose file has these bytes.
+// The lines on an image whose file has these bytes. Returns how long they are, up to `u64::MAX`.
 fn show_image<W: Write>(
     alloc: Global,
     bytes: &[u8],
     image: &Image<'_>,
     tables: &Tables<'_, '_>,
     writer: &mut W,
-) -> Result<(), ToolFault>
+) -> Result<u64, ToolFault>
     requires { tables.now.image ≡ image.now }
-    ensures { WritesPieces (show_text bytes.now (record { image = image.now; verdicts = tables.now.verdicts })) (W.contents writer.old)
+    ensures { WritesCounted (show_text bytes.now (record { image = image.now; verdicts = tables.now.verdicts })) (W.contents writer.old)
         (W.contents writer.new) result }
 {
     let mut output = Output::new(alloc);
@@ -124,7 +156,8 @@ fn show_image<W: Write>(
     show_sections(alloc, image, &mut output, writer)?;
     show_segments(alloc, image, &mut output, writer)?;
     show_tables(alloc, image, tables, &mut output, writer)?;
-    output.flush(writer)
+    output.flush(writer)?;
+    Ok(output.count_written())
 }
 
 fn show_parts<W: Write>(

@@ -17,7 +17,7 @@ use Rattle.elf_tool_check.specs.FileLines.{blank, line, further_words}
 use Rattle.std.specs.Io.KnownBytes.{Appends}
 use Rattle.std.proofs.KnownBytes.{Appends-nil, Appends-trans}
 use Rattle.std.specs.Io.Iter.{u64_saturate}
-use Rattle.elf_tool_text.specs.Buffered.{Buffers, IsBeginning, IsBuffered, IsCutShort, WritesPieces}
+use Rattle.elf_tool_text.specs.Buffered.{Buffers, IsBeginning, IsCounted, IsCutShort}
 use Rattle.elf_tool_text.specs.declared.output.Output.{Output}
 use Rattle.elf_tool_check.specs.declared.calls.ToolFault.TheVariants.{Read, Write, OutOfMemory}
 use Rattle.elf_tool_check.specs.declared.calls.ToolFault.{ToolFault}
@@ -346,12 +346,22 @@ cut_here a o text = (0, omega arith, Appends-nil a)
 
 -- ---- a whole text
 
-pub all_written : (a c : Option (List ℕ)) (o q : Output) (text : List ℕ) → o.pending.items ≡ [] → q.pending.items ≡ [] →
-    Buffers a c o q text → Appends a c text
-all_written a c o q text empty done sent =
-    let out : sent.out ≡ text =
-    sym (append-nil sent.out) ∙ ap (λ (s : List ℕ). sent.out ++ s) (sym done) ∙ sent.rest ∙ ap (λ (s : List ℕ). s ++ text) empty in
-    subst (Appends a c) out sent.went
+-- nothing was pending, and nothing is: what is out is the text
+all_out : (a c : Option (List ℕ)) (o q : Output) (text : List ℕ) (sent : Buffers a c o q text) → o.pending.items ≡ [] →
+    q.pending.items ≡ [] → sent.out ≡ text
+all_out a c o q text sent empty gone =
+    sym (append-nil sent.out) ∙ ap (λ (s : List ℕ). sent.out ++ s) (sym gone) ∙ sent.rest ∙ ap (λ (s : List ℕ). s ++ text) empty
+
+-- a last flush lets all of it out, and the count is its length
+pub all_counted : (a b c : Option (List ℕ)) (o p q : Output) (text : List ℕ) (count : ℕ) → o.pending.items ≡ [] → o.written ≡ 0 →
+    Buffers a b o p text
+    → Buffers b c p q [] → q.pending.items ≡ [] → count ≡ q.written → count < 2 ^ 64 → IsCounted text a c count
+all_counted a b c o p q text count empty none sent flushed gone is fits =
+    let whole = buffers_flushed a b c o p q text sent flushed in
+    let out = all_out a c o q text whole empty gone in
+    let long = ap length out in
+    let of_all = whole.count in
+    (omega arith, subst (Appends a c) out whole.went)
 
 pub all_cut : (a c : Option (List ℕ)) (o : Output) (text : List ℕ) (fault : ToolFault) → o.pending.items ≡ [] → o.written ≡ 0 →
     IsCutShort a c o text fault
@@ -363,15 +373,6 @@ all_cut a c o text OutOfMemory empty none (n, within, went) =
     let whole : o.pending.items ++ text ≡ text = ap (λ (s : List ℕ). s ++ text) empty in
     (n, rw whole at within, rw whole at went)
 all_cut a c o text (Read at) empty none stop = absurd stop
-
--- a last flush lets all of it out, or only its first bytes
-pub all_out : {T : Type 0} (a b c : Option (List ℕ)) (o p q : Output) (text : List ℕ) (result : Result T ToolFault) → o.pending.items ≡ [] →
-    o.written ≡ 0
-    → Buffers a b o p text → IsBuffered b c p q [] result → OnOk result (q.pending.items ≡ []) → WritesPieces text a c result
-all_out a b c o p q text (Ok done) empty none sent flushed gone =
-    all_written a c o q text empty gone (buffers_flushed a b c o p q text sent flushed)
-all_out a b c o p q text (Err fault) empty none sent flushed gone =
-    all_cut a c o text fault empty none (cut_flushed a b c o p text fault sent flushed)
 
 -- ---- a line for each element of a list
 

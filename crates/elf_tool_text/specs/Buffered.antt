@@ -27,9 +27,13 @@ IsBeginning text old new (Write written) = IsCutIn old new text written
 IsBeginning text old new OutOfMemory = (count : ℕ) × (count ≤ length text) × Appends old new (take count text)
 IsBeginning text old new (Read at) = ⊥
 
--- all of it is, or at a fault a beginning
-abbrev pub WritesPieces : {T : Type 0} → List ℕ → Option (List ℕ) → Option (List ℕ) → Result T ToolFault → Type 0
-WritesPieces text old new result = MatchResult result (λ _. Appends old new text) (IsBeginning text old new)
+-- all of it is, and its length is counted, up to 2^64 - 1
+abbrev pub IsCounted : List ℕ → Option (List ℕ) → Option (List ℕ) → ℕ → Type 0
+IsCounted text old new count = (count ≡ u64_saturate (length text)) × Appends old new text
+
+-- one of both
+abbrev pub WritesCounted : List ℕ → Option (List ℕ) → Option (List ℕ) → Result ℕ ToolFault → Type 0
+WritesCounted text old new result = MatchResult result (IsCounted text old new) (IsBeginning text old new)
 
 -- some bytes were written and are counted, and with what is pending now they are what was pending before and the text
 pub record Buffers (old new : Option (List ℕ)) (before after : Output) (text : List ℕ) : Type 0 where

@@ -1,5 +1,5 @@
 //! A text that is written in large pieces.
-ghost use Rattle.std.specs.Prelude.{◌≡◌, [], ◌++◌, IfOk, MatchBool, OnOk, ◌<◌, length};
+ghost use Rattle.std.specs.Prelude.{◌≡◌, [], ◌++◌, ◌^◌, IfOk, MatchBool, OnOk, ◌<◌, length};
 ghost use Rattle.elf_tool_text.specs.Buffered.{IsBuffered, IsPassed};
 
 use elf_image_stream::{WriteFault, send};
@@ -40,6 +40,14 @@ impl Output {
             pending: Vec::with_capacity(alloc, PIECE)?,
             written: 0,
         })
+    }
+
+    /// How many bytes of the text are written: [`u64::MAX`] if they are more.
+    pub fn count_written(&self) -> u64
+        ensures value { result ≡ self.now.written }
+        ensures fits { result < 2 ^ 64 }
+    {
+        self.written
     }
 
     /// Passes bytes on without memory: they are pending if they have room, and else they are written, after all that was pending. Fails if

@@ -4,8 +4,9 @@ be made, as far as the lines of a function show, as `rt fmt` lays them out,
 
 in a `From` of another out of memory (`impl From<AllocError> for Fault`), in the arm of a `match`
 for out of memory (`Err(Fault::OutOfMemory) => Err(ToolFault::OutOfMemory)`), in the arm `Err(_)` of
-a `match`, or the `else` of a `let`, on a growth, or on a call whose only fault is out of memory, in
-a function that is called from such places alone.
+a `match`, or the `else` of a `let`, on a growth, or on a call whose only fault is out of memory, as
+one that writes into a sink, in a function that is called from such places alone; and of a text that
+a buffer has room for, and that was not kept.
 
 The size of a growth, which sizes.py judges, has to be a length in hand, a sum of such, or a
 constant of at most a MiB.
@@ -47,15 +48,19 @@ GROWTHS = SIZED | {
 # Engines over bytes. Those for C write into a vector, which fails for nothing else, or write
 # nothing, and have no reader.
 INTO_A_VECTOR = {
-    "show_bytes",
+    "show_length",
     "push_refused_tables",
     "put_verdicts",
     "rewrite_within",
-    "map_files",
-    "link_files",
+    "map_length",
+    "link_length",
     "link_verdict",
 }
 OF_CRATE = "crates/elf_c_engines/"
+# The function that says so of a text that has room, but was not kept.
+NOT_KEPT = ("crates/elf_c_engines/src/said.rt", "unkept")
+# A writer that does not fail.
+SINK = "&mut sink()"
 FAILED_WRITE = re.compile(r"\b(?:WriteFault|\w+::Write) \{|\w+::Io \{ ?written")
 # Sizes in place of one, which stands for @.
 LARGE = (
@@ -119,8 +124,10 @@ class Reading:
         """Why out of memory may be made in a line, if it may."""
         if self.function.is_from:
             return "From"
+        if (self.function.path, self.function.name) == NOT_KEPT:
+            return "text with room"
         for pattern, expression, is_else in self.branches(at):
-            is_growth = last_call(expression) in self.memory_calls
+            is_growth = last_call(expression) in self.memory_calls or SINK in expression
             if not is_else and all(WANT.search(it) for it in pattern.split("|")):
                 return "out of memory"
             if is_growth and (pattern.startswith("Ok") if is_else else pattern == "Err(_)"):

@@ -1,18 +1,10 @@
 -- The link of the relocated bytes is sound, by what is known of its objects. So what was sent is its executable (`exec_sent`), or exactly
 -- the first bytes of it if the writer failed (`exec_cut`).
-use Rattle.std.proofs.Common.{◌<◌, ◌^◌, Ok, Err, sym, subst}
-use Rattle.elf_link_map.specs.Standing.{AreObjects, ObjectsFit}
-use Rattle.elf_link_relocate.specs.Linked.{LinkedValue, IsReadyLink}
-use Rattle.elf_exec.specs.Executable.{IsSoundLink}
+use Rattle.std.proofs.Common.{Ok, Err, sym, subst}
+use Rattle.elf_link_relocate.specs.Linked.{LinkedValue}
 use Rattle.elf_exec.specs.ExecWriting.{WritesExec}
-use Rattle.elf_exec.proofs.ExecLaws.{exec_cut, exec_sent}
+use Rattle.elf_exec.proofs.ExecLaws.{HasSoundLink, exec_cut, exec_sent, sound_link}
 use Rattle.elf_exec.proofs.exec_writing.write_exec.Goals as goal
-
-abbrev HasSoundLink : LinkedValue → Type 0
-HasSoundLink l = IsSoundLink l.objects l.map l.rules
-
-sound_link : (l : LinkedValue) → IsReadyLink l → AreObjects l.objects → ObjectsFit l.objects → l.map.page < 2 ^ 64 → HasSoundLink l
-sound_link l ready kept fit page = record { objects = kept; widths = fit; map = ready.map; page = page; relocated = ready.linked.sound }
 
 pub returns-in-Ok : goal.returns-in-Ok
 returns-in-Ok g c =

@@ -35,5 +35,5 @@ returns g c =
     let is = ap₂ map_text c.objects.ensures c.map.ensures in
     lines_written
     (RelocationSays None m.objects m.map) _ c.in_ok-text.text text is c.in_ok-text.ensures.pending c.in_ok-text.ensures.written
-    _ _ c.pass_map.new.text c.write_pending.new.self c.in_ok-pass_map.ensures c.in_ok-write_pending.ensures.passed
-    c.in_ok-write_pending.ensures.empty
+    _ _ c.pass_map.new.text c.write_pending.new.self c.count_written.result c.in_ok-pass_map.ensures c.in_ok-write_pending.ensures.passed
+    c.in_ok-write_pending.ensures.empty c.count_written.ensures.value c.count_written.ensures.fits

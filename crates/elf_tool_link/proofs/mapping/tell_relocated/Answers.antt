@@ -54,6 +54,6 @@ returns g c =
     let is : IsThis Done said Done (m ++ b) = (refl, ap (λ (s : List ℕ). s ++ b) (ap₂ map_text c.objects.ensures c.map.ensures)) in
     let o = c.in_ok-text.text in
     lines_written (IsThis Done said) _ o (m ++ b) is c.in_ok-text.ensures.pending c.in_ok-text.ensures.written
-    _ _ c.pass_relocated.new.text c.write_pending.new.self
+    _ _ c.pass_relocated.new.text c.write_pending.new.self c.count_written.result
     (buffers_both _ _ _ o c.pass_map.new.text c.pass_relocated.new.text m b c.in_ok-pass_map.ensures c.in_ok-pass_relocated.ensures)
-    c.in_ok-write_pending.ensures.passed c.in_ok-write_pending.ensures.empty
+    c.in_ok-write_pending.ensures.passed c.in_ok-write_pending.ensures.empty c.count_written.ensures.value c.count_written.ensures.fits

@@ -12,7 +12,7 @@ use Rattle.elf_tool_show.specs.Show.{all_table_lines, part_lines, section_lines,
 use Rattle.elf_tool_text.specs.Buffered.{Buffers, IsBeginning, IsCutShort}
 use Rattle.elf_tool_check.specs.declared.calls.ToolFault.{ToolFault}
 use Rattle.elf_tool_text.specs.declared.output.Output.{Output}
-use Rattle.elf_tool_text.proofs.Public.{all_out, all_cut, buffers_both, buffers_line, buffers_none, cut_later, cut_longer}
+use Rattle.elf_tool_text.proofs.Public.{all_counted, all_cut, buffers_both, buffers_line, buffers_none, cut_flushed, cut_later, cut_longer}
 use Rattle.elf_tool_show.proofs.engine.show_image.Goals as goal
 
 -- the lines of the parts alone are those of the value's
@@ -118,30 +118,50 @@ returns-in_err-show_tables g c =
     (cut_later _ _ _ c.show_sections.new.output c.show_segments.new.output (segment_lines v)
     (all_table_lines t) fault c.in_ok-show_segments.ensures last)))
 
-pub returns : goal.returns
+-- all lines are sent
+sent : (a x y z w : Option (List ℕ)) (o p q r s e : Output) (b : List ℕ) (v : ImageValue) (tables : TablesValue) (h : Ehdr) (ps : List Part)
+    → h ≡ v.header → p.pending.items ≡ o.pending.items ++ file_line h → p.written ≡ o.written
+    → ps ≡ map (λ (l : PlacedPart). l.part) v.parts → tables.image ≡ v → Buffers a x p q (flat_map (part_line b) ps) →
+    Buffers x y q r (section_lines v)
+    → Buffers y z r s (segment_lines v) → Buffers z w s e (all_table_lines tables)
+    → Buffers a w o e (show_text b (record { image = v; verdicts = tables.verdicts }))
 unfolding show_text
-returns g c =
-    let a = g.W.Write.contents c.args.writer.now in
-    let b = c.args.bytes.now in
+sent a x y z w o p q r s e b v tables h ps header pushed count same of parts sections segments last =
+    let t : TablesValue = record { image = v; verdicts = tables.verdicts } in
+    buffers_both a a w o p e (file_line v.header) (part_lines b v ++ (section_lines v ++ (segment_lines v ++ all_table_lines t)))
+    (file_buffered a o p h v.header header pushed count)
+    (buffers_both a x w p q e (part_lines b v) (section_lines v ++ (segment_lines v ++ all_table_lines t))
+    (subst (Buffers a x p q) (parts_text b v ps same) parts)
+    (buffers_both x y w q r e (section_lines v) (segment_lines v ++ all_table_lines t) sections
+    (buffers_both y z w r s e (segment_lines v) (all_table_lines t) segments
+    (subst (λ (n : TablesValue). Buffers z w s e (all_table_lines n)) (same_tables tables v of) last))))
+
+pub returns-in_err-flush : goal.returns-in_err-flush
+returns-in_err-flush g c =
     let v = c.args.image.now in
     let t : TablesValue = record { image = v; verdicts = c.args.tables.now.verdicts } in
     let o = c.new-output.result in
-    let q = c.show_tables.new.output in
-    let p : Output = record { pending = c.push_file_line.new.text; written = c.new-output.result.written } in
-    let first = file_buffered a o p c.header.result v.header c.header.ensures c.in_ok-push_file_line.ensures refl in
-    let second =
-    subst (λ (s : List ℕ). Buffers a (g.W.Write.contents c.show_parts.new.writer) p c.show_parts.new.output s)
-    (parts_text b v c.parts.result.now c.parts.ensures.value) c.in_ok-show_parts.ensures in
-    let last = subst
-    (λ (s : TablesValue). Buffers (g.W.Write.contents c.show_segments.new.writer)
-    (g.W.Write.contents c.show_tables.new.writer) c.show_segments.new.output q (all_table_lines s))
-    (same_tables c.args.tables.now v c.requires) c.in_ok-show_tables.ensures in
-    let whole = buffers_both a a _ o p q (file_line v.header)
-    (part_lines b v ++ (section_lines v ++ (segment_lines v ++ all_table_lines t))) first
-    (buffers_both a _ _ p c.show_parts.new.output q (part_lines b v) (section_lines v ++ (segment_lines v ++ all_table_lines t)) second
-    (buffers_both _ _ _ c.show_parts.new.output c.show_sections.new.output q (section_lines v)
-    (segment_lines v ++ all_table_lines t) c.in_ok-show_sections.ensures
-    (buffers_both _ _ _ c.show_sections.new.output c.show_segments.new.output q (segment_lines v)
-    (all_table_lines t) c.in_ok-show_segments.ensures last))) in
-    all_out a _ _ o q c.flush.new.self (show_text b t) c.flush.result c.new-output.ensures.pending c.new-output.ensures.written
-    whole c.flush.ensures.buffered c.flush.ensures.empty
+    let p : Output = record { pending = c.push_file_line.new.text; written = o.written } in
+    let f = err_from_is_err_and c.from_residual-in_err-flush.result c.from_residual-in_err-flush.ensures.1 in
+    let fault = c.in_err-flush.field-0.0 in
+    rw (f.1, f.2) (all_cut _ _ o (show_text c.args.bytes.now t) fault c.new-output.ensures.pending c.new-output.ensures.written
+    (cut_flushed _ _ _ o c.show_tables.new.output (show_text c.args.bytes.now t) fault
+    (sent _ _ _ _ _ o p _ _ _ _ c.args.bytes.now v c.args.tables.now c.header.result c.parts.result.now c.header.ensures
+    c.in_ok-push_file_line.ensures refl
+    c.parts.ensures.value c.requires c.in_ok-show_parts.ensures c.in_ok-show_sections.ensures c.in_ok-show_segments.ensures
+    c.in_ok-show_tables.ensures)
+    c.in_err-flush.ensures.buffered))
+
+pub returns : goal.returns
+returns g c =
+    let v = c.args.image.now in
+    let t : TablesValue = record { image = v; verdicts = c.args.tables.now.verdicts } in
+    let o = c.new-output.result in
+    let p : Output = record { pending = c.push_file_line.new.text; written = o.written } in
+    all_counted _ _ _ o c.show_tables.new.output c.flush.new.self
+    (show_text c.args.bytes.now t) c.count_written.result c.new-output.ensures.pending c.new-output.ensures.written
+    (sent _ _ _ _ _ o p _ _ _ _ c.args.bytes.now v c.args.tables.now c.header.result c.parts.result.now c.header.ensures
+    c.in_ok-push_file_line.ensures refl
+    c.parts.ensures.value c.requires c.in_ok-show_parts.ensures c.in_ok-show_sections.ensures c.in_ok-show_segments.ensures
+    c.in_ok-show_tables.ensures)
+    c.in_ok-flush.ensures.buffered c.in_ok-flush.ensures.empty c.count_written.ensures.value c.count_written.ensures.fits

@@ -1,0 +1,88 @@
+-- What was written into a text that was empty is the text. If it was not kept, its length is known, and the text is longer than the buffer,
+-- or empty. Either way a call of an engine is told it.
+use Rattle.std.proofs.Common.{◌≡◌, ◌∙◌, ◌<◌, ◌-◌, ◌^◌, ℕ, List, [], ◌∷◌, Some, Result, Ok, Err, MatchResult, arith, inl, inr, length, refl}
+use Rattle.std.proofs.Common.{subst, sym}
+use Rattle.elf_c_parts.specs.declared.room.Slot.{Slot}
+use Rattle.elf_tool_check.specs.Engine.{HasLength, IsMeasured, Prints}
+use Rattle.elf_tool_check.specs.declared.calls.Verdict.{Verdict}
+use Rattle.elf_tool_show.specs.Show.{IsShownOf, ShowSays}
+use Rattle.elf_c_engines.specs.declared.calls.CallFault.{CallFault}
+use Rattle.elf_c_engines.specs.declared.calls.CallFault.TheVariants.{BadRules, BadFiles, OutOfMemory}
+use Rattle.elf_c_engines.specs.declared.calls.Outcome.{Outcome}
+use Rattle.elf_c_engines.specs.declared.said.Said.{Said}
+use Rattle.elf_c_engines.specs.Calls.{IsAnswered, IsEngineCall, IsSaid, IsUnkept, IsWantOfMemory, IsTold, LacksFile}
+
+-- ---- all of it is kept
+
+pub whole_said : (Says : Verdict → List ℕ → Type 0) (most : ℕ) (said : Said) (verdict : Verdict) (text : List ℕ) → said.verdict ≡ verdict →
+    said.length ≡ length text → said.text.items ≡ text → Says verdict text → IsSaid Says most said
+whole_said Says most said verdict text same long kept says =
+    (text, subst (λ (v : Verdict). Says v text) (sym same) says, long, (λ fits. kept))
+
+-- what is said into an empty text is all that this holds
+pub said_text : (Says : Verdict → List ℕ → Type 0) (old new : List ℕ) (verdict : Verdict) → old ≡ [] →
+    Prints Says (Some old) (Some new) (Ok verdict) → Says verdict new
+said_text Says old new verdict empty (text, says, all) = rw (all, empty) says
+
+pub shown_text : (b old new : List ℕ) (verdict : Verdict) → old ≡ [] → IsShownOf b (Some old) (Some new) (Ok verdict) →
+    ShowSays b verdict new
+shown_text b old new verdict empty (inl (never, kept)) = absurd cc
+shown_text b old new verdict empty (inr told) = rw (told.written, empty, told.answer) told.is
+
+-- ---- nothing is
+
+nothing : (xs : List ℕ) → length xs ≡ 0 → [] ≡ xs
+nothing [] none = refl
+nothing (x ∷ xs) none = absurd (omega arith)
+
+unkept : (Says : Verdict → List ℕ → Type 0) (verdict : Verdict) (n most : ℕ) (said : Said) (text : List ℕ) → Says verdict text →
+    n ≡ length text →
+    IsUnkept verdict n most said → IsSaid Says most said
+unkept Says verdict n most said text says long is =
+    let same = is.length_is in (
+      text,
+      subst (λ (v : Verdict). Says v text) (sym is.verdict_is) says,
+      same ∙ long,
+      (λ fits. (let none = is.long (omega arith) in is.text ∙ nothing text (omega arith))),
+    )
+
+module _ (Fails : CallFault → Type 0) (Says : Verdict → List ℕ → Type 0) (verdict : Verdict) (n most : ℕ)
+    (refused : Fails OutOfMemory) where
+  told : (result : Result Said CallFault) (text : List ℕ) → Says verdict text → (n < 2 ^ 64 - 1 → n ≡ length text) →
+      MatchResult result (IsUnkept verdict n most) (λ fault. fault ≡ OutOfMemory) → MatchResult result (IsSaid Says most) Fails
+  told (Ok said) text says long is = unkept Says verdict n most said text says (long is.exact) is
+  told (Err fault) text says long is = subst Fails (sym is) refused
+
+  pub exact_told : (result : Result Said CallFault) → HasLength Says (verdict, n) →
+      MatchResult result (IsUnkept verdict n most) (λ fault. fault ≡ OutOfMemory) → MatchResult result (IsSaid Says most) Fails
+  exact_told result (text, says, long) is = told result text says (λ short. long) is
+
+  pub measured_told : (result : Result Said CallFault) → IsMeasured Says (verdict, n) →
+      MatchResult result (IsUnkept verdict n most) (λ fault. fault ≡ OutOfMemory) → MatchResult result (IsSaid Says most) Fails
+  measured_told result (text, says, long) is = told result text says (λ short. omega arith) is
+
+-- ---- said of other words
+
+pub said_as : (P Q : Verdict → List ℕ → Type 0) (F G : CallFault → Type 0) (most : ℕ) (result : Result Said CallFault) →
+    ((v : Verdict) (t : List ℕ) → P v t → Q v t) → ((fault : CallFault) → F fault → G fault) → MatchResult result (IsSaid P most) F →
+    MatchResult result (IsSaid Q most) G
+said_as P Q F G most (Ok said) into fails (text, says, long, kept) = (text, into said.verdict text says, long, kept)
+said_as P Q F G most (Err fault) into fails failed = fails fault failed
+
+-- files are only lacking for want of memory, once they are found
+pub want_of_file : (b : List ℕ) (places : List Slot) (fault : CallFault) → IsWantOfMemory fault → LacksFile b places fault
+want_of_file b places OutOfMemory is = tt
+want_of_file b places (BadRules line) is = absurd is
+want_of_file b places (BadFiles file) is = absurd is
+
+-- ---- a call
+
+pub called : (Says : Verdict → List ℕ → Type 0) (Fails : CallFault → Type 0) (most : ℕ) (old new : List ℕ) (outcome : Outcome) (status : ℕ)
+    (result : Result Said CallFault) → most ≡ length old → MatchResult result (IsSaid Says most) Fails →
+    IsAnswered result old new outcome status →
+    IsEngineCall Says Fails old new outcome status
+called Says Fails most old new outcome status (Ok said) room (text, says, long, kept) (inl (short, same, code, numbers)) =
+    inl (said.verdict, text, says, inr (record { short = omega arith; room = same; status = code; numbers = rw long at numbers }))
+called Says Fails most old new outcome status (Ok said) room (text, says, long, kept) (inr (fits, into)) =
+    inl (said.verdict, text, says, subst (λ (t : List ℕ). IsTold said.verdict t old new outcome status) (kept (omega arith)) into)
+called Says Fails most old new outcome status (Err fault) room failed answered = inr (fault, failed, answered)
