@@ -21,7 +21,8 @@ use Rattle.elf_c_parts.specs.declared.room.Slot.{Slot}
 use Rattle.elf_extent.specs.declared.extent.Extent.{Extent}
 use Rattle.elf_field.proofs.RecordTableLaws.{record_of_part}
 use Rattle.elf_field.specs.Abi.{DT_NULL, SHN_XINDEX, WORD_SIZE, NHDR_SIZE, N_DESCSZ_AT, N_NAMESZ_AT}
-use Rattle.elf_field.specs.Entries.{word_at, word_laws}
+use Rattle.elf_field.specs.Entries.{word_at}
+use Rattle.elf_field.specs.laws.Entries.{word_laws}
 use Rattle.elf_field.specs.declared.dynamic.Dyn.{Dyn}
 use Rattle.elf_field.specs.declared.number.Order.{Order}
 use Rattle.elf_image_rules.proofs.Public.{FirstIn-front, FirstIn-after}

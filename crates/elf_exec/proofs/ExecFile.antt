@@ -18,8 +18,10 @@ use Rattle.elf_extent.proofs.Public.{fits_length}
 use Rattle.elf_extent.specs.Place.{Fits, alignment}
 use Rattle.elf_field.proofs.RecordTableLaws.{IsBytes-table, length-table}
 use Rattle.elf_field.specs.Abi.{EHDR_SIZE, PHDR_SIZE, PN_XNUM, PT_NULL}
-use Rattle.elf_field.specs.Bytes.{IsBytes, IsBytes-nil}
-use Rattle.elf_field.specs.Headers.{IsEhdr, ehdr_bytes, ehdr_laws, IsPhdr, phdr_bytes, phdr_laws}
+use Rattle.elf_field.specs.Bytes.{IsBytes}
+use Rattle.elf_field.specs.laws.Bytes.{IsBytes-nil}
+use Rattle.elf_field.specs.Headers.{IsEhdr, ehdr_bytes, IsPhdr, phdr_bytes}
+use Rattle.elf_field.specs.laws.Headers.{ehdr_laws, phdr_laws}
 use Rattle.elf_field.specs.declared.ehdr.Ehdr.{Ehdr}
 use Rattle.elf_field.specs.declared.number.Order.{Order}
 use Rattle.elf_field.specs.declared.phdr.Phdr.{Phdr}

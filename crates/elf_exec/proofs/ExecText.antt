@@ -21,7 +21,7 @@ use Rattle.elf_link_relocate.specs.declared.load.Load.{Load}
 use Rattle.elf_extent.proofs.Public.{above_earlier, above_from, fits_length}
 use Rattle.elf_extent.specs.Place.{Fits, IsOverflowAt, end_of, Least}
 use Rattle.elf_field.proofs.RecordTableLaws.{length-table}
-use Rattle.elf_field.specs.Headers.{ehdr_laws, phdr_laws}
+use Rattle.elf_field.specs.laws.Headers.{ehdr_laws, phdr_laws}
 use Rattle.elf_field.specs.declared.phdr.Phdr.{Phdr}
 use Rattle.elf_image_stream.proofs.Public.{sends_after}
 use Rattle.elf_image_stream.specs.Output.{Sends, WentOut}

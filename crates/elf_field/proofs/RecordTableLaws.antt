@@ -9,7 +9,8 @@ use Rattle.std.proofs.Math.Seq.{take-add}
 use Rattle.std.proofs.lemmas.List.FromFn.{get_or-map-range_with_len}
 use Rattle.std.proofs.lemmas.List.{drop-drop, drop-take, drop_at, length-take-le, take-take, take_at}
 use Rattle.elf_field.specs.declared.number.Order.{Order}
-use Rattle.elf_field.specs.Bytes.{IsBytes, IsBytes-append, IsBytes-drop, IsBytes-nil, IsBytes-take}
+use Rattle.elf_field.specs.Bytes.{IsBytes}
+use Rattle.elf_field.specs.laws.Bytes.{IsBytes-append, IsBytes-drop, IsBytes-nil, IsBytes-take}
 use Rattle.elf_field.specs.Record.{IsRecord}
 
 mul_step : (size n : ℕ) → size * suc n ≡ size + size * n

@@ -1,16 +1,12 @@
--- The entries of tables: symbols, relocations, dynamic entries and words, with the laws of each record. (gABI chapter 4, Symbol Table and
--- Relocation; chapter 5, Dynamic Section and Hash Table.)
-use Rattle.std.proofs.Common.{◌<◌, ◌^◌, ℕ, List, [], ◌∷◌, ◌≤◌, ◌+◌, length, refl, rules, ap, arith, drop, sym, ◌∙◌, lit≤, add-zero}
-use Rattle.std.specs.Prelude.{FitsSigned, ℤ}
+-- The entries of tables: symbols, relocations, dynamic entries and words. (gABI chapter 4, Symbol Table and Relocation; chapter 5,
+-- Dynamic Section and Hash Table.)
+use Rattle.std.proofs.Common.{◌<◌, ◌^◌, ℕ, List, [], ◌∷◌}
+use Rattle.std.specs.Prelude.{FitsSigned}
 use Rattle.std.specs.Int.{w64, cast_signed, cast_unsigned}
-use Rattle.std.proofs.Math.Facts.{Fits-of_lt, sfits_to_z}
-use Rattle.std.proofs.lemmas.Int.{ints, of_z-to_z, to_z-of_z}
-use Rattle.std.proofs.lemmas.List.{append-nil, take_all}
-use Rattle.elf_field.specs.Abi.{ST_INFO_AT, ST_NAME_AT, ST_OTHER_AT, ST_SHNDX_AT, ST_SIZE_AT, ST_VALUE_AT, SYM_SIZE, R_INFO_AT, R_OFFSET_AT}
-use Rattle.elf_field.specs.Abi.{REL_SIZE, R_ADDEND_AT, RELA_SIZE, D_TAG_AT, D_UN_AT, DYN_SIZE, WORD_SIZE}
-use Rattle.elf_field.specs.Bytes.{IsBytes, field, At, bytes_of, num, IsBytes-bytes_of, IsBytes-drop, bytes_of-num, length-bytes_of}
-use Rattle.elf_field.specs.Bytes.{num-bytes_of, num-lt}
-use Rattle.elf_field.specs.Record.{Layout, StandsAt, record_at, record_bytes, IsLayout, layout_fields_at, layout_laws, IsRecord, field-part}
+use Rattle.elf_field.specs.Abi.{ST_INFO_AT, ST_NAME_AT, ST_OTHER_AT, ST_SHNDX_AT, ST_SIZE_AT, ST_VALUE_AT, R_INFO_AT, R_OFFSET_AT}
+use Rattle.elf_field.specs.Abi.{R_ADDEND_AT, D_TAG_AT, D_UN_AT, WORD_SIZE}
+use Rattle.elf_field.specs.Bytes.{field, At, bytes_of}
+use Rattle.elf_field.specs.Record.{Layout, StandsAt, record_at, record_bytes}
 use Rattle.elf_field.specs.declared.dynamic.Dyn.{Dyn}
 use Rattle.elf_field.specs.declared.number.Order.{Order}
 use Rattle.elf_field.specs.declared.rel.Rel.{Rel}
@@ -52,25 +48,6 @@ pub record IsSym (v : Sym) : Type 0 where
   pub st_value : v.st_value < 2 ^ 64
   pub st_size : v.st_size < 2 ^ 64
 
--- its laws
-
-sym_is : IsLayout sym_layout SYM_SIZE IsSym
-sym_is = record {
-  wide = refl;
-  counted = λ v. refl;
-  makes = λ v fits. refl;
-  made = λ o b x fits. refl;
-  fits = λ v fits. search rules;
-  valid =
-      λ o b x fits. search rules;
-}
-
-pub sym_laws : IsRecord SYM_SIZE sym_at sym_bytes IsSym
-sym_laws = layout_laws sym_layout SYM_SIZE IsSym sym_is
-
-pub sym_fields_at : (o : Order) (b : List ℕ) (x : ℕ) → x + SYM_SIZE ≤ length b → IsBytes b → IsSymAt o b x (sym_at o b x)
-sym_fields_at = layout_fields_at sym_layout SYM_SIZE IsSym sym_is
-
 -- A relocation without addend: one entry of a section of type REL. (gABI chapter 4, Relocation.)
 
 -- the offset and the width in bytes of each field, and their order
@@ -97,25 +74,6 @@ IsRelAt = StandsAt rel_layout
 pub record IsRel (v : Rel) : Type 0 where
   pub r_offset : v.r_offset < 2 ^ 64
   pub r_info : v.r_info < 2 ^ 64
-
--- its laws
-
-rel_is : IsLayout rel_layout REL_SIZE IsRel
-rel_is = record {
-  wide = refl;
-  counted = λ v. refl;
-  makes = λ v fits. refl;
-  made = λ o b x fits. refl;
-  fits = λ v fits. search rules;
-  valid =
-      λ o b x fits. search rules;
-}
-
-pub rel_laws : IsRecord REL_SIZE rel_at rel_bytes IsRel
-rel_laws = layout_laws rel_layout REL_SIZE IsRel rel_is
-
-pub rel_fields_at : (o : Order) (b : List ℕ) (x : ℕ) → x + REL_SIZE ≤ length b → IsBytes b → IsRelAt o b x (rel_at o b x)
-rel_fields_at = layout_fields_at rel_layout REL_SIZE IsRel rel_is
 
 -- A relocation with addend: one entry of a section of type RELA. (gABI chapter 4, Relocation.)
 
@@ -146,26 +104,6 @@ pub record IsRela (v : Rela) : Type 0 where
   pub r_info : v.r_info < 2 ^ 64
   pub r_addend : FitsSigned w64 v.r_addend
 
--- its laws
-
-rela_is : IsLayout rela_layout RELA_SIZE IsRela
-rela_is = record {
-  wide = refl;
-  counted = λ v. refl;
-  makes = λ v fits. ap (λ (z : ℤ). record { r_offset = v.r_offset; r_info = v.r_info; r_addend = z })
-      (to_z-of_z w64 v.r_addend fits.r_addend);
-  made = λ o b x fits. ap (λ (v : ℕ). field o b (x + R_OFFSET_AT) 8 ∷ field o b (x + R_INFO_AT) 8 ∷ v ∷ [])
-      (of_z-to_z w64 (field o b (x + R_ADDEND_AT) 8) fits.1.1.0);
-  fits = λ v fits. (let small : cast_unsigned w64 v.r_addend < 256 ^ 8 = omega (arith, ints) in search rules);
-  valid = λ o b x fits. (let tag = sfits_to_z (Fits-of_lt {w = w64} fits.1.1.0) in search rules);
-}
-
-pub rela_laws : IsRecord RELA_SIZE rela_at rela_bytes IsRela
-rela_laws = layout_laws rela_layout RELA_SIZE IsRela rela_is
-
-pub rela_fields_at : (o : Order) (b : List ℕ) (x : ℕ) → x + RELA_SIZE ≤ length b → IsBytes b → IsRelaAt o b x (rela_at o b x)
-rela_fields_at = layout_fields_at rela_layout RELA_SIZE IsRela rela_is
-
 -- An entry of the dynamic array. (gABI chapter 5, Dynamic Section.)
 
 -- the offset and the width in bytes of each field, and their order
@@ -193,24 +131,6 @@ pub record IsDyn (v : Dyn) : Type 0 where
   pub d_tag : FitsSigned w64 v.d_tag
   pub d_un : v.d_un < 2 ^ 64
 
--- its laws
-
-dyn_is : IsLayout dyn_layout DYN_SIZE IsDyn
-dyn_is = record {
-  wide = refl;
-  counted = λ v. refl;
-  makes = λ v fits. ap (λ (z : ℤ). record { d_tag = z; d_un = v.d_un }) (to_z-of_z w64 v.d_tag fits.d_tag);
-  made = λ o b x fits. ap (λ (v : ℕ). v ∷ field o b (x + D_UN_AT) 8 ∷ []) (of_z-to_z w64 (field o b (x + D_TAG_AT) 8) fits.0);
-  fits = λ v fits. (let small : cast_unsigned w64 v.d_tag < 256 ^ 8 = omega (arith, ints) in search rules);
-  valid = λ o b x fits. (let tag = sfits_to_z (Fits-of_lt {w = w64} fits.0) in search rules);
-}
-
-pub dyn_laws : IsRecord DYN_SIZE dyn_at dyn_bytes IsDyn
-dyn_laws = layout_laws dyn_layout DYN_SIZE IsDyn dyn_is
-
-pub dyn_fields_at : (o : Order) (b : List ℕ) (x : ℕ) → x + DYN_SIZE ≤ length b → IsBytes b → IsDynAt o b x (dyn_at o b x)
-dyn_fields_at = layout_fields_at dyn_layout DYN_SIZE IsDyn dyn_is
-
 -- A word of four bytes: index tables, section groups and hash tables are lists of them (gABI chapter 4, Sections:
 -- SHT_SYMTAB_SHNDX, and Section Groups; chapter 5, Hash Table).
 
@@ -227,18 +147,3 @@ IsWordAt o b x v = At o b x WORD_SIZE v
 
 abbrev pub IsWord : ℕ → Type 0
 IsWord v = v < 2 ^ 32
-
--- The laws of a word.
-
-pub word_laws : IsRecord WORD_SIZE word_at word_bytes IsWord
-word_laws = record {
-  gets_put = λ o v fits. ap (num o WORD_SIZE) (sym (append-nil (bytes_of o WORD_SIZE v))) ∙ num-bytes_of o WORD_SIZE v [] fits;
-  puts_got = λ o b long bytes. bytes_of-num o WORD_SIZE b bytes (omega arith) ∙ take_all WORD_SIZE b (omega arith);
-  part = λ o b x. field-part o b WORD_SIZE x 0 WORD_SIZE (lit≤ tt) ∙ ap (λ (k : ℕ). field o b k WORD_SIZE) (add-zero x);
-  length_is = λ o v. length-bytes_of o WORD_SIZE v;
-  valid = λ o b x bytes. num-lt o WORD_SIZE (drop x b) (IsBytes-drop x b bytes);
-  are_bytes = λ o v fits. IsBytes-bytes_of o WORD_SIZE v;
-}
-
-pub word_fields_at : (o : Order) (b : List ℕ) (x : ℕ) → x + WORD_SIZE ≤ length b → IsBytes b → IsWordAt o b x (word_at o b x)
-word_fields_at o b x within bytes = (within, refl)

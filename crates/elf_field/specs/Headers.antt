@@ -1,20 +1,16 @@
--- The file header, section headers and program headers: their fields, and the laws of each record. (gABI chapter 4, ELF Header and
+-- The file header, section headers and program headers: their fields. (gABI chapter 4, ELF Header and
 -- Sections; chapter 5, Program Header.) A field of one byte is defined like the others, as a number of width 1, so all records have one
 -- form. The identification is one field `e_ident` of sixteen bytes, as in the standard.
 use Rattle.std.specs.Prelude.{◌≡◌, ◌+◌, ◌<◌, ◌^◌, ℕ, List, [], ◌∷◌, length, take, drop}
-use Rattle.std.proofs.Common.{◌≤◌, ◌-◌, refl, sym, ap, ap₂, ◌∙◌, arith, rules, lit≤, length-drop}
-use Rattle.std.proofs.lemmas.List.{take_all}
+use Rattle.std.proofs.Common.{◌-◌}
 use Rattle.elf_field.specs.Abi.{EI_NIDENT, E_EHSIZE_AT, E_ENTRY_AT, E_FLAGS_AT, E_MACHINE_AT, E_PHENTSIZE_AT, E_PHNUM_AT, E_PHOFF_AT}
-use Rattle.elf_field.specs.Abi.{E_SHENTSIZE_AT, E_SHNUM_AT, E_SHOFF_AT, E_SHSTRNDX_AT, E_TYPE_AT, E_VERSION_AT, EHDR_SIZE, SH_ADDRALIGN_AT}
+use Rattle.elf_field.specs.Abi.{E_SHENTSIZE_AT, E_SHNUM_AT, E_SHOFF_AT, E_SHSTRNDX_AT, E_TYPE_AT, E_VERSION_AT, SH_ADDRALIGN_AT}
 use Rattle.elf_field.specs.Abi.{SH_ADDR_AT, SH_ENTSIZE_AT, SH_FLAGS_AT, SH_INFO_AT, SH_LINK_AT, SH_NAME_AT, SH_OFFSET_AT, SH_SIZE_AT}
-use Rattle.elf_field.specs.Abi.{SH_TYPE_AT, SHDR_SIZE, P_ALIGN_AT, P_FILESZ_AT, P_FLAGS_AT, P_MEMSZ_AT, P_OFFSET_AT, P_PADDR_AT, P_TYPE_AT}
-use Rattle.elf_field.specs.Abi.{P_VADDR_AT, PHDR_SIZE}
-use Rattle.elf_field.specs.Bytes.{IsBytes, first_bytes, bytes_of, field, IsBytes-drop, IsBytes-first_bytes, first_bytes-all}
-use Rattle.elf_field.specs.Bytes.{first_bytes-append, first_bytes-part, first_bytes-take, length-first_bytes}
-use Rattle.elf_field.specs.Record.{AreAt, spelled, FitWidths, fields_from, number_in, width_of, AreAt-fields_from, FitWidths-fields_from}
-use Rattle.elf_field.specs.Record.{IsBytes-spelled, fields_from-part, fields_from-spelled, length-spelled, spelled-fields_from}
-use Rattle.elf_field.specs.Record.{spelled-front, IsRecord, Layout, StandsAt, record_at, record_bytes, IsLayout, layout_fields_at}
-use Rattle.elf_field.specs.Record.{layout_laws}
+use Rattle.elf_field.specs.Abi.{SH_TYPE_AT, P_ALIGN_AT, P_FILESZ_AT, P_FLAGS_AT, P_MEMSZ_AT, P_OFFSET_AT, P_PADDR_AT, P_TYPE_AT}
+use Rattle.elf_field.specs.Abi.{P_VADDR_AT}
+use Rattle.elf_field.specs.Bytes.{IsBytes, first_bytes, bytes_of, field}
+use Rattle.elf_field.specs.Record.{AreAt, spelled}
+use Rattle.elf_field.specs.Record.{Layout, StandsAt, record_at, record_bytes}
 use Rattle.elf_field.specs.declared.ehdr.Ehdr.{Ehdr}
 use Rattle.elf_field.specs.declared.number.Order.{Order}
 use Rattle.elf_field.specs.declared.phdr.Phdr.{Phdr}
@@ -81,57 +77,6 @@ pub record IsEhdr (v : Ehdr) : Type 0 where
   pub e_shnum : v.e_shnum < 2 ^ 16
   pub e_shstrndx : v.e_shstrndx < 2 ^ 16
 
--- The laws of Ehdr.
-
--- the header of this identification and of these numbers
-abbrev ehdr_made : List ℕ → List ℕ → Ehdr
-ehdr_made ident vs = ehdr_of ident (λ k w. number_in ehdr_widths vs (k - EI_NIDENT))
-
-ehdr_fit : (v : Ehdr) → IsEhdr v → FitWidths ehdr_widths (ehdr_values v)
-ehdr_fit v fits = search rules
-
-ehdr_valid : (o : Order) (b : List ℕ) (x : ℕ) → IsBytes b → IsEhdr (ehdr_at o b x)
-ehdr_valid o b x bytes =
-    let numbers = FitWidths-fields_from o b x EI_NIDENT ehdr_widths bytes in
-    let long = length-first_bytes EI_NIDENT (drop x b) in
-    let are = IsBytes-first_bytes EI_NIDENT (drop x b) (IsBytes-drop x b bytes) in
-    search rules
-
-ehdr_gets_put : (o : Order) (v : Ehdr) → IsEhdr v → ehdr_at o (ehdr_bytes o v) 0 ≡ v
-ehdr_gets_put o v fits =
-    let ident = first_bytes EI_NIDENT v.e_ident in
-    let numbers = spelled (bytes_of o) [] ehdr_widths (ehdr_values v) in
-    let long : length ident ≡ EI_NIDENT = length-first_bytes EI_NIDENT v.e_ident in
-    let read : first_bytes EI_NIDENT (ehdr_bytes o v) ≡ v.e_ident =
-    ap (first_bytes EI_NIDENT) (spelled-front o ident ehdr_widths (ehdr_values v)) ∙ first_bytes-append EI_NIDENT ident numbers long ∙
-    first_bytes-all EI_NIDENT v.e_ident fits.e_ident in
-    ap₂ ehdr_made read (fields_from-spelled o ident EI_NIDENT ehdr_widths (ehdr_values v) (ehdr_fit v fits) long)
-
-ehdr_puts_got : (o : Order) (b : List ℕ) → length b ≡ EHDR_SIZE → IsBytes b → ehdr_bytes o (ehdr_at o b 0) ≡ b
-ehdr_puts_got o b long bytes =
-    let ident : first_bytes EI_NIDENT (first_bytes EI_NIDENT b) ≡ take EI_NIDENT b =
-    first_bytes-all EI_NIDENT (first_bytes EI_NIDENT b) (length-first_bytes EI_NIDENT b) ∙ first_bytes-take EI_NIDENT b (omega arith) in
-    ap (λ (s : List ℕ). spelled (bytes_of o) s ehdr_widths (fields_from o b 0 EI_NIDENT ehdr_widths)) ident ∙
-    spelled-fields_from o b EI_NIDENT ehdr_widths bytes (omega arith) ∙ take_all EHDR_SIZE b (omega arith)
-
-pub ehdr_laws : IsRecord EHDR_SIZE ehdr_at ehdr_bytes IsEhdr
-ehdr_laws = record {
-  gets_put = ehdr_gets_put;
-  puts_got = ehdr_puts_got;
-  part = λ o b x. ap₂ ehdr_made (first_bytes-part EI_NIDENT EHDR_SIZE (drop x b) (lit≤ tt))
-      (fields_from-part o b EHDR_SIZE x EI_NIDENT ehdr_widths (lit≤ tt));
-  length_is = λ o v. length-spelled o (first_bytes EI_NIDENT v.e_ident) ehdr_widths (ehdr_values v) refl ∙
-      ap (λ (k : ℕ). k + width_of ehdr_widths) (length-first_bytes EI_NIDENT v.e_ident);
-  valid = ehdr_valid;
-  are_bytes = λ o v fits. IsBytes-spelled o (first_bytes EI_NIDENT v.e_ident) ehdr_widths (ehdr_values v)
-      (IsBytes-first_bytes EI_NIDENT v.e_ident fits.e_ident_bytes);
-}
-
-pub ehdr_fields_at : (o : Order) (b : List ℕ) (x : ℕ) → x + EHDR_SIZE ≤ length b → IsBytes b → IsEhdrAt o b x (ehdr_at o b x)
-ehdr_fields_at o b x within bytes =
-    let there : EI_NIDENT ≤ length (drop x b) = let e = length-drop x b in omega arith in
-    (sym (first_bytes-take EI_NIDENT (drop x b) there), AreAt-fields_from o b x EI_NIDENT ehdr_widths (omega arith))
-
 -- A section header: one entry of the section header table. (gABI chapter 4, Sections.)
 
 -- the offset and the width in bytes of each field, and their order
@@ -175,25 +120,6 @@ pub record IsShdr (v : Shdr) : Type 0 where
   pub sh_addralign : v.sh_addralign < 2 ^ 64
   pub sh_entsize : v.sh_entsize < 2 ^ 64
 
--- its laws
-
-shdr_is : IsLayout shdr_layout SHDR_SIZE IsShdr
-shdr_is = record {
-  wide = refl;
-  counted = λ v. refl;
-  makes = λ v fits. refl;
-  made = λ o b x fits. refl;
-  fits = λ v fits. search rules;
-  valid =
-      λ o b x fits. search rules;
-}
-
-pub shdr_laws : IsRecord SHDR_SIZE shdr_at shdr_bytes IsShdr
-shdr_laws = layout_laws shdr_layout SHDR_SIZE IsShdr shdr_is
-
-pub shdr_fields_at : (o : Order) (b : List ℕ) (x : ℕ) → x + SHDR_SIZE ≤ length b → IsBytes b → IsShdrAt o b x (shdr_at o b x)
-shdr_fields_at = layout_fields_at shdr_layout SHDR_SIZE IsShdr shdr_is
-
 -- A program header: one entry of the program header table, a segment. (gABI chapter 5, Program Header.)
 
 -- the offset and the width in bytes of each field, and their order
@@ -232,22 +158,3 @@ pub record IsPhdr (v : Phdr) : Type 0 where
   pub p_filesz : v.p_filesz < 2 ^ 64
   pub p_memsz : v.p_memsz < 2 ^ 64
   pub p_align : v.p_align < 2 ^ 64
-
--- its laws
-
-phdr_is : IsLayout phdr_layout PHDR_SIZE IsPhdr
-phdr_is = record {
-  wide = refl;
-  counted = λ v. refl;
-  makes = λ v fits. refl;
-  made = λ o b x fits. refl;
-  fits = λ v fits. search rules;
-  valid =
-      λ o b x fits. search rules;
-}
-
-pub phdr_laws : IsRecord PHDR_SIZE phdr_at phdr_bytes IsPhdr
-phdr_laws = layout_laws phdr_layout PHDR_SIZE IsPhdr phdr_is
-
-pub phdr_fields_at : (o : Order) (b : List ℕ) (x : ℕ) → x + PHDR_SIZE ≤ length b → IsBytes b → IsPhdrAt o b x (phdr_at o b x)
-phdr_fields_at = layout_fields_at phdr_layout PHDR_SIZE IsPhdr phdr_is

@@ -4,3 +4,4 @@ pub mod Entries
 pub mod Headers
 pub mod Record
 pub mod Strings
+pub mod laws

@@ -1,6 +1,7 @@
 //! Entries of a dynamic array (gABI chapter 5, Dynamic Section).
 ghost use Rattle.std.specs.Prelude.{◌≡◌, length};
-ghost use Rattle.elf_field.specs.Entries.{IsDyn, IsDynAt, dyn_at, dyn_bytes, dyn_fields_at, dyn_laws};
+ghost use Rattle.elf_field.specs.Entries.{IsDyn, IsDynAt, dyn_at, dyn_bytes};
+ghost use Rattle.elf_field.specs.laws.Entries.{dyn_fields_at, dyn_laws};
 ghost use Rattle.elf_field.specs.Abi.{DYN_SIZE};
 
 use crate::abi::{D_TAG_AT, D_UN_AT, DYN_SIZE};

@@ -1,7 +1,8 @@
 //! The header of a file (gABI chapter 4, ELF Header).
 ghost use Rattle.std.specs.Prelude.{◌≡◌, length, ◌≤◌, take};
 ghost use Rattle.elf_field.specs.Bytes.{first_bytes};
-ghost use Rattle.elf_field.specs.Headers.{IsEhdr, IsEhdrAt, ehdr_at, ehdr_bytes, ehdr_fields_at, ehdr_laws};
+ghost use Rattle.elf_field.specs.Headers.{IsEhdr, IsEhdrAt, ehdr_at, ehdr_bytes};
+ghost use Rattle.elf_field.specs.laws.Headers.{ehdr_fields_at, ehdr_laws};
 ghost use Rattle.elf_field.specs.Abi.{EHDR_SIZE};
 
 use crate::abi::{

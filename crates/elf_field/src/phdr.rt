@@ -1,6 +1,7 @@
 //! Program headers (gABI chapter 5, Program Header).
 ghost use Rattle.std.specs.Prelude.{◌≡◌, length};
-ghost use Rattle.elf_field.specs.Headers.{IsPhdr, IsPhdrAt, phdr_at, phdr_bytes, phdr_fields_at, phdr_laws};
+ghost use Rattle.elf_field.specs.Headers.{IsPhdr, IsPhdrAt, phdr_at, phdr_bytes};
+ghost use Rattle.elf_field.specs.laws.Headers.{phdr_fields_at, phdr_laws};
 ghost use Rattle.elf_field.specs.Abi.{PHDR_SIZE};
 
 use crate::abi::{

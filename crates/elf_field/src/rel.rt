@@ -1,6 +1,7 @@
 //! Relocations without addends (gABI chapter 4, Relocation).
 ghost use Rattle.std.specs.Prelude.{◌≡◌, ◌/◌, ◌%◌, ◌^◌, length};
-ghost use Rattle.elf_field.specs.Entries.{IsRel, IsRelAt, rel_at, rel_bytes, rel_fields_at, rel_laws};
+ghost use Rattle.elf_field.specs.Entries.{IsRel, IsRelAt, rel_at, rel_bytes};
+ghost use Rattle.elf_field.specs.laws.Entries.{rel_fields_at, rel_laws};
 ghost use Rattle.elf_field.specs.Abi.{REL_SIZE};
 
 use crate::abi::{R_INFO_AT, R_OFFSET_AT, REL_SIZE};

@@ -1,6 +1,7 @@
 //! Relocations with addends (gABI chapter 4, Relocation).
 ghost use Rattle.std.specs.Prelude.{◌≡◌, ◌/◌, ◌%◌, ◌^◌, length};
-ghost use Rattle.elf_field.specs.Entries.{IsRela, IsRelaAt, rela_at, rela_bytes, rela_fields_at, rela_laws};
+ghost use Rattle.elf_field.specs.Entries.{IsRela, IsRelaAt, rela_at, rela_bytes};
+ghost use Rattle.elf_field.specs.laws.Entries.{rela_fields_at, rela_laws};
 ghost use Rattle.elf_field.specs.Abi.{RELA_SIZE};
 
 use crate::abi::{R_ADDEND_AT, R_INFO_AT, R_OFFSET_AT, RELA_SIZE};

@@ -1,6 +1,7 @@
 //! Section headers (gABI chapter 4, Sections).
 ghost use Rattle.std.specs.Prelude.{◌≡◌, length};
-ghost use Rattle.elf_field.specs.Headers.{IsShdr, IsShdrAt, shdr_at, shdr_bytes, shdr_fields_at, shdr_laws};
+ghost use Rattle.elf_field.specs.Headers.{IsShdr, IsShdrAt, shdr_at, shdr_bytes};
+ghost use Rattle.elf_field.specs.laws.Headers.{shdr_fields_at, shdr_laws};
 ghost use Rattle.elf_field.specs.Abi.{SHDR_SIZE};
 
 use crate::abi::{

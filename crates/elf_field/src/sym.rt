@@ -1,6 +1,7 @@
 //! Symbols (gABI chapter 4, Symbol Table).
 ghost use Rattle.std.specs.Prelude.{◌≡◌, ◌/◌, ◌%◌, length};
-ghost use Rattle.elf_field.specs.Entries.{IsSym, IsSymAt, sym_at, sym_bytes, sym_fields_at, sym_laws};
+ghost use Rattle.elf_field.specs.Entries.{IsSym, IsSymAt, sym_at, sym_bytes};
+ghost use Rattle.elf_field.specs.laws.Entries.{sym_fields_at, sym_laws};
 ghost use Rattle.elf_field.specs.Abi.{SYM_SIZE};
 
 use crate::abi::{

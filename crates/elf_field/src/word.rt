@@ -1,5 +1,6 @@
 //! Words of four bytes, as index tables, section groups and hash tables hold (gABI chapter 4, Data Representation).
-ghost use Rattle.elf_field.specs.Entries.{IsWord, IsWordAt, word_at, word_bytes, word_fields_at, word_laws};
+ghost use Rattle.elf_field.specs.Entries.{IsWord, IsWordAt, word_at, word_bytes};
+ghost use Rattle.elf_field.specs.laws.Entries.{word_fields_at, word_laws};
 
 use crate::abi::WORD_SIZE;
 use crate::number::Order;

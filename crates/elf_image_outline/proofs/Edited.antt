@@ -12,7 +12,8 @@ use Rattle.elf_extent.specs.Account.{Accounts}
 use Rattle.elf_extent.specs.declared.extent.Extent.{Extent}
 use Rattle.elf_extent.specs.declared.extent.Piece.{Piece}
 use Rattle.elf_field.specs.Abi.{SHDR_SIZE, SHN_XINDEX, EHDR_SIZE, PHDR_SIZE}
-use Rattle.elf_field.specs.Bytes.{IsBytes, IsBytes-cons, IsBytes-nil}
+use Rattle.elf_field.specs.Bytes.{IsBytes}
+use Rattle.elf_field.specs.laws.Bytes.{IsBytes-cons, IsBytes-nil}
 use Rattle.elf_field.specs.Headers.{IsShdr}
 use Rattle.elf_field.specs.declared.ehdr.Ehdr.{Ehdr}
 use Rattle.elf_field.specs.declared.phdr.Phdr.{Phdr}

@@ -15,7 +15,8 @@ use Rattle.elf_extent.specs.declared.extent.Extent.{Extent}
 use Rattle.elf_extent.specs.declared.extent.Piece.{Piece}
 use Rattle.elf_field.specs.Abi.{EHDR_SIZE, EI_NIDENT, PHDR_SIZE, SHDR_SIZE}
 use Rattle.elf_field.specs.Bytes.{IsBytes}
-use Rattle.elf_field.specs.Headers.{ehdr_at, ehdr_laws, shdr_at, phdr_at}
+use Rattle.elf_field.specs.Headers.{ehdr_at, shdr_at, phdr_at}
+use Rattle.elf_field.specs.laws.Headers.{ehdr_laws}
 use Rattle.elf_field.specs.declared.ehdr.Ehdr.{Ehdr}
 use Rattle.elf_field.specs.declared.phdr.Phdr.{Phdr}
 use Rattle.elf_field.specs.declared.shdr.Shdr.{Shdr}

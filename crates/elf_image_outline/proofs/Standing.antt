@@ -17,10 +17,13 @@ use Rattle.elf_extent.specs.declared.extent.Extent.{Extent}
 use Rattle.elf_extent.specs.declared.extent.Piece.{Piece}
 use Rattle.elf_field.proofs.RecordTableLaws.{length-table, IsBytes-table, entries_read, record_read}
 use Rattle.elf_field.specs.Abi.{EHDR_SIZE, PHDR_SIZE, SHDR_SIZE}
-use Rattle.elf_field.specs.Bytes.{IsBytes, bytes_of, first_bytes, IsBytes-append, IsBytes-nil, first_bytes-all, length-first_bytes}
-use Rattle.elf_field.specs.Headers.{ehdr_bytes, shdr_bytes, shdr_laws, phdr_bytes, phdr_laws, ehdr_laws, IsEhdr, ehdr_values, ehdr_widths}
+use Rattle.elf_field.specs.Bytes.{IsBytes, bytes_of, first_bytes}
+use Rattle.elf_field.specs.laws.Bytes.{IsBytes-append, IsBytes-nil, first_bytes-all, length-first_bytes}
+use Rattle.elf_field.specs.Headers.{ehdr_bytes, shdr_bytes, phdr_bytes, IsEhdr, ehdr_values, ehdr_widths}
+use Rattle.elf_field.specs.laws.Headers.{shdr_laws, phdr_laws, ehdr_laws}
 use Rattle.elf_field.specs.Headers.{IsShdr, IsPhdr}
-use Rattle.elf_field.specs.Record.{spelled, spelled-front}
+use Rattle.elf_field.specs.Record.{spelled}
+use Rattle.elf_field.specs.laws.Record.{spelled-front}
 use Rattle.elf_field.specs.declared.ehdr.Ehdr.{Ehdr}
 use Rattle.elf_field.specs.declared.phdr.Phdr.{Phdr}
 use Rattle.elf_field.specs.declared.shdr.Shdr.{Shdr}

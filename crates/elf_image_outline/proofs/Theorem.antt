@@ -14,8 +14,10 @@ use Rattle.elf_extent.specs.Extent.{AreDisjoint, AreWithin}
 use Rattle.elf_extent.specs.declared.extent.Extent.{Extent}
 use Rattle.elf_field.proofs.RecordTableLaws.{entries_bytes, entries_fit, record_bytes}
 use Rattle.elf_field.specs.Abi.{EHDR_SIZE, PHDR_SIZE, SHDR_SIZE}
-use Rattle.elf_field.specs.Bytes.{IsBytes, IsBytes-drop, IsBytes-nil, IsBytes-take, first_bytes-take}
-use Rattle.elf_field.specs.Headers.{IsEhdr, ehdr_bytes, IsShdr, shdr_bytes, shdr_laws, IsPhdr, phdr_bytes, phdr_laws, ehdr_laws}
+use Rattle.elf_field.specs.Bytes.{IsBytes}
+use Rattle.elf_field.specs.laws.Bytes.{IsBytes-drop, IsBytes-nil, IsBytes-take, first_bytes-take}
+use Rattle.elf_field.specs.Headers.{IsEhdr, ehdr_bytes, IsShdr, shdr_bytes, IsPhdr, phdr_bytes}
+use Rattle.elf_field.specs.laws.Headers.{shdr_laws, phdr_laws, ehdr_laws}
 use Rattle.elf_field.specs.declared.ehdr.Ehdr.{Ehdr}
 use Rattle.elf_field.specs.declared.phdr.Phdr.{Phdr}
 use Rattle.elf_field.specs.declared.shdr.Shdr.{Shdr}

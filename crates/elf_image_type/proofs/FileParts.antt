@@ -13,8 +13,9 @@ use Rattle.elf_extent.specs.Extent.{AreDisjoint}
 use Rattle.elf_extent.specs.Place.{Fits, end_of}
 use Rattle.elf_extent.specs.declared.extent.Extent.{Extent}
 use Rattle.elf_field.proofs.RecordTableLaws.{length-table}
-use Rattle.elf_field.specs.Bytes.{IsBytes, IsBytes-append, IsBytes-cons, IsBytes-nil}
-use Rattle.elf_field.specs.Headers.{ehdr_laws, shdr_laws, phdr_laws}
+use Rattle.elf_field.specs.Bytes.{IsBytes}
+use Rattle.elf_field.specs.laws.Bytes.{IsBytes-append, IsBytes-cons, IsBytes-nil}
+use Rattle.elf_field.specs.laws.Headers.{ehdr_laws, shdr_laws, phdr_laws}
 use Rattle.elf_field.specs.declared.ehdr.Ehdr.{Ehdr}
 use Rattle.elf_field.specs.declared.shdr.Shdr.{Shdr}
 use Rattle.elf_image_outline.proofs.Standing.{length-content, same_len, same_start, IsCounted, clean_of, extents_are, get_or_at, mapped_at}

@@ -15,8 +15,10 @@ use Rattle.elf_extent.proofs.Public.{one_account, some_account}
 use Rattle.elf_extent.specs.Account.{Accounts}
 use Rattle.elf_extent.specs.declared.extent.Piece.{Piece}
 use Rattle.elf_field.proofs.RecordTableLaws.{length-table}
-use Rattle.elf_field.specs.Bytes.{first_bytes-take, IsBytes}
-use Rattle.elf_field.specs.Headers.{IsEhdrAt, ehdr_fields_at, IsShdrAt, shdr_fields_at, IsPhdrAt, phdr_fields_at}
+use Rattle.elf_field.specs.Bytes.{IsBytes}
+use Rattle.elf_field.specs.laws.Bytes.{first_bytes-take}
+use Rattle.elf_field.specs.Headers.{IsEhdrAt, IsShdrAt, IsPhdrAt}
+use Rattle.elf_field.specs.laws.Headers.{ehdr_fields_at, shdr_fields_at, phdr_fields_at}
 use Rattle.elf_field.specs.Record.{IsRecord}
 use Rattle.elf_field.specs.declared.ehdr.Ehdr.{Ehdr}
 use Rattle.elf_field.specs.declared.number.Order.{Order}

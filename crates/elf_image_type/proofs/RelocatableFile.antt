@@ -11,8 +11,10 @@ use Rattle.elf_field.specs.declared.number.Order.TheVariants.{Little, Big}
 use Rattle.elf_field.specs.declared.number.Order.{Order}
 use Rattle.elf_field.specs.declared.ehdr.Ehdr.{Ehdr}
 use Rattle.elf_field.specs.declared.shdr.Shdr.{Shdr}
-use Rattle.elf_field.specs.Bytes.{IsBytes, IsBytes-cons, IsBytes-nil}
-use Rattle.elf_field.specs.Headers.{ehdr_bytes, IsShdr, shdr_laws, ehdr_laws}
+use Rattle.elf_field.specs.Bytes.{IsBytes}
+use Rattle.elf_field.specs.laws.Bytes.{IsBytes-cons, IsBytes-nil}
+use Rattle.elf_field.specs.Headers.{ehdr_bytes, IsShdr}
+use Rattle.elf_field.specs.laws.Headers.{shdr_laws, ehdr_laws}
 use Rattle.elf_field.proofs.RecordTableLaws.{IsBytes-table, length-table}
 use Rattle.elf_extent.specs.Place.{Fits}
 use Rattle.elf_extent.proofs.Public.{above_from}

@@ -4,7 +4,8 @@ use Rattle.std.proofs.Common.{refl, ℤ}
 use Rattle.std.proofs.lemmas.List.{get_or_append_left, get_or-append_right, get_or-drop, get_or-take, length-append, length-drop}
 use Rattle.std.proofs.lemmas.List.{length-take-le, drop-drop, drop_all, take_rest}
 use borrow.Rule.Slice.PartMut.{put_mid}
-use Rattle.elf_field.specs.Bytes.{bytes_of, length-bytes_of}
+use Rattle.elf_field.specs.Bytes.{bytes_of}
+use Rattle.elf_field.specs.laws.Bytes.{length-bytes_of}
 use Rattle.elf_field.specs.declared.number.Order.{Order}
 use Rattle.elf_link_field.specs.Field.{modulo, IsPatched, patched}
 

@@ -6,7 +6,7 @@ use Rattle.std.proofs.Common.{get_or, add-one, Result, Ok, Err}
 use Rattle.std.specs.Prelude.{None, MatchOption, Option, Some, IfOk}
 use Rattle.std.proofs.lemmas.Bool.{cases_lt}
 use Rattle.elf_extent.specs.Extent.{Never}
-use Rattle.elf_field.specs.Bytes.{IsBytes-bytes_of}
+use Rattle.elf_field.specs.laws.Bytes.{IsBytes-bytes_of}
 use Rattle.elf_link_field.specs.Field.{modulo, size_of}
 use Rattle.elf_link_field.specs.declared.rule.RelocRule.{RelocRule}
 use Rattle.elf_link_files.proofs.Public.{each_more}

@@ -10,8 +10,9 @@ use Rattle.std.proofs.lemmas.Bool.{cases_lt, le-ltb, lt-ltb}
 use Rattle.elf_extent.proofs.Public.{least_cons, least_nil}
 use Rattle.elf_extent.specs.Place.{IsLeastPlace, alignment}
 use Rattle.elf_field.specs.Abi.{SHF_INFO_LINK, SHN_LORESERVE, SHN_XINDEX, SHT_NULL, SHT_NOBITS}
-use Rattle.elf_field.specs.Bytes.{IsBytes, IsBytes-drop, IsBytes-nil, IsBytes-take, bytes_of, first_bytes}
-use Rattle.elf_field.specs.Entries.{sym_laws}
+use Rattle.elf_field.specs.Bytes.{IsBytes, bytes_of, first_bytes}
+use Rattle.elf_field.specs.laws.Bytes.{IsBytes-drop, IsBytes-nil, IsBytes-take}
+use Rattle.elf_field.specs.laws.Entries.{sym_laws}
 use Rattle.elf_field.specs.Headers.{IsShdr, IsEhdr}
 use Rattle.elf_field.specs.declared.ehdr.Ehdr.{Ehdr}
 use Rattle.elf_field.specs.declared.number.Order.{Order}

@@ -9,7 +9,8 @@ use Rattle.std.proofs.lemmas.List.Folds.{list_any_at}
 use Rattle.elf_field.proofs.RecordTableLaws.{length-table, record_at}
 use Rattle.elf_field.specs.Abi.{GRP_COMDAT, SHN_LORESERVE, SHF_INFO_LINK, SHT_GROUP, SHT_NOBITS, SHT_REL, SHT_RELA, SHN_ABS, SHN_COMMON}
 use Rattle.elf_field.specs.Abi.{SHN_UNDEF, SHN_XINDEX}
-use Rattle.elf_field.specs.Entries.{IsRel, rel_laws, IsRela, rela_laws, IsSym, sym_laws, IsWord, word_bytes, word_laws}
+use Rattle.elf_field.specs.Entries.{IsRel, IsRela, IsSym, IsWord, word_bytes}
+use Rattle.elf_field.specs.laws.Entries.{rel_laws, rela_laws, sym_laws, word_laws}
 use Rattle.elf_field.specs.declared.number.Order.{Order}
 use Rattle.elf_field.specs.declared.rel.Rel.{Rel}
 use Rattle.elf_field.specs.declared.rela.Rela.{Rela}

@@ -9,9 +9,11 @@ use Rattle.std.proofs.lemmas.Bool.{cases_lt, ne_eqb}
 use Rattle.std.proofs.lemmas.List.{map-append, get_or-map, length-map}
 use Rattle.elf_field.specs.Abi.{SHT_NOBITS, SHT_NULL, EI_ABIVERSION, EI_OSABI, SHT_DYNAMIC, SHT_DYNSYM, SHT_GROUP, SHT_HASH, SHT_REL}
 use Rattle.elf_field.specs.Abi.{SHT_RELA, SHT_SHLIB, SHT_STRTAB, SHT_SYMTAB, SHT_SYMTAB_SHNDX}
-use Rattle.elf_field.specs.Bytes.{IsBytes, IsBytes-append, IsBytes-bytes_of, IsBytes-nil}
+use Rattle.elf_field.specs.Bytes.{IsBytes}
+use Rattle.elf_field.specs.laws.Bytes.{IsBytes-append, IsBytes-bytes_of, IsBytes-nil}
 use Rattle.elf_field.specs.Entries.{rel_bytes, rel_layout, rela_bytes, rela_layout, sym_bytes, sym_layout, word_bytes}
-use Rattle.elf_field.specs.Record.{widths, IsBytes-spelled}
+use Rattle.elf_field.specs.Record.{widths}
+use Rattle.elf_field.specs.laws.Record.{IsBytes-spelled}
 use Rattle.elf_field.specs.declared.number.Order.{Order}
 use Rattle.elf_field.specs.declared.shdr.Shdr.{Shdr}
 use Rattle.elf_image_outline.specs.Image.{value_names}

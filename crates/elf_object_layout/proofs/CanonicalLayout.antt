@@ -11,8 +11,8 @@ use Rattle.elf_extent.proofs.Public.{above_earlier, fits_length, same_least, lea
 use Rattle.elf_extent.specs.Place.{Fits, IsOverflowAt, Least, end_of}
 use Rattle.elf_field.proofs.RecordTableLaws.{length-table}
 use Rattle.elf_field.specs.Abi.{EHDR_SIZE, SHDR_SIZE}
-use Rattle.elf_field.specs.Entries.{sym_laws, word_laws}
-use Rattle.elf_field.specs.Headers.{shdr_laws}
+use Rattle.elf_field.specs.laws.Entries.{sym_laws, word_laws}
+use Rattle.elf_field.specs.laws.Headers.{shdr_laws}
 use Rattle.elf_field.specs.declared.ehdr.Ehdr.{Ehdr}
 use Rattle.elf_field.specs.declared.shdr.Shdr.{Shdr}
 use Rattle.elf_image_rules.specs.Rules.{MAX_LEN}

@@ -11,7 +11,8 @@ use Rattle.std.specs.Borrow.{Bor}
 use Rattle.std.proofs.lemmas.List.Folds.{list_any_none}
 use Rattle.elf_field.proofs.RecordTableLaws.{length-table}
 use Rattle.elf_field.specs.Abi.{SHT_NOBITS, relocation_size, SHN_LORESERVE}
-use Rattle.elf_field.specs.Entries.{word_bytes, rel_laws, rela_laws, word_laws, sym_bytes, sym_laws}
+use Rattle.elf_field.specs.Entries.{word_bytes, sym_bytes}
+use Rattle.elf_field.specs.laws.Entries.{rel_laws, rela_laws, word_laws, sym_laws}
 use Rattle.elf_field.specs.declared.number.Order.{Order}
 use Rattle.elf_object_strings.proofs.Public.{shares_tails}
 use Rattle.elf_object_strings.specs.StringTable.{string_table, AreZeroFree}

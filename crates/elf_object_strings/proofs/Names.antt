@@ -12,7 +12,8 @@ use Rattle.std.specs.Str.{bytes_eq}
 use Rattle.std.proofs.lemmas.Slice.Eq.{bytes_eq-Decides}
 use Rattle.std.proofs.lemmas.List.Folds.{Any-from_list_any, list_any_at}
 use Rattle.std.proofs.lemmas.Map.Views.{any-filter_same}
-use Rattle.elf_field.specs.Bytes.{IsBytes, IsBytes-append, IsBytes-cons, IsBytes-nil}
+use Rattle.elf_field.specs.Bytes.{IsBytes}
+use Rattle.elf_field.specs.laws.Bytes.{IsBytes-append, IsBytes-cons, IsBytes-nil}
 use Rattle.elf_field.specs.Strings.{string}
 use Rattle.elf_object_strings.proofs.Ends.{suffix_from, suffix_length, suffix_test, length-closed, suffix_named, suffix_same, suffix_trans}
 use Rattle.elf_object_strings.proofs.Ends.{IsEndAt, end_stands}

@@ -24,7 +24,8 @@ use Rattle.std.proofs.lemmas.Bool.Decides.{Decides-eqb, nat_tests}
 use Rattle.std.proofs.lemmas.Map.Keys.{IsDistinct-IsPermutation}
 use Rattle.std.proofs.lemmas.Map.Made.{AllPairs-from_IsDistinct, IsDistinct-from_AllPairs}
 use borrow.Rule.Slice.PartMut.{post_of, put_mid}
-use Rattle.elf_field.specs.Bytes.{IsBytes, IsBytes-rest}
+use Rattle.elf_field.specs.Bytes.{IsBytes}
+use Rattle.elf_field.specs.laws.Bytes.{IsBytes-rest}
 use Rattle.elf_object_strings.specs.Sorting.{AreWithoutEqualEnds, HasEnd, end_number, ends_order, is_whole, leading, left_of}
 use Rattle.elf_object_strings.specs.Sorting.{numbered_order, AreInEndsOrder, AreNumbered, indexes_in, names_by_ends}
 use Rattle.elf_object_strings.specs.StringTable.{IsSuffix}

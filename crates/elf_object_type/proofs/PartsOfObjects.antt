@@ -10,7 +10,8 @@ use Rattle.std.specs.Cmp.Derive.Mapped.{pointwise-map}
 use Rattle.std.specs.Cmp.Lexicographic.{pointwise}
 use Rattle.elf_field.specs.Abi.{relocation_size}
 use Rattle.elf_field.specs.Bytes.{IsBytes}
-use Rattle.elf_field.specs.Entries.{rel_at, rela_at, rel_laws, rela_laws}
+use Rattle.elf_field.specs.Entries.{rel_at, rela_at}
+use Rattle.elf_field.specs.laws.Entries.{rel_laws, rela_laws}
 use Rattle.elf_field.specs.declared.number.Order.TheVariants.{Little, Big}
 use Rattle.elf_field.specs.declared.number.Order.{Order}
 use Rattle.elf_object_type.specs.Equality.{is_same_body, is_same_info, is_same_object, is_same_order, is_same_place, is_same_position}

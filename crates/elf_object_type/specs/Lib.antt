@@ -3,3 +3,4 @@ pub mod Object
 pub mod ObjectView
 pub mod ObjectRules
 pub mod Equality
+pub mod laws

@@ -15,8 +15,10 @@ use Rattle.std.proofs.lemmas.List.{take-append-le, drop_at, take_at, length-take
 use Rattle.elf_extent.specs.Place.{Fits}
 use Rattle.elf_field.proofs.RecordTableLaws.{entries_bytes, length-table}
 use Rattle.elf_field.specs.Abi.{relocation_size}
-use Rattle.elf_field.specs.Entries.{rel_at, rel_bytes, rel_laws, rela_at, rela_bytes, rela_laws}
-use Rattle.elf_field.specs.Headers.{ehdr_bytes, ehdr_laws, shdr_bytes, shdr_laws}
+use Rattle.elf_field.specs.Entries.{rel_at, rel_bytes, rela_at, rela_bytes}
+use Rattle.elf_field.specs.laws.Entries.{rel_laws, rela_laws}
+use Rattle.elf_field.specs.Headers.{ehdr_bytes, shdr_bytes}
+use Rattle.elf_field.specs.laws.Headers.{ehdr_laws, shdr_laws}
 use Rattle.elf_field.specs.declared.number.Order.{Order}
 use Rattle.elf_field.specs.declared.rel.Rel.{Rel}
 use Rattle.elf_field.specs.declared.rela.Rela.{Rela}

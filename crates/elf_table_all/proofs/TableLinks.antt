@@ -6,7 +6,8 @@ use Rattle.std.proofs.lemmas.Bool.{cases_eq, cases_lt}
 use Rattle.elf_extent.specs.declared.extent.Extent.{Extent}
 use Rattle.elf_field.proofs.RecordTableLaws.{record_of_part}
 use Rattle.elf_field.specs.Abi.{SHT_SYMTAB, DYN_SIZE, RELA_SIZE, REL_SIZE, SYM_SIZE, WORD_SIZE}
-use Rattle.elf_field.specs.Entries.{dyn_at, dyn_laws, rel_at, rel_laws, rela_at, rela_laws, sym_at, sym_laws, word_at, word_laws}
+use Rattle.elf_field.specs.Entries.{dyn_at, rel_at, rela_at, sym_at, word_at}
+use Rattle.elf_field.specs.laws.Entries.{dyn_laws, rel_laws, rela_laws, sym_laws, word_laws}
 use Rattle.elf_field.specs.declared.number.Order.{Order}
 use Rattle.elf_image_rules.proofs.Public.{FirstIn-after, FirstIn-front, one_fault}
 use Rattle.elf_image_rules.specs.Rows.{FirstIn}

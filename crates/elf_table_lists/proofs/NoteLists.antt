@@ -9,7 +9,8 @@ use Rattle.elf_extent.specs.Extent.{IsLeast, IsLowest, Never}
 use Rattle.elf_extent.specs.declared.extent.Extent.{Extent}
 use Rattle.elf_field.proofs.RecordTableLaws.{record_of_part}
 use Rattle.elf_field.specs.Abi.{NHDR_SIZE, N_DESCSZ_AT, N_NAMESZ_AT, N_TYPE_AT, WORD_SIZE}
-use Rattle.elf_field.specs.Entries.{word_at, word_laws}
+use Rattle.elf_field.specs.Entries.{word_at}
+use Rattle.elf_field.specs.laws.Entries.{word_laws}
 use Rattle.elf_field.specs.declared.number.Order.{Order}
 use Rattle.elf_image_rules.specs.Rows.{FirstIn}
 use Rattle.elf_image_rules.specs.Tables.{bytes_in}

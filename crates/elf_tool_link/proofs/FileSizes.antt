@@ -7,8 +7,9 @@ use Rattle.std.proofs.lemmas.List.{length-drop, length-map, length-take}
 use Rattle.std.proofs.lemmas.List.FromFn.{length-range_with_len}
 use Rattle.std.proofs.lemmas.List.Sums.{count_by-le-length, length-filter}
 use Rattle.elf_field.specs.Abi.{SHT_NULL}
-use Rattle.elf_field.specs.Bytes.{IsBytes, IsBytes-nil}
-use Rattle.elf_field.specs.Entries.{sym_laws}
+use Rattle.elf_field.specs.Bytes.{IsBytes}
+use Rattle.elf_field.specs.laws.Bytes.{IsBytes-nil}
+use Rattle.elf_field.specs.laws.Entries.{sym_laws}
 use Rattle.elf_field.specs.Headers.{IsShdr}
 use Rattle.elf_field.specs.declared.number.Order.{Order}
 use Rattle.elf_field.specs.declared.shdr.Shdr.{Shdr}

@@ -12,8 +12,9 @@ use Rattle.std.proofs.lemmas.List.FromFn.{get_or-map-range_with_len, length-map-
 use Rattle.std.proofs.lemmas.List.Sums.{sum_by-cons}
 use Rattle.elf_extent.specs.declared.extent.Extent.{Extent}
 use Rattle.elf_field.specs.Abi.{SHT_NULL}
-use Rattle.elf_field.specs.Bytes.{IsBytes, IsBytes-nil}
-use Rattle.elf_field.specs.Entries.{dyn_laws, rel_laws, rela_laws, sym_laws, word_laws}
+use Rattle.elf_field.specs.Bytes.{IsBytes}
+use Rattle.elf_field.specs.laws.Bytes.{IsBytes-nil}
+use Rattle.elf_field.specs.laws.Entries.{dyn_laws, rel_laws, rela_laws, sym_laws, word_laws}
 use Rattle.elf_field.specs.Headers.{IsEhdr, IsPhdr, IsShdr}
 use Rattle.elf_field.specs.declared.dynamic.Dyn.{Dyn}
 use Rattle.elf_field.specs.declared.ehdr.Ehdr.{Ehdr}

@@ -1,6 +1,6 @@
 use Rattle.std.proofs.Common.{sym, ◌∙◌}
 use Rattle.elf_field.specs.Abi.{EI_NIDENT}
-use Rattle.elf_field.specs.Bytes.{first_bytes-take}
+use Rattle.elf_field.specs.laws.Bytes.{first_bytes-take}
 use Rattle.elf_field.proofs.ehdr.ident_at.Goals as goal
 
 pub returns : goal.returns

@@ -1,7 +1,7 @@
 use Rattle.std.proofs.Common.{◌≡◌, length, sym, ap, ◌∙◌}
 use Rattle.std.proofs.lemmas.List.{length-take-le, take_at}
 use Rattle.elf_field.specs.Abi.{EI_NIDENT}
-use Rattle.elf_field.specs.Bytes.{first_bytes-all}
+use Rattle.elf_field.specs.laws.Bytes.{first_bytes-all}
 use Rattle.elf_field.proofs.ehdr.put_ident.Goals as goal
 
 pub returns : goal.returns

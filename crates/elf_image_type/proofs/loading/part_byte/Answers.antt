@@ -1,5 +1,5 @@
 use Rattle.std.proofs.Common.{ap, arith, length}
-use Rattle.elf_field.specs.Headers.{ehdr_laws, phdr_laws, shdr_laws}
+use Rattle.elf_field.specs.laws.Headers.{ehdr_laws, phdr_laws, shdr_laws}
 use Rattle.elf_field.proofs.RecordTableLaws.{length-table}
 use Rattle.elf_image_rules.specs.Tables.{order_of}
 use Rattle.elf_image_type.proofs.loading.part_byte.Goals as goal

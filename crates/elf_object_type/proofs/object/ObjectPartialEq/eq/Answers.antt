@@ -1,5 +1,5 @@
 use Rattle.std.proofs.Common.{◌∙◌}
-use Rattle.elf_object_type.specs.Equality.{object_decides}
+use Rattle.elf_object_type.specs.laws.Equality.{object_decides}
 use Rattle.elf_object_type.proofs.PartsOfObjects.{parts_same}
 use Rattle.elf_object_type.proofs.object.ObjectPartialEq.eq.Goals as goal
 

@@ -1,6 +1,6 @@
 use Rattle.std.proofs.Common.{◌≡◌, ◌%◌, Bool, true, false, length, sym, ap, ◌∙◌}
 use Rattle.std.specs.Cmp.{booleans_Decides, unsigned_Decides}
-use Rattle.elf_object_type.specs.Equality.{order_decides}
+use Rattle.elf_object_type.specs.laws.Equality.{order_decides}
 use Rattle.elf_object_type.proofs.PartsOfObjects.{order_same, table_is_of}
 use Rattle.elf_object_type.proofs.relocations.RelocationTable.is_of.Goals.{then-eq, else-eq}
 use Rattle.elf_object_type.proofs.relocations.RelocationTable.is_of.Goals as goal

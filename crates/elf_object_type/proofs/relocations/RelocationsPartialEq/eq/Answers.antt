@@ -1,5 +1,5 @@
 use Rattle.std.specs.Bool.{one_answer}
-use Rattle.elf_object_type.specs.Equality.{relocations_decide}
+use Rattle.elf_object_type.specs.laws.Equality.{relocations_decide}
 use Rattle.elf_object_type.proofs.relocations.RelocationsPartialEq.eq.Goals as goal
 
 pub returns : goal.returns
