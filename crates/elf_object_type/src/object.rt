@@ -85,7 +85,7 @@ impl<'a> Model for Object<'a> {
 
 impl PartialEq for Object<'_> {
     ghost use Rattle.elf_object_type.specs.Equality.{is_same_object};
-    ghost use Rattle.elf_object_type.specs.Equality.{object_partial_equivalence};
+    ghost use Rattle.elf_object_type.specs.laws.Equality.{object_partial_equivalence};
 
     ghost eq = { is_same_object };
 
@@ -101,7 +101,7 @@ impl PartialEq for Object<'_> {
 }
 
 impl Eq for Object<'_> {
-    ghost use Rattle.elf_object_type.specs.Equality.{object_equivalence};
+    ghost use Rattle.elf_object_type.specs.laws.Equality.{object_equivalence};
 
     ghost laws = { object_equivalence };
 }

@@ -231,7 +231,7 @@ fn prove_relocation(relocation: Relocation)
 
 impl PartialEq for Relocations<'_> {
     ghost use Rattle.elf_object_type.specs.Equality.{are_same_relocations};
-    ghost use Rattle.elf_object_type.specs.Equality.{relocations_partial_equivalence};
+    ghost use Rattle.elf_object_type.specs.laws.Equality.{relocations_partial_equivalence};
 
     ghost eq = { are_same_relocations };
 
@@ -246,7 +246,7 @@ impl PartialEq for Relocations<'_> {
 }
 
 impl Eq for Relocations<'_> {
-    ghost use Rattle.elf_object_type.specs.Equality.{relocations_equivalence};
+    ghost use Rattle.elf_object_type.specs.laws.Equality.{relocations_equivalence};
 
     ghost laws = { relocations_equivalence };
 }

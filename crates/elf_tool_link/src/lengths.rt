@@ -16,8 +16,8 @@ use elf_tool_check::{Refusal, ToolFault, Verdict};
 use std::alloc::Global;
 use std::io::sink;
 
-/// The verdict of [`map_files`](crate::map_files) on files of these bytes, and how long the text is that it writes, in bytes: [`u64::MAX`] if
-/// it is longer.
+/// The verdict of [`map_files`](crate::map_files) on files of these bytes, and how long the text is that it writes, in bytes:
+/// [`u64::MAX`] if it is longer.
 ///
 /// The only fault is [`ToolFault::OutOfMemory`]. The lines are made to count them, and only a piece of them is kept. Memory and time are
 /// those of `map_files`.
