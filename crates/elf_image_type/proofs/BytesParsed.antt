@@ -1,15 +1,22 @@
--- What stops a scan of the bytes of a slice is why they are no image. No call of such a source fails, so none is reported.
-use Rattle.std.proofs.Common.{◌≡◌, ℕ, List, Err, arith}
-use Rattle.elf_image_rules.specs.Rules.{KeepsRecordRules}
-use Rattle.elf_image_outline.specs.Scanning.{Stops, scan_failure}
-use Rattle.elf_image_stream.specs.Source.{Remembers, no_failures}
-use Rattle.elf_image_stream.specs.declared.fault.Fault.{Fault}
-use Rattle.elf_image_stream.specs.declared.fault.Fault.TheVariants.{Io, OutOfMemory, Rule}
+-- What stops the parse of bytes in memory is why they are no image. An image keeps rules 1 to 32 (`records_of_image`), so that memory may
+-- be wanted for its contents.
+use Rattle.std.proofs.Common.{ℕ, List, length}
+use Rattle.elf_image_outline.specs.Image.{ImageValue, IsImage}
+use Rattle.elf_image_outline.specs.Scanning.{StopsInMemory}
+use Rattle.elf_image_rules.proofs.Public.{FirstIn-front}
+use Rattle.elf_image_rules.specs.Rules.{KeepsRecordRules, image_rules, record_rules, rules_in}
+use Rattle.elf_image_rules.specs.Tables.{header, names, sections, segments}
+use Rattle.elf_image_stream.specs.Faults.{bytes_fault}
+use Rattle.elf_image_stream.specs.declared.fault.BytesFault.{BytesFault}
+use Rattle.elf_image_stream.specs.declared.fault.BytesFault.TheVariants.{OutOfMemory, Rule}
 use Rattle.elf_image_type.specs.Parsing.{IsParseFault}
 
-pub stops_parse : (T : Type 0) (b : List ℕ) (fault : Fault) → KeepsRecordRules b →
-    Remembers (scan_failure {T = T} (Err fault)) no_failures no_failures →
-    Stops b fault → IsParseFault b fault
-stops_parse T b OutOfMemory kept remembers stops = kept
-stops_parse T b (Io at) kept remembers stops = absurd (let same : 0 ≡ 1 = remembers.0 in omega arith)
-stops_parse T b (Rule number at) kept remembers stops = stops
+pub stops_parse : (b : List ℕ) (fault : BytesFault) → StopsInMemory b fault → IsParseFault b (bytes_fault fault)
+stops_parse b OutOfMemory kept = kept
+stops_parse b (Rule number at) broken = broken
+
+pub records_of_image : (v : ImageValue) (b : List ℕ) → IsImage v b → KeepsRecordRules b
+unfolding rules_in image_rules
+records_of_image v b image =
+    let h = header b in
+    FirstIn-front (record_rules (length b) h (sections b h) (segments b h) (names b h)) _ image.clean

@@ -1,5 +1,5 @@
 -- `Public` is for the proofs of the crates above, the others are for those of this one.
-mod BytesScanned
+mod BytesParsed
 mod ImageLemmas
 mod FileParts
 pub mod Public

@@ -5,6 +5,7 @@ ghost use Rattle.elf_image_rules.specs.Rules.{rules_in};
 ghost use Rattle.elf_image_rules.specs.Tables.{bytes_in, content_extent};
 ghost use Rattle.elf_image_outline.specs.Image.{ImageValue, IsImage, IsSoundImage, OfItsBytes, joined, part_bytes};
 ghost use Rattle.elf_image_outline.specs.Outline.{image_of, placed_part};
+ghost use Rattle.elf_image_outline.specs.Scanning.{StopsInMemory};
 ghost use Rattle.elf_image_stream.specs.Output.{Writes};
 ghost use Rattle.elf_image_type.specs.Parsing.{IsParseFault};
 ghost use Rattle.elf_image_type.specs.WrittenFile.{encoding as encoding_of, identification as identification_of};
@@ -12,11 +13,10 @@ ghost use Rattle.elf_image_type.specs.WrittenFile.{encoding as encoding_of, iden
 use crate::image::Image;
 use elf_field::abi::*;
 use elf_field::{Order, Shdr};
-use elf_image_outline::{Outline, Owner, Part, scan, write_records};
+use elf_image_outline::{Outline, Owner, Part, outline_of, write_records};
 use elf_image_rules::tables::content_of;
-use elf_image_rules::validate_records;
 use elf_image_stream::output::write_zeros;
-use elf_image_stream::{Bytes, Fault, WriteFault, write_whole};
+use elf_image_stream::{BytesFault, Fault, WriteFault, write_whole};
 use std::alloc::{AllocError, Global};
 use std::io::Write;
 
@@ -36,9 +36,15 @@ pub fn parse<'a>(alloc: Global, bytes: &'a [u8]) -> Result<Image<'a>, Fault>
     ensures one_image { IfOk result (λ image. (other : ImageValue) → IsImage other bytes.entry.now → other ≡ image) }
     ensures one_fault { HaveOneFault (rules_in bytes.entry.now) }
 {
-    // These rules take no memory, so that running out of it never hides one that is broken.
-    validate_records(bytes)?;
-    let outline = scan(alloc, &mut Bytes(bytes))?;
+    Ok(parse_bytes(alloc, bytes)?)
+}
+
+/// The image that these bytes are, as [`parse`] makes it, whose fault is the public form of this one.
+pub fn parse_bytes<'a>(alloc: Global, bytes: &'a [u8]) -> Result<Image<'a>, BytesFault>
+    ensures ok { IfOk result (λ image. IsImage image bytes.entry.now) }
+    ensures err { IfErr result (StopsInMemory bytes.entry.now) }
+{
+    let outline = outline_of(alloc, bytes)?;
     let contents = contents_of(alloc, bytes, outline.sections())?;
     Ok(Image::new(outline, bytes, contents))
 }

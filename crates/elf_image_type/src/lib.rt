@@ -20,5 +20,5 @@ mod loading;
 pub mod strings;
 
 pub use elf_image_rules::verdict;
-pub use files::{identification, parse, write};
+pub use files::{identification, parse, parse_bytes, write};
 pub use image::Image;

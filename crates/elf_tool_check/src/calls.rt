@@ -4,7 +4,7 @@ ghost use Rattle.std.specs.Io.KnownBytes.{Consumes, IsAtEnd};
 ghost use Rattle.elf_image_rules.specs.Rules.{MAX_LEN};
 ghost use Rattle.elf_tool_check.specs.Engine.{IsReadFaultAfter};
 
-use elf_image_stream::{Fault, WriteFault, read_to_end};
+use elf_image_stream::{InputFault, WriteFault, read_all};
 use std::alloc::{AllocError, AllocFailed};
 use std::error::Error;
 use std::fmt;
@@ -135,11 +135,9 @@ pub fn read_input<R: Read>(reader: &mut R, buf: &mut Vec<u8>) -> Result<(), Tool
     ensures whole { OnOk result (IfSome (R.remaining reader.old)
         (λ bytes. buf.new.items ≡ take (MAX_LEN + 1) bytes)) }
 {
-    match read_to_end(reader, buf) {
+    match read_all(reader, buf) {
         Ok(()) => Ok(()),
-        Err(Fault::Io { at }) => Err(ToolFault::Read { at }),
-        Err(Fault::OutOfMemory) => Err(ToolFault::OutOfMemory),
-        // No rule is tested while the file is read.
-        Err(Fault::Rule { .. }) => unreachable!(),
+        Err(InputFault::Io { at }) => Err(ToolFault::Read { at }),
+        Err(InputFault::OutOfMemory) => Err(ToolFault::OutOfMemory),
     }
 }
