@@ -12,6 +12,7 @@ use Rattle.elf_field.specs.declared.phdr.Phdr.{Phdr}
 use Rattle.elf_field.specs.declared.shdr.Shdr.{Shdr}
 use Rattle.elf_image_outline.specs.Image.{part_piece, value_extents}
 use Rattle.elf_image_outline.specs.declared.outline.Part.{Part}
+use Rattle.elf_image_outline.specs.declared.scanning.FileSizes.{FileSizes}
 use Rattle.elf_image_rules.specs.Rows.{FirstIn}
 use Rattle.elf_image_rules.specs.Rules.{IsFault, KeepsRecordRules, MAX_LEN, header_rules, ident_rules, length_rules, image_rules}
 use Rattle.elf_image_rules.specs.Rules.{record_rules}
@@ -75,6 +76,13 @@ abbrev pub Scans : {T : Type 0} → List ℕ → (T → Type 0) → Result T Fau
 Scans b IsAnswer (Ok t) = IsAnswer t
 Scans b IsAnswer (Err fault) = Stops b fault
 
+-- the file breaks no rule, is so long, and has so many section headers and program headers
+pub record HasSizes (b : List ℕ) (sizes : FileSizes) : Type 0 where
+  pub clean : IsFault b None
+  pub len : sizes.len ≡ length b
+  pub sections : sizes.sections ≡ (file_counts b).sections
+  pub segments : sizes.segments ≡ (file_counts b).segments
+
 -- where the section name string table of index k is; 0 is none
 abbrev pub names_extent : List Shdr → ℕ → Extent
 names_extent ss k = if k == 0 then record { start = 0; len = 0 } else content_extent (section_header_of ss k)
@@ -102,9 +110,13 @@ BreaksTables len h ss gs names NoRoom = FirstIn (record_rules len h (section_hea
 BreaksTables len h ss gs names (Breaks number at) =
     FirstIn (image_rules len h (section_header_of ss) (program_header_of gs) names) (Some (number, at))
 
+-- they break none
+abbrev pub AreCleanTables : ℕ → Ehdr → List Shdr → List Phdr → List ℕ → Type 0
+AreCleanTables len h ss gs names = FirstIn (image_rules len h (section_header_of ss) (program_header_of gs) names) None
+
 -- they break none, and these are the parts of a file that has them
 pub record KeepTables (len : ℕ) (h : Ehdr) (ss : List Shdr) (gs : List Phdr) (names : List ℕ) (ps : List Part) : Type 0 where
-  pub clean : FirstIn (image_rules len h (section_header_of ss) (program_header_of gs) names) None
+  pub clean : AreCleanTables len h ss gs names
   pub accounts : Accounts (value_extents h ss gs) len 0 (map part_piece ps)
 
 -- of these extents: rule 33 with the lowest byte that two of them hold; or out of memory

@@ -4,15 +4,46 @@ ghost use Rattle.elf_extent.specs.Account.{Accounts};
 ghost use Rattle.elf_extent.specs.Extent.{AreDisjoint, AreWithin, Doubly, IsLowest};
 ghost use Rattle.elf_image_outline.specs.Image.{owner_index, part_piece, value_extents};
 ghost use Rattle.elf_image_outline.specs.Scanning.{IsSharedFault};
+ghost use Rattle.elf_image_stream.specs.declared.fault.BytesFault.TheVariants.{Rule};
 
 use crate::outline::{Owner, Part};
 use elf_extent::{Extent, OutOfMemory, Piece, SortedExtents};
 use elf_field::abi::{EHDR_SIZE, PHDR_SIZE, SHDR_SIZE};
 use elf_field::{Ehdr, Phdr, Shdr};
+use elf_image_rules::Broken;
 use elf_image_rules::rules::SHARED_BYTE;
 use elf_image_rules::tables::extent_of_content;
 use elf_image_stream::BytesFault;
 use std::alloc::{AllocError, Global};
+
+/// Rule 33: no byte lies in two of these extents; otherwise it is broken at the lowest such byte.
+fn validate_sharing(sorted: &SortedExtents<'_>) -> Result<(), Broken<u64>>
+    ensures unshared { OnOk result (IsLowest (Doubly sorted.now) None) }
+    ensures err { IfErr result (λ broken. IsSharedFault sorted.now (Rule broken.rule broken.at)) }
+{
+    match sorted.first_double() {
+        Some(at) => Err(Broken::new(SHARED_BYTE, at)),
+        None => Ok(()),
+    }
+}
+
+/// Rule 33 of a file with this header and these tables: no byte lies in two of its extents. Otherwise it is broken at the lowest such byte.
+pub(crate) fn validate_unshared(
+    alloc: Global,
+    header: &Ehdr,
+    sections: &[Shdr],
+    segments: &[Phdr],
+) -> Result<(), BytesFault>
+    requires sections { SHDR_SIZE * length sections.now < 2 ^ 64 }
+    requires segments { PHDR_SIZE * length segments.now < 2 ^ 64 }
+    ensures unshared { OnOk result (IsLowest (Doubly (value_extents header.now sections.now segments.now)) None) }
+    ensures err { IfErr result (IsSharedFault (value_extents header.now sections.now segments.now)) }
+{
+    let extents = extents_of(alloc, header, sections, segments)?;
+    let sorted = SortedExtents::new(alloc, &extents)?;
+    validate_sharing(&sorted)?;
+    Ok(())
+}
 
 /// The parts of a file of `len` bytes with this header and these tables, if no byte lies in two of them; otherwise rule 33, at the lowest
 /// such byte. The extents are sorted once for both.
@@ -33,13 +64,8 @@ pub(crate) fn unshared_parts(
 {
     let extents = extents_of(alloc, header, sections, segments)?;
     let sorted = SortedExtents::new(alloc, &extents)?;
-    match sorted.first_double() {
-        Some(at) => Err(BytesFault::Rule {
-            rule: SHARED_BYTE,
-            at,
-        }),
-        None => Ok(account_parts(alloc, &sorted, len)?),
-    }
+    validate_sharing(&sorted)?;
+    Ok(account_parts(alloc, &sorted, len)?)
 }
 
 /// The parts of a file of `len` bytes with these extents.
@@ -69,7 +95,7 @@ fn extents_of(
     requires segments { PHDR_SIZE * length segments.now < 2 ^ 64 }
     ensures { IfOk result (λ v. v.items ≡ value_extents header.now entries.now segments.now) }
 {
-    let mut extents = Vec::new(alloc);
+    let mut extents = Vec::with_capacity(alloc, entries.len() + 3)?;
     extents.push(Extent {
         start: 0,
         len: EHDR_SIZE,
@@ -105,7 +131,7 @@ fn owner_of(index: Option<usize>) -> Owner
 fn parts_of(alloc: Global, pieces: &[Piece]) -> Result<Vec<Part>, AllocError>
     ensures { IfOk result (λ v. map part_piece v.items ≡ pieces.now) }
 {
-    let mut parts = Vec::new(alloc);
+    let mut parts = Vec::with_capacity(alloc, pieces.len())?;
     for piece in pieces {
         parts.push(Part {
             owner: owner_of(piece.owner),
