@@ -19,6 +19,7 @@ use std::alloc::{AllocError, Global};
 /// Rule 33: no byte lies in two of these extents; otherwise it is broken at the lowest such byte.
 fn validate_sharing(sorted: &SortedExtents<'_>) -> Result<(), Broken<u64>>
     ensures unshared { OnOk result (IsLowest (Doubly sorted.now) None) }
+    ensures disjoint { OnOk result (AreDisjoint sorted.now) }
     ensures err { IfErr result (λ broken. IsSharedFault sorted.now (Rule broken.rule broken.at)) }
 {
     match sorted.first_double() {
