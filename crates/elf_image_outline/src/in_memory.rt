@@ -37,10 +37,7 @@ pub fn outline_of(alloc: Global, bytes: &[u8]) -> Result<Outline, BytesFault>
 }
 
 /// The section headers of a file (gABI chapter 4, Sections).
-fn sections_of(
-    alloc: Global,
-    records: &ValidatedRecords<'_>,
-) -> Result<Vec<Shdr>, AllocError>
+fn sections_of(alloc: Global, records: &ValidatedRecords<'_>) -> Result<Vec<Shdr>, AllocError>
     ensures { let b = file_of records.now in
         IfOk result (λ v. v.items ≡ map (sections b (header b)) (range_with_len 0 (file_counts b).sections)) }
 {
@@ -53,10 +50,7 @@ fn sections_of(
 }
 
 /// The program headers of a file (gABI chapter 5, Program Header).
-fn segments_of(
-    alloc: Global,
-    records: &ValidatedRecords<'_>,
-) -> Result<Vec<Phdr>, AllocError>
+fn segments_of(alloc: Global, records: &ValidatedRecords<'_>) -> Result<Vec<Phdr>, AllocError>
     ensures { let b = file_of records.now in
         IfOk result (λ v. v.items ≡ map (segments b (header b)) (range_with_len 0 (file_counts b).segments)) }
 {
