@@ -20,7 +20,8 @@ use Rattle.elf_image_outline.specs.Scanning.{IsSharedFault, StopsInMemory}
 use Rattle.elf_image_outline.specs.declared.outline.Part.{Part}
 use Rattle.elf_image_rules.proofs.Public.{extents_within, fault_of_extents, sound_file}
 use Rattle.elf_image_rules.specs.Rules.{IsFault, KeepsRecordRules, contents, extents, extents_of_file}
-use Rattle.elf_image_rules.specs.Tables.{bytes_in, content_extent, file_counts, header, program_header_count, section_header_count, sections}
+use Rattle.elf_image_rules.specs.Tables.{bytes_in, content_extent, file_counts, header, program_header_count, section_header_count}
+use Rattle.elf_image_rules.specs.Tables.{sections}
 use Rattle.elf_image_rules.specs.Tables.{segments}
 use Rattle.elf_image_stream.specs.declared.fault.BytesFault.TheVariants.{OutOfMemory, Rule}
 use Rattle.elf_image_stream.specs.declared.fault.BytesFault.{BytesFault}

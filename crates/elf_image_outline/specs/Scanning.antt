@@ -13,7 +13,8 @@ use Rattle.elf_field.specs.declared.shdr.Shdr.{Shdr}
 use Rattle.elf_image_outline.specs.Image.{part_piece, value_extents}
 use Rattle.elf_image_outline.specs.declared.outline.Part.{Part}
 use Rattle.elf_image_rules.specs.Rows.{FirstIn}
-use Rattle.elf_image_rules.specs.Rules.{IsFault, KeepsRecordRules, MAX_LEN, header_rules, ident_rules, length_rules, image_rules, record_rules}
+use Rattle.elf_image_rules.specs.Rules.{IsFault, KeepsRecordRules, MAX_LEN, header_rules, ident_rules, length_rules, image_rules}
+use Rattle.elf_image_rules.specs.Rules.{record_rules}
 use Rattle.elf_image_rules.specs.Rules.{program_table_rules, section_table_rules}
 use Rattle.elf_image_rules.specs.Tables.{bytes_in, content_extent, counts_in, file_counts, header, phdr_offset, program_header_of}
 use Rattle.elf_image_rules.specs.Tables.{section_header_of, sections, shdr_offset}

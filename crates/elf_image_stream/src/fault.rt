@@ -63,8 +63,8 @@ impl From<OutOfMemory> for Fault {
     }
 }
 
-// What can stop a call that only does a part of this: one that looks at bytes in memory, or one that only reads. A public call returns it as
-// the [`Fault`] that it is.
+// What can stop a call that only does a part of this: one that looks at bytes in memory, or one that only reads. A public call returns it
+// as the [`Fault`] that it is.
 
 /// Why a call on bytes in memory failed. Nothing is read there.
 #[derive(Clone, Copy, Debug, PartialEq, Eq)]

@@ -8,8 +8,8 @@
 //! chunk, without memory, is *sent*: a call takes how many bytes are written, and returns how many are written after it. [`send`] sends
 //! bytes, [`send_zeros`] zeros without a list of them, and [`send_all`] the texts of a [`Chunks`], which are made as they are sent.
 //!
-//! [`Fault`], [`ReadFault`] and [`WriteFault`] say what can stop them. [`BytesFault`] and [`InputFault`] are parts of [`Fault`]: what can stop
-//! a call on bytes in memory, and one that only reads.
+//! [`Fault`], [`ReadFault`] and [`WriteFault`] say what can stop them. [`BytesFault`] and [`InputFault`] are parts of [`Fault`]: what can
+//! stop a call on bytes in memory, and one that only reads.
 #![tactic(auto)]
 
 mod chunks;
