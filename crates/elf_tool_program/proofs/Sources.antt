@@ -35,7 +35,8 @@ bytes_more holds names inputs k input same before next j below = elim (cases_lt 
 ]
 
 -- What is printed of a source that was scanned is what `check` prints of its bytes, if the source has known bytes. The sizes are those of
--- the file, or the rule is the first that they break, so the line is the same. If the writer fails, the first bytes of that line are written.
+-- the file, or the rule is the first that they break, so the line is the same. If the writer fails, the first bytes of that line are
+-- written.
 
 check_says : (b : List ℕ) (validated : Result FileSizes (Broken ℕ)) → IsScanned b validated →
     CheckSays b (verdict_of (fault_of validated)) (line_of_scan validated)
