@@ -577,8 +577,9 @@ function runs_of_words(words, is_marked, between) {
 }
 
 function go_to_offset() {
-    const offset = Number($("offset").value.trim());
-    if (Number.isSafeInteger(offset) && offset >= 0) show_bytes(offset, [offset, offset + 1]);
+    const words = $("offset").value.trim();
+    const offset = /^(?:\d+|0x[\da-f]+)$/i.test(words) ? Number(words) : NaN;
+    if (Number.isSafeInteger(offset)) show_bytes(offset, [offset, offset + 1]);
     else $("bytes-words").textContent = "An offset is a number, as 64 or 0x40.";
 }
 

@@ -351,6 +351,9 @@ test("the bytes that are meant are marked", () => {
     const words = (cell) => cell.children.map((it) => (it.name === "mark" ? `[${it.textContent}]` : it));
     assert.deepEqual(words(digits), ["01 02 ", "[41 42 ]", "05"]);
     assert.deepEqual(words(letters), ["..", "[AB]", "."]);
+    // A space is no letter that can be seen.
+    const [, , others] = page.script("bytes_line(8, new Uint8Array([31, 32, 33, 126, 127, 128, 255]))").children;
+    assert.deepEqual(words(others), ["..!~..."]);
 });
 
 test("numbers have their names, and flags their letters", () => {

@@ -403,7 +403,9 @@ test("an offset is typed, and Enter leads to it", async () => {
     // Any other key is typed: a handler that answers false would keep it from the field.
     assert.equal(page.by_id("offset").onkeydown({ key: "7" }), undefined);
     assert.equal(page.text("bytes-words"), "Bytes 0x48 to 0xc7 of 200 bytes");
-    for (const wrong of ["-1", "x", "1.5", "0x"]) {
+    assert.deepEqual(await go("0X4A", enter), ["Bytes 0x4a to 0xc7 of 200 bytes", [74, 75]]);
+    assert.deepEqual(await go("0072", enter), ["Bytes 0x48 to 0xc7 of 200 bytes", [72, 73]]);
+    for (const wrong of ["", " ", "-1", "+1", "x", "1.5", "0x", "1e2", "0b11", "0o17", "4 5", "40h", "9007199254740992", "Infinity"]) {
         assert.deepEqual(await go(wrong, enter), ["An offset is a number, as 64 or 0x40.", [72, 73]]);
     }
 });

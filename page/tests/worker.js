@@ -184,6 +184,7 @@ test("a place in no table has words too", () => {
     for (const [at, words, length] of [
         [3, "this byte", 1], [250, "this byte", 1], [300, "this byte", 1],
         [64 + 40, "sh_link, which is 0, of the header of section 0 (no name)", 4],
+        [64 + 64, "sh_name, which is 1, of the header of section 1 n1", 4],
         [192 + 24, "st_name of symbol 1 (no name) of section 1 n1", 4],
     ]) {
         const found = place_of(at);
