@@ -367,7 +367,11 @@ function draw_bar(id, buttons) {
 
 async function choose_part(part, told, whole) {
     state.part = { ...part, told, whole };
-    for (const it of $("map").children) it.setAttribute("aria-current", String(it.getAttribute("aria-label") === told));
+    for (const it of $("map").children) {
+        const is_current = it.getAttribute("aria-label") === told;
+        it.setAttribute("aria-current", String(is_current));
+        it.tabIndex = is_current ? 0 : -1;
+    }
     $("zoom-in").disabled = false;
     show_part_words();
     show_part_name();

@@ -125,7 +125,7 @@ test("a file begins with its verdict and its counts", () => {
     const told = (fault) => {
         const reader = { length: 64, verdict: () => fault, header: () => ({ e_type: 1 }), file: () => file, account: () => 7, section: () => null };
         const { took, ...rest } = answered(reader, "validated").validated();
-        assert.ok(took >= 0);
+        assert.ok(took >= 0 && took < performance.now());
         return plain(rest);
     };
     const common = { length: 64, header: { e_type: 1 }, file, owners: { first: [], more: 0 }, tables: [] };
