@@ -367,7 +367,11 @@ function draw_bar(id, buttons) {
 
 async function choose_part(part, told, whole) {
     state.part = { ...part, told, whole };
-    for (const it of $("map").children) it.setAttribute("aria-current", String(it.getAttribute("aria-label") === told));
+    for (const it of $("map").children) {
+        const is_current = it.getAttribute("aria-label") === told;
+        it.setAttribute("aria-current", String(is_current));
+        it.tabIndex = is_current ? 0 : -1;
+    }
     $("zoom-in").disabled = false;
     show_part_words();
     show_part_name();
@@ -577,8 +581,9 @@ function runs_of_words(words, is_marked, between) {
 }
 
 function go_to_offset() {
-    const offset = Number($("offset").value.trim());
-    if (Number.isSafeInteger(offset) && offset >= 0) show_bytes(offset, [offset, offset + 1]);
+    const words = $("offset").value.trim();
+    const offset = /^(?:\d+|0x[\da-f]+)$/i.test(words) ? Number(words) : NaN;
+    if (Number.isSafeInteger(offset)) show_bytes(offset, [offset, offset + 1]);
     else $("bytes-words").textContent = "An offset is a number, as 64 or 0x40.";
 }
 

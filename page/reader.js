@@ -94,9 +94,10 @@ class Reader {
 
     // ---- The verdict
 
-    // The first rule that the file breaks and where; null where it breaks none.
+    // The first rule that the file breaks and where; null where it breaks none. Without a buffer the answer is the rule, or how long the
+    // buffer has to be: that of a sound file is not empty.
     verdict() {
-        if (this.validated(this.next, 0)) return null;
+        this.validated(this.next, 0);
         let fault = this.struct("elfmap_fault", this.elfmap_fault);
         if (fault.rule !== ELFMAP.SHORT_ROOM) return fault;
         const room = this.place(fault.at * this.layout.elfmap_extent.size);
@@ -140,16 +141,19 @@ class Reader {
 
     // ---- The parts: what each byte of a sound file belongs to
 
-    // How many there are.
+    // How many there are. A buffer for them has to be at least as long as the first call says, and is then long enough.
     account() {
         this.next = this.parts.at;
-        const asked = this.call("elfmap_parts", this.start, this.length, this.next, 0, this.record, this.elfmap_fault);
-        const fault = this.struct("elfmap_fault", this.elfmap_fault);
-        if (!asked && fault.rule !== ELFMAP.SHORT_ROOM) return 0;
-        this.parts.at = this.place(fault.at * this.layout.elfmap_part.size);
-        const done = this.call("elfmap_parts", this.start, this.length, this.parts.at, fault.at, this.record, this.elfmap_fault);
-        this.parts.count = done ? Number(this.view().getBigUint64(this.record, true)) : 0;
+        this.put_parts(this.next, 0);
+        const { at: most } = this.struct("elfmap_fault", this.elfmap_fault);
+        this.parts.at = this.place(most * this.layout.elfmap_part.size);
+        this.put_parts(this.parts.at, most);
+        this.parts.count = Number(this.view().getBigUint64(this.record, true));
         return this.parts.count;
+    }
+
+    put_parts(room, count) {
+        this.call("elfmap_parts", this.start, this.length, room, count, this.record, this.elfmap_fault);
     }
 
     part(index) {

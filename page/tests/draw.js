@@ -1,6 +1,7 @@
 "use strict";
 // The page's script that draws, in node: what it makes of parts, segments and rows, and what it does with answers that come late.
 const assert = require("node:assert/strict");
+const fs = require("node:fs");
 const { test } = require("node:test");
 const { made_page, settled, text_of } = require("./made.js");
 
@@ -27,6 +28,22 @@ test("a part that is too short to be seen is drawn with others", () => {
     assert.equal(runs[0].left, 0);
     assert.equal(runs[0].right, 200);
     assert.equal(runs[2].right, 400);
+});
+
+test("a part has the colour of what it holds, and parts that are drawn as one have theirs", async () => {
+    const page = opened([0, 1000], [3, 1], [4, 1], [null, 998]);
+    page.script("zoom(0, 2000)");
+    await settled();
+    const colours = page.by_id("map").children.map((it) => it.style.background);
+    assert.deepEqual(colours, ["header and tables", "several parts", "gap"].map((it) => page.script(`COLOURS["${it}"]`)));
+    assert.equal(new Set(colours).size, 3);
+});
+
+test("each name that is cut has one button", () => {
+    const page = opened([0, 64]);
+    const buttons = page.script("buttons_of(null, { start: 4, len: 9 }, { start: 4, len: 9 }, { start: 5, len: 9 })");
+    assert.deepEqual(Array.from(buttons, (it) => it.name ?? it), [" ", "button", " ", "button"]);
+    assert.deepEqual(plain(page.script("buttons_of(null, null)")), []);
 });
 
 test("short parts that are apart are not drawn together", () => {
@@ -56,7 +73,7 @@ test("the last view is drawn, also if an earlier one is answered later", async (
     // It asks for no more.
     assert.equal(page.asked.length, 0);
     assert.deepEqual(page.labels("map"), ["the ELF header: 64 bytes from 0x0"]);
-    assert.equal(page.by_id("map-scale").children[1].textContent, "0x40");
+    assert.deepEqual(page.by_id("map-scale").children.map((it) => it.textContent), ["0x0", "0x40"]);
 });
 
 test("two views that both wait are drawn in turn", async () => {
@@ -187,6 +204,8 @@ test("the bar by address has each segment where it is in memory", () => {
         return [bars, page.by_id("memory-scale").children.map((it) => it.textContent), page.by_id("memory-section").hidden];
     };
     assert.deepEqual(shown(load(0, 0x400000, 100), load(1, 0x400100, 144)), [[[0, 100], [256, 144]], ["0x400000", "0x400190"], false]);
+    // Two bytes to a pixel.
+    assert.deepEqual(shown(load(0, 0x400000, 200), load(1, 0x400190, 400))[0], [[0, 100], [200, 200]]);
     // Above 4 GiB, and where no number is whole any more.
     assert.deepEqual(shown(load(0, 2 ** 40, 200), load(1, 2 ** 40 + 200, 200))[0], [[0, 200], [200, 200]]);
     assert.deepEqual(shown(load(0, "18446744069414584320n", "65536n"))[1], ["0xffffffff00000000", "0xffffffff00010000"]);
@@ -351,6 +370,9 @@ test("the bytes that are meant are marked", () => {
     const words = (cell) => cell.children.map((it) => (it.name === "mark" ? `[${it.textContent}]` : it));
     assert.deepEqual(words(digits), ["01 02 ", "[41 42 ]", "05"]);
     assert.deepEqual(words(letters), ["..", "[AB]", "."]);
+    // A space is no letter that can be seen.
+    const [, , others] = page.script("bytes_line(8, new Uint8Array([31, 32, 33, 126, 127, 128, 255]))").children;
+    assert.deepEqual(words(others), ["..!~..."]);
 });
 
 test("numbers have their names, and flags their letters", () => {
@@ -371,6 +393,23 @@ test("numbers have their names, and flags their letters", () => {
     assert.deepEqual([-1, -16, 0, 16].map((it) => page.script(`signed(${it})`)), ["-0x1", "-0x10", "0x0", "0x10"]);
     assert.equal(page.script("signed(-(2n ** 63n))"), "-0x8000000000000000");
     assert.deepEqual([0, 1, 2, 20000].map((it) => page.script(`counted(${it}, "part")`)), ["0 parts", "1 part", "2 parts", "20,000 parts"]);
+});
+
+const ELF_H = "/usr/include/elf.h";
+
+test("the names of numbers are those of the C library's header", { skip: !fs.existsSync(ELF_H) }, () => {
+    const header = fs.readFileSync(ELF_H, "utf8");
+    const known = new Map(Array.from(header.matchAll(/^#define\s+(\w+)\s+(\d+)\b/gm), ([, name, number]) => [name, Number(number)]));
+    const { NAMES, KINDS, STRING_TAGS } = plain(made_page().script("({ NAMES, KINDS, STRING_TAGS })"));
+    // Of each kind as many as the gABI has without those of systems and processors.
+    for (const [kind, prefix, first, last] of [["p_type", "PT", 0, 7], ["st_type", "STT", 0, 6], ["st_bind", "STB", 0, 2], ["d_tag", "DT", 1, 30]]) {
+        const numbers = Object.values(NAMES[kind]).map((name) => known.get(`${prefix}_${name}`));
+        assert.deepEqual(numbers, Array.from({ length: last - first + 1 }, (_, k) => first + k), kind);
+        assert.deepEqual(Object.keys(NAMES[kind]).map(Number), numbers, kind);
+    }
+    const types = { SYMTAB: "symbols", DYNSYM: "symbols", RELA: "relocations", REL: "relocations", DYNAMIC: "dynamic", NOTE: "notes" };
+    assert.deepEqual(KINDS, Object.fromEntries(Object.entries(types).map(([name, kind]) => [known.get(`SHT_${name}`), kind])));
+    assert.deepEqual(STRING_TAGS, ["NEEDED", "SONAME", "RPATH", "RUNPATH"].map((name) => known.get(`DT_${name}`)));
 });
 
 test("a symbol is in a section, or in none", () => {

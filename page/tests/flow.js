@@ -119,6 +119,8 @@ test("a refused file has its field and what to do, and no map", async () => {
         [17, "That is the field e_type of the ELF header.", [16, 18]],
         [3, "That is the field e_ident of the ELF header.", [0, 16]],
         [72 + 64 + 30, "That is the field sh_offset of section header 1.", [160, 168]],
+        [72, "That is the field sh_name of section header 0.", [72, 76]],
+        [72 + 64, "That is the field sh_name of section header 1.", [136, 140]],
         [65, "That is the byte marked below.", [65, 66]],
         [200, "That is the end of the file.", [200, 200]],
     ]) {
@@ -132,7 +134,7 @@ test("a refused file has its field and what to do, and no map", async () => {
         assert.equal(page.script("state.is_drawn"), false);
     }
     // Two program headers end at 176.
-    for (const [at, words] of [[120 + 10, "the field p_offset of program header 1"], [64 + 1, "the field p_type of program header 0"], [176, "the byte marked below"]]) {
+    for (const [at, words] of [[120 + 10, "the field p_offset of program header 1"], [64, "the field p_type of program header 0"], [176, "the byte marked below"]]) {
         const page = await opened(answers({ fault: { rule: 33, at }, file: { sections: 0, segments: 2, e_shoff: 0, e_phoff: 64 } }));
         assert.match(page.text("advice"), new RegExp(` That is ${words}\\. `));
     }
@@ -223,6 +225,7 @@ test("a part is chosen, and looked into", async () => {
     assert.deepEqual(plain(page.script("state.range")), [0, 200]);
     await page.press(text);
     assert.deepEqual(page.by_id("map").children.map((it) => it.getAttribute("aria-current")), ["false", "true", "false"]);
+    assert.deepEqual(page.by_id("map").children.map((it) => it.tabIndex), [-1, 0, -1]);
     assert.deepEqual(plain(page.script("state.marked")), [64, 72]);
     await page.press(page.by_id("zoom-in"));
     assert.deepEqual(plain(page.script("state.range")), [64, 72]);
@@ -230,6 +233,7 @@ test("a part is chosen, and looked into", async () => {
     assert.equal(page.by_id("map").children[0].getAttribute("aria-current"), "true");
     await page.press(page.by_id("zoom-whole"));
     assert.deepEqual(plain(page.script("state.range")), [0, 200]);
+    assert.deepEqual(page.by_id("map").children.map((it) => it.tabIndex), [-1, 0, -1]);
 });
 
 test("parts that are drawn as one are looked into", async () => {
@@ -351,6 +355,13 @@ test("rows are filtered while a text is typed", async () => {
     assert.equal(await typed("tex", { search: () => { page.by_id("filter").value = "te"; return [0, 1]; } }), "Sections 1 to 1 of 1 found among 2");
     assert.equal(await typed("te", { search: () => null }), "Sections 1 to 1 of 1 found among 2");
     assert.equal(await typed("", {}), "Sections 1 to 2 of 2");
+    // A link to a row, the first one too, shows all rows.
+    for (const row of [0, 1]) {
+        await typed("text", { search: () => [1] });
+        page.script(`open_table("sections", 0, 0, ${row})`);
+        await page.answer_all(page.own);
+        assert.deepEqual([page.by_id("filter").value, page.text("table-words")], ["", "Sections 1 to 2 of 2"]);
+    }
     // Another table is not filtered.
     await typed("text", { search: () => [1] });
     await page.press(page.by_id("tabs").children[1]);
@@ -380,13 +391,21 @@ test("buttons go on and back by a hundred rows, and by 32 lines of bytes", async
         await page.press(page.by_id(id));
         return page.text("bytes-words");
     };
+    const are_disabled = () => ["bytes-back", "bytes-on"].map((it) => page.by_id(it).disabled);
+    assert.deepEqual(are_disabled(), [true, false]);
     assert.equal(await bytes("bytes-on"), "Bytes 0x200 to 0x3ff of 100,000 bytes");
     assert.equal(await bytes("bytes-on"), "Bytes 0x400 to 0x5ff of 100,000 bytes");
     assert.equal(await bytes("bytes-back"), "Bytes 0x200 to 0x3ff of 100,000 bytes");
+    assert.deepEqual(are_disabled(), [false, false]);
     // A narrow window has half as many in a line.
     page.window.innerWidth = 600;
     assert.equal(await bytes("bytes-on"), "Bytes 0x300 to 0x3ff of 100,000 bytes");
     assert.equal(page.by_id("bytes").tBodies[0].children.length, 32);
+    for (const [at, is_last] of [[99_999 - 256, false], [100_000 - 256, true], [99_999, true]]) {
+        page.script(`show_bytes(${at}, [0, 0])`);
+        await page.answer_all(page.own);
+        assert.deepEqual(are_disabled(), [false, is_last]);
+    }
 });
 
 test("an offset is typed, and Enter leads to it", async () => {
@@ -403,7 +422,9 @@ test("an offset is typed, and Enter leads to it", async () => {
     // Any other key is typed: a handler that answers false would keep it from the field.
     assert.equal(page.by_id("offset").onkeydown({ key: "7" }), undefined);
     assert.equal(page.text("bytes-words"), "Bytes 0x48 to 0xc7 of 200 bytes");
-    for (const wrong of ["-1", "x", "1.5", "0x"]) {
+    assert.deepEqual(await go("0X4A", enter), ["Bytes 0x4a to 0xc7 of 200 bytes", [74, 75]]);
+    assert.deepEqual(await go("0072", enter), ["Bytes 0x48 to 0xc7 of 200 bytes", [72, 73]]);
+    for (const wrong of ["", " ", "-1", "+1", "x", "1.5", "0x", "1e2", "0b11", "0o17", "4 5", "40h", "9007199254740992", "Infinity"]) {
         assert.deepEqual(await go(wrong, enter), ["An offset is a number, as 64 or 0x40.", [72, 73]]);
     }
 });

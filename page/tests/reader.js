@@ -111,6 +111,95 @@ test("the field of an entry that holds an offset", () => {
     assert.deepEqual(found("word", 0, 4), ["", 4]);
 });
 
+// The structs of include/elfmap.h that are read here, and one that takes the record of each kind.
+const word = (name, at) => ({ name, at, width: 8 });
+const RECORDS = ["header", "section", "segment", "symbol", "relocation", "dynamic", "note"].map((it) => `elfmap_${it}`);
+const STRUCTS = {
+    ...Object.fromEntries(["elfmap_file", "elfmap_table", ...RECORDS].map((it) => [it, { size: 256, fields: [word("first", 0)] }])),
+    elfmap_fault: { size: 16, fields: [word("at", 0), { name: "rule", at: 8, width: 2 }] },
+    elfmap_extent: { size: 16, fields: [word("start", 0), word("len", 8)] },
+    elfmap_part: { size: 24, fields: [word("start", 0), word("len", 8), word("owner", 16)] },
+};
+
+// A reader of so many bytes with a module of these calls, whose arguments are numbers, and to which `put` puts 64-bit words in memory.
+function called(length, calls) {
+    const memory = new WebAssembly.Memory({ initial: 1 });
+    const put = (at, ...words) => words.forEach((it, k) => new DataView(memory.buffer).setBigUint64(at + 8 * k, BigInt(it), true));
+    const own = Object.entries(calls(put)).map(([name, answer]) => [name, (...words) => Number(answer(...words.map(Number)))]);
+    return new Reader({ exports: { memory, __heap_base: { value: 1024 }, ...Object.fromEntries(own) } }, STRUCTS, length);
+}
+
+test("a verdict has as long a buffer as it asks for", () => {
+    // What is wrong is said at once: by rules 1 to 32; otherwise a file of two sections needs five extents (include/elfmap.h).
+    const told = (rule, rule_with_buffer) => {
+        const counts = [];
+        const reader = called(64, (put) => ({
+            elfmap_verdict_in: (bytes, length, buffer, count, fault) => {
+                counts.push(count);
+                const found = count < 5 ? rule : rule || rule_with_buffer;
+                if (found) put(fault, 7, found);
+                else if (count < 5) put(fault, 5, 0);
+                put(buffer, ...Array(2 * count).fill(2n ** 64n - 1n));
+                return count >= 5 && !found;
+            },
+        }));
+        const { next } = reader;
+        const fault = reader.verdict();
+        assert.equal(reader.next, next);
+        return [counts, fault && [fault.rule, fault.at]];
+    };
+    assert.deepEqual(told(8, 0), [[0], [8, 7]]);
+    assert.deepEqual(told(0, 33), [[0, 5], [33, 7]]);
+    assert.deepEqual(told(0, 0), [[0, 5], null]);
+});
+
+test("parts are as many as there are, and not as many as there is room for", () => {
+    const rows = [[0, 64, 0], [64, 8, 2n ** 64n - 1n], [72, 56, 1]];
+    const reader = called(128, (put) => ({
+        elfmap_parts: (bytes, length, buffer, count, parts, fault) => {
+            if (count < 13) return put(fault, 13, 0), false;
+            put(buffer, ...rows.flat());
+            put(parts, rows.length);
+            return true;
+        },
+    }));
+    const { at } = reader.parts;
+    for (const _ of [1, 2]) {
+        assert.equal(reader.account(), 3);
+        assert.deepEqual([0, 1, 2].map((k) => Object.values(reader.part(k))), [[0, 64, 0], [64, 8, null], [72, 56, 1]]);
+        // Those of another time are where they were.
+        assert.deepEqual([reader.parts.at, reader.next], [at, at + ((13 * 24 + 15) & ~15)]);
+    }
+});
+
+test("what is not there is null", () => {
+    const records = ["header", "section", "segment", "symbol", "relocation", "dynamic"];
+    const calls = [...records, "file", "table", "name", "note", "note_at", "string", "find"].map((it) => `elfmap_${it}`);
+    // What a reader says of everything, where these calls of the module return true.
+    const told = (...known) => {
+        const reader = called(64, () => Object.fromEntries(calls.map((it) => [it, () => known.includes(it)])));
+        const records = { header: [], section: [1], segment: [1], name: [1], file: [], table: [1] };
+        const entries = { symbol: [1, 1], relocation: [1, 1], dynamic: [1, 1], note: [1, 0], string: [1, 1], find: [1, bytes("f")] };
+        const asked = Object.entries({ ...records, ...entries });
+        return asked.filter(([name, words]) => reader[name](...words) !== null).map(([name]) => name);
+    };
+    assert.deepEqual(told(), []);
+    // Entries are those of a table.
+    const others = calls.filter((it) => it !== "elfmap_table");
+    assert.deepEqual(told(...others), ["header", "section", "segment", "name", "file"]);
+    assert.deepEqual(told("elfmap_table"), ["table"]);
+    assert.deepEqual(told("elfmap_table", ...others).length, 12);
+});
+
+test("a name is looked for if it is as long as the buffer for it", () => {
+    let asked = [];
+    const find = (table, at, length, name, name_length) => (asked.push(name_length), true);
+    const reader = called(64, () => ({ elfmap_table: () => true, elfmap_find: find }));
+    assert.equal(reader.find(1, new Uint8Array(65536)), 0);
+    assert.equal(reader.find(1, new Uint8Array(65537)), null);
+    assert.deepEqual(asked, [65536]);
+});
+
 test("a note is looked for in its own section", () => {
     const reader = reader_of(bytes());
     const asked = [];

@@ -214,6 +214,8 @@ test("what no rule forbids of tables is not broken", () => {
         },
         content("group", 0, 0),
         (rows) => content("symbols", 24 + 6, 0xf1, 0xff)(rows),
+        // The first of the reserved indices (SHN_LORESERVE).
+        (rows) => content("symbols", 24 + 6, 0x00, 0xff)(rows),
     ]) assert.deepEqual(broken(change), [], `${change}`);
 });
 

@@ -176,21 +176,12 @@ def _members_of(source: Source, budget: Budget) -> Iterator[Iterator[_Inner]]:
         stack.callback(os.close, handle)
         found = entries(stream)
         if found is not None:
-            yield _each(stream, found, handle, bool(kind))
+            # They end at the end of the stream: there the sum of what is compressed is tested.
+            yield (_copied(stream, it, handle) for it in found)
         elif is_of_rpm:
             raise Unreadable("the content of the RPM file is no cpio file")
         else:
             yield iter([_copied(stream, Entry(b"", LONGEST), handle)._replace(name=None)])
-
-
-def _each(
-    stream: Stream, found: Iterator[Entry], handle: int, is_compressed: bool
-) -> Iterator[_Inner]:
-    """Each member. What is compressed is read to its end, where its sum is tested."""
-    for it in found:
-        yield _copied(stream, it, handle)
-    while is_compressed and stream.read(_PIECE):
-        pass
 
 
 def _copied(stream: Stream, entry: Entry, handle: int) -> _Inner:

@@ -273,19 +273,23 @@ class Run:
             raise BadWord("standard input can't be both a PATH and the list of them")
         self._check_written()
 
-    def _check_written(self) -> None:
+    def _check_written(self, listed: Iterable[bytes] = ()) -> None:
         """What is written is nothing that is read, but for a baseline that is written anew."""
         options = self._options
-        places = [os.path.realpath(it) for it in options.paths]
+        if options.output is None and options.write_baseline is None:
+            return
+        read = (options.rules, options.files0_from, options.config)
+        named = (*options.paths, *(it for it in read if it), *map(os.fsdecode, listed))
+        places = {os.path.realpath(it) for it in named}
         if options.write_baseline:
             own = os.path.realpath(options.write_baseline)
             if own in places:
-                raise BadWord("--write-baseline is one of the PATHs")
-            places.append(own)
+                raise BadWord("--write-baseline is a file that is read")
+            places.add(own)
         if options.baseline:
-            places.append(os.path.realpath(options.baseline))
+            places.add(os.path.realpath(options.baseline))
         if options.output and os.path.realpath(options.output) in places:
-            raise BadWord("-o is a PATH, or the file of a baseline")
+            raise BadWord("-o is a file that is read, or that of a baseline")
 
     def _read_baseline(self) -> Optional[Baseline]:
         options = self._options
@@ -296,7 +300,8 @@ class Run:
         )
 
     def check(self) -> None:
-        """Fills the report, in the order of paths. Raises BadWord where these can't be linked."""
+        """Fills the report, in the order of paths. Raises BadWord where these can't be linked, or a
+        listed one would be written."""
         _library.library()
         names = [os.fsencode(it) for it in self._options.paths]
         if self._preflight:
@@ -386,7 +391,9 @@ class Run:
         except OSError as fault:
             self.report.unreadable.append(Unread(os.fsencode(path), reason_of(fault)))
             return []
-        return names[:-1] if not names[-1] else names
+        listed = names[:-1] if not names[-1] else names
+        self._check_written(listed)
+        return listed
 
     def _drop_suppressed(self) -> None:
         report = self.report

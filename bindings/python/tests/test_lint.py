@@ -878,16 +878,30 @@ class OptionTest(Case):
         return [it.split(": ")[0] for it in self.told(*words, **more)[:-1]]
 
     def test_what_is_written_is_not_read(self):
-        self.put(good__o=GOOD, known=b'{"version": 1, "findings": []}')
+        files = dict(good__o=GOOD, known=b'{"version": 1, "findings": []}', names=b"good.o\0")
+        self.put(**files, rules=b"2 pc 4 signed\n", config=b"tables = true\n")
+        link = ["--link", "--rules", "rules", "good.o"]
+        listed = ["--files0-from", "names"]
         for words in (
             ["-o", "./good.o", "good.o"],
             ["--write-baseline", "good.o", "good.o"],
             ["-o", "known", "--baseline", "known", "good.o"],
             ["-o", "new", "--write-baseline", "./new", "good.o"],
+            ["-o", "./rules", *link],
+            ["--write-baseline", "rules", *link],
+            ["-o", "./config", "--config", "config", "good.o"],
+            ["-o", "names", *listed],
+            ["--write-baseline", "names", *listed],
+            # A file of the list is read too.
+            ["-o", "./good.o", *listed],
+            ["--write-baseline", "good.o", *listed],
         ):
             with self.subTest(words=words):
-                self.assertEqual(self.lint(*words)[0], 2)
-        self.assertEqual(Path("good.o").read_bytes(), GOOD)
+                before = {it.name: it.read_bytes() for it in Path().iterdir() if it.is_file()}
+                status, out, said = self.lint(*words)
+                self.assertEqual((status, out, said.count(b" is a file that is read")), (2, b"", 1))
+                after = {it.name: it.read_bytes() for it in Path().iterdir() if it.is_file()}
+                self.assertEqual(after, before)
         words = ["--baseline", "known", "--write-baseline", "known", "-o", "new", "good.o"]
         self.assertEqual(self.lint(*words)[0], 0)
 

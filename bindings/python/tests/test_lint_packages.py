@@ -16,6 +16,7 @@ import subprocess
 import tarfile
 import time
 import unittest
+from itertools import product
 from pathlib import Path
 from unittest import mock
 
@@ -358,6 +359,13 @@ class MemberTest(PackageCase):
         self.put(a__cpio=made + CPIO_END)
         self.assertSaid(["a.cpio"], 1, [b"a.cpio(b.o): " + SHARED, b"1 finding in 1 of 1 ELF file"])
 
+    def test_files_of_cpio_without_content(self):
+        """A file is counted that has no other link; a directory is none."""
+        none = cpio_member(b"none", b"") + cpio_member(b"folder", b"", mode=0o40755)
+        self.put(a__cpio=none + cpio_member(b"b.o", SHARING) + CPIO_END)
+        last = b"1 finding in 1 of 1 ELF file; skipped: 1 not ELF"
+        self.assertSaid(["a.cpio"], 1, [b"a.cpio(b.o): " + SHARED, last])
+
     def test_one_cpio_file_after_another(self):
         one = cpio_member(b"a.o", SHARING) + CPIO_END
         self.put(a__cpio=one + bytes(700) + one, b__cpio=one + bytes(511) + gzip.compress(one))
@@ -442,15 +450,17 @@ class BrokenTest(PackageCase):
                     )
 
     def test_the_sum_of_what_is_compressed(self):
-        """It is after the end of a tar file, and tested too."""
-        for module, at in ((gzip, -8), (lzma, -30), (bz2, -3)):
-            made = bytearray(module.compress(tar_member(b"a.o", SHARING) + bytes(10240)))
-            self.put(a__tar=bytes(made))
-            self.assertEqual(self.paths("a.tar"), ["a.tar(a.o)"])
-            made[at] ^= 0xFF
-            self.put(a__tar=bytes(made))
-            with self.subTest(module=module.__name__):
-                self.assertIn("it can't be decompressed: ", self.lost("a.tar")[0])
+        """It is after the end of a tar or cpio file, and tested too."""
+        members = tar_member(b"a.o", SHARING), cpio_member(b"a.o", SHARING) + CPIO_END
+        for member, rest in product(members, (0, 10240)):
+            for module, at in ((gzip, -8), (lzma, -30), (bz2, -3)):
+                made = bytearray(module.compress(member + bytes(rest)))
+                self.put(a=bytes(made))
+                self.assertEqual(self.paths("a"), ["a(a.o)"])
+                made[at] ^= 0xFF
+                self.put(a=bytes(made))
+                with self.subTest(head=member[:6], rest=rest, module=module.__name__):
+                    self.assertIn("it can't be decompressed: ", self.lost("a")[0])
 
     def test_what_is_not_installed(self):
         for head, command in (
@@ -524,6 +534,13 @@ class BrokenTest(PackageCase):
         header = b"\x8e\xad\xe8\x01" + bytes(4) + struct.pack(">2I", 0, 0)
         payload = gzip.compress(cpio_member(b"a.o", SHARING) + CPIO_END)
         self.put(a__rpm=lead + header + header + payload)
+        self.assertEqual(self.paths("a.rpm"), ["a.rpm(a.o)"])
+        # rpm fills the signature to a multiple of 8 bytes, and not what follows it.
+        signature, main = (
+            header[:8] + struct.pack(">2I", entries, size) + bytes(16 * entries + size)
+            for entries, size in ((1, 5), (2, 3))
+        )
+        self.put(a__rpm=lead + signature + bytes(3) + main + payload)
         self.assertEqual(self.paths("a.rpm"), ["a.rpm(a.o)"])
         self.put(b__rpm=lead + header + payload, c__rpm=lead + header + header + b"other" * 200)
         self.assertIn("it has no header there", self.lost("b.rpm")[0])

@@ -102,14 +102,18 @@ class PickleTest(unittest.TestCase):
             pickle.loads(dumped.replace(b"\x7fELF\2\1\1", b"\x7fELF\1\1\1"))
 
     def test_errors(self):
+        """Copies have all that they have; and what `repr` writes makes them again."""
         for error in (
             elfmap.Refused(33, 240),
+            elfmap.Refused(8, 52, 2),
             elfmap.NotLinked(6, 0, 1, 2, b"name"),
+            elfmap.NotLinked(9, 3, 4, 5),
             elfmap.TooLong(),
             elfmap.BadRules(3),
         ):
-            for other in self.copies(error):
-                self.assertEqual((type(other), str(other)), (type(error), str(error)))
+            for other in (*self.copies(error), eval(repr(error), vars(elfmap))):
+                own, its = ((type(it), str(it), repr(it), vars(it)) for it in (error, other))
+                self.assertEqual(its, own)
 
 
 class ClosedTest(FolderCase):

@@ -17,6 +17,7 @@ from elfmap import (
     _link_hints,
     _link_map,
     _link_warnings,
+    _link_words,
     _linker_names,
     _map_lines,
     _names,
@@ -527,7 +528,10 @@ class KnownTest(unittest.TestCase):
             (b"xfoo", "xfoo@@V0"),
             (b"bar", ""),
         ):
-            self.assertEqual((name, it.default_version(name)), (name, version))
+            # Also where a part of the name is in the next bytes that are read.
+            for at_once in (1, 5, 1 << 20):
+                with mock.patch.object(_link_words, "_BYTES_AT_ONCE", at_once):
+                    self.assertEqual((name, it.default_version(name)), (name, version))
 
     def test_lines_of_the_map(self):
         lines = (
