@@ -13,8 +13,8 @@ use crate::show_lines::{push_file_line, push_part_line, push_section_line, push_
 use crate::show_tables::show_tables;
 use elf_image_outline::Part;
 use elf_image_rules::Broken;
-use elf_image_stream::{Fault, write_whole};
-use elf_image_type::{Image, parse};
+use elf_image_stream::{BytesFault, write_whole};
+use elf_image_type::{Image, parse_bytes};
 use elf_table_all::Tables;
 use elf_tool_check::{Refusal, ToolFault, Verdict, read_input, refused_line};
 use elf_tool_text::Output;
@@ -87,7 +87,7 @@ fn show_counted<W: Write>(
     ensures said { IsShownOf bytes.now (W.contents writer.old) (W.contents writer.new) (uncounted result) }
     ensures length { IfOk result (HasLength (ShowSays bytes.now)) }
 {
-    match parse(alloc, bytes) {
+    match parse_bytes(alloc, bytes) {
         Ok(image) => {
             // Validated before the first line is written.
             let tables = Tables::new(alloc, &image)?;
@@ -95,14 +95,12 @@ fn show_counted<W: Write>(
             let length = show_image(alloc, bytes, &image, &tables, writer)?;
             Ok((Verdict::Done, length))
         }
-        Err(Fault::Rule { rule, at }) => {
+        Err(BytesFault::Rule { rule, at }) => {
             let length = show_refusal(alloc, rule, at, writer)?;
             let refusal = Refusal::File { file: 0, rule, at };
             Ok((Verdict::Refused(refusal), length))
         }
-        Err(Fault::OutOfMemory) => Err(ToolFault::OutOfMemory),
-        // No reader is called while bytes are validated.
-        Err(Fault::Io { .. }) => unreachable!(),
+        Err(BytesFault::OutOfMemory) => Err(ToolFault::OutOfMemory),
     }
 }
 
