@@ -1,9 +1,9 @@
 //! The executable of relocated bytes onto a writer.
-ghost use Rattle.std.specs.Prelude.{◌≡◌, ◌++◌, MatchResult};
+ghost use Rattle.std.specs.Prelude.{◌≡◌, ◌++◌, IfOk, MatchOption};
 ghost use Rattle.elf_exec.specs.declared.exec_writing.ExecFault.TheVariants.{OutOfMemory};
 ghost use Rattle.elf_image_stream.specs.Output.{Sends, Writes};
 ghost use Rattle.elf_field.specs.Abi.{EHDR_SIZE};
-ghost use Rattle.elf_exec.specs.ExecWriting.{loads_text, placed_header, placed_table, HasExecOf, IsExecWritten, IsPlacingFault};
+ghost use Rattle.elf_exec.specs.ExecWriting.{loads_text, placed_header, placed_table, HasExecOf, IsExecWritten, IsTooLong};
 ghost use Rattle.elf_link_relocate.specs.Linked.{IsReadyLink};
 
 use crate::headers::{ProgramHeaders, exec_header};
@@ -136,17 +136,18 @@ pub fn write_exec<W: Write>(
     }
 }
 
-/// How long the executable is that [`write_exec`] writes of these relocated bytes, in bytes. Nothing is written.
-///
-/// [`ExecFault::TooLong`] comes exactly if there are 0xffff segments or more, or the file would be longer than 2^30 bytes.
-/// [`ExecFault::OutOfMemory`] comes only if an allocation fails. There is no other fault.
+/// How long the executable is that [`write_exec`] writes of these relocated bytes, in bytes; `None` if it writes none, because there are
+/// 0xffff segments or more, or the file would be longer than 2^30 bytes. Nothing is written. Fails only when out of memory.
 ///
 /// Memory is taken for the segments and their places alone. Linear in the outputs.
-pub fn exec_length(alloc: Global, linked: &Linked<'_, '_>) -> Result<u64, ExecFault>
+pub fn exec_length(alloc: Global, linked: &Linked<'_, '_>) -> Result<Option<u64>, AllocError>
     requires { IsReadyLink linked.now }
-    ensures { MatchResult result (HasExecOf linked.now) (IsPlacingFault linked.now) }
+    ensures { IfOk result (λ length. MatchOption length (IsTooLong linked.now) (HasExecOf linked.now)) }
 {
     linked.prove_objects();
-    let placed = PlacedExec::new(alloc, linked)?;
-    Ok(file_len(&placed))
+    match PlacedExec::new(alloc, linked) {
+        Ok(placed) => Ok(Some(file_len(&placed))),
+        Err(ExecFault::TooLong) => Ok(None),
+        Err(_) => Err(AllocError),
+    }
 }

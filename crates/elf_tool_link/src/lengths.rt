@@ -8,7 +8,7 @@ ghost use Rattle.elf_tool_link.specs.Map.{MapSays};
 
 use crate::mapped::{Unlinked, mapped_files};
 use crate::mapping::map_counted;
-use elf_exec::{ExecFault, exec_length};
+use elf_exec::exec_length;
 use elf_link_field::RelocRule;
 use elf_link_map::Options;
 use elf_link_relocate::{Linked, Mapped};
@@ -74,11 +74,9 @@ fn linked_length(alloc: Global, linked: &Linked<'_, '_>) -> Result<(Verdict, u64
     ensures { MatchResult result (HasLength (ExecSays linked.now.objects linked.now.map linked.now.rules)) (λ fault. fault ≡ OutOfMemory) }
 {
     match exec_length(alloc, linked) {
-        Ok(length) => Ok((Verdict::Done, length)),
-        Err(ExecFault::TooLong) => Ok((Verdict::Refused(Refusal::TooLong), 0)),
-        Err(ExecFault::OutOfMemory) => Err(ToolFault::OutOfMemory),
-        // Nothing is written.
-        Err(ExecFault::Io { .. }) => unreachable!(),
+        Ok(Some(length)) => Ok((Verdict::Done, length)),
+        Ok(None) => Ok((Verdict::Refused(Refusal::TooLong), 0)),
+        Err(_) => Err(ToolFault::OutOfMemory),
     }
 }
 
